@@ -1,0 +1,8 @@
+//! The lower modules of a parking lot: tokens and results, queues of waiting threads, the slots
+//! that hand a thread its node back, and the buckets of the hash table.
+#![tactic(auto)]
+
+pub mod bucket;
+pub mod queue;
+pub mod thread_parker;
+pub mod token;
