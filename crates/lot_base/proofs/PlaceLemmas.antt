@@ -1,5 +1,5 @@
 -- Powers of two, and the place of a key.
-use Rattle.std.proofs.Common.{◌≡◌, ℕ, ◌+◌, ◌-◌, ◌*◌, ◌/◌, ◌%◌, ◌^◌, ◌<◌, ◌≤◌, sym, ap, ◌∙◌, subst, arith}
+use Rattle.std.proofs.Common.{refl, ◌≡◌, ℕ, ◌+◌, ◌-◌, ◌*◌, ◌/◌, ◌%◌, ◌^◌, ◌<◌, ◌≤◌, sym, ap, ◌∙◌, subst, arith}
 use Rattle.std.proofs.lemmas.Nat.{pow-add, pow_below, shl-shr, shr_below, mod_below, pow_pos}
 use Rattle.std.proofs.lemmas.Bool.{cases_lt}
 use Rattle.std.proofs.Common.{⊎_elim}
@@ -41,3 +41,9 @@ place-below key size log table e =
     let below : key * 0x9E3779B97F4A7C15 % 2 ^ 64 / 2 ^ (64 - log) < 2 ^ log = shr_below (key * 0x9E3779B97F4A7C15 % 2 ^ 64) log (64 - log) fits in
     let P : ℕ → Type 0 = λ n. key * 0x9E3779B97F4A7C15 % 2 ^ 64 / 2 ^ (64 - log) < n in
     subst P (ap (λ n. 2 ^ n) e ∙ sym table.is_power) below
+
+-- a place is in its table
+pub place_of-below : (key size : ℕ) → IsTableSize size → place_of key size < size
+place_of-below key size table =
+    let P : ℕ → Type 0 = λ n. n < size in
+    subst P (place-value key size table.bits table refl) (place-below key size table.bits table refl)

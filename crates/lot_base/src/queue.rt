@@ -40,18 +40,28 @@ impl Node {
     pub fn new(alloc: Global, number: usize) -> Result<Box<Node>, NoMemory>
         ensures { IfOk result (λ node. fields node.value ≡ new_node number) }
     {
-        Box::new(
-            alloc,
-            Node {
-                number,
-                key: 0,
-                park_token: DEFAULT_PARK_TOKEN,
-                unpark_token: DEFAULT_UNPARK_TOKEN,
-                timed: false,
-                link: None,
-            },
-        )
-        .map_err(|_| NoMemory)
+        let node = Node {
+            number,
+            key: 0,
+            park_token: DEFAULT_PARK_TOKEN,
+            unpark_token: DEFAULT_UNPARK_TOKEN,
+            timed: false,
+            link: None,
+        };
+        Ok(Box::new(alloc, node)?)
+    }
+
+    /// Writes what the thread is about to wait with, and leaves the number and the unpark token.
+    pub fn prepare(&mut self, key: usize, park_token: ParkToken, timed: bool)
+        ensures { fields self.new ≡ record (fields self.old) {
+          key = key;
+          park_token = park_token;
+          timed = timed;
+        } }
+    {
+        self.key = key;
+        self.park_token = park_token;
+        self.timed = timed;
     }
 }
 

@@ -1,8 +1,10 @@
 //! Tokens, results and refusals: the types that every layer speaks of.
 
 ghost use Rattle.std.specs.Prelude.{◌≡◌, ◌↔◌, IsTrue};
+ghost use Rattle.lot_base.specs.declared.token.LotError.{LotError};
 ghost use Rattle.lot_base.specs.declared.token.UnparkToken.{UnparkToken};
 
+use std::alloc::{AllocError, AllocFailed};
 use thiserror::Error;
 
 /// Result of a park operation.
@@ -108,6 +110,30 @@ pub enum LotError {
     NoMemory,
 }
 
+impl From<AllocError> for LotError {
+    ghost from_gives = { λ _ error. error ≡ LotError.NoMemory };
+
+    fn from(_error: AllocError) -> LotError {
+        LotError::NoMemory
+    }
+}
+
+impl<T: Drop> From<AllocFailed<T>> for LotError {
+    ghost from_gives = { λ _ error. error ≡ LotError.NoMemory };
+
+    fn from(_error: AllocFailed<T>) -> LotError {
+        LotError::NoMemory
+    }
+}
+
+impl From<NoMemory> for LotError {
+    ghost from_gives = { λ _ error. error ≡ LotError.NoMemory };
+
+    fn from(_error: NoMemory) -> LotError {
+        LotError::NoMemory
+    }
+}
+
 /// A step that does not fit the status of its thread. Nothing changed and no closure was called.
 #[derive(Eq, PartialEq, Debug, Drop, Error)]
 #[error("step does not fit")]
@@ -117,6 +143,18 @@ pub struct Misfit;
 #[derive(Eq, PartialEq, Debug, Drop, Error)]
 #[error("no memory")]
 pub struct NoMemory;
+
+impl From<AllocError> for NoMemory {
+    fn from(_error: AllocError) -> NoMemory {
+        NoMemory
+    }
+}
+
+impl<T: Drop> From<AllocFailed<T>> for NoMemory {
+    fn from(_error: AllocFailed<T>) -> NoMemory {
+        NoMemory
+    }
+}
 
 /// Why a step that may ask for memory was refused.
 #[derive(Eq, PartialEq, Debug, Drop, Error)]

@@ -1,0 +1,6 @@
+pub mod Machine
+pub mod LotState
+pub mod Represents
+pub mod Lot
+pub mod Thread
+pub mod Committed

@@ -1,0 +1,15 @@
+-- A lot as contracts see it.
+use Rattle.std.specs.Prelude.{ℕ, List}
+use Rattle.lot_base.specs.BucketState.{BucketState}
+use Rattle.parking_lot_core.specs.declared.lot.Status.{Status}
+
+-- a thread: its number and its status
+pub record ThreadState : Type 0 where
+  pub number : ℕ
+  pub status : Status
+
+-- the row of buckets, the threads by their numbers, and the greatest number of threads
+pub record LotState : Type 0 where
+  pub buckets : List BucketState
+  pub threads : List ThreadState
+  pub max_threads : ℕ

@@ -1,0 +1,13 @@
+//! A parking lot: queues of waiting threads by key, for building mutexes, condition variables and
+//! schedulers.
+#![tactic(auto)]
+
+pub mod lot;
+
+pub use lot_base::bucket::{Bucket, place};
+pub use lot_base::queue::{Node, Queue};
+pub use lot_base::thread_parker::Slot;
+pub use lot_base::token::{
+    DEFAULT_PARK_TOKEN, DEFAULT_UNPARK_TOKEN, FilterOp, LotError, Misfit, NoMemory, ParkResult,
+    ParkToken, RequeueOp, StepError, UnparkResult, UnparkToken,
+};
