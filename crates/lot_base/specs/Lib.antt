@@ -5,3 +5,4 @@ pub mod Place
 pub mod Waiting
 pub mod BucketState
 pub mod BucketFacts
+pub mod Fold

@@ -1,6 +1,6 @@
 //! The buckets of the hash table: the steps of parking and unparking on the queue of one bucket.
 
-ghost use Rattle.std.specs.Prelude.{◌≡◌, ℕ, [], ◌∷◌, ◌++◌, ◌<◌, map, take, drop, IfErr, IfNone, IfSome, OnOk, IfOk, OnErr, is_ok, is_some, length};
+ghost use Rattle.std.specs.Prelude.{◌≡◌, ℕ, [], ◌∷◌, ◌++◌, ◌<◌, map, take, drop, IfErr, IfNone, IfSome, OnOk, IfOk, IsOkAnd, OnErr, is_ok, is_some, IsTrue, length};
 ghost use Rattle.lot_base.specs.Node.{fields, option_nodes};
 ghost use Rattle.lot_base.specs.Place.{IsTableSize, place_of};
 ghost use Rattle.lot_base.specs.Waiting.{lists_of, replaced, split_first, answer_of, with_token, has_any};
@@ -117,6 +117,38 @@ impl Bucket {
         }
         (result, taken)
     }
+
+    /// The numbers of the threads that wait on the key, in order. It visits each node of the
+    /// bucket once. No other call of a bucket allocates.
+    ///
+    /// # Errors
+    ///
+    /// `NoMemory` if memory for the list cannot be had. The empty list needs none.
+    pub fn list(&self, alloc: Global, key: usize) -> Result<Vec<usize>, NoMemory>
+        ensures refused { OnErr result (IsTrue (has_any (lists_of self.now.nodes key))) }
+        ensures numbers { IfOk result (λ numbers. numbers.items ≡ map (λ node. node.number) (lists_of self.now.nodes key)) }
+    {
+        self.queue.fold(Ok(Vec::new(alloc)), |numbers, node| {
+            with_waiter(numbers, node, key)
+        })
+    }
+}
+
+// The numbers, and behind them that of the node if it waits on the key.
+fn with_waiter(
+    numbers: Result<Vec<usize>, NoMemory>,
+    node: &Node,
+    key: usize,
+) -> Result<Vec<usize>, NoMemory>
+    ensures refused { OnErr result (OnOk numbers ((fields node.now).key ≡ key)) }
+    ensures numbers { IfOk result (λ new. IsOkAnd numbers (λ old.
+        new.items ≡ old.items ++ map (λ waiter. waiter.number) (lists_of (fields node.now ∷ []) key))) }
+{
+    let mut numbers = numbers?;
+    if node.key == key {
+        numbers.push(node.number)?;
+    }
+    Ok(numbers)
 }
 
 // Takes the first node of the key from the queue, and tells whether another one is left.

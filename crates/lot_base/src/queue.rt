@@ -1,6 +1,7 @@
 //! A queue of owned nodes, one for each waiting thread, linked by the nodes themselves.
 
-ghost use Rattle.std.specs.Prelude.{◌≡◌, [], ◌∷◌, ◌++◌, ◌↔◌, IsNone, IfOk, reverse};
+ghost use Rattle.std.specs.Prelude.{◌≡◌, [], ◌∷◌, ◌++◌, ◌↔◌, IsNone, IfOk, MatchOption, drop, reverse};
+ghost use Rattle.lot_base.specs.Fold.{CanFold, Folds};
 ghost use Rattle.lot_base.specs.Node.{fields, new_node, chain, option_nodes};
 
 use crate::token::{DEFAULT_PARK_TOKEN, DEFAULT_UNPARK_TOKEN, NoMemory, ParkToken, UnparkToken};
@@ -100,7 +101,7 @@ impl Queue {
 
     /// Puts the other queue's nodes behind this queue's, and leaves the other empty. It walks this
     /// queue as `push_back` does, and visits no node of the other.
-    pub(crate) fn append(&mut self, other: &mut Queue)
+    pub fn append(&mut self, other: &mut Queue)
         ensures nodes { self.new ≡ self.old ++ other.old }
         ensures emptied { other.new ≡ [] }
     {
@@ -115,6 +116,29 @@ impl Queue {
         let mut first = self.head.take()?;
         self.head = first.link.take();
         Some(first)
+    }
+
+    /// The first node, or `None` exactly if the queue is empty. It visits one node.
+    pub fn front(&self) -> Option<&Node>
+        ensures { MatchOption result (self.now ≡ []) (λ node. self.now ≡ fields node.now ∷ drop 1 self.now) }
+    {
+        self.head.as_deref()
+    }
+
+    /// Calls `f` once for each node, in order: with the answer of the call before, at first
+    /// `start`, and with the node. The last answer is the result, and `start` is it if the queue
+    /// is empty. It visits each node once.
+    pub fn fold<B, F: FnMut(B, &Node) -> B>(&self, start: B, mut f: F) -> B
+        requires { CanFold F.FnMut f start self.now }
+        ensures { (last : F) × Folds F.FnMut f start self.now last result }
+    {
+        let mut answer = start;
+        let mut rest = &self.head;
+        while let Some(node) = rest {
+            answer = f(answer, node);
+            rest = &node.link;
+        }
+        answer
     }
 }
 

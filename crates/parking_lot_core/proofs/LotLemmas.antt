@@ -218,3 +218,11 @@ IsStep-new row max_threads is empty = record {
   where
     means : machine (record { buckets = row; threads = []; max_threads = max_threads }) ≡ new_machine max_threads
     means = same_machine _ _ (λ k. ap (λ nodes. map waiter_of (lists_of nodes k)) (empty (place_of k (length row)))) (λ j. refl) refl
+
+-- the numbers of the waiters of a key are those of its nodes
+pub numbers-waiters : (lot : LotState) (key : ℕ) → IsLot lot → map (λ waiter. waiter.number) (waiters_in lot.buckets key) ≡ map (λ node. node.number) (lists_of (bucket_of lot key).nodes key)
+numbers-waiters lot key is = ap (map (λ waiter. waiter.number)) (waiters_in-row lot key is) ∙ numbers (lists_of (bucket_of lot key).nodes key)
+  where
+    numbers : (nodes : List NodeFields) → map (λ (waiter : Waiter). waiter.number) (map waiter_of nodes) ≡ map (λ node. node.number) nodes
+    numbers [] = refl
+    numbers (node ∷ nodes) = ap (λ rest. node.number ∷ rest) (numbers nodes)

@@ -2,7 +2,7 @@
 
 ghost use Rattle.std.specs.Prelude.{◌≡◌, ◌≢◌, ◌↔◌, ◌<◌, ◌∷◌, [], IsTrue, IsOk, IsErr, IsErrOf, IfOk, IfErr, OnOk, OnErr, MatchOption, map, is_some, is_ok, if◌then◌else◌};
 ghost use Rattle.lot_base.specs.Node.{fields};
-ghost use Rattle.lot_base.specs.Waiting.{split_first, answer_of};
+ghost use Rattle.lot_base.specs.Waiting.{split_first, answer_of, has_any};
 ghost use Rattle.parking_lot_core.specs.Committed.{with_status, committed, CanCommit};
 ghost use Rattle.parking_lot_core.specs.Lot.{machine, statuses, IsRow, AreThreads};
 ghost use Rattle.parking_lot_core.specs.Represents.{with_node};
@@ -299,6 +299,15 @@ impl Lot {
         };
         let token = thread.give_back()?;
         Ok(token)
+    }
+
+    pub fn list(&self, key: usize) -> Result<Vec<usize>, NoMemory>
+        ensures refused { OnErr result (IsTrue (has_any ((machine self.now).lists key))) }
+        ensures numbers { IfOk result (λ numbers. numbers.items
+            ≡ map (λ waiter. waiter.number) ((machine self.now).lists key)) }
+    {
+        let alloc = *self.threads.allocator();
+        self.buckets[place(key, BUCKETS)].list(alloc, key)
     }
 
     pub fn status(&self, number: usize) -> Status
