@@ -1,8 +1,12 @@
 pub mod NodeFields
 pub mod Node
+pub mod Fold
 pub mod SlotState
 pub mod Place
 pub mod Waiting
+pub mod Filter
+pub mod Requeue
+pub mod Spread
 pub mod BucketState
 pub mod BucketFacts
-pub mod Fold
+pub mod Laws

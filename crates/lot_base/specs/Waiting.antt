@@ -1,7 +1,11 @@
 -- The lists of waiters of all keys, and what an unpark takes of the list of one.
-use Rattle.std.specs.Prelude.{ℕ, Bool, true, false, ◌==◌, if◌then◌else◌, min, ◌-◌, ◌^◌, List, [], ◌∷◌, length, take, drop, filter}
+use Rattle.std.specs.Prelude.{ℕ, Bool, true, false, ◌==◌, if◌then◌else◌, min, ◌-◌, ◌^◌, List, [], ◌∷◌, ◌++◌, length, take, drop, filter}
 use Rattle.lot_base.specs.declared.token.UnparkResult.{UnparkResult}
 use Rattle.lot_base.specs.declared.token.UnparkToken.{UnparkToken}
+use Rattle.lot_base.specs.declared.token.RequeueOp.{RequeueOp}
+use Rattle.lot_base.specs.declared.token.RequeueOp.TheVariants.{Abort, UnparkOneRequeueRest, RequeueAll, UnparkOne, RequeueOne}
+use Rattle.lot_base.specs.declared.token.FilterOp.{FilterOp}
+use Rattle.lot_base.specs.declared.token.FilterOp.TheVariants.{Unpark, Skip, Stop}
 use Rattle.lot_base.specs.NodeFields.{NodeFields}
 
 -- the list of each key: the nodes that wait on it, in order
@@ -39,3 +43,49 @@ answer_of split =
 -- a node that was handed a token
 abbrev pub with_token : UnparkToken → NodeFields → NodeFields
 with_token token node = record node { unpark_token = token }
+
+-- every waiter is taken
+abbrev pub split_all : {A : Type 0} → List A → Split A
+split_all waiters = record { taken = waiters; moved = []; left = [] }
+
+-- what a requeue does with the waiters of its first key
+abbrev pub split_by : {A : Type 0} → RequeueOp → List A → Split A
+split_by Abort waiters = record { taken = []; moved = []; left = waiters }
+split_by UnparkOneRequeueRest waiters = record { taken = take 1 waiters; moved = drop 1 waiters; left = [] }
+split_by RequeueAll waiters = record { taken = []; moved = waiters; left = [] }
+split_by UnparkOne waiters = split_first waiters
+split_by RequeueOne waiters = record { taken = []; moved = take 1 waiters; left = drop 1 waiters }
+
+-- the waiters that a filter unparks, in order: it decides on each up to its first `Stop`
+abbrev pub taken_by : {A : Type 0} → List FilterOp → List A → List A
+taken_by [] waiters = []
+taken_by (_ ∷ _) [] = []
+taken_by (Unpark ∷ decisions) (waiter ∷ waiters) = waiter ∷ taken_by decisions waiters
+taken_by (Skip ∷ decisions) (_ ∷ waiters) = taken_by decisions waiters
+taken_by (Stop ∷ _) (_ ∷ _) = []
+
+-- the waiters that it leaves, in order
+abbrev pub left_by : {A : Type 0} → List FilterOp → List A → List A
+left_by [] waiters = waiters
+left_by (_ ∷ _) [] = []
+left_by (Unpark ∷ decisions) (_ ∷ waiters) = left_by decisions waiters
+left_by (Skip ∷ decisions) (waiter ∷ waiters) = waiter ∷ left_by decisions waiters
+left_by (Stop ∷ _) (waiter ∷ waiters) = waiter ∷ waiters
+
+-- some are taken by decisions; decisions that are used up leave the rest
+abbrev pub split_filter : {A : Type 0} → List FilterOp → List A → Split A
+split_filter decisions waiters = record { taken = taken_by decisions waiters; moved = []; left = left_by decisions waiters }
+
+-- the lists after a requeue: the first key keeps what is left, and then those that moved stand last in the second
+abbrev pub requeued : {A : Type 0} → (ℕ → List A) → ℕ → ℕ → List A → List A → ℕ → List A
+requeued {A} lists from to left moved =
+    let kept : ℕ → List A = replaced lists from left in replaced kept to (kept to ++ moved)
+
+-- a node that was moved to another key
+abbrev pub with_new_key : ℕ → NodeFields → NodeFields
+with_new_key key node = record node { key = key }
+
+-- the list without the first that passes the test
+abbrev pub without_first : {A : Type 0} → (A → Bool) → List A → List A
+without_first test [] = []
+without_first test (waiter ∷ waiters) = if test waiter then waiters else waiter ∷ without_first test waiters

@@ -1,12 +1,16 @@
 //! The buckets of the hash table: the steps of parking and unparking on the queue of one bucket.
 
-ghost use Rattle.std.specs.Prelude.{◌≡◌, ℕ, [], ◌∷◌, ◌++◌, ◌<◌, map, take, drop, IfErr, IfNone, IfSome, OnOk, IfOk, IsOkAnd, OnErr, is_ok, is_some, IsTrue, length};
+ghost use Rattle.std.specs.Prelude.{◌≡◌, ℕ, [], ◌∷◌, ◌++◌, ◌<◌, map, take, drop, IfErr, IfNone, IfSome, OnOk, IfOk, IsOkAnd, OnErr, is_ok, is_some, IsTrue, length, List, ◌≢◌, ◌↔◌, find, option_map, not, None, Some, IsNone, MatchOption};
+ghost use Rattle.lot_base.specs.Filter.{TakesUntilStop, IsFiltered};
 ghost use Rattle.lot_base.specs.Node.{fields, option_nodes};
 ghost use Rattle.lot_base.specs.Place.{IsTableSize, place_of};
-ghost use Rattle.lot_base.specs.Waiting.{lists_of, replaced, split_first, answer_of, with_token, has_any};
+ghost use Rattle.lot_base.specs.Requeue.{numbers, IsCallableAtEach, IsCalledAtEach, AreCallable, AreCalled, IsRequeueCallable, IsRequeue};
+ghost use Rattle.lot_base.specs.Spread.{has_number};
+ghost use Rattle.lot_base.specs.Waiting.{lists_of, replaced, split_first, answer_of, with_token, has_any, split_all, split_filter, count_of, with_new_key, split_by, requeued, without_first};
+ghost use Rattle.lot_base.specs.declared.token.FilterOp.{FilterOp};
 
 use crate::queue::{Node, Queue};
-use crate::token::{NoMemory, UnparkResult, UnparkToken};
+use crate::token::{FilterOp, NoMemory, ParkToken, RequeueOp, UnparkResult, UnparkToken};
 use std::alloc::Global;
 use std::marker::Model;
 
@@ -110,12 +114,203 @@ impl Bucket {
             have_more_threads,
         };
         let token = callback(result);
-        let mut taken = Queue::new();
-        if let Some(mut node) = first {
-            node.unpark_token = token;
-            taken.push_back(node);
-        }
+        let taken = queue_of(first.map(|node| with_unpark_token(node, token)));
         (result, taken)
+    }
+
+    /// Takes every waiter of the key, in order, writes the token into each, and answers how many
+    /// there were. A count that no `usize` can hold is `usize::MAX`.
+    ///
+    /// Each node of the bucket is taken once and put last into one of two queues. It moves boxes
+    /// and allocates nothing.
+    ///
+    /// Upstream calls it `unpark_all`.
+    pub fn take_all(&mut self, key: usize, token: UnparkToken) -> (usize, Queue)
+        ensures place { self.new.place ≡ self.old.place }
+        ensures size { self.new.size ≡ self.old.size }
+        ensures lists { (k : ℕ) → lists_of self.new.nodes k
+            ≡ replaced (lists_of self.old.nodes) key (split_all (lists_of self.old.nodes key)).left k }
+        ensures answer { result.0 ≡ count_of (split_all (lists_of self.old.nodes key)).taken }
+        ensures taken { result.1 ≡ map (with_token token) (split_all (lists_of self.old.nodes key)).taken }
+    {
+        let taken = take_every(&mut self.queue, key);
+        write_token(taken, token)
+    }
+
+    /// Takes those waiters of the key that the filter unparks, and leaves the others, both in order.
+    ///
+    /// The filter is handed the park tokens of the key's waiters in order, up to and with the first
+    /// at which it answers `Stop`: that waiter and all behind it are left. Then the callback is
+    /// handed the result, once, also if nobody waits. The token that it answers is written into
+    /// each node taken.
+    ///
+    /// The nodes of the bucket are visited once, up to and with the one at which the filter stops,
+    /// and those taken once more. It moves boxes and allocates nothing.
+    ///
+    /// Upstream calls it `unpark_filter`.
+    pub fn take_filter<F: FnMut(ParkToken) -> FilterOp, C: FnOnce(UnparkResult) -> UnparkToken>(
+        &mut self,
+        key: usize,
+        filter: F,
+        callback: C,
+    ) -> (UnparkResult, Queue)
+        requires filter { TakesUntilStop F.FnMut filter (lists_of self.old.nodes key) }
+        requires callback { (decisions : _) → IsFiltered F.FnMut filter (lists_of self.old.nodes key) decisions
+            → C.pre callback (answer_of (split_filter decisions (lists_of self.old.nodes key))) }
+
+        ensures place { self.new.place ≡ self.old.place }
+        ensures size { self.new.size ≡ self.old.size }
+        ensures filtered { let waiters = lists_of self.old.nodes key in record {
+          decisions : List FilterOp;
+          decided : IsFiltered F.FnMut filter waiters decisions;
+          lists : (k : ℕ) → lists_of self.new.nodes k
+              ≡ replaced (lists_of self.old.nodes) key (split_filter decisions waiters).left k;
+          answer : result.0 ≡ answer_of (split_filter decisions waiters);
+          taken : (token : _) × C.post callback result.0 token
+              × (result.1 ≡ map (with_token token) (split_filter decisions waiters).taken);
+        } }
+    {
+        let (result, chosen) = take_chosen(&mut self.queue, key, filter);
+        let token = callback(result);
+        let (_, taken) = write_token(chosen, token);
+        (result, taken)
+    }
+
+    /// Unparks or requeues waiters of the key `from` onto the key `to`, as `validate` chooses. Both
+    /// keys have this bucket's place, and they may be equal.
+    ///
+    /// `validate` is called first. If it aborts, then nothing changes, no other closure is called,
+    /// and the answer is the default result and no node. Otherwise `moved` is called with the number
+    /// of each thread that is requeued, in order, and then `callback` with the operation and the
+    /// result, also where no thread waited. Requeued nodes stand behind the waiters of `to`. The
+    /// queue in the answer holds the node that was taken, with the token from `callback`.
+    ///
+    /// An operation on one thread looks for waiters of `from` up to the second one, and any other
+    /// looks at each node of the bucket once. Each node that was passed or moves is one `push_back`
+    /// to a queue of such nodes, and if any moves, they all are put last by one walk of the bucket.
+    /// It moves boxes and allocates nothing.
+    ///
+    /// Upstream it is the middle of `unpark_requeue`.
+    pub fn requeue_one<
+        V: FnOnce() -> RequeueOp,
+        C: FnOnce(RequeueOp, UnparkResult) -> UnparkToken,
+        M: FnMut(usize),
+    >(
+        &mut self,
+        from: usize,
+        to: usize,
+        validate: V,
+        callback: C,
+        moved: &mut M,
+    ) -> (UnparkResult, Queue)
+        requires from { place_of from self.old.size ≡ self.old.place }
+        requires to { place_of to self.old.size ≡ self.old.place }
+        requires validate { V.pre validate }
+        requires callable { IsRequeueCallable V.FnOnce C.FnOnce M.FnMut validate callback moved.old (lists_of self.old.nodes from) }
+
+        ensures place { self.new.place ≡ self.old.place }
+        ensures size { self.new.size ≡ self.old.size }
+        ensures requeued { IsRequeue V.FnOnce C.FnOnce M.FnMut validate callback moved.old moved.new (lists_of self.old.nodes from)
+            (self.new ≡ self.old)
+            (λ split. (k : ℕ) → lists_of self.new.nodes k
+            ≡ requeued (lists_of self.old.nodes) from to split.left (map (with_new_key to) split.moved) k)
+            result.0 result.1 }
+    {
+        let op = validate();
+        let Some(mut done) = requeue_from(&mut self.queue, from, to, op, callback, moved) else {
+            return (UnparkResult::default(), Queue::new());
+        };
+        self.queue.append(&mut done.moved);
+        (done.result, done.taken)
+    }
+
+    /// Does what `requeue_one` does, where `to` has the place of another bucket of the same table:
+    /// requeued nodes stand last in `target`.
+    ///
+    /// It costs what `requeue_one` costs, but that the last walk is one of `target`. It moves boxes
+    /// and allocates nothing.
+    pub fn requeue_two<
+        V: FnOnce() -> RequeueOp,
+        C: FnOnce(RequeueOp, UnparkResult) -> UnparkToken,
+        M: FnMut(usize),
+    >(
+        &mut self,
+        target: &mut Bucket,
+        from: usize,
+        to: usize,
+        validate: V,
+        callback: C,
+        moved: &mut M,
+    ) -> (UnparkResult, Queue)
+        requires size { target.old.size ≡ self.old.size }
+        requires places { target.old.place ≢ self.old.place }
+        requires from { place_of from self.old.size ≡ self.old.place }
+        requires to { place_of to target.old.size ≡ target.old.place }
+        requires validate { V.pre validate }
+        requires callable { IsRequeueCallable V.FnOnce C.FnOnce M.FnMut validate callback moved.old (lists_of self.old.nodes from) }
+
+        ensures place { (self.new.place ≡ self.old.place) × (target.new.place ≡ target.old.place) }
+        ensures size { (self.new.size ≡ self.old.size) × (target.new.size ≡ target.old.size) }
+        ensures requeued { IsRequeue V.FnOnce C.FnOnce M.FnMut validate callback moved.old moved.new (lists_of self.old.nodes from)
+            ((self.new ≡ self.old) × (target.new ≡ target.old))
+            (λ split.
+            ((k : ℕ) → lists_of self.new.nodes k ≡ replaced (lists_of self.old.nodes) from split.left k)
+            × ((k : ℕ) → lists_of target.new.nodes k
+            ≡ replaced (lists_of target.old.nodes) to (lists_of target.old.nodes to ++ map (with_new_key to) split.moved) k))
+            result.0 result.1 }
+    {
+        let op = validate();
+        let Some(mut done) = requeue_from(&mut self.queue, from, to, op, callback, moved) else {
+            return (UnparkResult::default(), Queue::new());
+        };
+        target.queue.append(&mut done.moved);
+        (done.result, done.taken)
+    }
+
+    /// Takes the first node of this number and key, unchanged, and calls `timed_out` once, with the
+    /// key and with whether the key has no node left. If there is none, nothing is called or changed.
+    ///
+    /// It visits the nodes up to the one that it takes, and from there on to the next node of the
+    /// key, unless an earlier one of the key was passed; each node that it passes is put back by one
+    /// `push_back`. It moves boxes and allocates nothing. Upstream's `park` takes a thread whose wait
+    /// timed out from its queue so.
+    pub fn remove<R, T: FnOnce(usize, bool) -> R>(
+        &mut self,
+        number: usize,
+        key: usize,
+        timed_out: T,
+    ) -> Option<(Box<Node>, R)>
+        requires { let waiters = lists_of self.old.nodes key in
+            IfSome (find (has_number number) waiters) (λ _. T.pre timed_out key (not (has_any (without_first (has_number number) waiters)))) }
+
+        ensures place { self.new.place ≡ self.old.place }
+        ensures size { self.new.size ≡ self.old.size }
+        ensures lists { (k : ℕ) → lists_of self.new.nodes k
+            ≡ replaced (lists_of self.old.nodes) key (without_first (has_number number) (lists_of self.old.nodes key)) k }
+        ensures removed { let waiters = lists_of self.old.nodes key in
+            MatchOption result
+            ((find (has_number number) waiters ≡ None) × (self.new ≡ self.old))
+            (λ (node, answer). (find (has_number number) waiters ≡ Some (fields node.value))
+            × T.post timed_out key (not (has_any (without_first (has_number number) waiters))) answer) }
+    {
+        let (node, last) = take_numbered(&mut self.queue, number, key)?;
+        let answer = timed_out(key, last);
+        Some((node, answer))
+    }
+
+    /// Takes the bucket's first node, whatever its key, or answers `None` exactly if the bucket is
+    /// empty. The other nodes keep their order.
+    ///
+    /// It visits one node, moves its box and allocates nothing. Upstream's `grow_hashtable` takes
+    /// the nodes of each old bucket so, to put them into the new table.
+    pub fn pop(&mut self) -> Option<Box<Node>>
+        ensures place { self.new.place ≡ self.old.place }
+        ensures size { self.new.size ≡ self.old.size }
+        ensures nodes { self.old.nodes ≡ option_nodes result ++ self.new.nodes }
+        ensures none { IsNone result ↔ (self.old.nodes ≡ []) }
+        ensures in_place { IfSome result (λ node. place_of (fields node.value).key self.old.size ≡ self.old.place) }
+    {
+        self.queue.pop_front()
     }
 
     /// The numbers of the threads that wait on the key, in order. It visits each node of the
@@ -132,23 +327,6 @@ impl Bucket {
             with_waiter(numbers, node, key)
         })
     }
-}
-
-// The numbers, and behind them that of the node if it waits on the key.
-fn with_waiter(
-    numbers: Result<Vec<usize>, NoMemory>,
-    node: &Node,
-    key: usize,
-) -> Result<Vec<usize>, NoMemory>
-    ensures refused { OnErr result (OnOk numbers ((fields node.now).key ≡ key)) }
-    ensures numbers { IfOk result (λ new. IsOkAnd numbers (λ old.
-        new.items ≡ old.items ++ map (λ waiter. waiter.number) (lists_of (fields node.now ∷ []) key))) }
-{
-    let mut numbers = numbers?;
-    if node.key == key {
-        numbers.push(node.number)?;
-    }
-    Ok(numbers)
 }
 
 // Takes the first node of the key from the queue, and tells whether another one is left.
@@ -195,4 +373,301 @@ fn take_next(queue: &mut Queue, passed: &mut Queue, key: usize) -> Option<Box<No
         passed.push_back(node);
     }
     None
+}
+
+// Takes all nodes of the key from the queue.
+fn take_every(queue: &mut Queue, key: usize) -> Queue
+    ensures taken { result ≡ lists_of queue.old key }
+    ensures lists { (k : ℕ) → lists_of queue.new k ≡ replaced (lists_of queue.old) key [] k }
+{
+    let mut taken = Queue::new();
+    let mut others = Queue::new();
+    while let Some(node) = queue.pop_front() {
+        if node.key == key {
+            taken.push_back(node);
+        } else {
+            others.push_back(node);
+        }
+    }
+    *queue = others;
+    taken
+}
+
+// Takes from the queue the nodes of the key that the filter unparks; the others stay in order.
+fn take_chosen<F: FnMut(ParkToken) -> FilterOp>(
+    queue: &mut Queue,
+    key: usize,
+    mut filter: F,
+) -> (UnparkResult, Queue)
+    requires { TakesUntilStop F.FnMut filter (lists_of queue.old key) }
+    ensures { let waiters = lists_of queue.old key in record {
+      decisions : List FilterOp;
+      decided : IsFiltered F.FnMut filter waiters decisions;
+      lists : (k : ℕ) → lists_of queue.new k
+          ≡ replaced (lists_of queue.old) key (split_filter decisions waiters).left k;
+      answer : result.0 ≡ answer_of (split_filter decisions waiters);
+      taken : result.1 ≡ (split_filter decisions waiters).taken;
+    } }
+{
+    let mut passed = Queue::new();
+    let mut taken = Queue::new();
+    let mut result = UnparkResult::default();
+    while let Some(node) = take_next(queue, &mut passed, key) {
+        match filter(node.park_token) {
+            FilterOp::Unpark => {
+                result.unparked_threads = result.unparked_threads.saturating_add(1);
+                taken.push_back(node);
+            }
+            FilterOp::Skip => {
+                result.have_more_threads = true;
+                passed.push_back(node);
+            }
+            FilterOp::Stop => {
+                result.have_more_threads = true;
+                passed.push_back(node);
+                break;
+            }
+        }
+    }
+    passed.append(queue);
+    *queue = passed;
+    (result, taken)
+}
+
+// The nodes with the token written into each, and how many they are.
+fn write_token(mut nodes: Queue, token: UnparkToken) -> (usize, Queue)
+    ensures count { result.0 ≡ count_of nodes }
+    ensures nodes { result.1 ≡ map (with_token token) nodes }
+{
+    let mut written = Queue::new();
+    let mut count: usize = 0;
+    while let Some(node) = nodes.pop_front() {
+        written.push_back(with_unpark_token(node, token));
+        count = count.saturating_add(1);
+    }
+    (count, written)
+}
+
+// What a requeue gives, with the nodes that are still to be put behind those of their new key.
+#[derive(Drop)]
+struct Requeued {
+    result: UnparkResult,
+    taken: Queue,
+    moved: Queue,
+}
+
+// Does what a requeue does to the list of its first key and calls its closures, or nothing if it
+// is to abort.
+fn requeue_from<C: FnOnce(RequeueOp, UnparkResult) -> UnparkToken, M: FnMut(usize)>(
+    queue: &mut Queue,
+    from: usize,
+    to: usize,
+    op: RequeueOp,
+    callback: C,
+    moved: &mut M,
+) -> Option<Requeued>
+    requires { op ≢ RequeueOp.Abort → AreCallable C.FnOnce M.FnMut op (split_by op (lists_of queue.old from)) callback moved.old }
+    ensures aborted { IfNone result ((op ≡ RequeueOp.Abort) × (queue.new ≡ queue.old) × (moved.new ≡ moved.old)) }
+    ensures chosen { IfSome result (λ _. op ≢ RequeueOp.Abort) }
+    ensures called { IfSome result (λ done.
+        AreCalled C.FnOnce M.FnMut op (split_by op (lists_of queue.old from)) callback moved.old moved.new done.result done.taken) }
+    ensures moved { IfSome result (λ done. done.moved ≡ map (with_new_key to) (split_by op (lists_of queue.old from)).moved) }
+    ensures lists { IfSome result (λ _. (k : ℕ) → lists_of queue.new k
+        ≡ replaced (lists_of queue.old) from (split_by op (lists_of queue.old from)).left k) }
+{
+    let picked = pick(queue, from, op)?;
+    let unparked_threads = if picked.taken.is_some() { 1 } else { 0 };
+    let (moved_nodes, requeued_threads) = move_to(picked.moved, to, moved);
+    let result = UnparkResult {
+        unparked_threads,
+        requeued_threads,
+        have_more_threads: picked.have_more_threads,
+    };
+    let token = callback(op, result);
+    Some(Requeued {
+        result,
+        taken: queue_of(picked.taken.map(|node| with_unpark_token(node, token))),
+        moved: moved_nodes,
+    })
+}
+
+// What a requeue picks of the nodes of a key, and whether it leaves any.
+#[derive(Drop)]
+struct Picked {
+    taken: Option<Box<Node>>,
+    moved: Queue,
+    have_more_threads: bool,
+}
+
+// Picks what the operation asks for from the nodes of the key, or nothing if it is to abort.
+fn pick(queue: &mut Queue, key: usize, op: RequeueOp) -> Option<Picked>
+    ensures aborted { IfNone result ((op ≡ RequeueOp.Abort) × (queue.new ≡ queue.old)) }
+    ensures chosen { IfSome result (λ _. op ≢ RequeueOp.Abort) }
+    ensures taken { IfSome result (λ picked. option_nodes picked.taken ≡ (split_by op (lists_of queue.old key)).taken) }
+    ensures moved { IfSome result (λ picked. picked.moved ≡ (split_by op (lists_of queue.old key)).moved) }
+    ensures more { IfSome result (λ picked. picked.have_more_threads ≡ has_any (split_by op (lists_of queue.old key)).left) }
+    ensures lists { IfSome result (λ _. (k : ℕ) → lists_of queue.new k
+        ≡ replaced (lists_of queue.old) key (split_by op (lists_of queue.old key)).left k) }
+{
+    match op {
+        RequeueOp::Abort => None,
+        RequeueOp::UnparkOne => {
+            let (first, have_more_threads) = take_first(queue, key);
+            Some(Picked {
+                taken: first,
+                moved: Queue::new(),
+                have_more_threads,
+            })
+        }
+        RequeueOp::RequeueOne => {
+            let (first, have_more_threads) = take_first(queue, key);
+            Some(Picked {
+                taken: None,
+                moved: queue_of(first),
+                have_more_threads,
+            })
+        }
+        RequeueOp::RequeueAll => {
+            Some(Picked {
+                taken: None,
+                moved: take_every(queue, key),
+                have_more_threads: false,
+            })
+        }
+        RequeueOp::UnparkOneRequeueRest => {
+            let mut all = take_every(queue, key);
+            let first = all.pop_front();
+            Some(Picked {
+                taken: first,
+                moved: all,
+                have_more_threads: false,
+            })
+        }
+    }
+}
+
+// The nodes with another key, and how many they are. `moved` is called with the number of each.
+fn move_to<M: FnMut(usize)>(mut nodes: Queue, key: usize, moved: &mut M) -> (Queue, usize)
+    requires { IsCallableAtEach M.FnMut moved.old (numbers nodes) }
+    ensures nodes { result.0 ≡ map (with_new_key key) nodes }
+    ensures count { result.1 ≡ count_of nodes }
+    ensures moved { IsCalledAtEach M.FnMut moved.old (numbers nodes) moved.new }
+{
+    let mut changed = Queue::new();
+    let mut count: usize = 0;
+    while let Some(node) = nodes.pop_front() {
+        moved(node.number);
+        changed.push_back(with_key(node, key));
+        count = count.saturating_add(1);
+    }
+    (changed, count)
+}
+
+// Takes the key's first node of this number from the queue, and tells whether the key has none left.
+fn take_numbered(queue: &mut Queue, number: usize, key: usize) -> Option<(Box<Node>, bool)>
+    ensures lists { (k : ℕ) → lists_of queue.new k
+        ≡ replaced (lists_of queue.old) key (without_first (has_number number) (lists_of queue.old key)) k }
+    ensures found { let waiters = lists_of queue.old key in
+        MatchOption result
+        ((find (has_number number) waiters ≡ None) × (queue.new ≡ queue.old))
+        (λ (node, last). (find (has_number number) waiters ≡ Some (fields node.value))
+        × (last ≡ not (has_any (without_first (has_number number) waiters)))) }
+{
+    let mut passed = Queue::new();
+    let found = take_numbered_and_look(queue, &mut passed, number, key);
+    passed.append(queue);
+    *queue = passed;
+    found
+}
+
+// Takes the key's first node of this number from the queue; those before it go behind `passed`. It
+// also tells whether no other node of the key was passed here or comes later.
+fn take_numbered_and_look(
+    queue: &mut Queue,
+    passed: &mut Queue,
+    number: usize,
+    key: usize,
+) -> Option<(Box<Node>, bool)>
+    ensures lists { (k : ℕ) → lists_of (passed.new ++ queue.new) k
+        ≡ replaced (lists_of (passed.old ++ queue.old)) key (lists_of passed.old key ++ without_first (has_number number) (lists_of queue.old key)) k }
+    ensures found { let waiters = lists_of queue.old key in
+        MatchOption result
+        ((find (has_number number) waiters ≡ None) × (passed.new ++ queue.new ≡ passed.old ++ queue.old))
+        (λ (node, last). (find (has_number number) waiters ≡ Some (fields node.value))
+        × (last ≡ not (has_any (without_first (has_number number) waiters)))) }
+{
+    let first = take_next(queue, passed, key)?;
+    if first.number == number {
+        let last = !pass_to_next(queue, passed, key);
+        return Some((first, last));
+    }
+    passed.push_back(first);
+    let node = take_next_numbered(queue, passed, number, key)?;
+    Some((node, false))
+}
+
+// Takes the key's first node of this number from the queue; those before it go behind `passed`.
+fn take_next_numbered(
+    queue: &mut Queue,
+    passed: &mut Queue,
+    number: usize,
+    key: usize,
+) -> Option<Box<Node>>
+    ensures nodes { passed.new ++ option_nodes result ++ queue.new ≡ passed.old ++ queue.old }
+    ensures left { lists_of (passed.new ++ queue.new) key
+        ≡ lists_of passed.old key ++ without_first (has_number number) (lists_of queue.old key) }
+    ensures key { IfSome result (λ node. (fields node.value).key ≡ key) }
+    ensures found { find (has_number number) (lists_of queue.old key) ≡ option_map (λ node. fields node.value) result }
+{
+    while let Some(node) = queue.pop_front() {
+        if node.key == key && node.number == number {
+            return Some(node);
+        }
+        passed.push_back(node);
+    }
+    None
+}
+
+// The node with another key.
+fn with_key(mut node: Box<Node>, key: usize) -> Box<Node>
+    ensures { fields result.value ≡ with_new_key key (fields node.value) }
+{
+    node.key = key;
+    node
+}
+
+// The node with the token that its thread is handed.
+fn with_unpark_token(mut node: Box<Node>, token: UnparkToken) -> Box<Node>
+    ensures { fields result.value ≡ with_token token (fields node.value) }
+{
+    node.unpark_token = token;
+    node
+}
+
+// The queue of the node, if there is one.
+fn queue_of(node: Option<Box<Node>>) -> Queue
+    ensures { result ≡ option_nodes node }
+{
+    let mut nodes = Queue::new();
+    if let Some(node) = node {
+        nodes.push_back(node);
+    }
+    nodes
+}
+
+// The numbers, and behind them that of the node if it waits on the key.
+fn with_waiter(
+    numbers: Result<Vec<usize>, NoMemory>,
+    node: &Node,
+    key: usize,
+) -> Result<Vec<usize>, NoMemory>
+    ensures refused { OnErr result (OnOk numbers ((fields node.now).key ≡ key)) }
+    ensures numbers { IfOk result (λ new. IsOkAnd numbers (λ old.
+        new.items ≡ old.items ++ map (λ waiter. waiter.number) (lists_of (fields node.now ∷ []) key))) }
+{
+    let mut numbers = numbers?;
+    if node.key == key {
+        numbers.push(node.number)?;
+    }
+    Ok(numbers)
 }

@@ -3,6 +3,7 @@
 #![tactic(auto)]
 
 pub mod bucket;
+pub mod laws;
 pub mod queue;
 pub mod thread_parker;
 pub mod token;

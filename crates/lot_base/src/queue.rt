@@ -100,12 +100,15 @@ impl Queue {
     }
 
     /// Puts the other queue's nodes behind this queue's, and leaves the other empty. It walks this
-    /// queue as `push_back` does, and visits no node of the other.
+    /// queue as `push_back` does, unless the other is empty, and visits no node of the other.
     pub fn append(&mut self, other: &mut Queue)
         ensures nodes { self.new ≡ self.old ++ other.old }
         ensures emptied { other.new ≡ [] }
     {
-        self.head = reversed_onto(reversed_onto(self.head.take(), None), other.head.take());
+        let Some(first) = other.head.take() else {
+            return;
+        };
+        self.head = reversed_onto(reversed_onto(self.head.take(), None), Some(first));
     }
 
     /// Takes the first node, or answers `None` exactly if the queue is empty.

@@ -1,5 +1,5 @@
 -- The threads of a lot, and what a commit does to them.
-use Rattle.std.proofs.Common.{◌≡◌, ◌≢◌, ℕ, ◌+◌, ◌-◌, ◌<◌, ◌≤◌, ◌==◌, Bool, true, false, IsTrue, List, [], ◌∷◌, ◌++◌, length, length-append, get_or, set, map, refl, sym, ap, ◌∙◌, subst, ⊎_elim, arith, get_or-set_same, get_or-set_other, slice_set}
+use Rattle.std.proofs.Common.{◌≡◌, ◌≢◌, ℕ, ◌+◌, ◌-◌, ◌<◌, ◌≤◌, IsTrue, List, [], ◌∷◌, ◌++◌, length, length-append, get_or, map, refl, sym, ap, ◌∙◌, ⊎_elim, arith, get_or-set_same, get_or-set_other, slice_set}
 use Rattle.std.proofs.Math.ListN.{length-set}
 use Rattle.std.proofs.lemmas.Bool.{cases_eq, cases_lt, eq-eqb, ne_eqb, false≢true}
 use Rattle.std.proofs.lemmas.List.{get_or_past, get_or_append_left, get_or-append_right}
@@ -7,7 +7,7 @@ use Rattle.lot_base.specs.NodeFields.{NodeFields}
 use Rattle.lot_base.specs.Waiting.{replaced, with_token}
 use Rattle.lot_base.specs.declared.token.UnparkToken.{UnparkToken}
 use Rattle.parking_lot_core.specs.declared.lot.Status.{Status}
-use Rattle.parking_lot_core.specs.declared.lot.Status.TheVariants.{Free, Running, Waiting, Late, Taken}
+use Rattle.parking_lot_core.specs.declared.lot.Status.TheVariants.{Free, Taken}
 use Rattle.parking_lot_core.specs.Committed.{taken_with, committed, CanCommit}
 use Rattle.parking_lot_core.specs.Lot.{thread_at, statuses, AreThreads}
 use Rattle.parking_lot_core.specs.LotState.{ThreadState}

@@ -1,26 +1,27 @@
 -- Each step of a lot is the machine's, and leaves a lot.
-use Rattle.std.proofs.Common.{◌≡◌, ◌≢◌, ℕ, ◌+◌, ◌<◌, ◌≤◌, ◌==◌, Bool, true, false, IsTrue, List, [], ◌∷◌, ◌++◌, length, length-append, map, filter, take, drop, All, refl, sym, ap, ◌∙◌, subst, ⊎_elim, arith, slice_set}
+use Rattle.std.proofs.Common.{◌≡◌, ◌≢◌, ℕ, ◌+◌, ◌<◌, ◌==◌, Bool, false, List, [], ◌∷◌, ◌++◌, length, length-append, map, filter, take, drop, All, refl, sym, ap, ◌∙◌, subst, arith, slice_set}
 use Rattle.std.proofs.Math.ListN.{length-set}
 use Rattle.std.proofs.lemmas.List.{map-append, set-set, set-get_or}
-use Rattle.std.proofs.lemmas.List.Elements.{All-nil, All-push, All-drop, All-filter, filter_passes, filter-append}
+use Rattle.std.proofs.lemmas.List.Elements.{All-nil, All-push, All-drop, All-filter, filter-append}
 use Rattle.lot_base.proofs.PlaceLemmas.{place_of-below}
+use Rattle.lot_base.proofs.SpreadLemmas.{lists_of-push}
 use Rattle.lot_base.proofs.WaitingLemmas.{All-after_taking}
 use Rattle.lot_base.specs.BucketState.{BucketState}
 use Rattle.lot_base.specs.NodeFields.{NodeFields}
 use Rattle.lot_base.specs.Place.{place_of}
-use Rattle.lot_base.specs.Waiting.{lists_of, replaced, split_first, with_token}
+use Rattle.lot_base.specs.Waiting.{lists_of, replaced, with_token}
 use Rattle.lot_base.specs.declared.token.ParkToken.{ParkToken}
 use Rattle.lot_base.specs.declared.token.UnparkToken.{UnparkToken}
 use Rattle.parking_lot_core.specs.declared.lot.Status.{Status}
-use Rattle.parking_lot_core.specs.declared.lot.Status.TheVariants.{Free, Running, Waiting, Late, Taken}
+use Rattle.parking_lot_core.specs.declared.lot.Status.TheVariants.{Free, Running, Waiting}
 use Rattle.parking_lot_core.specs.Committed.{with_status, committed, CanCommit}
-use Rattle.parking_lot_core.specs.Lot.{thread_at, statuses, machine, IsRow, AreThreads, IsLot}
+use Rattle.parking_lot_core.specs.Lot.{thread_at, statuses, machine, IsRow, IsLot}
 use Rattle.parking_lot_core.specs.LotState.{LotState, ThreadState}
-use Rattle.parking_lot_core.specs.Machine.{Waiter, Machine, IsConsistent, IsLeastFree, IsFull, new_machine, is_queued, is_taken, times_in, all_taken, entered, registered, returned, unparked_one}
-use Rattle.parking_lot_core.specs.Represents.{bucket_at, with_node, waiter_of, waiters_in, Represents}
+use Rattle.parking_lot_core.specs.Machine.{Waiter, Machine, IsConsistent, IsLeastFree, IsFull, new_machine, is_queued, times_in, all_taken, entered, registered, unparked_one}
+use Rattle.parking_lot_core.specs.Represents.{bucket_at, with_node, waiter_of, waiters_in}
 use Rattle.parking_lot_core.proofs.CommitLemmas.{statuses-set, AreThreads-set, statuses-past, below_from_status, length-committed, AreThreads-committed, statuses-committed, CanCommit-standing, statuses-push, AreThreads-push}
 use Rattle.parking_lot_core.proofs.MachineLemmas.{same_machine, times_in-standing, is_queued-standing, IsConsistent-status, IsConsistent-entered, IsConsistent-unparked}
-use Rattle.parking_lot_core.proofs.RowLemmas.{IsTableSize-16, IsRow-set, waiters_in-set, Represents-set, lists_of-push}
+use Rattle.parking_lot_core.proofs.RowLemmas.{IsTableSize-16, IsRow-set, waiters_in-set, Represents-set}
 
 -- the bucket of a key, and the lot with another one in its place
 abbrev pub bucket_of : LotState → ℕ → BucketState

@@ -1,13 +1,13 @@
 -- The machine's states: their lists, their statuses, and that the rules keep them consistent.
-use Rattle.std.proofs.Common.{◌≡◌, ◌≢◌, ℕ, ◌+◌, ◌<◌, ◌≤◌, ◌==◌, zero, suc, Bool, true, false, cond, if◌then◌else◌, MatchBool, IsTrue, List, [], ◌∷◌, ◌++◌, length, filter, take, drop, length-append, refl, sym, ap, ◌∙◌, subst, ⊎_elim, ◌⊎◌, inl, inr, arith}
-use Rattle.std.proofs.lemmas.Bool.{cases_eq, cases_Bool, eq-eqb, ne_eqb, eqb-true, MatchBool-at_true, MatchBool-at_false, true≢false, false≢true, cond-true, cond-false}
+use Rattle.std.proofs.Common.{◌≡◌, ◌≢◌, ℕ, ◌+◌, ◌<◌, ◌==◌, Bool, true, false, MatchBool, IsTrue, List, [], ◌∷◌, ◌++◌, length, filter, length-append, refl, sym, ap, ◌∙◌, subst, ⊎_elim, ◌⊎◌, inl, inr, arith}
+use Rattle.std.proofs.lemmas.Bool.{cases_eq, cases_Bool, eq-eqb, ne_eqb, MatchBool-at_true, MatchBool-at_false, true≢false, false≢true, cond-true, cond-false}
 use Rattle.std.proofs.lemmas.List.Elements.{filter-append}
 use Rattle.lot_base.specs.declared.token.ParkToken.{ParkToken}
 use Rattle.lot_base.specs.declared.token.UnparkToken.{UnparkToken}
 use Rattle.lot_base.specs.Waiting.{replaced}
 use Rattle.parking_lot_core.specs.declared.lot.Status.{Status}
-use Rattle.parking_lot_core.specs.declared.lot.Status.TheVariants.{Free, Running, Waiting, Late, Taken}
-use Rattle.parking_lot_core.specs.Machine.{Waiter, Machine, StandsOnce, IsConsistent, is_queued, times_in, all_taken, entered, registered, returned, unparked_one}
+use Rattle.parking_lot_core.specs.declared.lot.Status.TheVariants.{Running, Waiting, Taken}
+use Rattle.parking_lot_core.specs.Machine.{Waiter, Machine, StandsOnce, IsConsistent, is_queued, times_in, all_taken, entered}
 
 pub replaced-same : {A : Type 0} (all : ℕ → A) (key : ℕ) (one : A) (k : ℕ) → k ≡ key → replaced all key one k ≡ one
 replaced-same all key one k same = cond-true (k == key) one (all k) (eq-eqb k key same)

@@ -1,16 +1,13 @@
 -- A row of buckets, and the lists that it represents.
-use Rattle.std.proofs.Common.{◌≡◌, ◌≢◌, ℕ, ◌+◌, ◌-◌, ◌<◌, ◌≤◌, ◌==◌, Bool, true, false, cond, if◌then◌else◌, List, [], ◌∷◌, ◌++◌, length, length-append, get_or, set, map, filter, take, drop, All, refl, sym, ap, ◌∙◌, subst, ⊎_elim, arith, get_or-set_same, get_or-set_other, slice_index_or, slice_set}
+use Rattle.std.proofs.Common.{◌≡◌, ◌≢◌, ℕ, ◌+◌, ◌-◌, ◌<◌, ◌≤◌, List, [], ◌∷◌, ◌++◌, length, length-append, get_or, map, All, refl, sym, ap, ◌∙◌, subst, ⊎_elim, arith, get_or-set_same, get_or-set_other, slice_set}
 use Rattle.std.proofs.Math.ListN.{length-set}
-use Rattle.std.proofs.lemmas.Bool.{cases_eq, cases_lt, eq-eqb, ne_eqb}
-use Rattle.std.proofs.lemmas.List.{map-append, append-nil, get_or_past, get_or_append_left, get_or-append_right}
-use Rattle.std.proofs.lemmas.List.Elements.{All-push, All-drop, All-filter, filter-append}
-use Rattle.lot_base.proofs.WaitingLemmas.{All-after_taking}
+use Rattle.std.proofs.lemmas.Bool.{cases_eq, cases_lt}
+use Rattle.std.proofs.lemmas.List.{get_or_past, get_or_append_left, get_or-append_right}
 use Rattle.lot_base.specs.BucketState.{BucketState}
 use Rattle.lot_base.specs.NodeFields.{NodeFields}
 use Rattle.lot_base.specs.Place.{IsTableSize, place_of}
-use Rattle.lot_base.specs.Waiting.{lists_of, replaced, Split, split_first}
+use Rattle.lot_base.specs.Waiting.{lists_of, replaced}
 use Rattle.parking_lot_core.specs.Lot.{IsRow}
-use Rattle.parking_lot_core.specs.Machine.{Waiter}
 use Rattle.parking_lot_core.specs.Represents.{bucket_at, waiter_of, waiters_in, Represents}
 use Rattle.parking_lot_core.proofs.MachineLemmas.{replaced-same, replaced-other}
 
@@ -53,12 +50,6 @@ Represents-set row place bucket below nodes represents = record {
   in_place = λ i low. subst (λ size. All (λ node. place_of node.key size ≡ i) (bucket_at (slice_set row place bucket) i).nodes) (sym (length-set row place bucket)) (⊎_elim (λ (same : i ≡ place). subst (λ p. All (λ node. place_of node.key (length row) ≡ p) (bucket_at (slice_set row place bucket) p).nodes) (sym same) (subst (λ b. All (λ node. place_of node.key (length row) ≡ place) b.nodes) (sym (bucket_at-set_same row place bucket below)) nodes)) (λ (other : i ≢ place). subst (λ b. All (λ node. place_of node.key (length row) ≡ i) b.nodes) (sym (bucket_at-set_other row place bucket i other)) (represents.in_place i (omega (arith, length-set row place bucket)))) (cases_eq i place));
   in_order = λ key. refl;
 }
-
--- a node that enters last stands last in the list of its key
-pub lists_of-push : (nodes : List NodeFields) (node : NodeFields) (k : ℕ) → lists_of (nodes ++ node ∷ []) k ≡ replaced (lists_of nodes) node.key (lists_of nodes node.key ++ node ∷ []) k
-lists_of-push nodes node k =
-    filter-append (λ other. other.key == k) nodes (node ∷ [])
-    ∙ ⊎_elim (λ (same : k ≡ node.key). (let e = eq-eqb node.key k (sym same) in rw e refl) ∙ ap (λ q. lists_of nodes q ++ node ∷ []) same ∙ sym (replaced-same (lists_of nodes) node.key (lists_of nodes node.key ++ node ∷ []) k same)) (λ (other : k ≢ node.key). (let e = ne_eqb node.key k (λ same. other (sym same)) in rw e (append-nil (lists_of nodes k))) ∙ sym (replaced-other (lists_of nodes) node.key (lists_of nodes node.key ++ node ∷ []) k other)) (cases_eq k node.key)
 
 -- the first n buckets of a new row
 pub record IsNewRow (row : List BucketState) (n : ℕ) : Type 0 where

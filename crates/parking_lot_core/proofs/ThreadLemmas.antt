@@ -1,7 +1,6 @@
 -- Where the node of a thread is.
-use Rattle.std.proofs.Common.{◌≡◌, Bool, true, false, IsTrue, [], ◌∷◌, ◌++◌, refl, sym, ap, ◌∙◌}
+use Rattle.std.proofs.Common.{◌≡◌, IsTrue, [], ◌∷◌, ◌++◌, sym, ap, ◌∙◌}
 use Rattle.std.proofs.lemmas.Bool.{false≢true}
-use Rattle.lot_base.specs.Node.{fields}
 use Rattle.lot_base.specs.NodeFields.{NodeFields}
 use Rattle.lot_base.specs.SlotState.{SlotState}
 use Rattle.lot_base.specs.declared.token.UnparkToken.{UnparkToken}

@@ -1,9 +1,7 @@
 use Rattle.std.proofs.Common.{◌≡◌, ◌≢◌, ◌∙◌, sym, ap, refl, get_or, slice_set}
 use Rattle.std.proofs.lemmas.List.{get_or-set_same}
 use Rattle.lot_base.specs.Node.{fields}
-use Rattle.lot_base.specs.NodeFields.{NodeFields}
-use Rattle.parking_lot_core.specs.Committed.{with_status}
-use Rattle.parking_lot_core.specs.Lot.{machine, statuses}
+use Rattle.parking_lot_core.specs.Lot.{machine}
 use Rattle.parking_lot_core.specs.LotState.{LotState, ThreadState}
 use Rattle.parking_lot_core.specs.Machine.{entered}
 use Rattle.parking_lot_core.specs.declared.lot.Lot.TheInside.{Inside}

@@ -1,6 +1,6 @@
 use Rattle.std.proofs.Common.{◌≡◌, ◌≢◌, ◌∙◌, sym, ap, refl, slice_set}
 use Rattle.parking_lot_core.specs.Lot.{thread_at, machine}
-use Rattle.parking_lot_core.specs.LotState.{LotState, ThreadState}
+use Rattle.parking_lot_core.specs.LotState.{LotState}
 use Rattle.parking_lot_core.specs.Machine.{is_queued, returned}
 use Rattle.parking_lot_core.specs.declared.lot.Lot.TheInside.{Inside}
 use Rattle.parking_lot_core.specs.declared.lot.Status.TheVariants.{Free, Running, Taken}

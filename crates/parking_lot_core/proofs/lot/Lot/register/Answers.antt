@@ -3,8 +3,8 @@ use Rattle.parking_lot_core.proofs.LotLemmas.{IsStep, IsStep-registered, IsLeast
 use Rattle.parking_lot_core.proofs.lot.Lot.register.Goals as goal
 use Rattle.parking_lot_core.proofs.lot.Lot.register.Goals.{In_ok-push}
 use Rattle.parking_lot_core.specs.Lot.{machine}
-use Rattle.parking_lot_core.specs.LotState.{LotState, ThreadState}
-use Rattle.parking_lot_core.specs.Machine.{IsLeastFree, IsFull, registered}
+use Rattle.parking_lot_core.specs.LotState.{LotState}
+use Rattle.parking_lot_core.specs.Machine.{IsFull, registered}
 use Rattle.parking_lot_core.specs.declared.lot.Lot.TheInside.{Inside}
 use Rattle.parking_lot_core.specs.declared.lot.Status.TheVariants.{Running}
 

@@ -1,0 +1,5 @@
+use Rattle.lot_base.proofs.LawLemmas.{split_filter-unpark_each, split_filter-unpark_stop}
+use Rattle.lot_base.proofs.laws.filter_covers_unparks.Goals as goal
+
+pub returns : goal.returns
+returns c = record { all = split_filter-unpark_each; first = split_filter-unpark_stop }
