@@ -16,9 +16,10 @@ use std::marker::Model;
 
 const MULTIPLIER: usize = 0x9E37_79B9_7F4A_7C15;
 
-/// The place of a key in a table of `size` buckets, which is below `size`.
+/// The place of a key in a table of `size` buckets, which is below `size`. The size is a power of
+/// two from 16 to 65,536.
 ///
-/// Upstream calls it `hash` and passes the number of bits.
+/// Upstream calls it `hash`, and passes the number of bits.
 pub fn place(key: usize, size: usize) -> usize
     requires { IsTableSize size }
     ensures value { result ≡ place_of key size }
@@ -27,7 +28,13 @@ pub fn place(key: usize, size: usize) -> usize
     key.wrapping_mul(MULTIPLIER) >> (64 - size.ilog2())
 }
 
-/// A bucket of a table: a queue of nodes whose keys all have the bucket's place.
+/// A bucket of a table: a queue of nodes whose keys all have the bucket's place. The list of a key
+/// is the bucket's nodes of that key, in order.
+///
+/// Upstream has a lock in it. Here a lock is put round it, and whoever has it borrowed for writing
+/// does the steps. No step but `list` allocates, and no other can be refused. A step that looks for
+/// waiters takes the nodes that it passes off the queue and puts them back, each by one
+/// `push_back`, in the order in which they stood.
 #[derive(Drop)]
 pub struct Bucket {
     place: usize,
@@ -48,6 +55,10 @@ impl Model for Bucket {
 }
 
 impl Bucket {
+    /// An empty bucket for a place of a table of `size` buckets. The size is a power of two from 16
+    /// to 65,536, and the place is below it.
+    ///
+    /// Upstream's takes nothing, since its buckets do not know their place.
     pub fn new(place: usize, size: usize) -> Bucket
         requires size { IsTableSize size }
         requires place { place < size }
@@ -60,18 +71,28 @@ impl Bucket {
         }
     }
 
+    /// The bucket's place in its table.
     pub fn place(&self) -> usize
         ensures { result ≡ self.now.place }
     {
         self.place
     }
 
+    /// How many buckets its table has.
     pub fn size(&self) -> usize
         ensures { result ≡ self.now.size }
     {
         self.size
     }
 
+    /// Puts the node last, if `validate` answers true; its key has this bucket's place. `validate` is
+    /// called once.
+    ///
+    /// It is one `push_back`. Upstream's `park` queues a thread so.
+    ///
+    /// # Errors
+    ///
+    /// The node itself, if `validate` answers false. Nothing changed then.
     pub fn enter<V: FnOnce() -> bool>(
         &mut self,
         node: Box<Node>,
@@ -92,6 +113,16 @@ impl Bucket {
         Ok(())
     }
 
+    /// Takes the first waiter of the key, and writes the token that `callback` answers into it.
+    ///
+    /// `callback` is called once, with the result that is answered too: `(1, 0, more)`, where `more`
+    /// says whether the key has another waiter, or `(0, 0, false)` where nobody waits. What it
+    /// answers then is ignored.
+    ///
+    /// It visits the nodes before the first waiter of the key and those up to the next one, and no
+    /// more. It moves boxes and allocates nothing.
+    ///
+    /// Upstream calls it `unpark_one`.
     pub fn take_one<F: FnOnce(UnparkResult) -> UnparkToken>(
         &mut self,
         key: usize,
@@ -121,8 +152,8 @@ impl Bucket {
     /// Takes every waiter of the key, in order, writes the token into each, and answers how many
     /// there were. A count that no `usize` can hold is `usize::MAX`.
     ///
-    /// Each node of the bucket is taken once and put last into one of two queues. It moves boxes
-    /// and allocates nothing.
+    /// Each node of the bucket is visited once, and each one taken once more. It moves boxes and
+    /// allocates nothing.
     ///
     /// Upstream calls it `unpark_all`.
     pub fn take_all(&mut self, key: usize, token: UnparkToken) -> (usize, Queue)
@@ -314,7 +345,7 @@ impl Bucket {
     }
 
     /// The numbers of the threads that wait on the key, in order. It visits each node of the
-    /// bucket once. No other call of a bucket allocates.
+    /// bucket once, and asks for memory for the list alone.
     ///
     /// # Errors
     ///

@@ -8,7 +8,10 @@ use crate::token::{DEFAULT_PARK_TOKEN, DEFAULT_UNPARK_TOKEN, NoMemory, ParkToken
 use std::alloc::Global;
 use std::marker::Model;
 
-/// The node of a registered thread. Whoever holds the box may write its fields.
+/// The node of a registered thread, which stands in a queue while the thread waits. Whoever holds
+/// the box may write its fields.
+///
+/// It has what upstream keeps in its `ThreadData` and the state within it.
 #[derive(Drop)]
 pub struct Node {
     /// The number of the thread.
@@ -66,7 +69,10 @@ impl Node {
     }
 }
 
-/// A queue of nodes, first in, first out. No call allocates and none can be refused.
+/// A queue of nodes, first in, first out: a chain of the nodes themselves. No call allocates and
+/// none can be refused. A queue that is dropped frees its nodes one after another, however many.
+///
+/// Upstream keeps such chains inside its buckets.
 pub struct Queue {
     head: Link,
 }
@@ -83,14 +89,14 @@ impl Model for Queue {
 }
 
 impl Queue {
-    /// The empty queue.
+    /// The empty queue. It asks for no memory.
     pub fn new() -> Queue
         ensures { result ≡ [] }
     {
         Queue { head: None }
     }
 
-    /// Puts the node last. It walks the queue from its head: two visits to each node.
+    /// Puts the node last. It walks the queue from its head: two visits to each node of it.
     pub fn push_back(&mut self, node: Box<Node>)
         ensures { self.new ≡ self.old ++ fields node.value ∷ [] }
     {
@@ -111,7 +117,7 @@ impl Queue {
         self.head = reversed_onto(reversed_onto(self.head.take(), None), Some(first));
     }
 
-    /// Takes the first node, or answers `None` exactly if the queue is empty.
+    /// Takes the first node, or answers `None` exactly if the queue is empty. It visits one node.
     pub fn pop_front(&mut self) -> Option<Box<Node>>
         ensures nodes { self.old ≡ option_nodes result ++ self.new }
         ensures none { IsNone result ↔ (self.old ≡ []) }

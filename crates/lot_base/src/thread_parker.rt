@@ -6,7 +6,10 @@ ghost use Rattle.lot_base.specs.Node.{fields, option_nodes};
 use crate::queue::{Node, Queue};
 use std::marker::Model;
 
-/// Where a thread finds its node when it was unparked. All nodes in it have the owner's number.
+/// Where a thread finds its node when it was unparked. All nodes in it have the owner's number. No
+/// call allocates and none can be refused.
+///
+/// Upstream's parkers have a flag in its place, which is set where the slot is empty.
 #[derive(Drop)]
 pub struct Slot {
     owner: usize,
@@ -50,7 +53,7 @@ impl Slot {
         self.nodes.push_back(node);
     }
 
-    /// Takes the first node, or answers `None` exactly if the slot is empty.
+    /// Takes the first node, or answers `None` exactly if the slot is empty. It visits one node.
     pub fn take(&mut self) -> Option<Box<Node>>
         ensures owner { self.new.owner ≡ self.old.owner }
         ensures nodes { self.old.nodes ≡ option_nodes result ++ self.new.nodes }

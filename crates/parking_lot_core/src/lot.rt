@@ -1,4 +1,4 @@
-//! The exclusive lot: every step of parking on a lot that is borrowed for writing.
+//! The exclusive lot: the steps of parking on a lot that is borrowed for writing.
 
 ghost use Rattle.std.specs.Prelude.{◌≡◌, ◌≢◌, ◌↔◌, ◌<◌, ◌∷◌, [], IsTrue, IsOk, IsErr, IsErrOf, IfOk, IfErr, OnOk, OnErr, MatchOption, map, is_some, is_ok, if◌then◌else◌};
 ghost use Rattle.lot_base.specs.Node.{fields};
@@ -16,7 +16,8 @@ use std::alloc::Global;
 use std::marker::Model;
 use std::mem;
 
-/// The greatest number of threads that a lot can be made for.
+/// The greatest number of threads that a lot can be made for: its table has 16 buckets, three for
+/// each thread, and does not grow.
 pub const MAX_THREADS: usize = 5;
 
 const BUCKETS: usize = 16;
@@ -43,6 +44,7 @@ pub enum Status {
     Taken(UnparkToken),
 }
 
+// What a registered thread is doing, with its node while that is with the thread.
 #[derive(Drop)]
 enum State {
     Running(Box<Node>),
@@ -189,7 +191,15 @@ fn commit(threads: &mut Vec<Thread>, taken: Queue)
     }
 }
 
-/// A lot for one caller at a time: who borrows it for writing does every step himself.
+/// A parking lot for one caller at a time, who takes every step of every thread: for schedulers,
+/// simulators and the proofs of threaded lots.
+///
+/// Threads go by their numbers. What each step does is told by the machine that the lot stands for,
+/// which has one list of waiters for each key. A step that does not fit the status of its thread
+/// answers `Misfit`, changes nothing and calls no closure. Only `new`, `register` and `list` ask
+/// for memory. No call takes a lock.
+///
+/// Upstream has no such type. Its `park` is `enter`, and after the sleep `give_back`.
 #[derive(Drop)]
 pub struct Lot {
     buckets: Vec<Bucket>,
@@ -210,6 +220,12 @@ impl Model for Lot {
 }
 
 impl Lot {
+    /// A lot for at most this many threads, none of which is registered.
+    ///
+    /// # Errors
+    ///
+    /// `TooManyThreads` exactly if there are more than `MAX_THREADS`, and else `NoMemory` if memory
+    /// for the buckets cannot be had. Nothing was made then.
     pub fn new(alloc: Global, max_threads: usize) -> Result<Lot, LotError>
         ensures too_many { IsErrOf result LotError.TooManyThreads ↔ (MAX_THREADS < max_threads) }
         ensures not_full { result ≢ Err LotError.Full }
@@ -229,6 +245,15 @@ impl Lot {
         })
     }
 
+    /// Registers a thread under the least free number; it is running then. This is the one request
+    /// for memory on behalf of a thread: its node, and its place among the threads.
+    ///
+    /// It looks at no thread. Upstream's `park` does it at a thread's first use.
+    ///
+    /// # Errors
+    ///
+    /// `Full` exactly if the greatest number of threads is registered, which is tested first, and
+    /// else `NoMemory` if memory cannot be had. Nothing changed then.
     pub fn register(&mut self) -> Result<usize, LotError>
         ensures full { IsErrOf result LotError.Full ↔ IsFull (machine self.old) }
         ensures not_too_many { result ≢ Err LotError.TooManyThreads }
@@ -245,6 +270,15 @@ impl Lot {
         Ok(number)
     }
 
+    /// Puts a running thread last in the list of the key, if `validate` answers true: the first half
+    /// of upstream's `park`. Answers what `validate` answered; it is called once.
+    ///
+    /// The park token is what a filter sees of the thread, and `timed` says that its deadline may
+    /// pass. It is one `Bucket::enter`, and allocates nothing.
+    ///
+    /// # Errors
+    ///
+    /// `Misfit` exactly if the thread is not running. Nothing changed then, and nothing was called.
     pub fn enter<V: FnOnce() -> bool>(
         &mut self,
         number: usize,
@@ -272,6 +306,13 @@ impl Lot {
         }
     }
 
+    /// Takes the first waiter of the key and hands its thread the token that `callback` answers.
+    ///
+    /// `callback` is called once, with the result that is answered too: `(1, 0, more)`, where `more`
+    /// says whether the key has another waiter, or `(0, 0, false)` where nobody waits. What it
+    /// answers then is ignored.
+    ///
+    /// It is one `Bucket::take_one`, and allocates nothing. Upstream has it under this name.
     pub fn unpark_one<F: FnOnce(UnparkResult) -> UnparkToken>(
         &mut self,
         key: usize,
@@ -288,6 +329,12 @@ impl Lot {
         result
     }
 
+    /// Gives a thread that was taken its token, and lets it run again: the second half of upstream's
+    /// `park` of a thread that was unparked. It allocates nothing.
+    ///
+    /// # Errors
+    ///
+    /// `Misfit` exactly if the thread was not taken. Nothing changed then.
     pub fn give_back(&mut self, number: usize) -> Result<UnparkToken, Misfit>
         ensures fits { IsOk result ↔ IsTrue (is_taken ((machine self.old).status number)) }
         ensures ok { IfOk result (λ token. ((machine self.old).status number ≡ Status.Taken token)
@@ -301,6 +348,11 @@ impl Lot {
         Ok(token)
     }
 
+    /// The numbers of the threads that wait on the key, in order. It is one `Bucket::list`.
+    ///
+    /// # Errors
+    ///
+    /// `NoMemory` if memory for the list cannot be had. The empty list needs none.
     pub fn list(&self, key: usize) -> Result<Vec<usize>, NoMemory>
         ensures refused { OnErr result (IsTrue (has_any ((machine self.now).lists key))) }
         ensures numbers { IfOk result (λ numbers. numbers.items
@@ -310,6 +362,7 @@ impl Lot {
         self.buckets[place(key, BUCKETS)].list(alloc, key)
     }
 
+    /// What the number is doing. One that was never registered is `Free`.
     pub fn status(&self, number: usize) -> Status
         ensures { result ≡ (machine self.now).status number }
     {
@@ -318,3 +371,6 @@ impl Lot {
             .map_or(Status::Free, |thread| thread.status())
     }
 }
+
+#[cfg(test)]
+mod tests;

@@ -1,0 +1,167 @@
+use super::*;
+use lot_base::token::DEFAULT_PARK_TOKEN;
+use std::process::Abort;
+use std::test::Fail;
+
+const TOKEN: UnparkToken = UnparkToken(42);
+
+// A lot for five threads, the first `count` of which are registered.
+fn lot_with(alloc: Global, count: usize) -> Result<Lot, LotError> {
+    let mut lot = Lot::new(alloc, MAX_THREADS)?;
+    for _ in 0..count {
+        lot.register()?;
+    }
+    Ok(lot)
+}
+
+fn enter(rt: &impl Abort, lot: &mut Lot, number: usize, key: usize) {
+    let entered = lot.enter(number, key, || true, DEFAULT_PARK_TOKEN, false);
+    assert_eq!(rt; entered, Ok(true), "{number} on {key}");
+}
+
+fn expect_list(rt: &impl Abort, lot: &Lot, key: usize, numbers: &[usize]) -> Result<(), NoMemory> {
+    assert_eq!(rt; lot.list(key)?.as_slice(), numbers, "key {key}");
+    Ok(())
+}
+
+#[test]
+fn five_threads_register_by_number_and_the_sixth_is_refused(rt: HostRuntime) -> Result<(), Fail> {
+    let mut lot = Lot::new(rt.alloc(), 5)?;
+    for number in 0..5 {
+        assert_eq!(rt; lot.register()?, number);
+        assert_eq!(rt; lot.status(number), Status::Running);
+    }
+    assert_eq!(rt; lot.register(), Err(LotError::Full));
+    assert_eq!(rt; lot.status(5), Status::Free);
+    Ok(())
+}
+
+#[test]
+fn a_lot_for_six_threads_is_too_large(rt: HostRuntime) {
+    assert_eq!(rt;
+        Lot::new(rt.alloc(), 6).err(),
+        Some(LotError::TooManyThreads)
+    );
+}
+
+#[test]
+fn a_lot_for_nobody_is_full(rt: HostRuntime) -> Result<(), Fail> {
+    let mut lot = Lot::new(rt.alloc(), 0)?;
+    assert_eq!(rt; lot.register(), Err(LotError::Full));
+    let result = lot.unpark_one(7, |_| TOKEN);
+    assert_eq!(rt; result, UnparkResult::default());
+    Ok(())
+}
+
+#[test]
+fn a_parked_thread_gets_the_token_of_its_unpark(rt: HostRuntime) -> Result<(), Fail> {
+    let mut lot = lot_with(rt.alloc(), 1)?;
+    enter(&rt, &mut lot, 0, 7);
+    assert_eq!(rt; lot.status(0), Status::Waiting { timed: false });
+    let result = lot.unpark_one(7, |_| TOKEN);
+    assert_eq!(rt;
+        result,
+        UnparkResult {
+            unparked_threads: 1,
+            requeued_threads: 0,
+            have_more_threads: false
+        }
+    );
+    assert_eq!(rt; lot.status(0), Status::Taken(TOKEN));
+    assert_eq!(rt; lot.give_back(0), Ok(TOKEN));
+    assert_eq!(rt; lot.status(0), Status::Running);
+    expect_list(&rt, &lot, 7, &[])?;
+    Ok(())
+}
+
+#[test]
+fn a_bucket_that_is_not_empty_may_have_no_waiter_of_the_key(rt: HostRuntime) -> Result<(), Fail> {
+    let mut lot = lot_with(rt.alloc(), 2)?;
+    enter(&rt, &mut lot, 0, 0);
+    enter(&rt, &mut lot, 1, 13);
+    let result = lot.unpark_one(0, |_| TOKEN);
+    assert_eq!(rt;
+        result,
+        UnparkResult {
+            unparked_threads: 1,
+            requeued_threads: 0,
+            have_more_threads: false
+        }
+    );
+    expect_list(&rt, &lot, 0, &[])?;
+    expect_list(&rt, &lot, 13, &[1])?;
+    Ok(())
+}
+
+#[test]
+fn waiters_of_a_key_are_taken_in_order(rt: HostRuntime) -> Result<(), Fail> {
+    let mut lot = lot_with(rt.alloc(), 3)?;
+    for number in [2, 0, 1] {
+        enter(&rt, &mut lot, number, 7);
+    }
+    expect_list(&rt, &lot, 7, &[2, 0, 1])?;
+    let result = lot.unpark_one(7, |_| TOKEN);
+    assert_eq!(rt;
+        result,
+        UnparkResult {
+            unparked_threads: 1,
+            requeued_threads: 0,
+            have_more_threads: true
+        }
+    );
+    assert_eq!(rt; lot.status(2), Status::Taken(TOKEN));
+    expect_list(&rt, &lot, 7, &[0, 1])?;
+    Ok(())
+}
+
+#[test]
+fn an_entry_that_is_not_valid_changes_nothing(rt: HostRuntime) -> Result<(), Fail> {
+    let mut lot = lot_with(rt.alloc(), 1)?;
+    let entered = lot.enter(0, 7, || false, DEFAULT_PARK_TOKEN, true);
+    assert_eq!(rt; entered, Ok(false));
+    assert_eq!(rt; lot.status(0), Status::Running);
+    expect_list(&rt, &lot, 7, &[])?;
+    Ok(())
+}
+
+#[test]
+fn a_step_that_does_not_fit_calls_no_closure(rt: HostRuntime) -> Result<(), Fail> {
+    let mut lot = lot_with(rt.alloc(), 1)?;
+    assert_eq!(rt; lot.give_back(0), Err(Misfit));
+    assert_eq!(rt; lot.give_back(1), Err(Misfit));
+    enter(&rt, &mut lot, 0, 7);
+    let mut called = false;
+    let entered = lot.enter(
+        0,
+        7,
+        || {
+            called = true;
+            true
+        },
+        DEFAULT_PARK_TOKEN,
+        false,
+    );
+    assert_eq!(rt; entered, Err(Misfit));
+    assert!(rt; !called);
+    expect_list(&rt, &lot, 7, &[0])?;
+    Ok(())
+}
+
+// Run with each request for memory refused in turn, a registration or a list that is refused
+// leaves all as it was.
+#[test]
+fn a_refused_request_for_memory_changes_nothing(rt: HostRuntime) {
+    let Ok(mut lot) = Lot::new(rt.alloc(), 2) else {
+        return;
+    };
+    let refused = lot.register().is_err();
+    assert_eq!(rt; lot.status(0) == Status::Free, refused);
+    if refused {
+        assert_eq!(rt; lot.register(), Ok(0));
+    }
+    enter(&rt, &mut lot, 0, 7);
+    let first = lot.list(7).is_err();
+    let second = lot.list(7).is_err();
+    assert!(rt; !(first && second));
+    assert_eq!(rt; lot.status(0), Status::Waiting { timed: false });
+}
