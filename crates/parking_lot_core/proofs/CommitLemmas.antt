@@ -7,7 +7,7 @@ use Rattle.lot_base.specs.NodeFields.{NodeFields}
 use Rattle.lot_base.specs.Waiting.{replaced, with_token}
 use Rattle.lot_base.specs.declared.token.UnparkToken.{UnparkToken}
 use Rattle.parking_lot_core.specs.declared.lot.Status.{Status}
-use Rattle.parking_lot_core.specs.declared.lot.Status.TheVariants.{Free, Taken}
+use Rattle.parking_lot_core.specs.declared.lot.Status.TheVariants.{Free, Running, Taken}
 use Rattle.parking_lot_core.specs.Committed.{taken_with, committed, CanCommit}
 use Rattle.parking_lot_core.specs.Lot.{thread_at, statuses, AreThreads}
 use Rattle.parking_lot_core.specs.LotState.{ThreadState}
@@ -46,8 +46,11 @@ below_from_status threads j status = ⊎_elim (λ (low : j < length threads). lo
 pub ne-free-queued : (status : Status) → IsTrue (is_queued status) → status ≢ Free
 ne-free-queued status queued free = false≢true (ap is_queued (sym free) ∙ queued)
 
-taken-ne-free : (token : UnparkToken) → Taken token ≢ Free
-taken-ne-free token = λ same. cc
+pub ne-free-running : Running ≢ Free
+ne-free-running same = cc
+
+ne-free-taken : (token : UnparkToken) → Taken token ≢ Free
+ne-free-taken token = λ same. cc
 
 pub length-committed : (nodes : List NodeFields) (threads : List ThreadState) → length (committed nodes threads) ≡ length threads
 length-committed [] threads = refl
@@ -56,7 +59,7 @@ length-committed (node ∷ nodes) threads = length-committed nodes (taken_with n
 pub AreThreads-committed : (nodes : List NodeFields) (threads : List ThreadState) → CanCommit nodes threads → AreThreads threads → AreThreads (committed nodes threads)
 AreThreads-committed [] threads can are = are
 AreThreads-committed (node ∷ nodes) threads can are =
-    AreThreads-committed nodes (taken_with node threads) can.3 (AreThreads-set threads node.number _ can.0 refl (taken-ne-free node.unpark_token) are)
+    AreThreads-committed nodes (taken_with node threads) can.3 (AreThreads-set threads node.number _ can.0 refl (ne-free-taken node.unpark_token) are)
 
 -- the committed threads are those of the waiters, and they have the token
 pub statuses-committed : (token : UnparkToken) (nodes : List NodeFields) (threads : List ThreadState) → CanCommit (map (with_token token) nodes) threads → (j : ℕ) → statuses (committed (map (with_token token) nodes) threads) j ≡ all_taken token (map waiter_of nodes) (statuses threads) j
@@ -69,7 +72,7 @@ statuses-committed token (node ∷ nodes) threads can j =
 pub CanCommit-standing : (token : UnparkToken) (nodes : List NodeFields) (threads : List ThreadState) → AreThreads threads → ((j : ℕ) → 0 < times_in j (map waiter_of nodes) → (times_in j (map waiter_of nodes) ≡ 1) × IsTrue (is_queued (statuses threads j))) → CanCommit (map (with_token token) nodes) threads
 CanCommit-standing token [] threads are stand = tt
 CanCommit-standing token (node ∷ nodes) threads are stand =
-    (below, are.numbers node.number, own.1, CanCommit-standing token nodes (taken_with (with_token token node) threads) (AreThreads-set threads node.number _ below refl (taken-ne-free token) are) behind)
+    (below, are.numbers node.number, own.1, CanCommit-standing token nodes (taken_with (with_token token node) threads) (AreThreads-set threads node.number _ below refl (ne-free-taken token) are) behind)
   where
     counted : times_in node.number (map waiter_of (node ∷ nodes)) ≡ 1 + times_in node.number (map waiter_of nodes)
     counted = let e = eq-eqb node.number node.number refl in rw e (omega arith)

@@ -12,6 +12,7 @@ use Rattle.lot_base.specs.Place.{place_of}
 use Rattle.lot_base.specs.Waiting.{lists_of, replaced, with_token}
 use Rattle.lot_base.specs.declared.token.ParkToken.{ParkToken}
 use Rattle.lot_base.specs.declared.token.UnparkToken.{UnparkToken}
+use Rattle.parking_lot_core.specs.declared.lot.Lot.TheInside.{Inside}
 use Rattle.parking_lot_core.specs.declared.lot.Status.{Status}
 use Rattle.parking_lot_core.specs.declared.lot.Status.TheVariants.{Free, Running, Waiting}
 use Rattle.parking_lot_core.specs.Committed.{with_status, committed, CanCommit}
@@ -19,11 +20,15 @@ use Rattle.parking_lot_core.specs.Lot.{thread_at, statuses, machine, IsRow, IsLo
 use Rattle.parking_lot_core.specs.LotState.{LotState, ThreadState}
 use Rattle.parking_lot_core.specs.Machine.{Waiter, Machine, IsConsistent, IsLeastFree, IsFull, new_machine, is_queued, times_in, all_taken, entered, registered, unparked_one}
 use Rattle.parking_lot_core.specs.Represents.{bucket_at, with_node, waiter_of, waiters_in}
-use Rattle.parking_lot_core.proofs.CommitLemmas.{statuses-set, AreThreads-set, statuses-past, below_from_status, length-committed, AreThreads-committed, statuses-committed, CanCommit-standing, statuses-push, AreThreads-push}
+use Rattle.parking_lot_core.proofs.CommitLemmas.{ne-free-running, statuses-set, AreThreads-set, statuses-past, below_from_status, length-committed, AreThreads-committed, statuses-committed, CanCommit-standing, statuses-push, AreThreads-push}
 use Rattle.parking_lot_core.proofs.MachineLemmas.{same_machine, times_in-standing, is_queued-standing, IsConsistent-status, IsConsistent-entered, IsConsistent-unparked}
 use Rattle.parking_lot_core.proofs.RowLemmas.{IsTableSize-16, IsRow-set, waiters_in-set, Represents-set}
 
--- the bucket of a key, and the lot with another one in its place
+-- a lot by its fields
+abbrev pub lot_of : Inside → LotState
+lot_of lot = record { buckets = lot.buckets.items; threads = lot.threads.items; max_threads = lot.max_threads }
+
+-- the bucket of a key
 abbrev pub bucket_of : LotState → ℕ → BucketState
 bucket_of lot key = bucket_at lot.buckets (place_of key 16)
 
@@ -58,21 +63,18 @@ IsStep-entered lot number key park_token timed node bucket thread is running low
   is_lot = record {
     row = IsRow-set lot.buckets (place_of key 16) bucket low (ap (λ b. b.place) bucket_is ∙ is.row.places (place_of key 16) low) (ap (λ b. b.size) bucket_is ∙ is.row.sizes (place_of key 16) low) is.row;
     represents = Represents-set lot.buckets (place_of key 16) bucket (omega (arith, is.row.count)) in_place is.represents;
-    threads = AreThreads-set lot.threads number thread below (ap (λ t. t.number) thread_is) (λ free. waiting_ne_free (ap (λ t. t.status) (sym thread_is) ∙ free)) is.threads;
+    threads = AreThreads-set lot.threads number thread below (ap (λ t. t.number) thread_is) (λ free. ne-free-waiting (ap (λ t. t.status) (sym thread_is) ∙ free)) is.threads;
     count = omega (arith, is.count, length-set lot.threads number thread);
     consistent = subst IsConsistent (sym means) (IsConsistent-entered (machine lot) number key park_token timed running is.consistent);
   };
   means = means;
 }
   where
-    waiting_ne_free : Waiting timed ≢ Free
-    waiting_ne_free same = cc
-
-    running_ne_free : Running ≢ Free
-    running_ne_free same = cc
+    ne-free-waiting : Waiting timed ≢ Free
+    ne-free-waiting same = cc
 
     below : number < length lot.threads
-    below = below_from_status lot.threads number (λ free. running_ne_free (sym running ∙ free))
+    below = below_from_status lot.threads number (λ free. ne-free-running (sym running ∙ free))
 
     in_place : All (λ other. place_of other.key (length lot.buckets) ≡ place_of key 16) bucket.nodes
     in_place = subst (λ b. All (λ other. place_of other.key (length lot.buckets) ≡ place_of key 16) b.nodes) (sym bucket_is) (All-push (λ other. place_of other.key (length lot.buckets) ≡ place_of key 16) (bucket_of lot key).nodes node (is.represents.in_place (place_of key 16) (omega (arith, is.row.count))) (ap (λ k. place_of k (length lot.buckets)) own ∙ place-row lot.buckets key is.row))
@@ -178,16 +180,13 @@ IsStep-registered lot thread is room thread_is = record {
   is_lot = record {
     row = is.row;
     represents = is.represents;
-    threads = AreThreads-push lot.threads thread (ap (λ t. t.number) thread_is) (λ free. running_ne_free (ap (λ t. t.status) (sym thread_is) ∙ free)) is.threads;
+    threads = AreThreads-push lot.threads thread (ap (λ t. t.number) thread_is) (λ free. ne-free-running (ap (λ t. t.status) (sym thread_is) ∙ free)) is.threads;
     count = omega (arith, length-append lot.threads (thread ∷ []));
     consistent = subst IsConsistent (sym means) (IsConsistent-status (machine lot) (length lot.threads) Running (ap is_queued (statuses-past lot.threads (length lot.threads) (omega arith))) refl is.consistent);
   };
   means = means;
 }
   where
-    running_ne_free : Running ≢ Free
-    running_ne_free same = cc
-
     means : machine (record lot { threads = lot.threads ++ thread ∷ [] }) ≡ registered (machine lot) (length lot.threads)
     means = same_machine _ _ (λ k. refl) (λ j. statuses-push lot.threads thread j ∙ ap (λ s. replaced (statuses lot.threads) (length lot.threads) s j) (ap (λ t. t.status) thread_is)) refl
 
