@@ -35,10 +35,10 @@ module _ {M : Type 0} (m : Mut M (ℕ × Unit {0}) (Unit {0})) where
     pub at : (before : List ℕ) (number : ℕ) (after : List ℕ) (now : M) → numbers ≡ before ++ number ∷ after → IsCalledAtEach moved before now → m.pre now (number, tt)
 
 module _ {C M : Type 0} (c : Once C (RequeueOp × (UnparkResult × Unit {0})) UnparkToken) (m : Mut M (ℕ × Unit {0}) (Unit {0})) where
-  -- where the waiters are split so, `moved` may be called for each that moves, and `callback` at the answer
+  -- where the waiters are split so, `moved` may be called for each that moves, and once it was, `callback` at the answer
   abbrev pub AreCallable : RequeueOp → Split NodeFields → C → M → Type 0
   AreCallable op split callback moved =
-      IsCallableAtEach m moved (numbers split.moved) × c.pre callback (op, (answer_of split, tt))
+      IsCallableAtEach m moved (numbers split.moved) × ((last : M) → IsCalledAtEach m moved (numbers split.moved) last → c.pre callback (op, (answer_of split, tt)))
 
   -- they were called so, and those that were taken got the token that `callback` gave
   pub record AreCalled (op : RequeueOp) (split : Split NodeFields) (callback : C) (moved last : M) (result : UnparkResult) (taken : List NodeFields) : Type 0 where

@@ -32,9 +32,11 @@ pub fn place(key: usize, size: usize) -> usize
 /// is the bucket's nodes of that key, in order.
 ///
 /// Upstream has a lock in it. Here a lock is put round it, and whoever has it borrowed for writing
-/// does the steps. No step but `list` allocates, and no other can be refused. A step that looks for
-/// waiters takes the nodes that it passes off the queue and puts them back, each by one
-/// `push_back`, in the order in which they stood.
+/// does the steps. No step but `list` allocates, and no other can be refused.
+///
+/// A step that looks for waiters takes the nodes that it passes off the queue and puts them back,
+/// each by one `push_back`, in the order in which they stood, and those behind them by one
+/// `append`. The visits that the steps name do not count the walks of these calls.
 #[derive(Drop)]
 pub struct Bucket {
     place: usize,
@@ -73,14 +75,16 @@ impl Bucket {
 
     /// The bucket's place in its table.
     pub fn place(&self) -> usize
-        ensures { result ≡ self.now.place }
+        ensures value { result ≡ self.now.place }
+        ensures below { result < self.now.size }
     {
         self.place
     }
 
     /// How many buckets its table has.
     pub fn size(&self) -> usize
-        ensures { result ≡ self.now.size }
+        ensures value { result ≡ self.now.size }
+        ensures table { IsTableSize result }
     {
         self.size
     }
@@ -221,7 +225,7 @@ impl Bucket {
     /// to a queue of such nodes, and if any moves, they all are put last by one walk of the bucket.
     /// It moves boxes and allocates nothing.
     ///
-    /// Upstream it is the middle of `unpark_requeue`.
+    /// Upstream's `unpark_requeue` does this between its locks.
     pub fn requeue_one<
         V: FnOnce() -> RequeueOp,
         C: FnOnce(RequeueOp, UnparkResult) -> UnparkToken,

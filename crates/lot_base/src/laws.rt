@@ -16,7 +16,7 @@ pub fn requeue_to_itself_changes_nothing()
     ensures answer { RequeueAllCountsEach }
 {}
 
-/// No step changes the park token of a node that it takes, moves or leaves.
+/// No unpark and no requeue changes the park token of a node that it takes, moves or leaves.
 pub fn steps_keep_park_tokens()
     ensures requeue { RequeueSplitsInOrder }
     ensures unpark { UnparkSplitsInOrder }

@@ -1,4 +1,6 @@
 //! Tokens, results and refusals: the types that every layer speaks of.
+//!
+//! Upstream has those that are no errors under the same names, with the same derives.
 
 ghost use Rattle.std.specs.Prelude.{◌≡◌, ◌↔◌, IsTrue};
 ghost use Rattle.lot_base.specs.declared.token.LotError.{LotError};
@@ -7,21 +9,21 @@ ghost use Rattle.lot_base.specs.declared.token.UnparkToken.{UnparkToken};
 use std::alloc::{AllocError, AllocFailed};
 use thiserror::Error;
 
-/// Result of a park operation.
+/// How a park ended.
 #[derive(Copy, Clone, Eq, PartialEq, Debug)]
 pub enum ParkResult {
-    /// The thread was unparked by another thread with the given token.
+    /// Another thread unparked this one and handed it the token.
     Unparked(UnparkToken),
 
-    /// The validation callback returned false.
+    /// The validation answered false, so the thread did not wait.
     Invalid,
 
-    /// The timeout expired.
+    /// The deadline passed before the thread was unparked.
     TimedOut,
 }
 
 impl ParkResult {
-    /// Returns true if the thread was unparked by another thread, and for no other result.
+    /// Whether another thread unparked this one. No other result answers true.
     ///
     /// Upstream has it under this name, as a `const fn`.
     pub fn is_unparked(self) -> bool
@@ -31,67 +33,67 @@ impl ParkResult {
     }
 }
 
-/// Result of an unpark operation.
+/// What an unpark did.
 ///
 /// Upstream marks it `non_exhaustive`; here it can be built by its fields. The default is
 /// `(0, 0, false)`.
 #[derive(Copy, Clone, Default, Eq, PartialEq, Debug)]
 pub struct UnparkResult {
-    /// The number of threads that were unparked.
+    /// How many threads it unparked.
     pub unparked_threads: usize,
 
-    /// The number of threads that were requeued.
+    /// How many threads it moved to another key.
     pub requeued_threads: usize,
 
-    /// Whether any threads that the operation neither unparked nor requeued remain parked on the
-    /// original key. It is false if the operation was aborted.
+    /// Whether it left any waiter of the key, one that was moved not counted. It is false after an
+    /// abort.
     pub have_more_threads: bool,
 }
 
-/// Operation that a requeue performs.
+/// What a requeue is to do.
 #[derive(Copy, Clone, Eq, PartialEq, Debug)]
 pub enum RequeueOp {
-    /// Abort the operation without doing anything.
+    /// Nothing.
     Abort,
 
-    /// Unpark one thread and requeue the rest onto the target queue.
+    /// Unpark the first waiter, and move the others to the second key.
     UnparkOneRequeueRest,
 
-    /// Requeue all threads onto the target queue.
+    /// Move every waiter to the second key.
     RequeueAll,
 
-    /// Unpark one thread and leave the rest parked. No requeuing is done.
+    /// Unpark the first waiter, and leave the others. None is moved.
     UnparkOne,
 
-    /// Requeue one thread and leave the rest parked on the original queue.
+    /// Move the first waiter to the second key, and leave the others.
     RequeueOne,
 }
 
-/// Operation that a filter chooses for each thread.
+/// What a filter decides on a waiter.
 #[derive(Copy, Clone, Eq, PartialEq, Debug)]
 pub enum FilterOp {
-    /// Unpark the thread and continue scanning the list of parked threads.
+    /// Unpark it, and go on to the next.
     Unpark,
 
-    /// Don't unpark the thread and continue scanning the list of parked threads.
+    /// Leave it, and go on to the next.
     Skip,
 
-    /// Don't unpark the thread and stop scanning the list of parked threads.
+    /// Leave it and all behind it.
     Stop,
 }
 
-/// A value which is passed from an unparker to a parked thread.
+/// What an unpark hands to the thread that it unparks.
 #[derive(Copy, Clone, Eq, PartialEq, Debug)]
 pub struct UnparkToken(pub usize);
 
-/// A value associated with a parked thread which a filter can look at.
+/// What a filter is shown of a waiter.
 #[derive(Copy, Clone, Eq, PartialEq, Debug)]
 pub struct ParkToken(pub usize);
 
-/// A default unpark token to use.
+/// The unpark token for those who need none.
 pub const DEFAULT_UNPARK_TOKEN: UnparkToken = UnparkToken(0);
 
-/// A default park token to use.
+/// The park token for those who need none.
 pub const DEFAULT_PARK_TOKEN: ParkToken = ParkToken(0);
 
 /// Why a lot could not be made or a thread could not be registered.

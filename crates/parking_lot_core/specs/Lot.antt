@@ -15,7 +15,7 @@ thread_at threads number = slice_index_or threads number (record { number = numb
 abbrev pub statuses : List ThreadState → ℕ → Status
 statuses threads number = (thread_at threads number).status
 
--- the machine that a lot stands for
+-- the machine that a lot means
 abbrev pub machine : LotState → Machine
 machine lot = record { lists = waiters_in lot.buckets; status = statuses lot.threads; max_threads = lot.max_threads }
 

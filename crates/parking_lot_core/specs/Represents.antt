@@ -1,4 +1,4 @@
--- How a row of buckets stands for the lists of waiters.
+-- How a row of buckets represents the lists of waiters.
 use Rattle.std.specs.Prelude.{◌≡◌, ℕ, ◌<◌, List, map, length, slice_index_or, slice_set, All, [], ◌∷◌, ◌++◌}
 use Rattle.lot_base.specs.BucketState.{BucketState}
 use Rattle.lot_base.specs.NodeFields.{NodeFields}
@@ -6,7 +6,7 @@ use Rattle.lot_base.specs.Place.{place_of}
 use Rattle.lot_base.specs.Waiting.{lists_of}
 use Rattle.parking_lot_core.specs.Machine.{Waiter}
 
--- the waiter that a node stands for
+-- the waiter of a node
 abbrev pub waiter_of : NodeFields → Waiter
 waiter_of node = record { number = node.number; park_token = node.park_token; timed = node.timed }
 

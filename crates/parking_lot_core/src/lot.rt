@@ -194,8 +194,8 @@ fn commit(threads: &mut Vec<Thread>, taken: Queue)
 /// A parking lot for one caller at a time, who takes every step of every thread: for schedulers,
 /// simulators and the proofs of threaded lots.
 ///
-/// Threads go by their numbers. What each step does is told by the machine that the lot stands for,
-/// which has one list of waiters for each key. A step that does not fit the status of its thread
+/// Threads go by their numbers. What each step does is told by the machine that the lot means, which
+/// has one list of waiters for each key. A step that does not fit the status of its thread
 /// answers `Misfit`, changes nothing and calls no closure. Only `new`, `register` and `list` ask
 /// for memory. No call takes a lock.
 ///
@@ -245,8 +245,8 @@ impl Lot {
         })
     }
 
-    /// Registers a thread under the least free number; it is running then. This is the one request
-    /// for memory on behalf of a thread: its node, and its place among the threads.
+    /// Registers a thread under the least free number; it is running then. This asks for all the
+    /// memory that the thread will ever need: its node, and its place among the threads.
     ///
     /// It looks at no thread. Upstream's `park` does it at a thread's first use.
     ///

@@ -147,8 +147,8 @@ fn a_step_that_does_not_fit_calls_no_closure(rt: HostRuntime) -> Result<(), Fail
     Ok(())
 }
 
-// Run with each request for memory refused in turn, a registration or a list that is refused
-// leaves all as it was.
+// It ends well whichever one of its requests for memory is refused, as `rt try --test --fail-alloc N`
+// refuses the Nth: a registration or a list that is refused leaves all as it was.
 #[test]
 fn a_refused_request_for_memory_changes_nothing(rt: HostRuntime) {
     let Ok(mut lot) = Lot::new(rt.alloc(), 2) else {
