@@ -174,3 +174,6 @@ impl Drop for Queue {
         let Queue { head: _ } = self;
     }
 }
+
+#[cfg(test)]
+mod tests;

@@ -1,10 +1,108 @@
-//! Slots, through which a thread is handed its node back.
+//! Parkers, which put a thread to sleep until another hands it its node back, and the slots through
+//! which the node goes.
 
-ghost use Rattle.std.specs.Prelude.{◌≡◌, [], ◌∷◌, ◌++◌, ◌↔◌, IsNone, IfSome};
+ghost use Rattle.std.specs.Prelude.{◌≡◌, [], ◌∷◌, ◌++◌, ◌↔◌, ℕ, IsNone, IsTrue, IfSome, IfOk};
 ghost use Rattle.lot_base.specs.Node.{fields, option_nodes};
 
+mod mutex;
+#[cfg(test)]
+mod tests;
+
 use crate::queue::{Node, Queue};
+use crate::token::NoMemory;
+pub use mutex::{ThreadParker, UnparkHandle};
 use std::marker::Model;
+use std::sync::Wait;
+
+/// Puts one thread to sleep until another hands it its node.
+///
+/// A parker belongs to one thread, its owner, and keeps a slot for it. An empty slot means that the
+/// owner is parked or may go to park; a node in the slot means that an unpark of the owner was
+/// committed. The law of the trait: a node that comes back has the owner's number.
+///
+/// `timed_out`, `park` and `unpark_lock` take the parker's own lock and no other, behind any lock
+/// of a table or a bucket that their caller holds, and let it go before they return. No call but
+/// `new` may ask for memory.
+///
+/// Upstream has the trait under this name, with unsafe calls. There a thread's data stays at its
+/// address and a flag says who may use it; here the node itself moves through the calls.
+pub trait ThreadParkerT: Sized + Drop {
+    /// What is left to do for a thread whose unpark was committed.
+    type UnparkHandle: UnparkHandleT<Self> + Send + Sync;
+
+    /// Whether a parker costs little to make. Upstream makes one for each wait where this is true,
+    /// and else keeps one for each thread; here it is for information alone.
+    const IS_CHEAP_TO_CONSTRUCT: bool;
+
+    /// The number of the thread that the parker belongs to.
+    ghost owner: { Self → ℕ };
+
+    /// A parker of the thread of this number, with an empty slot.
+    ///
+    /// Upstream's `new` takes no number and cannot be refused.
+    ///
+    /// # Errors
+    ///
+    /// `NoMemory` if the parker's lock cannot be made.
+    fn new(number: usize) -> Result<Self, NoMemory>
+        ensures { IfOk result (λ parker. owner parker ≡ number) };
+
+    /// Prepares to park. The owner calls it before it enters a queue. It takes no lock and does not
+    /// wait.
+    ///
+    /// Upstream sets its flag here. A slot is empty once its node was taken, so that nothing is
+    /// left to change.
+    fn prepare_park(&self);
+
+    /// Whether the slot was empty while its lock was held, so that no unpark had been committed.
+    /// The owner calls it after a deadline, with the lock of the bucket that it waits in. It waits
+    /// for the parker's lock alone.
+    ///
+    /// Upstream answers its flag.
+    fn timed_out<R: Wait>(&self, rt: &R) -> bool;
+
+    /// Waits until the slot holds a node, and takes it. The owner calls it once its node is in a
+    /// queue, and with no lock. It holds no lock while it sleeps.
+    ///
+    /// Upstream waits until its flag is cleared, and gives nothing.
+    fn park<R: Wait>(&self, rt: &R) -> Box<Node>
+        ensures { (fields result.value).number ≡ owner self.now };
+
+    /// Puts a node of the owner into the slot. This is the commit of an unpark: from here on the
+    /// owner may take its node and go on at any moment, whether or not it is woken. Any thread
+    /// that took the node out of a queue may call it, also with that bucket's lock. It waits for
+    /// the parker's lock alone.
+    ///
+    /// Upstream is handed nothing. In `unix.rs` it keeps the parker's lock until `unpark`, where
+    /// the flag is cleared; here no lock is kept.
+    fn unpark_lock<R: Wait>(&self, rt: &R, node: Box<Node>) -> Self::UnparkHandle
+        requires { (fields node.value).number ≡ owner self.now }
+        ensures { Self.UnparkHandle.number result ≡ (fields node.value).number };
+}
+
+/// What is left to do for a thread whose unpark was committed: to wake it. A handle that is only
+/// dropped wakes nobody.
+///
+/// Upstream has the trait under this name.
+pub trait UnparkHandleT<P>: Drop {
+    /// The number of the node that was committed.
+    ghost number: { Self → ℕ };
+
+    /// The number of the thread to wake, which is that of the node that was committed.
+    ///
+    /// Upstream has no such call.
+    fn number(&self) -> usize
+        ensures { result ≡ number self.now };
+
+    /// Wakes the thread, if it sleeps on this parker. Whoever has the handle calls it with the
+    /// parker that gave it, best once the bucket's lock is let go. It changes no slot: a thread
+    /// that has gone on before, and one that is woken though its slot is empty, only looks again.
+    /// It takes no lock and does not wait.
+    ///
+    /// Upstream's handle points to its parker and is handed none. In `unix.rs` the flag is cleared
+    /// here and the parker's lock is let go.
+    fn unpark(self, parker: &P);
+}
 
 /// Where a thread finds its node when it was unparked. All nodes in it have the owner's number. No
 /// call allocates and none can be refused.
@@ -43,6 +141,13 @@ impl Slot {
         ensures { result ≡ self.now.owner }
     {
         self.owner
+    }
+
+    // Whether the slot holds no node.
+    fn is_empty(&self) -> bool
+        ensures { IsTrue result ↔ (self.now.nodes ≡ []) }
+    {
+        self.nodes.front().is_none()
     }
 
     /// Puts a node of the owner behind those that the slot holds. It is one `push_back`.

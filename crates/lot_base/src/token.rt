@@ -169,3 +169,6 @@ pub enum StepError {
     #[error("no memory")]
     NoMemory,
 }
+
+#[cfg(test)]
+mod tests;

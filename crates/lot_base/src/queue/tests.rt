@@ -1,0 +1,111 @@
+use super::*;
+use std::process::Abort;
+use std::test::Fail;
+
+// A queue of nodes with these numbers, first to last.
+fn queue_of(alloc: Global, numbers: &[usize]) -> Result<Queue, NoMemory> {
+    let mut queue = Queue::new();
+    for number in numbers {
+        queue.push_back(Node::new(alloc, *number)?);
+    }
+    Ok(queue)
+}
+
+// The decimal number whose digits are the numbers of the nodes, in order.
+fn digits(queue: &Queue) -> usize {
+    queue.fold(0usize, |number, node| {
+        number.wrapping_mul(10).wrapping_add(node.number)
+    })
+}
+
+// The number of the first node.
+fn first(queue: &Queue) -> Option<usize> {
+    queue.front().map(|node| node.number)
+}
+
+// Takes the first node and tells its number.
+fn take(rt: &impl Abort, queue: &mut Queue) -> usize {
+    queue.pop_front().expect(rt, "a node").number
+}
+
+#[test]
+fn nodes_leave_in_the_order_in_which_they_came(rt: HostRuntime) -> Result<(), Fail> {
+    let mut queue = queue_of(rt.alloc(), &[3, 1, 2])?;
+    assert_eq!(rt; take(&rt, &mut queue), 3);
+    assert_eq!(rt; take(&rt, &mut queue), 1);
+    queue.push_back(Node::new(rt.alloc(), 4)?);
+    assert_eq!(rt; take(&rt, &mut queue), 2);
+    assert_eq!(rt; take(&rt, &mut queue), 4);
+    assert!(rt; queue.pop_front().is_none());
+    Ok(())
+}
+
+#[test]
+fn a_fold_visits_the_nodes_in_order(rt: HostRuntime) -> Result<(), Fail> {
+    assert_eq!(rt; digits(&queue_of(rt.alloc(), &[1, 7, 2, 9])?), 1729);
+    assert_eq!(rt;
+        Queue::new().fold(5usize, |number, _| number.wrapping_add(1)),
+        5
+    );
+    Ok(())
+}
+
+#[test]
+fn an_append_puts_the_others_nodes_behind(rt: HostRuntime) -> Result<(), Fail> {
+    let mut queue = queue_of(rt.alloc(), &[1, 2])?;
+    let mut other = queue_of(rt.alloc(), &[3, 4])?;
+    queue.append(&mut other);
+    assert_eq!(rt; (digits(&queue), first(&other)), (1234, None));
+    Ok(())
+}
+
+#[test]
+fn an_append_of_no_nodes_changes_nothing(rt: HostRuntime) -> Result<(), Fail> {
+    let mut queue = queue_of(rt.alloc(), &[1, 2, 3])?;
+    let mut empty = Queue::new();
+    queue.append(&mut empty);
+    assert_eq!(rt; (digits(&queue), first(&empty)), (123, None));
+    Ok(())
+}
+
+#[test]
+fn an_append_to_no_nodes_moves_them_all(rt: HostRuntime) -> Result<(), Fail> {
+    let mut queue = Queue::new();
+    let mut other = queue_of(rt.alloc(), &[1, 2, 3])?;
+    queue.append(&mut other);
+    assert_eq!(rt; (digits(&queue), first(&other)), (123, None));
+    Ok(())
+}
+
+#[test]
+fn a_queue_goes_on_after_its_only_node_left(rt: HostRuntime) -> Result<(), Fail> {
+    let mut queue = queue_of(rt.alloc(), &[1])?;
+    assert_eq!(rt; take(&rt, &mut queue), 1);
+    assert_eq!(rt; first(&queue), None);
+    queue.push_back(Node::new(rt.alloc(), 2)?);
+    assert_eq!(rt; (digits(&queue), first(&queue)), (2, Some(2)));
+    Ok(())
+}
+
+// A queue of `count` nodes, made from its last node to its first.
+fn long_queue(alloc: Global, count: usize) -> Result<Queue, NoMemory> {
+    let mut queue = Queue::new();
+    for number in 0..count {
+        let mut node = Node::new(alloc, number)?;
+        node.link = queue.head.take();
+        queue.head = Some(node);
+    }
+    Ok(queue)
+}
+
+// A derived end would call itself once for each node and run out of stack.
+#[test]
+fn a_long_queue_is_freed_by_a_loop(rt: HostRuntime) -> Result<(), Fail> {
+    let queue = long_queue(rt.alloc(), 100_000)?;
+    assert_eq!(rt;
+        queue.fold(0usize, |count, _| count.wrapping_add(1)),
+        100_000
+    );
+    drop(queue);
+    Ok(())
+}
