@@ -4,3 +4,6 @@ pub mod MachineLemmas
 pub mod RowLemmas
 pub mod CommitLemmas
 pub mod LotLemmas
+pub mod NumberLemmas
+pub mod TableLemmas
+pub mod GrowthLemmas

@@ -4,5 +4,6 @@ pub mod Represents
 pub mod Lot
 pub mod Thread
 pub mod Committed
-
+pub mod TableState
+pub mod Table
 pub use Rattle.lot_base.specs.Waiting

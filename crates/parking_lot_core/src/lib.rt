@@ -3,6 +3,7 @@
 #![tactic(auto)]
 
 pub mod lot;
+pub mod table;
 
 pub use lot_base::bucket::{Bucket, place};
 pub use lot_base::queue::{Node, Queue};
