@@ -706,3 +706,6 @@ fn with_waiter(
     }
     Ok(numbers)
 }
+
+#[cfg(test)]
+mod tests;

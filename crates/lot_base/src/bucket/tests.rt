@@ -1,0 +1,393 @@
+//! Worked rows of each step. The threads a, b, c and d are 0, 1, 2 and 3, and each parks with its
+//! number for a park token. All buckets are those of a table of 16, where the keys 0 and 13 have
+//! place 0, key 1 has place 9, key 2 has place 3 and key 7 has place 5.
+#![tactic(auto, using(crate::proofs::TestLemmas::is_table_size_16, crate::proofs::TestLemmas::is_table_size_32))]
+
+mod steps;
+mod walk;
+
+use super::*;
+use std::test::Fail;
+use steps::{answer, bucket_of, enter, filter, list, refused, remove, requeue, take_all, take_one};
+
+#[test]
+fn keys_have_the_places_of_the_table(rt: HostRuntime) {
+    for (key, product, of_16, of_32) in [
+        (0, 0x0000_0000_0000_0000, 0, 0),
+        (1, 0x9e37_79b9_7f4a_7c15, 9, 19),
+        (2, 0x3c6e_f372_fe94_f82a, 3, 7),
+        (4, 0x78dd_e6e5_fd29_f054, 7, 15),
+        (5, 0x1715_609f_7c74_6c69, 1, 2),
+        (7, 0x5384_5412_7b09_6493, 5, 10),
+        (8, 0xf1bb_cdcb_fa53_e0a8, 15, 30),
+        (13, 0x08d1_2e6b_76c8_4d11, 0, 1),
+    ] {
+        assert_eq!(rt;
+            usize::wrapping_mul(key, MULTIPLIER),
+            product,
+            "the product of {key}"
+        );
+        assert_eq!(rt; place(key, 16), of_16, "the place of {key} of 16");
+        assert_eq!(rt; place(key, 32), of_32, "the place of {key} of 32");
+    }
+}
+
+#[test]
+fn a_new_bucket_is_empty_and_knows_its_place_and_size(rt: HostRuntime) -> Result<(), Fail> {
+    let bucket = Bucket::new(5, 32);
+    assert_eq!(rt; (bucket.place(), bucket.size()), (5, 32));
+    assert!(rt; list(rt.alloc(), &bucket, 7)?.is_empty());
+    Ok(())
+}
+
+#[test]
+fn an_invalid_entry_gives_the_node_back(rt: HostRuntime) -> Result<(), Fail> {
+    let mut bucket = bucket_of(&rt, rt.alloc(), 5, &[(0, 7)])?;
+    let back = refused(&rt, rt.alloc(), &mut bucket, 1, 7)?;
+    assert_eq!(rt;
+        (back.number, back.key, back.park_token),
+        (1, 7, ParkToken(1))
+    );
+    assert_eq!(rt; list(rt.alloc(), &bucket, 7)?.as_slice(), [0].as_slice());
+    Ok(())
+}
+
+#[test]
+fn take_one_takes_the_waiters_of_a_key_in_order(rt: HostRuntime) -> Result<(), Fail> {
+    let mut bucket = bucket_of(&rt, rt.alloc(), 5, &[(0, 7), (1, 7)])?;
+    let first = take_one(rt.alloc(), &mut bucket, 7, 42)?;
+    assert_eq!(rt;
+        (first.result, first.told),
+        (answer(1, 0, true), Some(answer(1, 0, true)))
+    );
+    assert_eq!(rt; first.threads.as_slice(), [(0, 42)].as_slice());
+
+    let second = take_one(rt.alloc(), &mut bucket, 7, 42)?;
+    assert_eq!(rt;
+        (second.result, second.told),
+        (answer(1, 0, false), Some(answer(1, 0, false)))
+    );
+    assert_eq!(rt; second.threads.as_slice(), [(1, 42)].as_slice());
+
+    let third = take_one(rt.alloc(), &mut bucket, 7, 42)?;
+    assert_eq!(rt;
+        (third.result, third.told),
+        (answer(0, 0, false), Some(answer(0, 0, false)))
+    );
+    assert!(rt; third.threads.is_empty());
+    Ok(())
+}
+
+#[test]
+fn take_one_leaves_the_other_keys_of_the_bucket(rt: HostRuntime) -> Result<(), Fail> {
+    let mut bucket = bucket_of(&rt, rt.alloc(), 0, &[(0, 0), (1, 13)])?;
+    let taken = take_one(rt.alloc(), &mut bucket, 0, 42)?;
+    assert_eq!(rt; taken.result, answer(1, 0, false));
+    assert_eq!(rt; taken.threads.as_slice(), [(0, 42)].as_slice());
+    assert_eq!(rt; list(rt.alloc(), &bucket, 13)?.as_slice(), [1].as_slice());
+    Ok(())
+}
+
+#[test]
+fn take_all_takes_every_waiter_of_a_key(rt: HostRuntime) -> Result<(), Fail> {
+    let mut bucket = bucket_of(&rt, rt.alloc(), 0, &[(0, 0), (1, 13), (2, 0)])?;
+    let (count, threads) = take_all(rt.alloc(), &mut bucket, 0, 42)?;
+    assert_eq!(rt; count, 2);
+    assert_eq!(rt; threads.as_slice(), [(0, 42), (2, 42)].as_slice());
+    assert!(rt; list(rt.alloc(), &bucket, 0)?.is_empty());
+    assert_eq!(rt; list(rt.alloc(), &bucket, 13)?.as_slice(), [1].as_slice());
+    Ok(())
+}
+
+#[test]
+fn a_filter_takes_what_it_unparks_and_leaves_the_rest(rt: HostRuntime) -> Result<(), Fail> {
+    let mut bucket = bucket_of(&rt, rt.alloc(), 9, &[(0, 1), (1, 1), (2, 1)])?;
+    let decide = |token: ParkToken| match token {
+        ParkToken(0) => FilterOp::Skip,
+        ParkToken(1) => FilterOp::Unpark,
+        ParkToken(_) => FilterOp::Stop,
+    };
+    let taken = filter(rt.alloc(), &mut bucket, 1, decide, 42)?;
+    assert_eq!(rt;
+        (taken.result, taken.told),
+        (answer(1, 0, true), Some(answer(1, 0, true)))
+    );
+    assert_eq!(rt; taken.threads.as_slice(), [(1, 42)].as_slice());
+    assert_eq!(rt; list(rt.alloc(), &bucket, 1)?.as_slice(), [0, 2].as_slice());
+    Ok(())
+}
+
+#[test]
+fn a_filter_is_not_asked_again_after_stop(rt: HostRuntime) -> Result<(), Fail> {
+    let mut bucket = bucket_of(&rt, rt.alloc(), 9, &[(0, 1), (1, 1)])?;
+    let mut next = FilterOp::Stop;
+    let decide = |_| std::mem::replace(&mut next, FilterOp::Unpark);
+    let taken = filter(rt.alloc(), &mut bucket, 1, decide, 42)?;
+    assert_eq!(rt;
+        (taken.result, taken.told),
+        (answer(0, 0, true), Some(answer(0, 0, true)))
+    );
+    assert!(rt; taken.threads.is_empty());
+    assert_eq!(rt; list(rt.alloc(), &bucket, 1)?.as_slice(), [0, 1].as_slice());
+    Ok(())
+}
+
+#[test]
+fn a_filter_that_only_skips_from_its_second_call_on_takes_the_first(
+    rt: HostRuntime,
+) -> Result<(), Fail> {
+    let mut bucket = bucket_of(&rt, rt.alloc(), 9, &[(0, 1), (1, 1), (2, 1)])?;
+    let mut next = FilterOp::Unpark;
+    let decide = |_| std::mem::replace(&mut next, FilterOp::Skip);
+    let taken = filter(rt.alloc(), &mut bucket, 1, decide, 42)?;
+    assert_eq!(rt; taken.result, answer(1, 0, true));
+    assert_eq!(rt; taken.threads.as_slice(), [(0, 42)].as_slice());
+    assert_eq!(rt; list(rt.alloc(), &bucket, 1)?.as_slice(), [1, 2].as_slice());
+    Ok(())
+}
+
+#[test]
+fn a_filter_may_count_its_calls(rt: HostRuntime) -> Result<(), Fail> {
+    let mut bucket = bucket_of(&rt, rt.alloc(), 9, &[(0, 1), (1, 1), (2, 1)])?;
+    let mut calls = 0usize;
+    let decide = |_| {
+        calls = calls.wrapping_add(1);
+        if calls == 1 {
+            FilterOp::Unpark
+        } else {
+            FilterOp::Stop
+        }
+    };
+    let taken = filter(rt.alloc(), &mut bucket, 1, decide, 5)?;
+    assert_eq!(rt; calls, 2);
+    assert_eq!(rt; taken.result, answer(1, 0, true));
+    assert_eq!(rt; taken.threads.as_slice(), [(0, 5)].as_slice());
+    Ok(())
+}
+
+#[test]
+fn a_filter_of_an_empty_key_is_not_called_and_its_callback_is(rt: HostRuntime) -> Result<(), Fail> {
+    let mut bucket = bucket_of(&rt, rt.alloc(), 9, &[])?;
+    let mut calls = 0usize;
+    let decide = |_| {
+        calls = calls.wrapping_add(1);
+        FilterOp::Unpark
+    };
+    let taken = filter(rt.alloc(), &mut bucket, 1, decide, 5)?;
+    assert_eq!(rt; calls, 0);
+    assert_eq!(rt;
+        (taken.result, taken.told),
+        (answer(0, 0, false), Some(answer(0, 0, false)))
+    );
+    Ok(())
+}
+
+#[test]
+fn a_requeue_of_all_puts_them_behind_the_other_key(rt: HostRuntime) -> Result<(), Fail> {
+    let mut bucket = bucket_of(&rt, rt.alloc(), 0, &[(0, 0), (1, 13), (2, 0)])?;
+    let done = requeue(
+        &rt,
+        rt.alloc(),
+        &mut bucket,
+        None,
+        (0, 13),
+        RequeueOp::RequeueAll,
+        9,
+    )?;
+    assert_eq!(rt; done.result, answer(0, 2, false));
+    assert_eq!(rt;
+        done.told,
+        Some((RequeueOp::RequeueAll, answer(0, 2, false)))
+    );
+    assert_eq!(rt;
+        (done.moved.as_slice(), done.moved_before),
+        ([0, 2].as_slice(), 2)
+    );
+    assert!(rt; done.threads.is_empty());
+    assert!(rt; list(rt.alloc(), &bucket, 0)?.is_empty());
+    assert_eq!(rt;
+        list(rt.alloc(), &bucket, 13)?.as_slice(),
+        [1, 0, 2].as_slice()
+    );
+    Ok(())
+}
+
+#[test]
+fn a_requeue_to_another_bucket_unparks_one_and_moves_the_rest(rt: HostRuntime) -> Result<(), Fail> {
+    let mut bucket = bucket_of(&rt, rt.alloc(), 9, &[(0, 1), (1, 1), (2, 1)])?;
+    let mut target = bucket_of(&rt, rt.alloc(), 3, &[(3, 2)])?;
+    let op = RequeueOp::UnparkOneRequeueRest;
+    let done = requeue(
+        &rt,
+        rt.alloc(),
+        &mut bucket,
+        Some(&mut target),
+        (1, 2),
+        op,
+        9,
+    )?;
+    assert_eq!(rt;
+        (done.result, done.told),
+        (answer(1, 2, false), Some((op, answer(1, 2, false))))
+    );
+    assert_eq!(rt;
+        (done.moved.as_slice(), done.moved_before),
+        ([1, 2].as_slice(), 2)
+    );
+    assert_eq!(rt; done.threads.as_slice(), [(0, 9)].as_slice());
+    assert!(rt; list(rt.alloc(), &bucket, 1)?.is_empty());
+    assert_eq!(rt;
+        list(rt.alloc(), &target, 2)?.as_slice(),
+        [3, 1, 2].as_slice()
+    );
+    Ok(())
+}
+
+#[test]
+fn a_requeue_of_one_to_its_own_key_puts_it_last(rt: HostRuntime) -> Result<(), Fail> {
+    let mut bucket = bucket_of(&rt, rt.alloc(), 9, &[(0, 1), (1, 1), (2, 1)])?;
+    let done = requeue(
+        &rt,
+        rt.alloc(),
+        &mut bucket,
+        None,
+        (1, 1),
+        RequeueOp::RequeueOne,
+        9,
+    )?;
+    assert_eq!(rt; done.result, answer(0, 1, true));
+    assert_eq!(rt;
+        list(rt.alloc(), &bucket, 1)?.as_slice(),
+        [1, 2, 0].as_slice()
+    );
+    Ok(())
+}
+
+#[test]
+fn a_requeue_of_the_only_waiter_to_its_own_key_leaves_no_other(
+    rt: HostRuntime,
+) -> Result<(), Fail> {
+    let mut bucket = bucket_of(&rt, rt.alloc(), 9, &[(0, 1)])?;
+    let done = requeue(
+        &rt,
+        rt.alloc(),
+        &mut bucket,
+        None,
+        (1, 1),
+        RequeueOp::RequeueOne,
+        9,
+    )?;
+    assert_eq!(rt; done.result, answer(0, 1, false));
+    assert_eq!(rt; list(rt.alloc(), &bucket, 1)?.as_slice(), [0].as_slice());
+    Ok(())
+}
+
+#[test]
+fn a_requeue_of_all_to_their_own_key_counts_them_and_keeps_the_order(
+    rt: HostRuntime,
+) -> Result<(), Fail> {
+    let mut bucket = bucket_of(&rt, rt.alloc(), 9, &[(0, 1), (1, 1), (2, 1)])?;
+    let done = requeue(
+        &rt,
+        rt.alloc(),
+        &mut bucket,
+        None,
+        (1, 1),
+        RequeueOp::RequeueAll,
+        9,
+    )?;
+    assert_eq!(rt; done.result, answer(0, 3, false));
+    assert_eq!(rt;
+        list(rt.alloc(), &bucket, 1)?.as_slice(),
+        [0, 1, 2].as_slice()
+    );
+    Ok(())
+}
+
+#[test]
+fn an_aborted_requeue_changes_and_calls_nothing(rt: HostRuntime) -> Result<(), Fail> {
+    let mut bucket = bucket_of(&rt, rt.alloc(), 9, &[(0, 1), (1, 1)])?;
+    let mut target = bucket_of(&rt, rt.alloc(), 3, &[(3, 2)])?;
+    let op = RequeueOp::Abort;
+    let done = requeue(
+        &rt,
+        rt.alloc(),
+        &mut bucket,
+        Some(&mut target),
+        (1, 2),
+        op,
+        9,
+    )?;
+    assert_eq!(rt; (done.result, done.told), (answer(0, 0, false), None));
+    assert!(rt; done.moved.is_empty());
+    assert!(rt; done.threads.is_empty());
+    assert_eq!(rt; list(rt.alloc(), &bucket, 1)?.as_slice(), [0, 1].as_slice());
+    assert_eq!(rt; list(rt.alloc(), &target, 2)?.as_slice(), [3].as_slice());
+    Ok(())
+}
+
+#[test]
+fn a_requeue_of_nobody_calls_back(rt: HostRuntime) -> Result<(), Fail> {
+    let mut bucket = bucket_of(&rt, rt.alloc(), 9, &[])?;
+    let mut target = bucket_of(&rt, rt.alloc(), 3, &[(3, 2)])?;
+    let op = RequeueOp::RequeueAll;
+    let done = requeue(
+        &rt,
+        rt.alloc(),
+        &mut bucket,
+        Some(&mut target),
+        (1, 2),
+        op,
+        9,
+    )?;
+    assert_eq!(rt;
+        (done.result, done.told),
+        (answer(0, 0, false), Some((op, answer(0, 0, false))))
+    );
+    assert_eq!(rt; list(rt.alloc(), &target, 2)?.as_slice(), [3].as_slice());
+    Ok(())
+}
+
+#[test]
+fn a_node_is_removed_from_its_own_key_alone(rt: HostRuntime) -> Result<(), Fail> {
+    let mut bucket = bucket_of(&rt, rt.alloc(), 0, &[(0, 0), (1, 13)])?;
+    let none = remove(&mut bucket, 1, 0);
+    assert_eq!(rt; (none.number, none.answered, none.told), (None, None, None));
+    let removed = remove(&mut bucket, 1, 13);
+    assert_eq!(rt; (removed.number, removed.answered), (Some(1), Some(77)));
+    assert_eq!(rt; removed.told, Some((13, true)));
+    assert_eq!(rt; list(rt.alloc(), &bucket, 0)?.as_slice(), [0].as_slice());
+    assert!(rt; list(rt.alloc(), &bucket, 13)?.is_empty());
+    Ok(())
+}
+
+#[test]
+fn a_removal_tells_of_a_waiter_that_is_left(rt: HostRuntime) -> Result<(), Fail> {
+    let mut bucket = bucket_of(&rt, rt.alloc(), 9, &[(0, 1), (1, 1)])?;
+    let removed = remove(&mut bucket, 0, 1);
+    assert_eq!(rt; (removed.number, removed.told), (Some(0), Some((1, false))));
+    assert_eq!(rt; list(rt.alloc(), &bucket, 1)?.as_slice(), [1].as_slice());
+    Ok(())
+}
+
+#[test]
+fn pop_takes_the_first_node_whatever_its_key(rt: HostRuntime) -> Result<(), Fail> {
+    let mut bucket = bucket_of(&rt, rt.alloc(), 0, &[(0, 0), (1, 13), (2, 0)])?;
+    let first = bucket.pop().expect(&rt, "the first node");
+    assert_eq!(rt; (first.number, first.key), (0, 0));
+    let second = bucket.pop().expect(&rt, "the second node");
+    assert_eq!(rt; (second.number, second.key), (1, 13));
+    assert_eq!(rt; list(rt.alloc(), &bucket, 0)?.as_slice(), [2].as_slice());
+    assert_eq!(rt; bucket.pop().expect(&rt, "the third node").number, 2);
+    assert!(rt; bucket.pop().is_none());
+    Ok(())
+}
+
+#[test]
+fn a_list_has_the_numbers_of_one_key_in_order(rt: HostRuntime) -> Result<(), Fail> {
+    let bucket = bucket_of(&rt, rt.alloc(), 0, &[(2, 0), (1, 13), (0, 0)])?;
+    assert_eq!(rt; bucket.list(rt.alloc(), 0)?.as_slice(), [2, 0].as_slice());
+    assert_eq!(rt; bucket.list(rt.alloc(), 13)?.as_slice(), [1].as_slice());
+    assert!(rt; bucket.list(rt.alloc(), 1)?.is_empty());
+    Ok(())
+}
