@@ -1,19 +1,17 @@
 -- Growth: nodes that are spread over the buckets of another table keep the list of each key.
 use Rattle.std.proofs.Common.{◌≡◌, ◌≢◌, ℕ, ◌+◌, ◌<◌, ◌≤◌, ◌==◌, List, [], ◌∷◌, ◌++◌, length, length-append, get_or, map, drop, slice_set, All, refl, sym, ap, ◌∙◌, subst, ⊎_elim, arith, append_assoc, append-nil}
-use Rattle.std.proofs.lemmas.Bool.{cases_eq, eq-eqb, ne_eqb, cond-true, cond-false}
+use Rattle.std.proofs.lemmas.Bool.{cases_eq, ne_eqb, cond-false}
 use Rattle.std.proofs.lemmas.List.{get_or_read, length-set, map-set, drop-set, length-map}
 use Rattle.std.proofs.lemmas.List.Folds.{map_fixed}
 use Rattle.std.proofs.lemmas.List.Elements.{All-push, All-cons, All-head, All-tail, filter-append}
 use Rattle.lot_base.proofs.PlaceLemmas.{place_of-below}
-use Rattle.lot_base.proofs.SpreadLemmas.{lists_of-push}
 use Rattle.lot_base.specs.BucketState.{BucketState}
 use Rattle.lot_base.specs.NodeFields.{NodeFields}
 use Rattle.lot_base.specs.Place.{IsTableSize, place_of}
-use Rattle.lot_base.specs.Waiting.{lists_of, replaced}
+use Rattle.lot_base.specs.Waiting.{lists_of}
 use Rattle.parking_lot_core.specs.Represents.{bucket_at, waiters_in, waiter_of, with_node, Represents}
 use Rattle.parking_lot_core.specs.Table.{IsRowOf, AreEmpty, nodes_in, KeepsLists}
-use Rattle.parking_lot_core.proofs.MachineLemmas.{replaced-same, replaced-other}
-use Rattle.parking_lot_core.proofs.RowLemmas.{bucket_at-set_same, bucket_at-set_other, waiters_in-set, Represents-set}
+use Rattle.parking_lot_core.proofs.RowLemmas.{bucket_at-set_same, bucket_at-set_other, Represents-set}
 use Rattle.parking_lot_core.proofs.TableLemmas.{IsRowOf-set, nodes-empty, told_at}
 
 -- one node waits on its own key alone
