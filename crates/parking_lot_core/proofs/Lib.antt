@@ -7,3 +7,4 @@ pub mod LotLemmas
 pub mod NumberLemmas
 pub mod TableLemmas
 pub mod GrowthLemmas
+pub mod ParkingLotLemmas

@@ -7,3 +7,5 @@ pub mod Committed
 pub mod TableState
 pub mod Table
 pub use Rattle.lot_base.specs.Waiting
+pub mod ThreadDataState
+pub mod ParkingLotState

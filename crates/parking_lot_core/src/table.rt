@@ -1,7 +1,7 @@
 //! The hash table: the numbers that threads register under, and the cells that hold its buckets.
 //! It grows with the threads that are registered.
 
-ghost use Rattle.std.specs.Prelude.{◌≡◌, ◌≢◌, ◌↔◌, ℕ, ◌+◌, ◌*◌, ◌<◌, ◌≤◌, ◌++◌, [], ◌∷◌, Option, None, Some, IfSome, IfNone, IsErrOf, IfOk, OnOk, OnErr, All, length, map, replicate, slice_set, slice_get};
+ghost use Rattle.std.specs.Prelude.{◌≡◌, ◌≢◌, ◌↔◌, ℕ, ◌+◌, ◌*◌, ◌<◌, ◌≤◌, ◌++◌, [], ◌∷◌, Option, None, Some, IfSome, IfNone, IsOk, IsErrOf, IfOk, OnOk, OnErr, All, length, map, replicate, slice_set, slice_get};
 ghost use Rattle.lot_base.specs.BucketState.{BucketState};
 ghost use Rattle.lot_base.specs.Node.{fields};
 ghost use Rattle.lot_base.specs.Waiting.{lists_of};
@@ -233,7 +233,13 @@ impl Table<Bucket> {
 impl EmptyCell for Bucket {
     ghost contents = { Some (λ bucket. bucket) };
 
-    fn empty(_alloc: Global, place: usize, size: usize) -> Result<Bucket, NoMemory> {
+    /// It is never refused.
+    fn empty(_alloc: Global, place: usize, size: usize) -> Result<Bucket, NoMemory>
+        requires size { IsTableSize size }
+        requires place { place < size }
+        ensures made { IsOk result }
+        ensures empty { IfOk result (λ bucket. bucket ≡ record { place = place; size = size; nodes = [] }) }
+    {
         Ok(Bucket::new(place, size))
     }
 }
@@ -247,7 +253,12 @@ impl BucketCell<()> for Bucket {
 impl EmptyCell for Mutex<Bucket> {
     ghost contents = { None };
 
-    fn empty(_alloc: Global, place: usize, size: usize) -> Result<Mutex<Bucket>, NoMemory> {
+    /// It is never refused: std's lock asks for no memory.
+    fn empty(_alloc: Global, place: usize, size: usize) -> Result<Mutex<Bucket>, NoMemory>
+        requires size { IsTableSize size }
+        requires place { place < size }
+        ensures { IsOk result }
+    {
         Ok(Mutex::new(Bucket::new(place, size)))
     }
 }

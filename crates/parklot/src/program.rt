@@ -1,11 +1,15 @@
 //! The commands of the program.
 
-use parking_lot_core::lot::Lot;
-use parking_lot_core::{DEFAULT_PARK_TOKEN, UnparkToken};
+use parking_lot_core::{
+    DEFAULT_PARK_TOKEN, ParkResult, ParkingLot, ThreadData, ThreadParker, ThreadParkerT,
+    UnparkToken, park, unpark_one,
+};
 use std::alloc::Global;
 use std::process::ExitCode;
 use std::rt::Env;
-use std::{env, io};
+use std::sync::{Arc, Wait};
+use std::thread::Threads;
+use std::{env, io, thread};
 
 const USAGE_STATUS: u8 = 2;
 
@@ -13,13 +17,18 @@ const KEY: usize = 7;
 
 const TOKEN: UnparkToken = UnparkToken(42);
 
+// How often a test that waits by turns looks before it has failed.
+const TURNS: usize = 10_000_000;
+
 enum Command {
     Threads,
 }
 
 /// Runs the command that the arguments name. Any other words, none or too many are answered by the
 /// usage line on the error output and the status 2.
-pub fn run<R: Env + Print + Eprint + AllocGlobal>(rt: &R) -> ExitCode {
+pub fn run<R: Env + Print + Eprint + AllocGlobal + Threads + Wait + Copy + Send + 'static>(
+    rt: &R,
+) -> ExitCode {
     match chosen_command(rt) {
         Some(Command::Threads) => threads(rt),
         None => {
@@ -42,8 +51,8 @@ fn chosen_command<R: Env + AllocGlobal>(rt: &R) -> Option<Command> {
     }
 }
 
-fn threads<R: Print + AllocGlobal>(rt: &R) -> ExitCode {
-    match run_pair(rt.alloc()) {
+fn threads<R: Print + AllocGlobal + Threads + Wait + Copy + Send + 'static>(rt: &R) -> ExitCode {
+    match run_pair::<ThreadParker, _>(rt, rt.alloc()) {
         Some(Pair { unparked, token }) if unparked == 1 && token == TOKEN => {
             report(println!(rt; "pair unparked {unparked} token {}", token.0))
         }
@@ -61,27 +70,63 @@ fn report(written: io::Result<()>) -> ExitCode {
     }
 }
 
-// What the lot answered to one park and one unpark.
+// What the unpark and the park of a pair of threads answered.
 #[derive(Copy, Clone)]
 struct Pair {
     unparked: usize,
     token: UnparkToken,
 }
 
-// One thread enters a queue and is unparked. `None` says that a call was refused.
-fn run_pair(alloc: Global) -> Option<Pair> {
-    let mut lot = Lot::new(alloc, 1).ok()?;
-    let number = lot.register().ok()?;
-    let entered = lot
-        .enter(number, KEY, || true, DEFAULT_PARK_TOKEN, false)
-        .ok()?;
-    if !entered {
+// One thread parks and this one unparks it. `None` says that a call was refused, or that the other
+// thread did not come to park; then it is not joined.
+fn run_pair<P: ThreadParkerT + Send + Sync + 'static, R: Threads + Wait + Copy + Send + 'static>(
+    rt: &R,
+    alloc: Global,
+) -> Option<Pair> {
+    let lot = Arc::new(alloc, ParkingLot::<P>::new(alloc, 1).ok()?).ok()?;
+    let data = lot.thread_data(rt, alloc).ok()?;
+    let shared = Arc::try_clone(&lot).ok()?;
+    let runtime = *rt;
+    let parked = thread::spawn(rt, move || token_of_park(&runtime, &shared, data)).ok()?;
+    let unparked = unpark_by_turns(rt, &lot)?;
+    let token = parked.join(rt)?;
+    Some(Pair { unparked, token })
+}
+
+// Parks until another thread unparks this one, and answers its token.
+fn token_of_park<P: ThreadParkerT, R: Wait>(
+    rt: &R,
+    lot: &ParkingLot<P>,
+    mut data: ThreadData,
+) -> Option<UnparkToken> {
+    if data.number() >= lot.max_threads() {
         return None;
     }
-    let result = lot.unpark_one(KEY, |_| TOKEN);
-    let token = lot.give_back(number).ok()?;
-    Some(Pair {
-        unparked: result.unparked_threads,
-        token,
-    })
+    let result = park(
+        rt,
+        lot,
+        &mut data,
+        KEY,
+        || true,
+        || (),
+        |_, _| (),
+        DEFAULT_PARK_TOKEN,
+        None,
+    );
+    match result {
+        ParkResult::Unparked(token) => Some(token),
+        _ => None,
+    }
+}
+
+// Unparks until a thread was unparked, and answers how many were.
+fn unpark_by_turns<P: ThreadParkerT, R: Wait>(rt: &R, lot: &ParkingLot<P>) -> Option<usize> {
+    for _ in 0..TURNS {
+        let unparked = unpark_one(rt, lot, KEY, |_| TOKEN).unparked_threads;
+        if unparked > 0 {
+            return Some(unparked);
+        }
+        thread::yield_now();
+    }
+    None
 }

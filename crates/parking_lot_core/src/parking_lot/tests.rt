@@ -1,0 +1,259 @@
+//! Threads that park and unpark.
+
+use super::*;
+use lot_base::thread_parker::ThreadParker;
+use lot_base::token::{DEFAULT_PARK_TOKEN, DEFAULT_UNPARK_TOKEN};
+use std::alloc::AllocError;
+use std::process::Abort;
+use std::sync::Arc;
+use std::test::Fail;
+use std::thread;
+use std::thread::{JoinHandle, Threads};
+
+type Lot = ParkingLot<ThreadParker>;
+
+const KEY: usize = 7;
+
+const TURNS: usize = 10_000_000;
+
+// Parks on the key until another thread unparks this one. `None` says that the data is of another
+// lot.
+fn wait<P: ThreadParkerT, R: Wait>(
+    rt: &R,
+    lot: &ParkingLot<P>,
+    data: &mut ThreadData,
+    key: usize,
+) -> Option<ParkResult> {
+    if data.number() >= lot.max_threads() {
+        return None;
+    }
+    Some(park(
+        rt,
+        lot,
+        data,
+        key,
+        || true,
+        || (),
+        |_, _| (),
+        DEFAULT_PARK_TOKEN,
+        None,
+    ))
+}
+
+// Unparks one thread of the key as soon as one waits there, and tells whether one did.
+fn unpark_by_turns<P: ThreadParkerT, R: Wait>(
+    rt: &R,
+    lot: &ParkingLot<P>,
+    key: usize,
+    token: UnparkToken,
+) -> bool {
+    for _ in 0..TURNS {
+        if unpark_one(rt, lot, key, |_| token).unparked_threads == 1 {
+            return true;
+        }
+        thread::yield_now();
+    }
+    false
+}
+
+// Waits until so many threads wait on the key, and tells whether they did.
+fn come_by_turns<P: ThreadParkerT, R: Wait>(
+    rt: &R,
+    alloc: Global,
+    lot: &ParkingLot<P>,
+    key: usize,
+    threads: usize,
+) -> Result<bool, NoMemory> {
+    for _ in 0..TURNS {
+        if lot.list(rt, alloc, key)?.len() == threads {
+            return Ok(true);
+        }
+        thread::yield_now();
+    }
+    Ok(false)
+}
+
+// Two threads register at the same time.
+fn register_two<P: ThreadParkerT + Send + Sync, R: Threads + Wait + Sync>(
+    rt: &R,
+    alloc: Global,
+    lot: &ParkingLot<P>,
+) -> (Result<ThreadData, LotError>, Result<ThreadData, LotError>) {
+    thread::join(
+        rt,
+        || lot.thread_data(rt, alloc),
+        || lot.thread_data(rt, alloc),
+    )
+}
+
+// Starts a thread that parks on the key.
+fn start_waiter<
+    P: ThreadParkerT + Send + Sync + 'static,
+    R: Threads + Wait + Copy + Send + 'static,
+>(
+    rt: &R,
+    lot: &Arc<ParkingLot<P>, Global>,
+    mut data: ThreadData,
+    key: usize,
+) -> Result<JoinHandle<Option<ParkResult>>, AllocError> {
+    let shared = Arc::try_clone(lot)?;
+    let runtime = *rt;
+    let started = thread::spawn(rt, move || wait(&runtime, &shared, &mut data, key))?;
+    Ok(started)
+}
+
+#[test]
+fn an_unpark_before_the_sleep_is_not_lost(rt: HostRuntime) -> Result<(), Fail> {
+    let lot = Lot::new(rt.alloc(), 1)?;
+    let mut data = lot.thread_data(&rt, rt.alloc())?;
+    let result = park(
+        &rt,
+        &lot,
+        &mut data,
+        KEY,
+        || true,
+        || {
+            let result = unpark_one(&rt, &lot, KEY, |_| UnparkToken(42));
+            assert_eq!(rt; result.unparked_threads, 1);
+        },
+        |_, _| (),
+        DEFAULT_PARK_TOKEN,
+        None,
+    );
+    assert_eq!(rt; result, ParkResult::Unparked(UnparkToken(42)));
+    Ok(())
+}
+
+#[test]
+fn two_threads_park_and_unpark(rt: HostRuntime) -> Result<(), Fail> {
+    let lot = Arc::new(rt.alloc(), Lot::new(rt.alloc(), 1)?)?;
+    let data = lot.thread_data(&rt, rt.alloc())?;
+    let waiter = start_waiter(&rt, &lot, data, KEY)?;
+    assert!(rt;
+        unpark_by_turns(&rt, &lot, KEY, UnparkToken(42)),
+        "nobody parked"
+    );
+    assert_eq!(rt;
+        waiter.join(&rt),
+        Some(ParkResult::Unparked(UnparkToken(42)))
+    );
+    Ok(())
+}
+
+#[test]
+fn a_park_that_is_not_valid_ends_at_once(rt: HostRuntime) -> Result<(), Fail> {
+    let lot = Lot::new(rt.alloc(), 1)?;
+    let mut data = lot.thread_data(&rt, rt.alloc())?;
+    let mut validations = 0;
+    let result = park(
+        &rt,
+        &lot,
+        &mut data,
+        KEY,
+        || {
+            validations += 1;
+            false
+        },
+        || assert!(rt; false, "it must not come to sleep"),
+        |_, _| assert!(rt; false, "it must not time out"),
+        DEFAULT_PARK_TOKEN,
+        None,
+    );
+    assert_eq!(rt; result, ParkResult::Invalid);
+    assert_eq!(rt; validations, 1);
+    assert_eq!(rt; data.number(), 0);
+    assert!(rt; lot.list(&rt, rt.alloc(), KEY)?.is_empty());
+    Ok(())
+}
+
+#[test]
+fn an_unpark_of_nobody_calls_back_with_the_default_result(rt: HostRuntime) -> Result<(), Fail> {
+    let lot = Lot::new(rt.alloc(), 1)?;
+    let mut told = None;
+    let result = unpark_one(&rt, &lot, KEY, |answer| {
+        told = Some(answer);
+        DEFAULT_UNPARK_TOKEN
+    });
+    assert_eq!(rt; result, UnparkResult::default());
+    assert_eq!(rt; told, Some(UnparkResult::default()));
+    Ok(())
+}
+
+#[test]
+fn dropped_data_keeps_its_number_and_retired_data_frees_it(rt: HostRuntime) -> Result<(), Fail> {
+    let lot = Lot::new(rt.alloc(), 2)?;
+    assert_eq!(rt; lot.max_threads(), 2);
+    let first = lot.thread_data(&rt, rt.alloc())?;
+    let second = lot.thread_data(&rt, rt.alloc())?;
+    assert_eq!(rt; (first.number(), second.number()), (0, 1));
+    drop(first);
+    assert!(rt; matches!(&lot.thread_data(&rt, rt.alloc()), Err(LotError::Full)));
+    lot.retire(&rt, second);
+    assert_eq!(rt; lot.thread_data(&rt, rt.alloc())?.number(), 1);
+    Ok(())
+}
+
+#[test]
+fn a_lot_is_for_at_most_1024_threads(rt: HostRuntime) -> Result<(), Fail> {
+    let refused = Lot::new(rt.alloc(), 1_025);
+    assert!(rt; matches!(&refused, Err(LotError::TooManyThreads)));
+    assert_eq!(rt; Lot::new(rt.alloc(), 1_024)?.max_threads(), 1_024);
+    let without_threads = Lot::new(rt.alloc(), 0)?;
+    assert!(rt;
+        matches!(
+            &without_threads.thread_data(&rt, rt.alloc()),
+            Err(LotError::Full)
+        )
+    );
+    Ok(())
+}
+
+// The keys 0 and 13 have place 0 in a table of 16, and the places 0 and 1 in one of 32.
+#[test]
+fn waiters_stay_where_the_table_grows_under_them(rt: HostRuntime) -> Result<(), Fail> {
+    let lot = Arc::new(rt.alloc(), Lot::new(rt.alloc(), 6)?)?;
+    let mut waiters = Vec::new(rt.alloc());
+    for number in 0..4 {
+        let data = lot.thread_data(&rt, rt.alloc())?;
+        let key = if number % 2 == 0 { 0 } else { 13 };
+        waiters.push(start_waiter(&rt, &lot, data, key)?)?;
+        assert!(rt; come_by_turns(&rt, rt.alloc(), &lot, key, number / 2 + 1)?);
+    }
+    let (fifth, sixth) = register_two(&rt, rt.alloc(), &lot);
+    assert_eq!(rt; fifth?.number() + sixth?.number(), 4 + 5);
+    assert_eq!(rt; lot.list(&rt, rt.alloc(), 0)?.as_slice(), &[0, 2][..]);
+    assert_eq!(rt; lot.list(&rt, rt.alloc(), 13)?.as_slice(), &[1, 3][..]);
+    for (key, number) in [(0, 0), (13, 1), (0, 2), (13, 3)] {
+        let result = unpark_one(&rt, &lot, key, |_| UnparkToken(10 + number));
+        assert_eq!(rt; result.unparked_threads, 1);
+        assert_eq!(rt; result.have_more_threads, number < 2);
+    }
+    let mut number = 0;
+    for waiter in waiters {
+        let token = UnparkToken(10 + number);
+        assert_eq!(rt; waiter.join(&rt), Some(ParkResult::Unparked(token)));
+        number += 1;
+    }
+    Ok(())
+}
+
+// It ends well whichever one of its requests for memory is refused, as `rt try --test --fail-alloc N`
+// refuses the Nth: the call that was refused does what it should when it is made again.
+#[test]
+fn a_refused_request_for_memory_leaves_the_lot_as_it_was(rt: HostRuntime) -> Result<(), Fail> {
+    let Ok(lot) = Lot::new(rt.alloc(), 6) else {
+        return Ok(());
+    };
+    for number in 0..6 {
+        let data = match lot.thread_data(&rt, rt.alloc()) {
+            Ok(data) => data,
+            Err(error) => {
+                assert_eq!(rt; error, LotError::NoMemory);
+                lot.thread_data(&rt, rt.alloc())?
+            }
+        };
+        assert_eq!(rt; data.number(), number);
+    }
+    assert!(rt; matches!(&lot.thread_data(&rt, rt.alloc()), Err(LotError::Full)));
+    Ok(())
+}
