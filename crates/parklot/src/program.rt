@@ -8,7 +8,7 @@ use std::alloc::Global;
 use std::process::ExitCode;
 use std::rt::Env;
 use std::sync::{Arc, Wait};
-use std::thread::Threads;
+use std::thread::{JoinHandle, Threads};
 use std::{env, io, thread};
 
 const USAGE_STATUS: u8 = 2;
@@ -79,18 +79,33 @@ struct Pair {
 
 // One thread parks and this one unparks it. `None` says that a call was refused, or that the other
 // thread did not come to park; then it is not joined.
-fn run_pair<P: ThreadParkerT + Send + Sync + 'static, R: Threads + Wait + Copy + Send + 'static>(
-    rt: &R,
-    alloc: Global,
-) -> Option<Pair> {
+fn run_pair<P, R>(rt: &R, alloc: Global) -> Option<Pair>
+where
+    P: ThreadParkerT + Send + Sync + 'static,
+    P::UnparkHandle: 'static,
+    R: Threads + Wait + Copy + Send + 'static,
+{
     let lot = Arc::new(alloc, ParkingLot::<P>::new(alloc, 1).ok()?).ok()?;
     let data = lot.thread_data(rt, alloc).ok()?;
-    let shared = Arc::try_clone(&lot).ok()?;
-    let runtime = *rt;
-    let parked = thread::spawn(rt, move || token_of_park(&runtime, &shared, data)).ok()?;
+    let parked = start_park(rt, Arc::try_clone(&lot).ok()?, data)?;
     let unparked = unpark_by_turns(rt, &lot)?;
     let token = parked.join(rt)?;
     Some(Pair { unparked, token })
+}
+
+// Starts a thread that parks. `None` says that it could not be started.
+fn start_park<P, R>(
+    rt: &R,
+    lot: Arc<ParkingLot<P>, Global>,
+    data: ThreadData,
+) -> Option<JoinHandle<Option<UnparkToken>>>
+where
+    P: ThreadParkerT + Send + Sync + 'static,
+    P::UnparkHandle: 'static,
+    R: Threads + Wait + Copy + Send + 'static,
+{
+    let runtime = *rt;
+    thread::spawn(rt, move || token_of_park(&runtime, &lot, data)).ok()
 }
 
 // Parks until another thread unparks this one, and answers its token.
