@@ -6,5 +6,6 @@ pub mod CommitLemmas
 pub mod LotLemmas
 pub mod NumberLemmas
 pub mod TableLemmas
+pub mod UseLemmas
 pub mod GrowthLemmas
 pub mod ParkingLotLemmas

@@ -1,228 +1,310 @@
 -- Each step of a lot is the machine's, and leaves a lot.
-use Rattle.std.proofs.Common.{◌≡◌, ◌≢◌, ℕ, ◌+◌, ◌<◌, ◌==◌, Bool, false, List, [], ◌∷◌, ◌++◌, length, length-append, map, filter, take, drop, All, refl, sym, ap, ◌∙◌, subst, arith, slice_set}
+use Rattle.std.proofs.Common.{◌≡◌, ◌≢◌, ℕ, ◌+◌, ◌<◌, Bool, false, List, [], ◌∷◌, ◌++◌, length, append-nil, map, take, drop, refl, sym, ap, ◌∙◌, subst, ⊎_elim, ◌⊎◌, inl, inr, arith, slice_set, All}
 use Rattle.std.proofs.Math.ListN.{length-set}
-use Rattle.std.proofs.lemmas.List.{map-append, set-set, set-get_or}
-use Rattle.std.proofs.lemmas.List.Elements.{All-nil, All-push, All-drop, All-filter, filter-append}
-use Rattle.lot_base.proofs.PlaceLemmas.{place_of-below}
-use Rattle.lot_base.proofs.SpreadLemmas.{lists_of-push}
-use Rattle.lot_base.proofs.WaitingLemmas.{All-after_taking}
+use Rattle.std.proofs.lemmas.Bool.{cases_eq}
+use Rattle.std.proofs.lemmas.List.{map-append}
+use Rattle.std.proofs.lemmas.List.Elements.{All-drop, All-nil}
+use Rattle.std.specs.List.{range_with_len}
+use Rattle.std.proofs.lemmas.List.FromFn.{length-map-range_with_len}
+use Rattle.parking_lot_core.proofs.UseLemmas.{thread_at-free}
 use Rattle.lot_base.specs.BucketState.{BucketState}
 use Rattle.lot_base.specs.NodeFields.{NodeFields}
-use Rattle.lot_base.specs.Place.{place_of}
-use Rattle.lot_base.specs.Waiting.{lists_of, replaced, with_token}
+use Rattle.lot_base.specs.Place.{IsTableSize, place_of}
+use Rattle.lot_base.specs.Waiting.{lists_of, replaced, requeued, with_token, with_new_key, Split, split_first, split_all}
 use Rattle.lot_base.specs.declared.token.ParkToken.{ParkToken}
 use Rattle.lot_base.specs.declared.token.UnparkToken.{UnparkToken}
 use Rattle.parking_lot_core.specs.declared.lot.Lot.TheInside.{Inside}
-use Rattle.parking_lot_core.specs.declared.lot.Status.{Status}
 use Rattle.parking_lot_core.specs.declared.lot.Status.TheVariants.{Free, Running, Waiting}
-use Rattle.parking_lot_core.specs.Committed.{with_status, committed, CanCommit}
-use Rattle.parking_lot_core.specs.Lot.{thread_at, statuses, machine, IsRow, IsLot}
+use Rattle.parking_lot_core.specs.Committed.{committed, CanCommit}
+use Rattle.parking_lot_core.specs.Lot.{thread_at, free_thread, statuses, keys, machine, uses, use_of, IsLot}
 use Rattle.parking_lot_core.specs.LotState.{LotState, ThreadState}
-use Rattle.parking_lot_core.specs.Machine.{Waiter, Machine, IsConsistent, IsLeastFree, IsFull, new_machine, is_queued, times_in, all_taken, entered, registered, unparked_one}
+use Rattle.parking_lot_core.specs.Machine.{Waiter, Machine, StandRight, new_machine, is_queued, times_in, all_taken, turned, entered, unparked, moved_on}
 use Rattle.parking_lot_core.specs.Represents.{bucket_at, with_node, waiter_of, waiters_in}
-use Rattle.parking_lot_core.proofs.CommitLemmas.{ne-free-running, statuses-set, AreThreads-set, statuses-past, below_from_status, length-committed, AreThreads-committed, statuses-committed, CanCommit-standing, statuses-push, AreThreads-push}
-use Rattle.parking_lot_core.proofs.MachineLemmas.{same_machine, times_in-standing, is_queued-standing, IsConsistent-status, IsConsistent-entered, IsConsistent-unparked}
-use Rattle.parking_lot_core.proofs.RowLemmas.{IsTableSize-16, IsRow-set, waiters_in-set, Represents-set}
+use Rattle.parking_lot_core.specs.Table.{nodes_in, KeepsLists}
+use Rattle.parking_lot_core.proofs.CommitLemmas.{statuses-set, uses-set, keys-set_other, keys-set_same, numbers-set, below_from_status, ne-free-running, length-committed, numbers-committed, keys-committed, statuses-committed, uses-committed, CanCommit-standing}
+use Rattle.parking_lot_core.proofs.MachineLemmas.{replaced-same, replaced-other, same_machine, times_in-append, is_queued-standing, StandsAt-standing, StandRight-turned, StandRight-entered, StandRight-moved_on, moved_on-unparked}
+use Rattle.parking_lot_core.proofs.RowLemmas.{IsRowStep, IsRowStep-with_node, IsRowStep-put, All-nodes_in}
 
 -- a lot by its fields
 abbrev pub lot_of : Inside → LotState
-lot_of lot = record { buckets = lot.buckets.items; threads = lot.threads.items; max_threads = lot.max_threads }
-
--- the bucket of a key
-abbrev pub bucket_of : LotState → ℕ → BucketState
-bucket_of lot key = bucket_at lot.buckets (place_of key 16)
+lot_of lot = record { buckets = lot.table.cells; threads = lot.threads.items }
 
 -- a lot after a step
 pub record IsStep (new : LotState) (m : Machine) : Type 0 where
   pub is_lot : IsLot new
   pub means : machine new ≡ m
 
--- a thread's status alone changes
-pub IsStep-status : (lot : LotState) (number : ℕ) (status : Status) → IsLot lot → number < length lot.threads → status ≢ Free → is_queued (statuses lot.threads number) ≡ false → is_queued status ≡ false → IsStep (record lot { threads = slice_set lot.threads number (record { number = number; status = status }) }) (record (machine lot) { status = replaced (statuses lot.threads) number status })
-IsStep-status lot number status is below registered was now = record {
+-- one thread is turned to another status
+pub IsStep-turned : (lot : LotState) (number : ℕ) (thread : ThreadState) → IsLot lot → number < length lot.threads → thread.number ≡ number → is_queued thread.status ≡ is_queued (statuses lot.threads number) → thread.key ≡ keys lot.threads number ⊎ is_queued thread.status ≡ false → IsStep (record lot { threads = slice_set lot.threads number thread }) (turned (machine lot) number thread.status)
+IsStep-turned lot number thread is below own queued key = record {
   is_lot = record {
-    row = is.row;
     represents = is.represents;
-    threads = AreThreads-set lot.threads number (record { number = number; status = status }) below refl registered is.threads;
-    count = omega (arith, is.count, length-set lot.threads number (record { number = number; status = status }));
-    consistent = subst IsConsistent (sym means) (IsConsistent-status (machine lot) number status was now is.consistent);
+    numbers = numbers-set lot.threads number thread below own is.numbers;
+    standing = subst (StandRight (keys (slice_set lot.threads number thread))) (sym means) (StandRight-turned (keys lot.threads) (keys (slice_set lot.threads number thread)) (machine lot) number thread.status queued (keys-set_other lot.threads number thread) (⊎_elim (λ (same : thread.key ≡ keys lot.threads number). inl (keys-set_same lot.threads number thread below ∙ same)) (λ (none : is_queued thread.status ≡ false). inr none) key) is.standing);
   };
   means = means;
 }
   where
-    means : machine (record lot { threads = slice_set lot.threads number (record { number = number; status = status }) }) ≡ record (machine lot) { status = replaced (statuses lot.threads) number status }
-    means = same_machine _ _ (λ k. refl) (statuses-set lot.threads number (record { number = number; status = status }) below) refl
+    means : machine (record lot { threads = slice_set lot.threads number thread }) ≡ turned (machine lot) number thread.status
+    means = same_machine _ _ (λ k. refl) (statuses-set lot.threads number thread below) (length-set lot.threads number thread)
 
--- the place of a key in a row
-place-row : (row : List BucketState) (key : ℕ) → IsRow row → place_of key (length row) ≡ place_of key 16
-place-row row key is = ap (place_of key) is.count
+map-replaced : {A B : Type 0} (f : A → B) (all : ℕ → List A) (key : ℕ) (one : List A) (k : ℕ) → map f (replaced all key one k) ≡ replaced (λ q. map f (all q)) key (map f one) k
+map-replaced f all key one k =
+    ⊎_elim (λ (same : k ≡ key). ap (map f) (replaced-same all key one k same) ∙ sym (replaced-same (λ q. map f (all q)) key (map f one) k same))
+    (λ (other : k ≢ key). ap (map f) (replaced-other all key one k other) ∙ sym (replaced-other (λ q. map f (all q)) key (map f one) k other))
+    (cases_eq k key)
 
--- a running thread enters the bucket of its key
-pub IsStep-entered : (lot : LotState) (number key : ℕ) (park_token : ParkToken) (timed : Bool) (node : NodeFields) (bucket : BucketState) (thread : ThreadState) → IsLot lot → statuses lot.threads number ≡ Running → place_of key 16 < 16 → waiter_of node ≡ record { number = number; park_token = park_token; timed = timed } → node.key ≡ key → bucket ≡ record (bucket_of lot key) { nodes = (bucket_of lot key).nodes ++ node ∷ [] } → thread ≡ record { number = number; status = Waiting timed } → IsStep (record { buckets = slice_set lot.buckets (place_of key 16) bucket; threads = slice_set lot.threads number thread; max_threads = lot.max_threads }) (entered (machine lot) number key park_token timed)
-IsStep-entered lot number key park_token timed node bucket thread is running low waiter own bucket_is thread_is = record {
+-- a running thread enters the list of a key
+pub IsStep-entered : (lot : LotState) (number key : ℕ) (park_token : ParkToken) (unpark_token : UnparkToken) (timed : Bool) → IsLot lot → IsTableSize (length lot.buckets) → statuses lot.threads number ≡ Running → IsStep (record { buckets = with_node lot.buckets (record { number = number; key = key; park_token = park_token; unpark_token = unpark_token; timed = timed }); threads = slice_set lot.threads number (record { number = number; key = key; status = Waiting timed }) }) (entered (machine lot) number key park_token timed)
+IsStep-entered lot number key park_token unpark_token timed is table running = record {
   is_lot = record {
-    row = IsRow-set lot.buckets (place_of key 16) bucket low (ap (λ b. b.place) bucket_is ∙ is.row.places (place_of key 16) low) (ap (λ b. b.size) bucket_is ∙ is.row.sizes (place_of key 16) low) is.row;
-    represents = Represents-set lot.buckets (place_of key 16) bucket (omega (arith, is.row.count)) in_place is.represents;
-    threads = AreThreads-set lot.threads number thread below (ap (λ t. t.number) thread_is) (λ free. ne-free-waiting (ap (λ t. t.status) (sym thread_is) ∙ free)) is.threads;
-    count = omega (arith, is.count, length-set lot.threads number thread);
-    consistent = subst IsConsistent (sym means) (IsConsistent-entered (machine lot) number key park_token timed running is.consistent);
+    represents = row.represents;
+    numbers = numbers-set lot.threads number thread below refl is.numbers;
+    standing = subst (StandRight (keys threads)) (sym means) (StandRight-entered (keys lot.threads) (keys threads) (machine lot) number key park_token timed (ap is_queued running) (keys-set_other lot.threads number thread) (keys-set_same lot.threads number thread below) is.standing);
   };
   means = means;
 }
   where
-    ne-free-waiting : Waiting timed ≢ Free
-    ne-free-waiting same = cc
+    node : NodeFields
+    node = record { number = number; key = key; park_token = park_token; unpark_token = unpark_token; timed = timed }
+
+    thread : ThreadState
+    thread = record { number = number; key = key; status = Waiting timed }
+
+    threads : List ThreadState
+    threads = slice_set lot.threads number thread
+
+    row : IsRowStep lot.buckets (with_node lot.buckets node) (replaced (nodes_in lot.buckets) key (nodes_in lot.buckets key ++ node ∷ []))
+    row = IsRowStep-with_node lot.buckets node table is.represents
 
     below : number < length lot.threads
     below = below_from_status lot.threads number (λ free. ne-free-running (sym running ∙ free))
 
-    in_place : All (λ other. place_of other.key (length lot.buckets) ≡ place_of key 16) bucket.nodes
-    in_place = subst (λ b. All (λ other. place_of other.key (length lot.buckets) ≡ place_of key 16) b.nodes) (sym bucket_is) (All-push (λ other. place_of other.key (length lot.buckets) ≡ place_of key 16) (bucket_of lot key).nodes node (is.represents.in_place (place_of key 16) (omega (arith, is.row.count))) (ap (λ k. place_of k (length lot.buckets)) own ∙ place-row lot.buckets key is.row))
+    means : machine (record { buckets = with_node lot.buckets node; threads = threads }) ≡ entered (machine lot) number key park_token timed
+    means =
+        same_machine _ _
+        (λ k. ap (map waiter_of) (row.nodes k) ∙ map-replaced waiter_of (nodes_in lot.buckets) key (nodes_in lot.buckets key ++ node ∷ []) k ∙ ap (λ list. replaced (waiters_in lot.buckets) key list k) (map-append waiter_of (nodes_in lot.buckets key) (node ∷ [])))
+        (statuses-set lot.threads number thread below)
+        (length-set lot.threads number thread)
 
-    lists : (k : ℕ) → lists_of bucket.nodes k ≡ replaced (lists_of (bucket_of lot key).nodes) key (lists_of (bucket_of lot key).nodes key ++ node ∷ []) k
-    lists k = ap (λ b. lists_of b.nodes k) bucket_is ∙ lists_of-push (bucket_of lot key).nodes node k ∙ ap (λ q. replaced (lists_of (bucket_of lot key).nodes) q (lists_of (bucket_of lot key).nodes q ++ node ∷ []) k) own
+-- a split of nodes, as the machine sees it
+abbrev pub split_of : Split NodeFields → Split Waiter
+split_of split = record { taken = map waiter_of split.taken; moved = map waiter_of split.moved; left = map waiter_of split.left }
 
-    row_lists : (k : ℕ) → waiters_in (slice_set lot.buckets (place_of key 16) bucket) k ≡ replaced (waiters_in lot.buckets) key (map waiter_of (lists_of (bucket_of lot key).nodes key ++ node ∷ [])) k
-    row_lists = subst (λ p. p < length lot.buckets → ((k : ℕ) → lists_of bucket.nodes k ≡ replaced (lists_of (bucket_at lot.buckets p).nodes) key (lists_of (bucket_at lot.buckets p).nodes key ++ node ∷ []) k) → (k : ℕ) → waiters_in (slice_set lot.buckets p bucket) k ≡ replaced (waiters_in lot.buckets) key (map waiter_of (lists_of (bucket_at lot.buckets p).nodes key ++ node ∷ [])) k) (place-row lot.buckets key is.row) (waiters_in-set lot.buckets bucket key (lists_of (bucket_at lot.buckets (place_of key (length lot.buckets))).nodes key ++ node ∷ [])) (omega (arith, is.row.count)) lists
+-- the waiters of a split are those of a list
+abbrev pub AreParts : Split Waiter → List Waiter → Type 0
+AreParts split waiters =
+    (j : ℕ) → times_in j split.taken + times_in j split.moved + times_in j split.left ≡ times_in j waiters
 
-    list : map waiter_of (lists_of (bucket_of lot key).nodes key ++ node ∷ []) ≡ waiters_in lot.buckets key ++ record { number = number; park_token = park_token; timed = timed } ∷ []
-    list = map-append waiter_of (lists_of (bucket_of lot key).nodes key) (node ∷ []) ∙ ap (λ w. map waiter_of (lists_of (bucket_of lot key).nodes key) ++ w ∷ []) waiter ∙ ap (λ p. map waiter_of (lists_of (bucket_at lot.buckets p).nodes key) ++ record { number = number; park_token = park_token; timed = timed } ∷ []) (sym (place-row lot.buckets key is.row))
+map-with_new_key : (to : ℕ) (nodes : List NodeFields) → map waiter_of (map (with_new_key to) nodes) ≡ map waiter_of nodes
+map-with_new_key to [] = refl
+map-with_new_key to (node ∷ nodes) = ap (λ rest. waiter_of node ∷ rest) (map-with_new_key to nodes)
 
-    means : machine (record { buckets = slice_set lot.buckets (place_of key 16) bucket; threads = slice_set lot.threads number thread; max_threads = lot.max_threads }) ≡ entered (machine lot) number key park_token timed
-    means = same_machine _ _ (λ k. row_lists k ∙ ap (λ l. replaced (waiters_in lot.buckets) key l k) list) (λ j. statuses-set lot.threads number thread below j ∙ ap (λ s. replaced (statuses lot.threads) number s j) (ap (λ t. t.status) thread_is)) refl
+-- threads that differ from those of a lot in the keys of some that moved
+pub record AreMoved (lot : LotState) (moved : List Waiter) (to : ℕ) (threads : List ThreadState) : Type 0 where
+  pub count : length threads ≡ length lot.threads
+  pub numbers : (j : ℕ) → (thread_at threads j).number ≡ j
+  pub status : (j : ℕ) → statuses threads j ≡ statuses lot.threads j
+  pub others : (j : ℕ) → times_in j moved ≡ 0 → keys threads j ≡ keys lot.threads j
+  pub own : (j : ℕ) → times_in j moved ≢ 0 → keys threads j ≡ to
 
--- the same, as the code does it
-pub IsStep-entering : (lot : LotState) (number key : ℕ) (park_token : ParkToken) (unpark_token : UnparkToken) (timed : Bool) → IsLot lot → statuses lot.threads number ≡ Running → IsStep (record { buckets = with_node lot.buckets (record { number = number; key = key; park_token = park_token; unpark_token = unpark_token; timed = timed }); threads = with_status lot.threads number (Waiting timed); max_threads = lot.max_threads }) (entered (machine lot) number key park_token timed)
-IsStep-entering lot number key park_token unpark_token timed is running =
-    let node : NodeFields = record { number = number; key = key; park_token = park_token; unpark_token = unpark_token; timed = timed } in
-    subst (λ place. IsStep (record { buckets = slice_set lot.buckets place (record (bucket_at lot.buckets place) { nodes = (bucket_at lot.buckets place).nodes ++ node ∷ [] }); threads = with_status lot.threads number (Waiting timed); max_threads = lot.max_threads }) (entered (machine lot) number key park_token timed)) (sym (place-row lot.buckets key is.row))
-    (IsStep-entered lot number key park_token timed node (record (bucket_of lot key) { nodes = (bucket_of lot key).nodes ++ node ∷ [] }) (record { number = number; status = Waiting timed }) is running (place_of-below key 16 IsTableSize-16) refl refl refl refl)
+pub AreMoved-nobody : (lot : LotState) (to : ℕ) → IsLot lot → AreMoved lot [] to lot.threads
+AreMoved-nobody lot to is =
+    record { count = refl; numbers = is.numbers; status = λ j. refl; others = λ j none. refl; own = λ j some. absurd (some refl) }
 
-thread_is : (threads : List ThreadState) (number : ℕ) → (thread_at threads number).number ≡ number → statuses threads number ≡ Running → thread_at threads number ≡ record { number = number; status = Running }
-thread_is threads number own running = λ i. record { number = own i; status = running i }
+-- those who are taken out of their list can be committed
+pub CanCommit-split : (lot : LotState) (from to : ℕ) (split : Split NodeFields) (token : UnparkToken) (threads : List ThreadState) → IsLot lot → AreParts (split_of split) (waiters_in lot.buckets from) → AreMoved lot (map waiter_of split.moved) to threads → CanCommit (map (with_token token) split.taken) threads
+CanCommit-split lot from to split token threads is parts moved =
+    CanCommit-standing token split.taken threads moved.numbers
+    (λ j some. let stands : 0 < times_in j (waiters_in lot.buckets from) = omega (arith, parts j) in let stood = StandsAt-standing (keys lot.threads) (machine lot) j from is.standing stands in (omega (arith, parts j, stood.once), ap is_queued (moved.status j) ∙ is_queued-standing (keys lot.threads) (machine lot) j from is.standing stands))
 
--- a thread that was going to wait runs again: the lot is as before
-pub same_threads : (lot : LotState) (number : ℕ) (timed : Bool) → IsLot lot → statuses lot.threads number ≡ Running → with_status (with_status lot.threads number (Waiting timed)) number Running ≡ lot.threads
-same_threads lot number timed is running =
-    set-set lot.threads number (record { number = number; status = Waiting timed }) (record { number = number; status = Running })
-    ∙ ap (slice_set lot.threads number) (sym (thread_is lot.threads number (is.threads.numbers number) running))
-    ∙ set-get_or lot.threads number (record { number = number; status = Free })
-
--- waiters of a key that stand once can be committed
-pub CanCommit-unparked : (lot : LotState) (key : ℕ) (token : UnparkToken) (taken left : List NodeFields) → IsLot lot → ((j : ℕ) → times_in j (map waiter_of taken) + times_in j (map waiter_of left) ≡ times_in j (waiters_in lot.buckets key)) → CanCommit (map (with_token token) taken) lot.threads
-CanCommit-unparked lot key token taken left is parts =
-    CanCommit-standing token taken lot.threads is.threads
-    (λ j some. let stands : 0 < times_in j (waiters_in lot.buckets key) = omega (arith, parts j) in let once = (times_in-standing (machine lot) j key is.consistent stands).0 in (omega (arith, parts j, once), is_queued-standing (machine lot) j key is.consistent stands))
-
--- some waiters of a key are taken, the others are left
-pub IsStep-unparked : (lot : LotState) (key : ℕ) (token : UnparkToken) (taken left : List NodeFields) (bucket : BucketState) → IsLot lot → place_of key 16 < 16 → bucket.place ≡ (bucket_of lot key).place → bucket.size ≡ (bucket_of lot key).size → ((k : ℕ) → lists_of bucket.nodes k ≡ replaced (lists_of (bucket_of lot key).nodes) key left k) → All (λ node. place_of node.key (length lot.buckets) ≡ place_of key 16) left → ((j : ℕ) → times_in j (map waiter_of taken) + times_in j (map waiter_of left) ≡ times_in j (waiters_in lot.buckets key)) → IsStep (record { buckets = slice_set lot.buckets (place_of key 16) bucket; threads = committed (map (with_token token) taken) lot.threads; max_threads = lot.max_threads }) (record (machine lot) { lists = replaced (waiters_in lot.buckets) key (map waiter_of left); status = all_taken token (map waiter_of taken) (statuses lot.threads) })
-IsStep-unparked lot key token taken left bucket is low place size lists left_in_place parts = record {
+-- some waiters of a key are taken, some moved to another, the others left
+pub IsStep-moved_on : (lot : LotState) (from to : ℕ) (split : Split NodeFields) (token : UnparkToken) (row : List BucketState) (threads : List ThreadState) → IsLot lot → AreParts (split_of split) (waiters_in lot.buckets from) → AreMoved lot (map waiter_of split.moved) to threads → IsRowStep lot.buckets row (requeued (nodes_in lot.buckets) from to split.left (map (with_new_key to) split.moved)) → IsStep (record { buckets = row; threads = committed (map (with_token token) split.taken) threads }) (moved_on (machine lot) from to (split_of split) token)
+IsStep-moved_on lot from to split token row threads is parts moved step = record {
   is_lot = record {
-    row = IsRow-set lot.buckets (place_of key 16) bucket low (place ∙ is.row.places (place_of key 16) low) (size ∙ is.row.sizes (place_of key 16) low) is.row;
-    represents = Represents-set lot.buckets (place_of key 16) bucket (omega (arith, is.row.count)) (All-after_taking (λ node. place_of node.key (length lot.buckets) ≡ place_of key 16) key (bucket_of lot key).nodes bucket.nodes left (is.represents.in_place (place_of key 16) (omega (arith, is.row.count))) left_in_place lists) is.represents;
-    threads = AreThreads-committed (map (with_token token) taken) lot.threads can is.threads;
-    count = omega (arith, is.count, length-committed (map (with_token token) taken) lot.threads);
-    consistent = subst IsConsistent (sym means) (IsConsistent-unparked (machine lot) key token (map waiter_of taken) (map waiter_of left) parts is.consistent);
+    represents = step.represents;
+    numbers = numbers-committed taken threads can moved.numbers;
+    standing = subst (StandRight (keys after)) (sym means) (StandRight-moved_on (keys lot.threads) (keys after) (machine lot) from to (split_of split) token parts (λ j none. keys-committed taken threads can j ∙ moved.others j none) (λ j some. keys-committed taken threads can j ∙ moved.own j some) is.standing);
   };
   means = means;
 }
   where
-    can : CanCommit (map (with_token token) taken) lot.threads
-    can = CanCommit-unparked lot key token taken left is parts
+    taken : List NodeFields
+    taken = map (with_token token) split.taken
 
-    row_lists : (k : ℕ) → waiters_in (slice_set lot.buckets (place_of key 16) bucket) k ≡ replaced (waiters_in lot.buckets) key (map waiter_of left) k
-    row_lists = subst (λ p. p < length lot.buckets → ((k : ℕ) → lists_of bucket.nodes k ≡ replaced (lists_of (bucket_at lot.buckets p).nodes) key left k) → (k : ℕ) → waiters_in (slice_set lot.buckets p bucket) k ≡ replaced (waiters_in lot.buckets) key (map waiter_of left) k) (place-row lot.buckets key is.row) (waiters_in-set lot.buckets bucket key left) (omega (arith, is.row.count)) lists
+    after : List ThreadState
+    after = committed taken threads
 
-    means : machine (record { buckets = slice_set lot.buckets (place_of key 16) bucket; threads = committed (map (with_token token) taken) lot.threads; max_threads = lot.max_threads }) ≡ record (machine lot) { lists = replaced (waiters_in lot.buckets) key (map waiter_of left); status = all_taken token (map waiter_of taken) (statuses lot.threads) }
-    means = same_machine _ _ row_lists (statuses-committed token taken lot.threads can) refl
+    can : CanCommit taken threads
+    can = CanCommit-split lot from to split token threads is parts moved
 
--- the waiters of a key stand in its bucket
-pub waiters_in-row : (lot : LotState) (key : ℕ) → IsLot lot → waiters_in lot.buckets key ≡ map waiter_of (lists_of (bucket_of lot key).nodes key)
-waiters_in-row lot key is = ap (λ p. map waiter_of (lists_of (bucket_at lot.buckets p).nodes key)) (place-row lot.buckets key is.row)
+    kept : (k : ℕ) → map waiter_of (replaced (nodes_in lot.buckets) from split.left k) ≡ replaced (waiters_in lot.buckets) from (map waiter_of split.left) k
+    kept k = map-replaced waiter_of (nodes_in lot.buckets) from split.left k
 
--- the first and the others are all
-pub times_in-first : (j : ℕ) (nodes : List NodeFields) → times_in j (map waiter_of (take 1 nodes)) + times_in j (map waiter_of (drop 1 nodes)) ≡ times_in j (map waiter_of nodes)
-times_in-first j [] = refl
-times_in-first j (node ∷ nodes) = sym (ap length (filter-append (λ waiter. waiter.number == j) (waiter_of node ∷ []) (map waiter_of nodes)) ∙ length-append (filter (λ waiter. waiter.number == j) (waiter_of node ∷ [])) (filter (λ waiter. waiter.number == j) (map waiter_of nodes)))
+    behind : map waiter_of (replaced (nodes_in lot.buckets) from split.left to ++ map (with_new_key to) split.moved) ≡ replaced (waiters_in lot.buckets) from (map waiter_of split.left) to ++ map waiter_of split.moved
+    behind =
+        map-append waiter_of (replaced (nodes_in lot.buckets) from split.left to) (map (with_new_key to) split.moved)
+        ∙ ap (λ list. list ++ map waiter_of (map (with_new_key to) split.moved)) (kept to)
+        ∙ ap (λ list. replaced (waiters_in lot.buckets) from (map waiter_of split.left) to ++ list) (map-with_new_key to split.moved)
 
-map-take_first : {A B : Type 0} (f : A → B) (xs : List A) → map f (take 1 xs) ≡ take 1 (map f xs)
-map-take_first f [] = refl
-map-take_first f (x ∷ xs) = refl
+    lists : (k : ℕ) → waiters_in row k ≡ requeued (waiters_in lot.buckets) from to (map waiter_of split.left) (map waiter_of split.moved) k
+    lists k =
+        ap (map waiter_of) (step.nodes k)
+        ∙ map-replaced waiter_of (replaced (nodes_in lot.buckets) from split.left) to (replaced (nodes_in lot.buckets) from split.left to ++ map (with_new_key to) split.moved) k
+        ∙ (λ i. replaced (λ q. kept q i) to (behind i) k)
 
-map-drop_first : {A B : Type 0} (f : A → B) (xs : List A) → map f (drop 1 xs) ≡ drop 1 (map f xs)
-map-drop_first f [] = refl
-map-drop_first f (x ∷ xs) = refl
+    means : machine (record { buckets = row; threads = after }) ≡ moved_on (machine lot) from to (split_of split) token
+    means =
+        same_machine _ _ lists
+        (λ j. statuses-committed token split.taken threads can j ∙ (λ i. all_taken token (map waiter_of split.taken) (λ k. moved.status k i) j))
+        (length-committed taken threads ∙ moved.count)
 
--- the first waiter of a key is taken
-pub IsStep-unparked_one : (lot : LotState) (key : ℕ) (token : UnparkToken) (bucket : BucketState) → IsLot lot → place_of key 16 < 16 → bucket.place ≡ (bucket_of lot key).place → bucket.size ≡ (bucket_of lot key).size → ((k : ℕ) → lists_of bucket.nodes k ≡ replaced (lists_of (bucket_of lot key).nodes) key (drop 1 (lists_of (bucket_of lot key).nodes key)) k) → IsStep (record { buckets = slice_set lot.buckets (place_of key 16) bucket; threads = committed (map (with_token token) (take 1 (lists_of (bucket_of lot key).nodes key))) lot.threads; max_threads = lot.max_threads }) (unparked_one (machine lot) key token)
-IsStep-unparked_one lot key token bucket is low place size lists =
-    subst (IsStep (record { buckets = slice_set lot.buckets (place_of key 16) bucket; threads = committed (map (with_token token) (take 1 (lists_of (bucket_of lot key).nodes key))) lot.threads; max_threads = lot.max_threads })) (same_machine _ _ (λ k. ap (λ l. replaced (waiters_in lot.buckets) key l k) (map-drop_first waiter_of nodes ∙ ap (drop 1) (sym (waiters_in-row lot key is)))) (λ j. ap (λ l. all_taken token l (statuses lot.threads) j) (map-take_first waiter_of nodes ∙ ap (take 1) (sym (waiters_in-row lot key is)))) refl)
-    (IsStep-unparked lot key token (take 1 nodes) (drop 1 nodes) bucket is low place size lists in_place parts)
+-- some are taken, and the others are left
+pub IsStep-unparked : (lot : LotState) (key : ℕ) (split : Split NodeFields) (token : UnparkToken) (row : List BucketState) → split.moved ≡ [] → IsLot lot → AreParts (split_of split) (waiters_in lot.buckets key) → IsRowStep lot.buckets row (replaced (nodes_in lot.buckets) key split.left) → IsStep (record { buckets = row; threads = committed (map (with_token token) split.taken) lot.threads }) (unparked (machine lot) key (split_of split) token)
+IsStep-unparked lot key split token row none is parts step =
+    subst (IsStep (record { buckets = row; threads = committed (map (with_token token) split.taken) lot.threads })) (moved_on-unparked (machine lot) key (split_of split) token (ap (map waiter_of) none))
+    (IsStep-moved_on lot key key split token row lot.threads is parts (subst (λ moved. AreMoved lot (map waiter_of moved) key lot.threads) (sym none) (AreMoved-nobody lot key is)) (record { count = step.count; nodes = λ k. step.nodes k ∙ sym (nobody k); represents = step.represents }))
   where
-    nodes : List NodeFields
-    nodes = lists_of (bucket_of lot key).nodes key
+    kept : ℕ → List NodeFields
+    kept = replaced (nodes_in lot.buckets) key split.left
 
-    in_place : All (λ node. place_of node.key (length lot.buckets) ≡ place_of key 16) (drop 1 nodes)
-    in_place = All-drop (λ node. place_of node.key (length lot.buckets) ≡ place_of key 16) 1 nodes (All-filter (λ node. node.key == key) (λ node. place_of node.key (length lot.buckets) ≡ place_of key 16) (bucket_of lot key).nodes (is.represents.in_place (place_of key 16) (omega (arith, is.row.count))))
+    nobody : (k : ℕ) → requeued (nodes_in lot.buckets) key key split.left (map (with_new_key key) split.moved) k ≡ kept k
+    nobody k =
+        ap (λ moved. replaced kept key (kept key ++ map (with_new_key key) moved) k) none
+        ∙ ⊎_elim (λ (same : k ≡ key). replaced-same kept key (kept key ++ []) k same ∙ append-nil (kept key) ∙ ap kept (sym same)) (replaced-other kept key (kept key ++ []) k) (cases_eq k key)
 
-    parts : (j : ℕ) → times_in j (map waiter_of (take 1 nodes)) + times_in j (map waiter_of (drop 1 nodes)) ≡ times_in j (waiters_in lot.buckets key)
-    parts j = times_in-first j nodes ∙ ap (times_in j) (sym (waiters_in-row lot key is))
+-- the first is taken
+take_first-map : {A B : Type 0} (f : A → B) (xs : List A) → map f (take 1 xs) ≡ take 1 (map f xs)
+take_first-map f [] = refl
+take_first-map f (x ∷ xs) = refl
 
--- and can be committed
-pub CanCommit-unparked_one : (lot : LotState) (key : ℕ) (token : UnparkToken) → IsLot lot → CanCommit (map (with_token token) (take 1 (lists_of (bucket_of lot key).nodes key))) lot.threads
-CanCommit-unparked_one lot key token is =
-    CanCommit-unparked lot key token (take 1 (lists_of (bucket_of lot key).nodes key)) (drop 1 (lists_of (bucket_of lot key).nodes key)) is
-    (λ j. times_in-first j (lists_of (bucket_of lot key).nodes key) ∙ ap (times_in j) (sym (waiters_in-row lot key is)))
+drop_first-map : {A B : Type 0} (f : A → B) (xs : List A) → map f (drop 1 xs) ≡ drop 1 (map f xs)
+drop_first-map f [] = refl
+drop_first-map f (x ∷ xs) = refl
 
--- a new thread is registered
-pub IsStep-registered : (lot : LotState) (thread : ThreadState) → IsLot lot → length lot.threads < lot.max_threads → thread ≡ record { number = length lot.threads; status = Running } → IsStep (record lot { threads = lot.threads ++ thread ∷ [] }) (registered (machine lot) (length lot.threads))
-IsStep-registered lot thread is room thread_is = record {
+pub split_first-map : (nodes : List NodeFields) → split_of (split_first nodes) ≡ split_first (map waiter_of nodes)
+split_first-map nodes =
+    λ i. record { taken = take_first-map waiter_of nodes i; moved = []; left = drop_first-map waiter_of nodes i }
+
+pub AreParts-first : (waiters : List Waiter) → AreParts (split_first waiters) waiters
+AreParts-first [] j = refl
+AreParts-first (waiter ∷ waiters) j = omega (arith, times_in-append j (waiter ∷ []) waiters)
+
+pub AreParts-all : (waiters : List Waiter) → AreParts (split_all waiters) waiters
+AreParts-all waiters j = omega arith
+
+-- a growth keeps what a lot means
+pub IsStep-grown : (lot : LotState) (row : List BucketState) → KeepsLists lot.buckets row → IsLot lot → IsStep (record lot { buckets = row }) (machine lot)
+IsStep-grown lot row keeps is = record {
   is_lot = record {
-    row = is.row;
-    represents = is.represents;
-    threads = AreThreads-push lot.threads thread (ap (λ t. t.number) thread_is) (λ free. ne-free-running (ap (λ t. t.status) (sym thread_is) ∙ free)) is.threads;
-    count = omega (arith, length-append lot.threads (thread ∷ []));
-    consistent = subst IsConsistent (sym means) (IsConsistent-status (machine lot) (length lot.threads) Running (ap is_queued (statuses-past lot.threads (length lot.threads) (omega arith))) refl is.consistent);
+    represents = record { in_place = (keeps.represents (waiters_in lot.buckets) is.represents).in_place; in_order = λ key. refl };
+    numbers = is.numbers;
+    standing = subst (StandRight (keys lot.threads)) (sym means) is.standing;
   };
   means = means;
 }
   where
-    means : machine (record lot { threads = lot.threads ++ thread ∷ [] }) ≡ registered (machine lot) (length lot.threads)
-    means = same_machine _ _ (λ k. refl) (λ j. statuses-push lot.threads thread j ∙ ap (λ s. replaced (statuses lot.threads) (length lot.threads) s j) (ap (λ t. t.status) thread_is)) refl
+    means : machine (record lot { buckets = row }) ≡ machine lot
+    means = same_machine _ _ (λ k. ap (map waiter_of) (keeps.nodes k)) (λ j. refl) refl
 
-pub IsLeastFree-next : (lot : LotState) → IsLot lot → length lot.threads < lot.max_threads → IsLeastFree (machine lot) (length lot.threads)
-IsLeastFree-next lot is room = record {
-  below = room;
-  free = statuses-past lot.threads (length lot.threads) (omega arith);
-  least = λ k low. is.threads.registered k low;
+-- a bucket that was taken out of a table, and what went back in its place
+pub record IsTaking (row : List BucketState) (key : ℕ) (before after : BucketState) (left : List NodeFields) : Type 0 where
+  pub table : IsTableSize (length row)
+  pub taken : before ≡ bucket_at row (place_of key (length row))
+  pub at : before.place ≡ place_of key (length row)
+  pub back : after.place ≡ before.place
+  pub lists : (k : ℕ) → lists_of after.nodes k ≡ replaced (lists_of before.nodes) key left k
+
+-- a split of the nodes of a key, some of which may be taken and none is moved
+pub record IsUnpark (nodes : List NodeFields) (split : Split NodeFields) : Type 1 where
+  pub nobody : split.moved ≡ []
+  pub parts : AreParts (split_of split) (map waiter_of nodes)
+  pub left : (P : NodeFields → Type 0) → All P nodes → All P split.left
+
+pub CanCommit-taking : (lot : LotState) (key : ℕ) (before after : BucketState) (split : Split NodeFields) (token : UnparkToken) → IsLot lot → IsTaking lot.buckets key before after split.left → IsUnpark (lists_of before.nodes key) split → CanCommit (map (with_token token) split.taken) lot.threads
+CanCommit-taking lot key before after split token is taking unpark =
+    CanCommit-split lot key key split token lot.threads is (subst (λ b. AreParts (split_of split) (map waiter_of (lists_of b.nodes key))) taking.taken unpark.parts) (subst (λ moved. AreMoved lot (map waiter_of moved) key lot.threads) (sym unpark.nobody) (AreMoved-nobody lot key is))
+
+pub IsStep-taking : (lot : LotState) (key : ℕ) (before empty after : BucketState) (split : Split NodeFields) (token : UnparkToken) → IsLot lot → IsTaking lot.buckets key before after split.left → IsUnpark (lists_of before.nodes key) split → IsStep (record { buckets = slice_set (slice_set lot.buckets before.place empty) after.place after; threads = committed (map (with_token token) split.taken) lot.threads }) (unparked (machine lot) key (split_of split) token)
+IsStep-taking lot key before empty after split token is taking unpark =
+    IsStep-unparked lot key split token _ unpark.nobody is (subst (λ b. AreParts (split_of split) (map waiter_of (lists_of b.nodes key))) taking.taken unpark.parts)
+    (IsRowStep-put lot.buckets key before empty after split.left taking.table is.represents taking.taken taking.at taking.back taking.lists
+    (unpark.left (λ node. place_of node.key (length lot.buckets) ≡ place_of key (length lot.buckets)) (subst (λ b. All (λ node. place_of node.key (length lot.buckets) ≡ place_of key (length lot.buckets)) (lists_of b.nodes key)) (sym taking.taken) (All-nodes_in lot.buckets key taking.table is.represents))))
+
+pub IsUnpark-first : (nodes : List NodeFields) → IsUnpark nodes (split_first nodes)
+IsUnpark-first nodes = record {
+  nobody = refl;
+  parts = subst (λ split. AreParts split (map waiter_of nodes)) (sym (split_first-map nodes)) (AreParts-first (map waiter_of nodes));
+  left = λ P all. All-drop P 1 nodes all;
 }
 
-pub IsFull-registered : (lot : LotState) → IsLot lot → length lot.threads ≡ lot.max_threads → IsFull (machine lot)
-IsFull-registered lot is full k low = is.threads.registered k (omega (arith, full))
+pub IsUnpark-all : (nodes : List NodeFields) → IsUnpark nodes (split_all nodes)
+IsUnpark-all nodes =
+    record { nobody = refl; parts = AreParts-all (map waiter_of nodes); left = λ P all. All-nil P }
 
-pub not_IsFull-room : (lot : LotState) → length lot.threads < lot.max_threads → IsFull (machine lot) → ⊥
-not_IsFull-room lot room full = full (length lot.threads) room (statuses-past lot.threads (length lot.threads) (omega arith))
+pub IsTaking-from : (row : List BucketState) (key : ℕ) (before after : BucketState) (left : List NodeFields) → IsTableSize before.size → before.size ≡ length row → before ≡ bucket_at row (place_of key (length row)) → before.place ≡ place_of key (length row) → after.place ≡ before.place → ((k : ℕ) → lists_of after.nodes k ≡ replaced (lists_of before.nodes) key left k) → IsTaking row key before after left
+IsTaking-from row key before after left table sized taken at back lists =
+    record { table = subst IsTableSize sized table; taken = taken; at = at; back = back; lists = lists }
 
--- a new row and no thread
-pub IsStep-new : (row : List BucketState) (max_threads : ℕ) → IsRow row → ((i : ℕ) → (bucket_at row i).nodes ≡ []) → IsStep (record { buckets = row; threads = []; max_threads = max_threads }) (new_machine max_threads)
-IsStep-new row max_threads is empty = record {
+-- a lot after a step that changes no number's use
+pub record IsStepOfUse (lot new : LotState) (m : Machine) : Type 0 where
+  pub step : IsStep new m
+  pub uses : uses new.threads ≡ uses lot.threads
+
+pub IsStepOfUse-taking : (lot : LotState) (key : ℕ) (before empty after : BucketState) (split : Split NodeFields) (token : UnparkToken) → IsLot lot → IsTaking lot.buckets key before after split.left → IsUnpark (lists_of before.nodes key) split → IsStepOfUse lot (record { buckets = slice_set (slice_set lot.buckets before.place empty) after.place after; threads = committed (map (with_token token) split.taken) lot.threads }) (unparked (machine lot) key (split_of split) token)
+IsStepOfUse-taking lot key before empty after split token is taking unpark = record {
+  step = IsStep-taking lot key before empty after split token is taking unpark;
+  uses = uses-committed (map (with_token token) split.taken) lot.threads (CanCommit-taking lot key before after split token is taking unpark);
+}
+
+-- the thread of a number that was read
+pub read_thread : (lot : LotState) (number : ℕ) (thread : ThreadState) → IsLot lot → thread ≡ thread_at lot.threads number → thread.number ≡ number
+read_thread lot number thread is read = ap (λ t. t.number) read ∙ is.numbers number
+
+-- one thread is turned, and the uses are as the table has them
+pub record IsTurn (lot : LotState) (number : ℕ) (thread : ThreadState) : Type 0 where
+  pub step : IsStep (record lot { threads = slice_set lot.threads number thread }) (turned (machine lot) number thread.status)
+  pub uses : uses (slice_set lot.threads number thread) ≡ slice_set (uses lot.threads) number (use_of thread.status)
+
+pub IsTurn-of : (lot : LotState) (number : ℕ) (thread : ThreadState) → IsLot lot → number < length lot.threads → thread.number ≡ number → is_queued thread.status ≡ is_queued (statuses lot.threads number) → thread.key ≡ keys lot.threads number ⊎ is_queued thread.status ≡ false → IsTurn lot number thread
+IsTurn-of lot number thread is below own queued key =
+    record { step = IsStep-turned lot number thread is below own queued key; uses = uses-set lot.threads number thread }
+
+-- a table of empty buckets and free numbers
+pub IsStep-new : (row : List BucketState) (max_threads : ℕ) → ((i : ℕ) → (bucket_at row i).nodes ≡ []) → IsStep (record { buckets = row; threads = map free_thread (range_with_len 0 max_threads) }) (new_machine max_threads)
+IsStep-new row max_threads empty = record {
   is_lot = record {
-    row = is;
     represents = record { in_place = λ i low. subst (All (λ node. place_of node.key (length row) ≡ i)) (sym (empty i)) (All-nil (λ node. place_of node.key (length row) ≡ i)); in_order = λ key. refl };
-    threads = record { numbers = λ number. refl; registered = λ number low. absurd (omega arith) };
-    count = omega arith;
-    consistent = subst IsConsistent (sym means) (λ number k. refl);
+    numbers = λ j. ap (λ t. t.number) (thread_at-free max_threads j);
+    standing = subst (StandRight (keys (map free_thread (range_with_len 0 max_threads)))) (sym means) (λ number k. refl);
   };
   means = means;
 }
   where
-    means : machine (record { buckets = row; threads = []; max_threads = max_threads }) ≡ new_machine max_threads
-    means = same_machine _ _ (λ k. ap (λ nodes. map waiter_of (lists_of nodes k)) (empty (place_of k (length row)))) (λ j. refl) refl
+    means : machine (record { buckets = row; threads = map free_thread (range_with_len 0 max_threads) }) ≡ new_machine max_threads
+    means =
+        same_machine _ _
+        (λ k. ap (λ nodes. map waiter_of (lists_of nodes k)) (empty (place_of k (length row))))
+        (λ j. ap (λ t. t.status) (thread_at-free max_threads j))
+        (length-map-range_with_len free_thread 0 max_threads)
 
 -- the numbers of the waiters of a key are those of its nodes
-pub numbers-waiters : (lot : LotState) (key : ℕ) → IsLot lot → map (λ waiter. waiter.number) (waiters_in lot.buckets key) ≡ map (λ node. node.number) (lists_of (bucket_of lot key).nodes key)
-numbers-waiters lot key is = ap (map (λ waiter. waiter.number)) (waiters_in-row lot key is) ∙ numbers (lists_of (bucket_of lot key).nodes key)
+pub numbers-waiters : (nodes : List NodeFields) → map (λ (waiter : Waiter). waiter.number) (map waiter_of nodes) ≡ map (λ node. node.number) nodes
+numbers-waiters [] = refl
+numbers-waiters (node ∷ nodes) = ap (λ rest. node.number ∷ rest) (numbers-waiters nodes)
+
+-- one thread has another key and the status that it had
+pub IsStep-stayed : (lot : LotState) (number : ℕ) (thread : ThreadState) → IsLot lot → thread.number ≡ number → statuses lot.threads number ≡ Running → thread.status ≡ Running → IsStep (record lot { threads = slice_set lot.threads number thread }) (machine lot)
+IsStep-stayed lot number thread is own ran runs =
+    subst (IsStep (record lot { threads = slice_set lot.threads number thread })) same
+    (IsStep-turned lot number thread is (below_from_status lot.threads number (λ free. ne-free-running (sym ran ∙ free))) own (ap is_queued (runs ∙ sym ran)) (inr (ap is_queued runs)))
   where
-    numbers : (nodes : List NodeFields) → map (λ (waiter : Waiter). waiter.number) (map waiter_of nodes) ≡ map (λ node. node.number) nodes
-    numbers [] = refl
-    numbers (node ∷ nodes) = ap (λ rest. node.number ∷ rest) (numbers nodes)
+    same : turned (machine lot) number thread.status ≡ machine lot
+    same = same_machine _ _ (λ k. refl) (λ j. ⊎_elim (λ (here : j ≡ number). replaced-same (statuses lot.threads) number thread.status j here ∙ runs ∙ sym ran ∙ ap (statuses lot.threads) (sym here)) (replaced-other (statuses lot.threads) number thread.status j) (cases_eq j number)) refl
+
+-- a growth, and a free number that is registered in it
+pub IsStep-registered : (lot : LotState) (row : List BucketState) (number : ℕ) (thread : ThreadState) → KeepsLists lot.buckets row → IsLot lot → number < length lot.threads → thread.number ≡ number → statuses lot.threads number ≡ Free → thread.status ≡ Running → IsStep (record { buckets = row; threads = slice_set lot.threads number thread }) (turned (machine lot) number Running)
+IsStep-registered lot row number thread keeps is below own was runs =
+    let grown = IsStep-grown lot row keeps is in
+    subst (IsStep (record { buckets = row; threads = slice_set lot.threads number thread })) (ap (λ m. turned m number thread.status) grown.means ∙ ap (turned (machine lot) number) runs)
+    (IsStep-turned (record lot { buckets = row }) number thread grown.is_lot below own (ap is_queued runs ∙ ap is_queued (sym was)) (inr (ap is_queued runs)))

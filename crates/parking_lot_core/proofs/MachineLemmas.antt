@@ -1,13 +1,13 @@
--- The machine's states: their lists, their statuses, and that the rules keep them consistent.
-use Rattle.std.proofs.Common.{◌≡◌, ◌≢◌, ℕ, ◌+◌, ◌<◌, ◌==◌, Bool, true, false, MatchBool, IsTrue, List, [], ◌∷◌, ◌++◌, length, filter, length-append, refl, sym, ap, ◌∙◌, subst, ⊎_elim, ◌⊎◌, inl, inr, arith}
+-- The machine's states: their lists, their statuses, and that each rule lets every thread stand where it should.
+use Rattle.std.proofs.Common.{◌≡◌, ◌≢◌, ℕ, ◌+◌, ◌<◌, ◌==◌, Bool, true, false, MatchBool, IsTrue, List, [], ◌∷◌, ◌++◌, length, filter, length-append, append-nil, refl, sym, ap, ◌∙◌, subst, ⊎_elim, ◌⊎◌, arith}
 use Rattle.std.proofs.lemmas.Bool.{cases_eq, cases_Bool, eq-eqb, ne_eqb, MatchBool-at_true, MatchBool-at_false, true≢false, false≢true, cond-true, cond-false}
 use Rattle.std.proofs.lemmas.List.Elements.{filter-append}
 use Rattle.lot_base.specs.declared.token.ParkToken.{ParkToken}
 use Rattle.lot_base.specs.declared.token.UnparkToken.{UnparkToken}
-use Rattle.lot_base.specs.Waiting.{replaced}
+use Rattle.lot_base.specs.Waiting.{replaced, Split}
 use Rattle.parking_lot_core.specs.declared.lot.Status.{Status}
-use Rattle.parking_lot_core.specs.declared.lot.Status.TheVariants.{Running, Waiting, Taken}
-use Rattle.parking_lot_core.specs.Machine.{Waiter, Machine, StandsOnce, IsConsistent, is_queued, times_in, all_taken, entered}
+use Rattle.parking_lot_core.specs.declared.lot.Status.TheVariants.{Waiting, Taken}
+use Rattle.parking_lot_core.specs.Machine.{Waiter, Machine, StandsAt, StandRight, is_queued, times_in, all_taken, turned, entered, moved_on, unparked}
 
 pub replaced-same : {A : Type 0} (all : ℕ → A) (key : ℕ) (one : A) (k : ℕ) → k ≡ key → replaced all key one k ≡ one
 replaced-same all key one k same = cond-true (k == key) one (all k) (eq-eqb k key same)
@@ -15,133 +15,189 @@ replaced-same all key one k same = cond-true (k == key) one (all k) (eq-eqb k ke
 pub replaced-other : {A : Type 0} (all : ℕ → A) (key : ℕ) (one : A) (k : ℕ) → k ≢ key → replaced all key one k ≡ all k
 replaced-other all key one k other = cond-false (k == key) one (all k) (ne_eqb k key other)
 
+-- two machines that agree are one
+pub same_machine : (m n : Machine) → ((k : ℕ) → m.lists k ≡ n.lists k) → ((j : ℕ) → m.status j ≡ n.status j) → m.max_threads ≡ n.max_threads → m ≡ n
+same_machine m n lists status max_threads =
+    λ i. record { lists = λ k. lists k i; status = λ j. status j i; max_threads = max_threads i }
+
 -- a thread that is among the waiters is taken, and any other is as it was
 pub all_taken-other : (token : UnparkToken) (waiters : List Waiter) (status : ℕ → Status) (j : ℕ) → times_in j waiters ≡ 0 → all_taken token waiters status j ≡ status j
-all_taken-other token [] status j none = refl
-all_taken-other token (waiter ∷ waiters) status j none =
-    ⊎_elim (λ (same : j ≡ waiter.number). absurd (some same))
-    (λ (other : j ≢ waiter.number). all_taken-other token waiters (replaced status waiter.number (Taken token)) j (behind other) ∙ replaced-other status waiter.number (Taken token) j other)
-    (cases_eq j waiter.number)
-  where
-    some : j ≡ waiter.number → ⊥
-    some same = let e = eq-eqb waiter.number j (sym same) in let counted = rw e at none in omega arith
+all_taken-other token waiters status j none =
+    cond-true (times_in j waiters == 0) (status j) (Taken token) (eq-eqb (times_in j waiters) 0 none)
 
-    behind : j ≢ waiter.number → times_in j waiters ≡ 0
-    behind other = let e = ne_eqb waiter.number j (λ same. other (sym same)) in rw e at none
+pub all_taken-among : (token : UnparkToken) (waiters : List Waiter) (status : ℕ → Status) (j : ℕ) → times_in j waiters ≢ 0 → all_taken token waiters status j ≡ Taken token
+all_taken-among token waiters status j some =
+    cond-false (times_in j waiters == 0) (status j) (Taken token) (ne_eqb (times_in j waiters) 0 some)
 
-pub all_taken-among : (token : UnparkToken) (waiters : List Waiter) (status : ℕ → Status) (j : ℕ) → 0 < times_in j waiters → all_taken token waiters status j ≡ Taken token
-all_taken-among token [] status j some = absurd (omega arith)
-all_taken-among token (waiter ∷ waiters) status j some =
-    ⊎_elim (λ (none : times_in j waiters ≡ 0). all_taken-other token waiters (replaced status waiter.number (Taken token)) j none ∙ replaced-same status waiter.number (Taken token) j (here none))
-    (λ (more : times_in j waiters ≢ 0). all_taken-among token waiters (replaced status waiter.number (Taken token)) j (omega arith))
-    (cases_eq (times_in j waiters) 0)
-  where
-    nobody : times_in j waiters ≡ 0 → j ≢ waiter.number → ⊥
-    nobody none other = let e = ne_eqb waiter.number j (λ same. other (sym same)) in let counted = rw e at some in omega arith
+pub times_in-append : (j : ℕ) (xs ys : List Waiter) → times_in j (xs ++ ys) ≡ times_in j xs + times_in j ys
+times_in-append j xs ys = ap length (filter-append (λ waiter. waiter.number == j) xs ys) ∙ length-append (filter (λ waiter. waiter.number == j) xs) (filter (λ waiter. waiter.number == j) ys)
 
-    here : times_in j waiters ≡ 0 → j ≡ waiter.number
-    here none = ⊎_elim (λ (same : j ≡ waiter.number). same) (λ (other : j ≢ waiter.number). absurd (nobody none other)) (cases_eq j waiter.number)
+pub times_in-own : (waiter : Waiter) (j : ℕ) → j ≡ waiter.number → times_in j (waiter ∷ []) ≡ 1
+times_in-own waiter j same = let e = eq-eqb waiter.number j (sym same) in rw e refl
 
--- who stands in a list once is queued
-pub is_queued-standing : (m : Machine) (j key : ℕ) → IsConsistent m → 0 < times_in j (m.lists key) → IsTrue (is_queued (m.status j))
-is_queued-standing m j key consistent standing =
+pub times_in-not_own : (waiter : Waiter) (j : ℕ) → j ≢ waiter.number → times_in j (waiter ∷ []) ≡ 0
+times_in-not_own waiter j other = let e = ne_eqb waiter.number j (λ same. other (sym same)) in rw e refl
+
+-- who stands in a list is queued
+pub is_queued-standing : (keys : ℕ → ℕ) (m : Machine) (j key : ℕ) → StandRight keys m → 0 < times_in j (m.lists key) → IsTrue (is_queued (m.status j))
+is_queued-standing keys m j key right standing =
     ⊎_elim (λ (queued : is_queued (m.status j) ≡ true). queued)
-    (λ (not_queued : is_queued (m.status j) ≡ false). absurd (let none = MatchBool-at_false _ _ not_queued (consistent j) key in omega arith))
+    (λ (not_queued : is_queued (m.status j) ≡ false). absurd (let none = MatchBool-at_false _ _ not_queued (right j) key in omega arith))
     (cases_Bool (is_queued (m.status j)))
 
--- and in no other list
-pub times_in-standing : (m : Machine) (j key : ℕ) → IsConsistent m → 0 < times_in j (m.lists key) → (times_in j (m.lists key) ≡ 1) × ((k : ℕ) → k ≢ key → times_in j (m.lists k) ≡ 0)
-times_in-standing m j key consistent standing =
-    let once : StandsOnce m j = MatchBool-at_true _ _ (is_queued-standing m j key consistent standing) (consistent j) in
-    ⊎_elim (λ (same : key ≡ once.key). (ap (λ k. times_in j (m.lists k)) same ∙ once.once, λ k other. once.nowhere_else k (λ e. other (e ∙ sym same))))
-    (λ (other : key ≢ once.key). absurd (let none = once.nowhere_else key other in omega arith))
-    (cases_eq key once.key)
+-- and stands there once, and in no other list
+pub StandsAt-standing : (keys : ℕ → ℕ) (m : Machine) (j key : ℕ) → StandRight keys m → 0 < times_in j (m.lists key) → StandsAt m j key
+StandsAt-standing keys m j key right standing =
+    let at : StandsAt m j (keys j) = MatchBool-at_true _ _ (is_queued-standing keys m j key right standing) (right j) in
+    ⊎_elim (λ (same : key ≡ keys j). subst (StandsAt m j) (sym same) at)
+    (λ (other : key ≢ keys j). absurd (let none = at.nowhere_else key other in omega arith))
+    (cases_eq key (keys j))
 
 MatchBool-from : (b : Bool) (P Q : Type 0) → (b ≡ true → P) → (b ≡ false → Q) → MatchBool b P Q
 MatchBool-from true P Q p q = p refl
 MatchBool-from false P Q p q = q refl
 
 -- where one number stands, and whether it should
-abbrev StandsRight : Machine → ℕ → Type 0
-StandsRight m j = MatchBool (is_queued (m.status j)) (StandsOnce m j) ((k : ℕ) → times_in j (m.lists k) ≡ 0)
+abbrev StandsRight : Machine → ℕ → ℕ → Type 0
+StandsRight m key j = MatchBool (is_queued (m.status j)) (StandsAt m j key) ((k : ℕ) → times_in j (m.lists k) ≡ 0)
 
 -- a step that does not concern a number
-StandsRight-same : (m n : Machine) (j : ℕ) → n.status j ≡ m.status j → ((k : ℕ) → times_in j (n.lists k) ≡ times_in j (m.lists k)) → StandsRight m j → StandsRight n j
-StandsRight-same m n j status lists right =
+StandsRight-same : (m n : Machine) (key j : ℕ) → is_queued (n.status j) ≡ is_queued (m.status j) → ((k : ℕ) → times_in j (n.lists k) ≡ times_in j (m.lists k)) → StandsRight m key j → StandsRight n key j
+StandsRight-same m n key j status lists right =
     MatchBool-from (is_queued (n.status j)) _ _
-    (λ queued. let once : StandsOnce m j = MatchBool-at_true _ _ (ap is_queued (sym status) ∙ queued) right in record {
-      key = once.key;
-      once = lists once.key ∙ once.once;
-      nowhere_else = λ k other. lists k ∙ once.nowhere_else k other;
+    (λ queued. let at : StandsAt m j key = MatchBool-at_true _ _ (sym status ∙ queued) right in record {
+      once = lists key ∙ at.once;
+      nowhere_else = λ k other. lists k ∙ at.nowhere_else k other;
     })
-    (λ not_queued k. lists k ∙ MatchBool-at_false _ _ (ap is_queued (sym status) ∙ not_queued) right k)
+    (λ not_queued k. lists k ∙ MatchBool-at_false _ _ (sym status ∙ not_queued) right k)
 
-times_in-append : (j : ℕ) (xs ys : List Waiter) → times_in j (xs ++ ys) ≡ times_in j xs + times_in j ys
-times_in-append j xs ys = ap length (filter-append (λ waiter. waiter.number == j) xs ys) ∙ length-append (filter (λ waiter. waiter.number == j) xs) (filter (λ waiter. waiter.number == j) ys)
+-- one after which it stands in the list of a key
+StandsRight-at : (n : Machine) (key j : ℕ) → is_queued (n.status j) ≡ true → StandsAt n j key → StandsRight n key j
+StandsRight-at n key j queued at =
+    MatchBool-from (is_queued (n.status j)) _ _ (λ _. at) (λ not_queued. absurd (true≢false (sym queued ∙ not_queued)))
 
--- a number that neither waited nor waits changes its status
-pub IsConsistent-status : (m : Machine) (number : ℕ) (status : Status) → is_queued (m.status number) ≡ false → is_queued status ≡ false → IsConsistent m → IsConsistent (record m { status = replaced m.status number status })
-IsConsistent-status m number status was is consistent j =
-    ⊎_elim (λ (same : j ≡ number). let now = replaced-same m.status number status j same in MatchBool-from (is_queued (replaced m.status number status j)) _ _ (λ queued. absurd (false≢true (sym is ∙ ap is_queued (sym now) ∙ queued))) (λ not_queued k. MatchBool-at_false _ _ (ap (λ n. is_queued (m.status n)) same ∙ was) (consistent j) k))
-    (λ (other : j ≢ number). StandsRight-same m (record m { status = replaced m.status number status }) j (replaced-other m.status number status j other) (λ k. refl) (consistent j))
-    (cases_eq j number)
+-- one after which it stands in none
+StandsRight-none : (n : Machine) (key j : ℕ) → is_queued (n.status j) ≡ false → ((k : ℕ) → times_in j (n.lists k) ≡ 0) → StandsRight n key j
+StandsRight-none n key j not_queued none =
+    MatchBool-from (is_queued (n.status j)) _ _ (λ queued. absurd (false≢true (sym not_queued ∙ queued))) (λ _. none)
 
--- one that did not wait stands in the list of a key from now on
-IsConsistent-queued : (m n : Machine) (number key : ℕ) → is_queued (m.status number) ≡ false → is_queued (n.status number) ≡ true → ((j : ℕ) → j ≢ number → n.status j ≡ m.status j) → times_in number (n.lists key) ≡ times_in number (m.lists key) + 1 → ((j k : ℕ) → (j ≢ number) ⊎ (k ≢ key) → times_in j (n.lists k) ≡ times_in j (m.lists k)) → IsConsistent m → IsConsistent n
-IsConsistent-queued m n number key was is others here elsewhere consistent j =
-    ⊎_elim (λ (same : j ≡ number). subst (StandsRight n) (sym same) (MatchBool-from (is_queued (n.status number)) _ _ (λ _. once) (λ not_queued. absurd (true≢false (sym is ∙ not_queued)))))
-    (λ (other : j ≢ number). StandsRight-same m n j (others j other) (λ k. elsewhere j k (inl other)) (consistent j))
+-- a number is turned to a status that stands where the one before stood
+pub StandRight-turned : (keys after : ℕ → ℕ) (m : Machine) (number : ℕ) (status : Status) → is_queued status ≡ is_queued (m.status number) → ((j : ℕ) → j ≢ number → after j ≡ keys j) → after number ≡ keys number ⊎ is_queued status ≡ false → StandRight keys m → StandRight after (turned m number status)
+StandRight-turned keys after m number status stays others own right j =
+    ⊎_elim (λ (same : j ≡ number). subst (λ n. StandsRight (turned m number status) (after n) n) (sym same) at_number)
+    (λ (other : j ≢ number). subst (λ key. StandsRight (turned m number status) key j) (sym (others j other)) (StandsRight-same m (turned m number status) (keys j) j (ap is_queued (replaced-other m.status number status j other)) (λ k. refl) (right j)))
     (cases_eq j number)
   where
-    nowhere : (k : ℕ) → times_in number (m.lists k) ≡ 0
-    nowhere k = MatchBool-at_false _ _ was (consistent number) k
+    now : is_queued (replaced m.status number status number) ≡ is_queued status
+    now = ap is_queued (replaced-same m.status number status number refl)
 
-    once : StandsOnce n number
-    once = record {
-      key = key;
-      once = omega (arith, here, nowhere key);
-      nowhere_else = λ k other. elsewhere number k (inr other) ∙ nowhere k;
+    at_number : StandsRight (turned m number status) (after number) number
+    at_number =
+        ⊎_elim (λ (same : after number ≡ keys number). subst (λ key. StandsRight (turned m number status) key number) (sym same) (StandsRight-same m (turned m number status) (keys number) number (now ∙ stays) (λ k. refl) (right number)))
+        (λ (not_queued : is_queued status ≡ false). StandsRight-none (turned m number status) (after number) number (now ∙ not_queued) (λ k. MatchBool-at_false _ _ (sym stays ∙ not_queued) (right number) k))
+        own
+
+-- a running thread enters the list of a key
+pub StandRight-entered : (keys after : ℕ → ℕ) (m : Machine) (number key : ℕ) (park_token : ParkToken) (timed : Bool) → is_queued (m.status number) ≡ false → ((j : ℕ) → j ≢ number → after j ≡ keys j) → after number ≡ key → StandRight keys m → StandRight after (entered m number key park_token timed)
+StandRight-entered keys after m number key park_token timed was others own right j =
+    ⊎_elim (λ (same : j ≡ number). subst (λ n. StandsRight new (after n) n) (sym same) (subst (λ k. StandsRight new k number) (sym own) (StandsRight-at new key number (ap is_queued (replaced-same m.status number (Waiting timed) number refl)) at)))
+    (λ (other : j ≢ number). subst (λ k. StandsRight new k j) (sym (others j other)) (StandsRight-same m new (keys j) j (ap is_queued (replaced-other m.status number (Waiting timed) j other)) (elsewhere j other) (right j)))
+    (cases_eq j number)
+  where
+    new : Machine
+    new = entered m number key park_token timed
+
+    waiter : Waiter
+    waiter = record { number = number; park_token = park_token; timed = timed }
+
+    at_key : (j k : ℕ) → k ≡ key → times_in j (new.lists k) ≡ times_in j (m.lists k) + times_in j (waiter ∷ [])
+    at_key j k same = ap (times_in j) (replaced-same m.lists key (m.lists key ++ waiter ∷ []) k same) ∙ times_in-append j (m.lists key) (waiter ∷ []) ∙ ap (λ q. times_in j (m.lists q) + times_in j (waiter ∷ [])) (sym same)
+
+    not_at_key : (j k : ℕ) → k ≢ key → times_in j (new.lists k) ≡ times_in j (m.lists k)
+    not_at_key j k other = ap (times_in j) (replaced-other m.lists key (m.lists key ++ waiter ∷ []) k other)
+
+    nowhere : (k : ℕ) → times_in number (m.lists k) ≡ 0
+    nowhere k = MatchBool-at_false _ _ was (right number) k
+
+    at : StandsAt new number key
+    at = record {
+      once = omega (arith, at_key number key refl, nowhere key, times_in-own waiter number refl);
+      nowhere_else = λ k other. not_at_key number k other ∙ nowhere k;
     }
 
-pub IsConsistent-entered : (m : Machine) (number key : ℕ) (park_token : ParkToken) (timed : Bool) → m.status number ≡ Running → IsConsistent m → IsConsistent (entered m number key park_token timed)
-IsConsistent-entered m number key park_token timed running consistent =
-    IsConsistent-queued m (entered m number key park_token timed) number key (ap is_queued running)
-    (ap is_queued (replaced-same m.status number (Waiting timed) number refl))
-    (λ j other. replaced-other m.status number (Waiting timed) j other)
-    (at_key number ∙ (let counted = eq-eqb number number refl in rw counted refl))
-    elsewhere
-    consistent
+    elsewhere : (j : ℕ) → j ≢ number → (k : ℕ) → times_in j (new.lists k) ≡ times_in j (m.lists k)
+    elsewhere j other k =
+        ⊎_elim (λ (same : k ≡ key). omega (arith, at_key j k same, times_in-not_own waiter j other)) (not_at_key j k) (cases_eq k key)
+
+-- waiters that left a list are taken or stand behind those of another key
+pub StandRight-moved_on : (keys after : ℕ → ℕ) (m : Machine) (from to : ℕ) (split : Split Waiter) (token : UnparkToken) → ((j : ℕ) → times_in j split.taken + times_in j split.moved + times_in j split.left ≡ times_in j (m.lists from)) → ((j : ℕ) → times_in j split.moved ≡ 0 → after j ≡ keys j) → ((j : ℕ) → times_in j split.moved ≢ 0 → after j ≡ to) → StandRight keys m → StandRight after (moved_on m from to split token)
+StandRight-moved_on keys after m from to split token parts others own right j =
+    ⊎_elim (λ (none : times_in j split.taken ≡ 0). ⊎_elim (stays none) (moves none) (cases_eq (times_in j split.moved) 0)) taken (cases_eq (times_in j split.taken) 0)
   where
-    at_key : (j : ℕ) → times_in j (replaced m.lists key (m.lists key ++ record { number = number; park_token = park_token; timed = timed } ∷ []) key) ≡ times_in j (m.lists key) + times_in j (record { number = number; park_token = park_token; timed = timed } ∷ [])
-    at_key j = ap (times_in j) (replaced-same m.lists key (m.lists key ++ record { number = number; park_token = park_token; timed = timed } ∷ []) key refl) ∙ times_in-append j (m.lists key) (record { number = number; park_token = park_token; timed = timed } ∷ [])
+    new : Machine
+    new = moved_on m from to split token
 
-    elsewhere : (j k : ℕ) → (j ≢ number) ⊎ (k ≢ key) → times_in j (replaced m.lists key (m.lists key ++ record { number = number; park_token = park_token; timed = timed } ∷ []) k) ≡ times_in j (m.lists k)
-    elsewhere j k apart =
-        ⊎_elim (λ (same : k ≡ key). ⊎_elim (λ (other : j ≢ number). ap (λ i. times_in j (replaced m.lists key (m.lists key ++ record { number = number; park_token = park_token; timed = timed } ∷ []) i)) same ∙ at_key j ∙ (let counted = ne_eqb number j (λ e. other (sym e)) in rw counted (omega (arith, ap (λ i. times_in j (m.lists i)) same)))) (λ (other : k ≢ key). absurd (other same)) apart)
-        (λ (other : k ≢ key). ap (times_in j) (replaced-other m.lists key (m.lists key ++ record { number = number; park_token = park_token; timed = timed } ∷ []) k other))
-        (cases_eq k key)
+    kept : ℕ → List Waiter
+    kept = replaced m.lists from split.left
 
--- waiters that left a list are taken
-pub IsConsistent-unparked : (m : Machine) (key : ℕ) (token : UnparkToken) (taken left : List Waiter) → ((j : ℕ) → times_in j taken + times_in j left ≡ times_in j (m.lists key)) → IsConsistent m → IsConsistent (record m { lists = replaced m.lists key left; status = all_taken token taken m.status })
-IsConsistent-unparked m key token taken left parts consistent j =
-    ⊎_elim (λ (none : times_in j taken ≡ 0). StandsRight-same m (record m { lists = replaced m.lists key left; status = all_taken token taken m.status }) j (all_taken-other token taken m.status j none) (stays none) (consistent j))
-    (λ (some : times_in j taken ≢ 0). let now = all_taken-among token taken m.status j (omega arith) in MatchBool-from (is_queued (all_taken token taken m.status j)) _ _ (λ queued. absurd (false≢true (ap is_queued (sym now) ∙ queued))) (λ _. gone (omega arith)))
-    (cases_eq (times_in j taken) 0)
-  where
-    stays : times_in j taken ≡ 0 → (k : ℕ) → times_in j (replaced m.lists key left k) ≡ times_in j (m.lists k)
-    stays none k =
-        ⊎_elim (λ (same : k ≡ key). ap (times_in j) (replaced-same m.lists key left k same) ∙ omega (arith, parts j) ∙ ap (λ i. times_in j (m.lists i)) (sym same))
-        (λ (other : k ≢ key). ap (times_in j) (replaced-other m.lists key left k other))
-        (cases_eq k key)
+    -- how often it stands in a list that keeps what is left, and in the same once some moved there
+    at_from : (k : ℕ) → k ≡ from → times_in j (kept k) ≡ times_in j split.left
+    at_from k same = ap (times_in j) (replaced-same m.lists from split.left k same)
 
-    gone : 0 < times_in j taken → (k : ℕ) → times_in j (replaced m.lists key left k) ≡ 0
+    not_at_from : (k : ℕ) → k ≢ from → times_in j (kept k) ≡ times_in j (m.lists k)
+    not_at_from k other = ap (times_in j) (replaced-other m.lists from split.left k other)
+
+    at_to : (k : ℕ) → k ≡ to → times_in j (new.lists k) ≡ times_in j (kept k) + times_in j split.moved
+    at_to k same = ap (times_in j) (replaced-same kept to (kept to ++ split.moved) k same) ∙ times_in-append j (kept to) split.moved ∙ ap (λ q. times_in j (kept q) + times_in j split.moved) (sym same)
+
+    not_at_to : (k : ℕ) → k ≢ to → times_in j (new.lists k) ≡ times_in j (kept k)
+    not_at_to k other = ap (times_in j) (replaced-other kept to (kept to ++ split.moved) k other)
+
+    at : 0 < times_in j (m.lists from) → StandsAt m j from
+    at some = StandsAt-standing keys m j from right some
+
+    -- of one that was taken or moved nothing is kept
+    gone : 0 < times_in j split.taken + times_in j split.moved → (k : ℕ) → times_in j (kept k) ≡ 0
     gone some k =
-        let alone = times_in-standing m j key consistent (omega (arith, parts j)) in
-        ⊎_elim (λ (same : k ≡ key). ap (times_in j) (replaced-same m.lists key left k same) ∙ omega (arith, parts j, alone.0))
-        (λ (other : k ≢ key). ap (times_in j) (replaced-other m.lists key left k other) ∙ alone.1 k other)
-        (cases_eq k key)
+        let stood = at (omega (arith, parts j)) in
+        ⊎_elim (λ (same : k ≡ from). omega (arith, at_from k same, parts j, stood.once)) (λ (other : k ≢ from). not_at_from k other ∙ stood.nowhere_else k other) (cases_eq k from)
 
--- two machines that agree are one
-pub same_machine : (m n : Machine) → ((k : ℕ) → m.lists k ≡ n.lists k) → ((j : ℕ) → m.status j ≡ n.status j) → m.max_threads ≡ n.max_threads → m ≡ n
-same_machine m n lists status max_threads =
-    λ i. record { lists = λ k. lists k i; status = λ j. status j i; max_threads = max_threads i }
+    taken : times_in j split.taken ≢ 0 → StandsRight new (after j) j
+    taken some =
+        StandsRight-none new (after j) j (ap is_queued (all_taken-among token split.taken m.status j some))
+        (λ k. let stood = at (omega (arith, parts j)) in ⊎_elim (λ (same : k ≡ to). omega (arith, at_to k same, gone (omega arith) k, parts j, stood.once)) (λ (other : k ≢ to). not_at_to k other ∙ gone (omega arith) k) (cases_eq k to))
+
+    moves : times_in j split.taken ≡ 0 → times_in j split.moved ≢ 0 → StandsRight new (after j) j
+    moves none some =
+        let stood = at (omega (arith, parts j)) in
+        subst (λ key. StandsRight new key j) (sym (own j some))
+        (StandsRight-at new to j
+        (ap is_queued (all_taken-other token split.taken m.status j none) ∙ is_queued-standing keys m j from right (omega (arith, parts j)))
+        (record {
+          once = omega (arith, at_to to refl, gone (omega arith) to, parts j, stood.once);
+          nowhere_else = λ k other. not_at_to k other ∙ gone (omega arith) k;
+        }))
+
+    stays : times_in j split.taken ≡ 0 → times_in j split.moved ≡ 0 → StandsRight new (after j) j
+    stays none still =
+        subst (λ key. StandsRight new key j) (sym (others j still))
+        (StandsRight-same m new (keys j) j (ap is_queued (all_taken-other token split.taken m.status j none)) lists (right j))
+      where
+        kept_all : (k : ℕ) → times_in j (kept k) ≡ times_in j (m.lists k)
+        kept_all k = ⊎_elim (λ (same : k ≡ from). omega (arith, at_from k same, parts j, ap (λ q. times_in j (m.lists q)) same)) (not_at_from k) (cases_eq k from)
+
+        lists : (k : ℕ) → times_in j (new.lists k) ≡ times_in j (m.lists k)
+        lists k = ⊎_elim (λ (same : k ≡ to). omega (arith, at_to k same, kept_all k)) (λ (other : k ≢ to). not_at_to k other ∙ kept_all k) (cases_eq k to)
+
+-- an unpark moves nobody
+pub moved_on-unparked : (m : Machine) (key : ℕ) (split : Split Waiter) (token : UnparkToken) → split.moved ≡ [] → moved_on m key key split token ≡ unparked m key split token
+moved_on-unparked m key split token none = same_machine _ _ lists (λ j. refl) refl
+  where
+    kept : ℕ → List Waiter
+    kept = replaced m.lists key split.left
+
+    lists : (k : ℕ) → replaced kept key (kept key ++ split.moved) k ≡ kept k
+    lists k =
+        ⊎_elim (λ (same : k ≡ key). replaced-same kept key (kept key ++ split.moved) k same ∙ ap (λ moved. kept key ++ moved) none ∙ append-nil (kept key) ∙ ap kept (sym same))
+        (replaced-other kept key (kept key ++ split.moved) k)
+        (cases_eq k key)

@@ -1,4 +1,4 @@
--- What handing taken nodes to their threads does.
+-- What a step does to the threads of a lot.
 use Rattle.std.specs.Prelude.{◌≡◌, ℕ, ◌<◌, List, [], ◌∷◌, length, slice_set, IsTrue, ⊤}
 use Rattle.lot_base.specs.NodeFields.{NodeFields}
 use Rattle.parking_lot_core.specs.declared.lot.Status.{Status}
@@ -9,7 +9,16 @@ use Rattle.parking_lot_core.specs.Machine.{is_queued}
 
 -- the threads, one of them with another status
 abbrev pub with_status : List ThreadState → ℕ → Status → List ThreadState
-with_status threads number status = slice_set threads number (record { number = number; status = status })
+with_status threads number status = slice_set threads number (record (thread_at threads number) { status = status })
+
+-- the threads, one of them with another key
+abbrev pub with_key : List ThreadState → ℕ → ℕ → List ThreadState
+with_key threads number key = slice_set threads number (record (thread_at threads number) { key = key })
+
+-- the threads, each of these numbers with the key
+abbrev pub all_with_key : ℕ → List ℕ → List ThreadState → List ThreadState
+all_with_key key [] threads = threads
+all_with_key key (number ∷ numbers) threads = all_with_key key numbers (with_key threads number key)
 
 -- the threads, the one of the node taken
 abbrev pub taken_with : NodeFields → List ThreadState → List ThreadState

@@ -1,39 +1,44 @@
 -- What a lot means, and what every lot keeps.
-use Rattle.std.specs.Prelude.{◌≡◌, ◌≢◌, ℕ, ◌<◌, ◌≤◌, List, length, slice_index_or}
-use Rattle.lot_base.specs.BucketState.{BucketState}
+use Rattle.std.specs.Prelude.{◌≡◌, ℕ, List, length, map, slice_index_or}
 use Rattle.parking_lot_core.specs.declared.lot.Status.{Status}
-use Rattle.parking_lot_core.specs.declared.lot.Status.TheVariants.{Free}
+use Rattle.parking_lot_core.specs.declared.lot.Status.TheVariants as status
+use Rattle.parking_lot_core.specs.declared.table.Use.{Use}
+use Rattle.parking_lot_core.specs.declared.table.Use.TheVariants.{Free, Registered}
 use Rattle.parking_lot_core.specs.LotState.{LotState, ThreadState}
-use Rattle.parking_lot_core.specs.Machine.{Machine, IsConsistent}
-use Rattle.parking_lot_core.specs.Represents.{bucket_at, waiters_in, Represents}
+use Rattle.parking_lot_core.specs.Machine.{Machine, StandRight}
+use Rattle.parking_lot_core.specs.Represents.{waiters_in, Represents}
 
--- the thread of a number; one that was never registered is free
+-- a number that nobody has
+abbrev pub free_thread : ℕ → ThreadState
+free_thread number = record { number = number; key = 0; status = status.Free }
+
+-- the thread of a number; one that the lot does not have is free
 abbrev pub thread_at : List ThreadState → ℕ → ThreadState
-thread_at threads number = slice_index_or threads number (record { number = number; status = Free })
+thread_at threads number = slice_index_or threads number (free_thread number)
 
 -- the status of each number
 abbrev pub statuses : List ThreadState → ℕ → Status
 statuses threads number = (thread_at threads number).status
 
+-- the key of each number
+abbrev pub keys : List ThreadState → ℕ → ℕ
+keys threads number = (thread_at threads number).key
+
 -- the machine that a lot means
 abbrev pub machine : LotState → Machine
-machine lot = record { lists = waiters_in lot.buckets; status = statuses lot.threads; max_threads = lot.max_threads }
+machine lot = record { lists = waiters_in lot.buckets; status = statuses lot.threads; max_threads = length lot.threads }
 
--- a row of 16 buckets, each at its own place
-pub record IsRow (row : List BucketState) : Type 0 where
-  pub count : length row ≡ 16
-  pub places : (i : ℕ) → i < 16 → (bucket_at row i).place ≡ i
-  pub sizes : (i : ℕ) → i < 16 → (bucket_at row i).size ≡ 16
+-- what a table knows of a status
+abbrev pub use_of : Status → Use
+use_of status.Free = Free
+use_of _ = Registered
 
--- the threads stand by their numbers, and each is registered
-pub record AreThreads (threads : List ThreadState) : Type 0 where
-  pub numbers : (number : ℕ) → (thread_at threads number).number ≡ number
-  pub registered : (number : ℕ) → number < length threads → statuses threads number ≢ Free
+-- the use of each number
+abbrev pub uses : List ThreadState → List Use
+uses threads = map (λ thread. use_of thread.status) threads
 
 -- what every lot keeps
 pub record IsLot (lot : LotState) : Type 0 where
-  pub row : IsRow lot.buckets
   pub represents : Represents lot.buckets (machine lot).lists
-  pub threads : AreThreads lot.threads
-  pub count : length lot.threads ≤ lot.max_threads
-  pub consistent : IsConsistent (machine lot)
+  pub numbers : (number : ℕ) → (thread_at lot.threads number).number ≡ number
+  pub standing : StandRight (keys lot.threads) (machine lot)

@@ -3,13 +3,13 @@ use Rattle.std.specs.Prelude.{ℕ, List}
 use Rattle.lot_base.specs.BucketState.{BucketState}
 use Rattle.parking_lot_core.specs.declared.lot.Status.{Status}
 
--- a thread: its number and its status
+-- a thread: its number, the key that it waits on or waited on last, and its status
 pub record ThreadState : Type 0 where
   pub number : ℕ
+  pub key : ℕ
   pub status : Status
 
--- the row of buckets, the threads by their numbers, and the greatest number of threads
+-- the row of buckets, and the threads by their numbers
 pub record LotState : Type 0 where
   pub buckets : List BucketState
   pub threads : List ThreadState
-  pub max_threads : ℕ

@@ -1,8 +1,9 @@
 -- The machine with one list of waiters for each key: its state, and the rule of each step. It knows no table.
-use Rattle.std.specs.Prelude.{◌≡◌, ◌≢◌, ℕ, ◌<◌, Bool, true, false, ◌==◌, List, [], ◌∷◌, ◌++◌, length, filter, MatchBool}
+use Rattle.std.specs.Prelude.{◌≡◌, ◌≢◌, ℕ, ◌<◌, Bool, true, false, ◌==◌, if◌then◌else◌, List, [], ◌∷◌, ◌++◌, length, filter, MatchBool}
+use Rattle.std.specs.List.{count_by, range_with_len}
 use Rattle.lot_base.specs.declared.token.ParkToken.{ParkToken}
 use Rattle.lot_base.specs.declared.token.UnparkToken.{UnparkToken}
-use Rattle.lot_base.specs.Waiting.{replaced, split_first}
+use Rattle.lot_base.specs.Waiting.{replaced, requeued, without_first, Split}
 use Rattle.parking_lot_core.specs.declared.lot.Status.{Status}
 use Rattle.parking_lot_core.specs.declared.lot.Status.TheVariants.{Free, Running, Waiting, Late, Taken}
 
@@ -22,6 +23,15 @@ pub record Machine : Type 0 where
 abbrev pub new_machine : ℕ → Machine
 new_machine max_threads = record { lists = λ _. []; status = λ _. Free; max_threads = max_threads }
 
+-- whether a thread of this status is registered
+abbrev pub is_registered : Status → Bool
+is_registered Free = false
+is_registered _ = true
+
+-- how many threads are registered
+abbrev pub threads_of : Machine → ℕ
+threads_of m = count_by (λ number. is_registered (m.status number)) (range_with_len 0 m.max_threads)
+
 -- Register gives the least free number below the greatest number of threads
 pub record IsLeastFree (m : Machine) (number : ℕ) : Type 0 where
   pub below : number < m.max_threads
@@ -32,29 +42,37 @@ pub record IsLeastFree (m : Machine) (number : ℕ) : Type 0 where
 abbrev pub IsFull : Machine → Type 0
 IsFull m = (k : ℕ) → k < m.max_threads → m.status k ≢ Free
 
--- the number is running
-abbrev pub registered : Machine → ℕ → Machine
-registered m number = record m { status = replaced m.status number Running }
+-- a number with another status, and every list as it was
+abbrev pub turned : Machine → ℕ → Status → Machine
+turned m number status = record m { status = replaced m.status number status }
 
 -- Enter, where the validation answered true: the thread stands last in the list of the key, and waits
 abbrev pub entered : Machine → ℕ → ℕ → ParkToken → Bool → Machine
 entered m number key park_token timed =
-    record m { lists = replaced m.lists key (m.lists key ++ record { number = number; park_token = park_token; timed = timed } ∷ []); status = replaced m.status number (Waiting timed) }
+    record (turned m number (Waiting timed)) { lists = replaced m.lists key (m.lists key ++ record { number = number; park_token = park_token; timed = timed } ∷ []) }
 
--- the threads of these waiters are taken with a token
+-- how often a thread stands in a list
+abbrev pub times_in : ℕ → List Waiter → ℕ
+times_in number waiters = length (filter (λ waiter. waiter.number == number) waiters)
+
+-- the statuses, those of these waiters taken with a token
 abbrev pub all_taken : UnparkToken → List Waiter → (ℕ → Status) → ℕ → Status
-all_taken token [] status = status
-all_taken token (waiter ∷ waiters) status = all_taken token waiters (replaced status waiter.number (Taken token))
+all_taken token waiters status number = if times_in number waiters == 0 then status number else Taken token
 
--- One: the first waiter of the key is taken, if there is one
-abbrev pub unparked_one : Machine → ℕ → UnparkToken → Machine
-unparked_one m key token =
-    let split = split_first (m.lists key) in
+-- One, All and Filter: of the waiters of a key some are taken, and the others are left
+abbrev pub unparked : Machine → ℕ → Split Waiter → UnparkToken → Machine
+unparked m key split token =
     record m { lists = replaced m.lists key split.left; status = all_taken token split.taken m.status }
 
--- Return: a taken thread runs again
-abbrev pub returned : Machine → ℕ → Machine
-returned m number = record m { status = replaced m.status number Running }
+-- Requeue: some are taken, some moved behind the waiters of another key, and the others are left
+abbrev pub moved_on : Machine → ℕ → ℕ → Split Waiter → UnparkToken → Machine
+moved_on m from to split token =
+    record m { lists = requeued m.lists from to split.left split.moved; status = all_taken token split.taken m.status }
+
+-- Resolve of a late thread: it leaves the list of the key, and runs
+abbrev pub timed_out : Machine → ℕ → ℕ → Machine
+timed_out m number key =
+    record (turned m number Running) { lists = replaced m.lists key (without_first (λ waiter. waiter.number == number) (m.lists key)) }
 
 -- a status that a token was handed to
 abbrev pub is_taken : Status → Bool
@@ -67,17 +85,16 @@ is_queued (Waiting _) = true
 is_queued Late = true
 is_queued _ = false
 
--- how often a thread stands in a list
-abbrev pub times_in : ℕ → List Waiter → ℕ
-times_in number waiters = length (filter (λ waiter. waiter.number == number) waiters)
-
--- the thread stands in one list, once
-pub record StandsOnce (m : Machine) (number : ℕ) : Type 0 where
-  pub key : ℕ
+-- the thread stands in the list of this key, once, and in no other
+pub record StandsAt (m : Machine) (number key : ℕ) : Type 0 where
   pub once : times_in number (m.lists key) ≡ 1
   pub nowhere_else : (k : ℕ) → k ≢ key → times_in number (m.lists k) ≡ 0
 
--- what every state keeps: a thread that waits or is late stands in one list, once, and any other in none
+-- a thread that waits or is late stands in the list of its key, once, and any other in none
+abbrev pub StandRight : (ℕ → ℕ) → Machine → Type 0
+StandRight keys m =
+    (number : ℕ) → MatchBool (is_queued (m.status number)) (StandsAt m number (keys number)) ((k : ℕ) → times_in number (m.lists k) ≡ 0)
+
+-- what every state keeps: each thread that waits or is late stands in one list, once, and any other in none
 abbrev pub IsConsistent : Machine → Type 0
-IsConsistent m =
-    (number : ℕ) → MatchBool (is_queued (m.status number)) (StandsOnce m number) ((k : ℕ) → times_in number (m.lists k) ≡ 0)
+IsConsistent m = (keys : ℕ → ℕ) × StandRight keys m

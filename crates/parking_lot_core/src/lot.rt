@@ -1,26 +1,24 @@
 //! The exclusive lot: the steps of parking on a lot that is borrowed for writing.
 
-ghost use Rattle.std.specs.Prelude.{◌≡◌, ◌≢◌, ◌↔◌, ◌<◌, ◌∷◌, [], IsTrue, IsOk, IsErr, IsErrOf, IfOk, IfErr, OnOk, OnErr, MatchOption, map, is_some, is_ok, if◌then◌else◌};
+ghost use Rattle.std.specs.Prelude.{◌≡◌, ◌≢◌, ◌↔◌, ◌<◌, ◌∷◌, [], true, IsTrue, IsOk, IsErr, IsErrOf, IfOk, IfErr, OnOk, OnErr, MatchOption, map, length, replicate, slice_set, is_some, is_ok, if◌then◌else◌};
+ghost use Rattle.std.specs.List.{range_with_len};
 ghost use Rattle.lot_base.specs.Node.{fields};
-ghost use Rattle.lot_base.specs.Waiting.{split_first, answer_of, has_any};
+ghost use Rattle.lot_base.specs.Place.{IsTableSize};
+ghost use Rattle.lot_base.specs.Waiting.{split_first, split_all, answer_of, count_of, has_any};
 ghost use Rattle.parking_lot_core.specs.Committed.{with_status, committed, CanCommit};
-ghost use Rattle.parking_lot_core.specs.Lot.{machine, statuses, IsRow, AreThreads};
+ghost use Rattle.parking_lot_core.specs.Lot.{machine, statuses, thread_at, free_thread};
 ghost use Rattle.parking_lot_core.specs.Represents.{with_node};
-ghost use Rattle.parking_lot_core.specs.Machine.{new_machine, IsLeastFree, IsFull, registered, entered, unparked_one, returned, is_queued, is_taken};
+ghost use Rattle.parking_lot_core.specs.Table.{IsSizeFor};
+ghost use Rattle.parking_lot_core.specs.Machine.{new_machine, IsLeastFree, IsFull, threads_of, turned, entered, unparked, is_queued, is_taken};
 
-use lot_base::bucket::{Bucket, place};
+use crate::table::{MAX_THREADS, Table};
+use lot_base::bucket::Bucket;
 use lot_base::queue::{Node, Queue};
 use lot_base::thread_parker::Slot;
 use lot_base::token::{LotError, Misfit, NoMemory, ParkToken, UnparkResult, UnparkToken};
 use std::alloc::Global;
 use std::marker::Model;
 use std::mem;
-
-/// The greatest number of threads that a lot can be made for: its table has 16 buckets, three for
-/// each thread, and does not grow.
-pub const MAX_THREADS: usize = 5;
-
-const BUCKETS: usize = 16;
 
 /// What a thread number is doing.
 #[derive(Copy, Clone, Eq, PartialEq, Debug)]
@@ -44,19 +42,22 @@ pub enum Status {
     Taken(UnparkToken),
 }
 
-// What a registered thread is doing, with its node while that is with the thread.
+// What a thread number is doing, with the thread's node while that is with the thread.
 #[derive(Drop)]
 enum State {
+    Free,
     Running(Box<Node>),
     Waiting { timed: bool },
     Late,
     Taken(UnparkToken),
 }
 
-// A registered thread. Its node is in its state while it runs, in a bucket while it waits, and in
-// its slot from the unpark on.
+// What the lot keeps for a thread number. The node of a registered thread is in its state while it
+// runs, in a bucket while it waits, and in its slot from the unpark on. The key is the one that the
+// thread waits on, or waited on last.
 #[derive(Drop)]
 struct Thread {
+    key: usize,
     state: State,
     slot: Slot,
 }
@@ -68,26 +69,33 @@ impl Model for Thread {
 
     ghost use Rattle.parking_lot_core.specs.Thread.{status_of, HasItsNode};
 
-    ghost view = { λ thread. record { number = thread.slot.owner; status = status_of thread.state } };
+    ghost view = { λ thread. record { number = thread.slot.owner; key = thread.key; status = status_of thread.state } };
 
     ghost invariant = { λ thread. HasItsNode thread.state thread.slot };
 }
 
 impl Thread {
-    fn new(node: Box<Node>) -> Thread
-        ensures { result ≡ record { number = (fields node.value).number; status = Status.Running } }
+    fn new(number: usize) -> Thread
+        ensures { result ≡ record { number = number; key = 0; status = Status.Free } }
     {
-        let slot = Slot::new(node.number);
         Thread {
-            state: State::Running(node),
-            slot,
+            key: 0,
+            state: State::Free,
+            slot: Slot::new(number),
         }
+    }
+
+    fn key(&self) -> usize
+        ensures { result ≡ self.now.key }
+    {
+        self.key
     }
 
     fn status(&self) -> Status
         ensures { result ≡ self.now.status }
     {
         match &self.state {
+            State::Free => Status::Free,
             State::Running(_) => Status::Running,
             State::Waiting { timed } => Status::Waiting { timed: *timed },
             State::Late => Status::Late,
@@ -95,15 +103,23 @@ impl Thread {
         }
     }
 
-    // Takes the node of a running thread, which waits from then on.
-    fn start_waiting(&mut self, timed: bool) -> Result<Box<Node>, Misfit>
+    // Gives the thread of a free number its node, and lets it run.
+    fn register(&mut self, node: Box<Node>)
+        requires number { (fields node.value).number ≡ self.old.number }
+        requires free { self.old.status ≡ Status.Free }
+        ensures { self.new ≡ record self.old { status = Status.Running } }
+    {
+        self.state = State::Running(node);
+    }
+
+    // Drops the node of a running thread.
+    fn retire(&mut self) -> Result<(), Misfit>
         ensures fits { IsOk result ↔ (self.old.status ≡ Status.Running) }
-        ensures ok { IfOk result (λ node. ((fields node.value).number ≡ self.old.number)
-            × (self.new ≡ record self.old { status = Status.Waiting timed })) }
+        ensures ok { OnOk result (self.new ≡ record self.old { status = Status.Free }) }
         ensures err { OnErr result (self.new ≡ self.old) }
     {
-        match mem::replace(&mut self.state, State::Waiting { timed }) {
-            State::Running(node) => Ok(node),
+        match mem::replace(&mut self.state, State::Free) {
+            State::Running(_) => Ok(()),
             state => {
                 self.state = state;
                 Err(Misfit)
@@ -111,7 +127,26 @@ impl Thread {
         }
     }
 
-    // Gives its node back to a thread that waits in no queue after all.
+    // Takes the node of a running thread, which waits on the key from then on.
+    fn start_waiting(&mut self, key: usize, timed: bool) -> Result<Box<Node>, Misfit>
+        ensures fits { IsOk result ↔ (self.old.status ≡ Status.Running) }
+        ensures ok { IfOk result (λ node. ((fields node.value).number ≡ self.old.number)
+            × (self.new ≡ record self.old { key = key; status = Status.Waiting timed })) }
+        ensures err { OnErr result (self.new ≡ self.old) }
+    {
+        match mem::replace(&mut self.state, State::Waiting { timed }) {
+            State::Running(node) => {
+                self.key = key;
+                Ok(node)
+            }
+            state => {
+                self.state = state;
+                Err(Misfit)
+            }
+        }
+    }
+
+    // Gives its node back to a thread that waits in no queue any more.
     fn stop_waiting(&mut self, node: Box<Node>)
         requires number { (fields node.value).number ≡ self.old.number }
         requires queued { IsTrue (is_queued self.old.status) }
@@ -130,6 +165,19 @@ impl Thread {
         self.slot.put(node);
     }
 
+    // Lets the deadline of a thread pass that waits with a timeout.
+    fn deadline(&mut self) -> Result<(), Misfit>
+        ensures fits { IsOk result ↔ (self.old.status ≡ Status.Waiting true) }
+        ensures ok { OnOk result (self.new ≡ record self.old { status = Status.Late }) }
+        ensures err { OnErr result (self.new ≡ self.old) }
+    {
+        let State::Waiting { timed: true } = self.state else {
+            return Err(Misfit);
+        };
+        self.state = State::Late;
+        Ok(())
+    }
+
     fn give_back(&mut self) -> Result<UnparkToken, Misfit>
         ensures fits { IsOk result ↔ IsTrue (is_taken self.old.status) }
         ensures ok { IfOk result (λ token. (self.old.status ≡ Status.Taken token)
@@ -145,38 +193,57 @@ impl Thread {
     }
 }
 
-// Takes the node of a running thread, which waits from then on.
-fn start_waiting(threads: &mut Vec<Thread>, number: usize, timed: bool) -> Result<Box<Node>, Misfit>
-    requires { AreThreads threads.old.items }
+// So many numbers, all of them free.
+fn free_threads(alloc: Global, max_threads: usize) -> Result<Vec<Thread>, NoMemory>
+    ensures { IfOk result (λ threads. threads.items ≡ map free_thread (range_with_len 0 max_threads)) }
+{
+    let mut threads = Vec::with_capacity(alloc, max_threads)?;
+    for number in 0..max_threads {
+        threads.push(Thread::new(number))?;
+    }
+    Ok(threads)
+}
+
+// Takes the node of a running thread, which waits on the key from then on.
+fn start_waiting(
+    threads: &mut Vec<Thread>,
+    number: usize,
+    key: usize,
+    timed: bool,
+) -> Result<Box<Node>, Misfit>
+    requires { (thread_at threads.old.items number).number ≡ number }
     ensures fits { IsOk result ↔ (statuses threads.old.items number ≡ Status.Running) }
     ensures node { IfOk result (λ node. (fields node.value).number ≡ number) }
     ensures ok { OnOk result (threads.new.items
-        ≡ with_status threads.old.items number (Status.Waiting timed)) }
+        ≡ slice_set threads.old.items number (record { number = number; key = key; status = Status.Waiting timed })) }
     ensures err { OnErr result (threads.new.items ≡ threads.old.items) }
 {
     let Some(thread) = threads.get_mut(number) else {
         return Err(Misfit);
     };
-    let node = thread.start_waiting(timed)?;
+    let node = thread.start_waiting(key, timed)?;
     Ok(node)
 }
 
 // Hands the node to the bucket of its key, or gives it back if `validate` answers false.
 fn enter_bucket<V: FnOnce() -> bool>(
-    buckets: &mut Vec<Bucket>,
+    table: &mut Table<Bucket>,
     node: Box<Node>,
     validate: V,
 ) -> Result<(), Box<Node>>
-    requires row { IsRow buckets.old.items }
     requires callable { V.pre validate }
 
     ensures asked { V.post validate (is_ok result) }
-    ensures entered { OnOk result (buckets.new.items ≡ with_node buckets.old.items (fields node.value)) }
-    ensures refused { OnErr result (buckets.new.items ≡ buckets.old.items) }
+    ensures table { IsTableSize (length table.old.cells) }
+    ensures numbers { table.new.numbers ≡ table.old.numbers }
+    ensures entered { OnOk result (table.new.cells ≡ with_node table.old.cells (fields node.value)) }
+    ensures refused { OnErr result (table.new.cells ≡ table.old.cells) }
     ensures returned { IfErr result (λ back. back.value ≡ node.value) }
 {
-    let bucket = &mut buckets[place(node.key, BUCKETS)];
-    bucket.enter(node, validate)
+    let mut bucket = table.take(node.key);
+    let entered = bucket.enter(node, validate);
+    table.put(bucket);
+    entered
 }
 
 // Hands each of the nodes to its thread.
@@ -202,53 +269,48 @@ fn commit(threads: &mut Vec<Thread>, taken: Queue)
 /// Upstream has no such type. Its `park` is `enter`, and after the sleep `give_back`.
 #[derive(Drop)]
 pub struct Lot {
-    buckets: Vec<Bucket>,
+    table: Table<Bucket>,
     threads: Vec<Thread>,
-    max_threads: usize,
 }
 
 impl Model for Lot {
+    ghost use Rattle.std.specs.Prelude.{◌≡◌};
     ghost use Rattle.parking_lot_core.specs.LotState.{LotState};
 
     ghost Value = { LotState };
 
-    ghost use Rattle.parking_lot_core.specs.Lot.{IsLot};
+    ghost use Rattle.parking_lot_core.specs.Lot.{IsLot, uses};
 
-    ghost view = { λ lot. record { buckets = lot.buckets.items; threads = lot.threads.items; max_threads = lot.max_threads } };
+    ghost view = { λ lot. record { buckets = lot.table.cells; threads = lot.threads.items } };
 
-    ghost invariant = { λ lot. IsLot (record { buckets = lot.buckets.items; threads = lot.threads.items; max_threads = lot.max_threads }) };
+    ghost invariant = { λ lot. IsLot (record { buckets = lot.table.cells; threads = lot.threads.items })
+        × (lot.table.numbers ≡ uses lot.threads.items) };
 }
 
 impl Lot {
     /// A lot for at most this many threads, none of which is registered.
     ///
+    /// It allocates the table, and room for what it keeps of each number.
+    ///
     /// # Errors
     ///
     /// `TooManyThreads` exactly if there are more than `MAX_THREADS`, and else `NoMemory` if memory
-    /// for the buckets cannot be had. Nothing was made then.
+    /// cannot be had. Nothing was made then.
     pub fn new(alloc: Global, max_threads: usize) -> Result<Lot, LotError>
         ensures too_many { IsErrOf result LotError.TooManyThreads ↔ (MAX_THREADS < max_threads) }
         ensures not_full { result ≢ Err LotError.Full }
         ensures ok { IfOk result (λ lot. machine lot ≡ new_machine max_threads) }
+        ensures size { IfOk result (λ lot. length lot.buckets ≡ 16) }
     {
-        if max_threads > MAX_THREADS {
-            return Err(LotError::TooManyThreads);
-        }
-        let mut buckets = Vec::with_capacity(alloc, BUCKETS)?;
-        for place in 0..BUCKETS {
-            buckets.push(Bucket::new(place, BUCKETS))?;
-        }
-        Ok(Lot {
-            buckets,
-            threads: Vec::new(alloc),
-            max_threads,
-        })
+        let table = Table::new(alloc, max_threads)?;
+        let threads = free_threads(alloc, max_threads)?;
+        Ok(Lot { table, threads })
     }
 
     /// Registers a thread under the least free number; it is running then. This asks for all the
-    /// memory that the thread will ever need: its node, and its place among the threads.
+    /// memory that the thread will ever need: its node, and what the table needs to grow.
     ///
-    /// It looks at no thread. Upstream's `park` does it at a thread's first use.
+    /// It is one `Table::register`. Upstream's `park` does it at a thread's first use.
     ///
     /// # Errors
     ///
@@ -258,16 +320,39 @@ impl Lot {
         ensures full { IsErrOf result LotError.Full ↔ IsFull (machine self.old) }
         ensures not_too_many { result ≢ Err LotError.TooManyThreads }
         ensures ok { IfOk result (λ number. IsLeastFree (machine self.old) number
-            × (machine self.new ≡ registered (machine self.old) number)) }
+            × (machine self.new ≡ turned (machine self.old) number Status.Running)) }
+        ensures size { OnOk result (IsSizeFor (threads_of (machine self.new)) (length self.old.buckets) (length self.new.buckets)) }
         ensures err { OnErr result (self.new ≡ self.old) }
     {
-        let number = self.threads.len();
-        if number == self.max_threads {
+        if self.table.registered() == self.threads.len() {
             return Err(LotError::Full);
         }
-        let node = Node::new(*self.threads.allocator(), number)?;
-        self.threads.push(Thread::new(node))?;
+        let mut node = Node::new(*self.threads.allocator(), 0)?;
+        let number = self.table.register(&())?;
+        node.number = number;
+        self.threads[number].register(node);
         Ok(number)
+    }
+
+    /// Frees the number of a running thread. It drops the thread's node, and allocates nothing.
+    ///
+    /// Upstream does it at the end of a thread.
+    ///
+    /// # Errors
+    ///
+    /// `Misfit` exactly if the thread is not running. Nothing changed then.
+    pub fn retire(&mut self, number: usize) -> Result<(), Misfit>
+        ensures fits { IsOk result ↔ ((machine self.old).status number ≡ Status.Running) }
+        ensures ok { OnOk result (machine self.new ≡ turned (machine self.old) number Status.Free) }
+        ensures size { length self.new.buckets ≡ length self.old.buckets }
+        ensures err { OnErr result (self.new ≡ self.old) }
+    {
+        let Some(thread) = self.threads.get_mut(number) else {
+            return Err(Misfit);
+        };
+        thread.retire()?;
+        self.table.release(number);
+        Ok(())
     }
 
     /// Puts a running thread last in the list of the key, if `validate` answers true: the first half
@@ -293,11 +378,12 @@ impl Lot {
         ensures asked { IfOk result (λ valid. V.post validate valid) }
         ensures entered { IfOk result (λ valid. machine self.new
             ≡ (if valid then entered (machine self.old) number key park_token timed else machine self.old)) }
+        ensures size { length self.new.buckets ≡ length self.old.buckets }
         ensures err { OnErr result (self.new ≡ self.old) }
     {
-        let mut node = start_waiting(&mut self.threads, number, timed)?;
+        let mut node = start_waiting(&mut self.threads, number, key, timed)?;
         node.prepare(key, park_token, timed);
-        match enter_bucket(&mut self.buckets, node, validate) {
+        match enter_bucket(&mut self.table, node, validate) {
             Ok(()) => Ok(true),
             Err(node) => {
                 self.threads[number].stop_waiting(node);
@@ -322,11 +408,51 @@ impl Lot {
 
         ensures answer { result ≡ answer_of (split_first ((machine self.old).lists key)) }
         ensures taken { (token : _) × F.post callback result token
-            × (machine self.new ≡ unparked_one (machine self.old) key token) }
+            × (machine self.new ≡ unparked (machine self.old) key (split_first ((machine self.old).lists key)) token) }
+        ensures size { length self.new.buckets ≡ length self.old.buckets }
     {
-        let (result, taken) = self.buckets[place(key, BUCKETS)].take_one(key, callback);
+        let mut bucket = self.table.take(key);
+        let (result, taken) = bucket.take_one(key, callback);
+        self.table.put(bucket);
         commit(&mut self.threads, taken);
         result
+    }
+
+    /// Takes every waiter of the key, in order, hands each thread the token, and answers how many
+    /// there were.
+    ///
+    /// It is one `Bucket::take_all`, and allocates nothing. Upstream has it under this name.
+    pub fn unpark_all(&mut self, key: usize, unpark_token: UnparkToken) -> usize
+        ensures answer { result ≡ count_of ((machine self.old).lists key) }
+        ensures taken { machine self.new
+            ≡ unparked (machine self.old) key (split_all ((machine self.old).lists key)) unpark_token }
+        ensures size { length self.new.buckets ≡ length self.old.buckets }
+    {
+        let mut bucket = self.table.take(key);
+        let (count, taken) = bucket.take_all(key, unpark_token);
+        self.table.put(bucket);
+        commit(&mut self.threads, taken);
+        count
+    }
+
+    /// Lets the deadline of a thread pass that waits with a timeout. It stays in its list, until
+    /// `resolve` or an unpark takes it out. It allocates nothing.
+    ///
+    /// # Errors
+    ///
+    /// `Misfit` exactly if the thread does not wait with a timeout, or its deadline has passed.
+    /// Nothing changed then.
+    pub fn deadline(&mut self, number: usize) -> Result<(), Misfit>
+        ensures fits { IsOk result ↔ ((machine self.old).status number ≡ Status.Waiting true) }
+        ensures ok { OnOk result (machine self.new ≡ turned (machine self.old) number Status.Late) }
+        ensures size { length self.new.buckets ≡ length self.old.buckets }
+        ensures err { OnErr result (self.new ≡ self.old) }
+    {
+        let Some(thread) = self.threads.get_mut(number) else {
+            return Err(Misfit);
+        };
+        thread.deadline()?;
+        Ok(())
     }
 
     /// Gives a thread that was taken its token, and lets it run again: the second half of upstream's
@@ -338,7 +464,8 @@ impl Lot {
     pub fn give_back(&mut self, number: usize) -> Result<UnparkToken, Misfit>
         ensures fits { IsOk result ↔ IsTrue (is_taken ((machine self.old).status number)) }
         ensures ok { IfOk result (λ token. ((machine self.old).status number ≡ Status.Taken token)
-            × (machine self.new ≡ returned (machine self.old) number)) }
+            × (machine self.new ≡ turned (machine self.old) number Status.Running)) }
+        ensures size { length self.new.buckets ≡ length self.old.buckets }
         ensures err { OnErr result (self.new ≡ self.old) }
     {
         let Some(thread) = self.threads.get_mut(number) else {
@@ -358,17 +485,30 @@ impl Lot {
         ensures numbers { IfOk result (λ numbers. numbers.items
             ≡ map (λ waiter. waiter.number) ((machine self.now).lists key)) }
     {
-        let alloc = *self.threads.allocator();
-        self.buckets[place(key, BUCKETS)].list(alloc, key)
+        self.table.cell(key).list(*self.threads.allocator(), key)
     }
 
-    /// What the number is doing. One that was never registered is `Free`.
+    /// What the number is doing. One that is not below the greatest number of threads is `Free`.
     pub fn status(&self, number: usize) -> Status
         ensures { result ≡ (machine self.now).status number }
     {
         self.threads
             .get(number)
             .map_or(Status::Free, |thread| thread.status())
+    }
+
+    /// How many threads are registered.
+    pub fn registered(&self) -> usize
+        ensures { result ≡ threads_of (machine self.now) }
+    {
+        self.table.registered()
+    }
+
+    /// How many buckets the table has.
+    pub fn size(&self) -> usize
+        ensures { result ≡ length self.now.buckets }
+    {
+        self.table.size()
     }
 }
 

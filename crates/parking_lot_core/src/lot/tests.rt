@@ -5,9 +5,9 @@ use std::test::Fail;
 
 const TOKEN: UnparkToken = UnparkToken(42);
 
-// A lot for five threads, the first `count` of which are registered.
+// A lot for six threads, the first `count` of which are registered.
 fn lot_with(alloc: Global, count: usize) -> Result<Lot, LotError> {
-    let mut lot = Lot::new(alloc, MAX_THREADS)?;
+    let mut lot = Lot::new(alloc, 6)?;
     for _ in 0..count {
         lot.register()?;
     }
@@ -25,31 +25,90 @@ fn expect_list(rt: &impl Abort, lot: &Lot, key: usize, numbers: &[usize]) -> Res
 }
 
 #[test]
-fn five_threads_register_by_number_and_the_sixth_is_refused(rt: HostRuntime) -> Result<(), Fail> {
-    let mut lot = Lot::new(rt.alloc(), 5)?;
+fn six_threads_register_by_number_and_the_seventh_is_refused(rt: HostRuntime) -> Result<(), Fail> {
+    let mut lot = Lot::new(rt.alloc(), 6)?;
+    assert_eq!(rt; (lot.registered(), lot.size()), (0, 16));
     for number in 0..5 {
         assert_eq!(rt; lot.register()?, number);
         assert_eq!(rt; lot.status(number), Status::Running);
     }
+    assert_eq!(rt; (lot.registered(), lot.size()), (5, 16));
+    assert_eq!(rt; lot.register()?, 5);
+    assert_eq!(rt; (lot.registered(), lot.size()), (6, 32));
     assert_eq!(rt; lot.register(), Err(LotError::Full));
-    assert_eq!(rt; lot.status(5), Status::Free);
+    assert_eq!(rt; lot.status(6), Status::Free);
     Ok(())
 }
 
 #[test]
-fn a_lot_for_six_threads_is_too_large(rt: HostRuntime) {
-    assert_eq!(rt;
-        Lot::new(rt.alloc(), 6).err(),
-        Some(LotError::TooManyThreads)
-    );
+fn a_retired_number_is_given_again(rt: HostRuntime) -> Result<(), Fail> {
+    let mut lot = lot_with(rt.alloc(), 3)?;
+    assert_eq!(rt; lot.retire(1), Ok(()));
+    assert_eq!(rt; lot.status(1), Status::Free);
+    assert_eq!(rt; lot.retire(1), Err(Misfit));
+    assert_eq!(rt; lot.registered(), 2);
+    assert_eq!(rt; lot.register(), Ok(1));
+    enter(&rt, &mut lot, 1, 7);
+    assert_eq!(rt; lot.retire(1), Err(Misfit));
+    Ok(())
+}
+
+#[test]
+fn a_lot_is_for_at_most_1024_threads(rt: HostRuntime) -> Result<(), Fail> {
+    let refused = Lot::new(rt.alloc(), 1_025);
+    assert_eq!(rt; refused.err(), Some(LotError::TooManyThreads));
+    assert_eq!(rt; Lot::new(rt.alloc(), 1_024)?.registered(), 0);
+    Ok(())
 }
 
 #[test]
 fn a_lot_for_nobody_is_full(rt: HostRuntime) -> Result<(), Fail> {
     let mut lot = Lot::new(rt.alloc(), 0)?;
     assert_eq!(rt; lot.register(), Err(LotError::Full));
-    let result = lot.unpark_one(7, |_| TOKEN);
-    assert_eq!(rt; result, UnparkResult::default());
+    assert_eq!(rt; lot.unpark_one(7, |_| TOKEN), UnparkResult::default());
+    assert_eq!(rt; lot.unpark_all(7, TOKEN), 0);
+    Ok(())
+}
+
+// Five have registered and the sixth makes the table grow: 0 and 13 have the same place of 16, and
+// not of 32.
+#[test]
+fn growth_keeps_the_waiters_of_each_key(rt: HostRuntime) -> Result<(), Fail> {
+    let mut lot = lot_with(rt.alloc(), 5)?;
+    for (number, key) in [(0, 0), (1, 13), (2, 0)] {
+        enter(&rt, &mut lot, number, key);
+    }
+    assert_eq!(rt; lot.register(), Ok(5));
+    assert_eq!(rt; lot.size(), 32);
+    expect_list(&rt, &lot, 0, &[0, 2])?;
+    expect_list(&rt, &lot, 13, &[1])?;
+    Ok(())
+}
+
+#[test]
+fn all_waiters_of_a_key_get_the_token(rt: HostRuntime) -> Result<(), Fail> {
+    let mut lot = lot_with(rt.alloc(), 3)?;
+    for (number, key) in [(0, 0), (1, 13), (2, 0)] {
+        enter(&rt, &mut lot, number, key);
+    }
+    let token = UnparkToken(usize::MAX);
+    assert_eq!(rt; lot.unpark_all(0, token), 2);
+    assert_eq!(rt; lot.give_back(0), Ok(token));
+    assert_eq!(rt; lot.give_back(2), Ok(token));
+    expect_list(&rt, &lot, 0, &[])?;
+    expect_list(&rt, &lot, 13, &[1])?;
+    assert_eq!(rt; lot.unpark_all(0, token), 0);
+    Ok(())
+}
+
+#[test]
+fn an_untimed_waiter_has_no_deadline(rt: HostRuntime) -> Result<(), Fail> {
+    let mut lot = lot_with(rt.alloc(), 2)?;
+    enter(&rt, &mut lot, 0, 1);
+    assert_eq!(rt; lot.deadline(0), Err(Misfit));
+    assert_eq!(rt; lot.deadline(1), Err(Misfit));
+    assert_eq!(rt; lot.retire(0), Err(Misfit));
+    assert_eq!(rt; lot.status(0), Status::Waiting { timed: false });
     Ok(())
 }
 

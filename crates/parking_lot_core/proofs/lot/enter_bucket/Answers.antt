@@ -1,17 +1,20 @@
-use Rattle.std.proofs.Common.{◌≡◌, ◌∙◌, sym, ap, arith}
-use Rattle.std.proofs.lemmas.List.{get_or_read}
+use Rattle.std.proofs.Common.{◌≡◌, ◌∙◌, sym, ap}
+use Rattle.std.proofs.lemmas.Result.{on_ok_weaker, on_err_weaker}
 use Rattle.lot_base.specs.Node.{fields}
-use Rattle.lot_base.specs.Place.{place_of}
 use Rattle.lot_base.specs.declared.queue.Node.{out-Node}
-use Rattle.parking_lot_core.specs.Represents.{bucket_at}
 use Rattle.parking_lot_core.proofs.NodeLemmas.{key-fields}
+use Rattle.parking_lot_core.proofs.RowLemmas.{put_with_node, put_back}
 use Rattle.parking_lot_core.proofs.lot.enter_bucket.Goals as goal
 
-pub enter-requires-clause-place : goal.enter-requires-clause-place
-enter-requires-clause-place g c =
-    let row = c.args.buckets.now.items in
-    let read : c.index_mut-bucket.result.now ≡ bucket_at row c.place.result = get_or_read row c.place.result c.index_mut-bucket.result.now (omega (arith, c.requires.row.count, c.place.ensures.below)) c.index_mut-bucket.ensures.value _ in
+pub returns-clause-entered : goal.returns-clause-entered
+returns-clause-entered g c =
+    let take = c.take-bucket.ensures in
     let key : (fields c.args.node.value).key ≡ (out-Node c.deref.result.now).key = key-fields c.args.node.value ∙ ap (λ node. (out-Node node).key) (sym c.deref.ensures) in
-    ap (place_of (fields c.args.node.value).key) (ap (λ b. b.size) read ∙ c.requires.row.sizes c.place.result c.place.ensures.below)
-    ∙ ap (λ k. place_of k 16) key ∙ sym c.place.ensures.value
-    ∙ sym (ap (λ b. b.place) read ∙ c.requires.row.places c.place.result c.place.ensures.below)
+    rw (c.put.ensures, take.left)
+    (on_ok_weaker c.enter-entered.result (put_with_node c.args.table.now.cells (out-Node c.deref.result.now).key c.take-bucket.result _ c.enter-entered.new.self (fields c.args.node.value) take.taken take.place key) c.enter-entered.ensures.entered)
+
+pub returns-clause-refused : goal.returns-clause-refused
+returns-clause-refused g c =
+    let take = c.take-bucket.ensures in
+    rw (c.put.ensures, take.left)
+    (on_err_weaker c.enter-entered.result (put_back c.args.table.now.cells (out-Node c.deref.result.now).key c.take-bucket.result _ c.enter-entered.new.self take.taken take.place) c.enter-entered.ensures.refused)

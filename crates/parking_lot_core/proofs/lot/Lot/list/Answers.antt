@@ -1,10 +1,13 @@
-use Rattle.std.proofs.Common.{◌≡◌, ◌∙◌, ap, arith}
-use Rattle.std.proofs.lemmas.List.{get_or_read}
+use Rattle.std.proofs.Common.{◌≡◌, sym, length}
+use Rattle.std.proofs.lemmas.Option.{get_or_from_slice_get}
+use Rattle.lot_base.specs.Place.{place_of}
+use Rattle.lot_base.specs.Waiting.{lists_of}
 use Rattle.parking_lot_core.specs.Represents.{bucket_at}
-use Rattle.parking_lot_core.proofs.LotLemmas.{lot_of, bucket_of, numbers-waiters}
+use Rattle.parking_lot_core.proofs.LotLemmas.{numbers-waiters}
 use Rattle.parking_lot_core.proofs.lot.Lot.list.Goals as goal
 
 pub returns-clause-numbers : goal.returns-clause-numbers
 returns-clause-numbers c =
-    let read : c.index.result.now ≡ bucket_of (lot_of c.self.inside) c.args.key = get_or_read c.self.inside.buckets.items c.place.result c.index.result.now (omega (arith, c.self.invariant.row.count, c.place.ensures.below)) c.index.ensures _ ∙ ap (bucket_at c.self.inside.buckets.items) c.place.ensures.value in
-    rw (← c.self.view_is, numbers-waiters (lot_of c.self.inside) c.args.key c.self.invariant) (rw read at c.list.ensures.numbers)
+    let row = c.self.inside.table.cells in
+    let read : c.cell.result.now ≡ bucket_at row (place_of c.args.key (length row)) = sym (get_or_from_slice_get row (place_of c.args.key (length row)) c.cell.result.now _ c.cell.ensures.cell) in
+    rw (← c.self.view_is, numbers-waiters (lists_of (bucket_at row (place_of c.args.key (length row))).nodes c.args.key)) (rw read at c.list.ensures.numbers)

@@ -1,14 +1,20 @@
-use Rattle.std.proofs.Common.{◌≡◌, subst, arith}
-use Rattle.parking_lot_core.proofs.LotLemmas.{IsStep-new}
-use Rattle.parking_lot_core.proofs.RowLemmas.{IsTableSize-16, IsNewRow, IsRow-new, nodes-new_row}
+use Rattle.std.proofs.Common.{◌∙◌, sym, ap}
+use Rattle.std.proofs.lemmas.List.{map-id}
+use Rattle.parking_lot_core.specs.Lot.{uses}
+use Rattle.parking_lot_core.specs.Machine.{new_machine}
+use Rattle.parking_lot_core.proofs.LotLemmas.{IsStep, IsStep-new}
+use Rattle.parking_lot_core.proofs.TableLemmas.{nodes-empty}
+use Rattle.parking_lot_core.proofs.UseLemmas.{uses-free}
 use Rattle.parking_lot_core.proofs.lot.Lot.new.Goals as goal
+use Rattle.parking_lot_core.proofs.lot.Lot.new.Goals.{In_ok-threads}
 
-pub new-requires-clause-size : goal.new-requires-clause-size
-new-requires-clause-size c = IsTableSize-16
+step : (c : In_ok-threads) → IsStep (record { buckets = c.in_ok-table.table.cells; threads = c.in_ok-threads.threads.items }) (new_machine c.args.max_threads)
+step c =
+    rw c.in_ok-threads.ensures (IsStep-new c.in_ok-table.table.cells c.args.max_threads (nodes-empty 16 c.in_ok-table.table.cells (rw (map-id c.in_ok-table.table.cells) at c.in_ok-table.ensures.empty)))
 
 pub invariant_of-result : goal.invariant_of-result
 invariant_of-result c =
-    let all : c.loop-place.place ≡ 16 = omega arith in
-    let row = subst (IsNewRow c.loop-place.buckets.items) all c.loop-place.invariant in
-    rw c.new-2.ensures.items
-    (IsStep-new c.loop-place.buckets.items c.args.max_threads (IsRow-new c.loop-place.buckets.items row) (nodes-new_row c.loop-place.buckets.items row)).is_lot
+    ((step c).is_lot, c.in_ok-table.ensures.numbers ∙ sym (uses-free 0 c.args.max_threads) ∙ ap uses (sym c.in_ok-threads.ensures))
+
+pub returns-clause-ok : goal.returns-clause-ok
+returns-clause-ok c = (step c).means

@@ -1,0 +1,30 @@
+use Rattle.std.proofs.Common.{◌∙◌, sym, map}
+use Rattle.lot_base.specs.Waiting.{lists_of, split_all}
+use Rattle.parking_lot_core.specs.Lot.{machine}
+use Rattle.parking_lot_core.specs.Machine.{unparked}
+use Rattle.parking_lot_core.specs.Represents.{waiter_of}
+use Rattle.parking_lot_core.proofs.LotLemmas.{lot_of, IsStepOfUse, IsTaking-from, IsStepOfUse-taking, CanCommit-taking, IsUnpark-all}
+use Rattle.parking_lot_core.proofs.lot.Lot.unpark_all.Goals as goal
+use Rattle.parking_lot_core.proofs.lot.Lot.unpark_all.Goals.{After-commit}
+
+pub commit-requires : goal.commit-requires
+commit-requires c =
+    let take = c.take-bucket.ensures in
+    let all = c.take_all-count.ensures in
+    rw all.taken
+    (CanCommit-taking (lot_of c.self.inside) c.args.key c.take-bucket.result c.take_all-count.new.self (split_all (lists_of c.take-bucket.result.nodes c.args.key)) c.args.unpark_token c.self.invariant.0 (IsTaking-from _ _ _ _ _ take.table take.size take.taken take.place all.place all.lists) (IsUnpark-all (lists_of c.take-bucket.result.nodes c.args.key)))
+
+step : (c : After-commit) → IsStepOfUse (lot_of c.self.inside) (record { buckets = c.put.new.self.cells; threads = c.commit.new.threads.items }) (unparked (machine (lot_of c.self.inside)) c.args.key (split_all (map waiter_of (lists_of c.take-bucket.result.nodes c.args.key))) c.args.unpark_token)
+step c =
+    let take = c.take-bucket.ensures in
+    let all = c.take_all-count.ensures in
+    rw (c.put.ensures, take.left, c.commit.ensures, all.taken)
+    (IsStepOfUse-taking (lot_of c.self.inside) c.args.key c.take-bucket.result _ c.take_all-count.new.self (split_all (lists_of c.take-bucket.result.nodes c.args.key)) c.args.unpark_token c.self.invariant.0 (IsTaking-from _ _ _ _ _ take.table take.size take.taken take.place all.place all.lists) (IsUnpark-all (lists_of c.take-bucket.result.nodes c.args.key)))
+
+pub invariant_of-self : goal.invariant_of-self
+invariant_of-self c =
+    ((step c).step.is_lot, rw (c.put.ensures, c.take-bucket.ensures.left) (c.self.invariant.1 ∙ sym (step c).uses))
+
+pub returns-clause-taken : goal.returns-clause-taken
+returns-clause-taken c =
+    rw (← c.self.view_is) (rw c.take-bucket.ensures.taken at (step c).step.means)
