@@ -13,7 +13,7 @@ use Rattle.lot_base.specs.declared.queue.Node.{Node, Node', out-Node, outs-Node'
 use Rattle.lot_base.specs.Node.{fields}
 use Rattle.lot_base.specs.NodeFields.{NodeFields}
 use Rattle.lot_base.specs.Waiting.{lists_of, replaced, count_of, has_any, answer_of, taken_by, left_by, split_filter}
-use Rattle.lot_base.specs.Filter.{IfStop, TakesUntilStop, IsFiltered}
+use Rattle.lot_base.specs.Filter.{IfStop, TakesUntilStop, IsFiltered, park_tokens}
 
 -- the lists of all keys but one are the same
 pub record SameButAt (key : ℕ) (new old : List NodeFields) : Type 0 where
@@ -66,10 +66,10 @@ park_token-out (Node' number key park_token unpark_token timed link) = rw outs-N
 module _ {F : Type 0} (calls : Mut F (ParkToken × Unit {0}) FilterOp) (key : ℕ) (first : F) (all : List NodeFields) where
   -- what the filter decides from here on ends as its decisions from the start do
   pub record Deciding (filter : F) (queue passed taken : List NodeFields) (result : UnparkResult) : Type 0 where
-    pub callable : TakesUntilStop calls filter (lists_of queue key)
-    pub ends : (to_come : List FilterOp) → IsFiltered calls filter (lists_of queue key) to_come
+    pub callable : TakesUntilStop calls filter (park_tokens (lists_of queue key))
+    pub ends : (to_come : List FilterOp) → IsFiltered calls filter (park_tokens (lists_of queue key)) to_come
         → (decisions : List FilterOp)
-        × IsFiltered calls first (lists_of all key) decisions
+        × IsFiltered calls first (park_tokens (lists_of all key)) decisions
         × (taken_by decisions (lists_of all key) ≡ taken ++ taken_by to_come (lists_of queue key))
         × (left_by decisions (lists_of all key) ≡ lists_of passed key ++ left_by to_come (lists_of queue key))
     pub others : SameButAt key (passed ++ queue) all
@@ -78,7 +78,7 @@ module _ {F : Type 0} (calls : Mut F (ParkToken × Unit {0}) FilterOp) (key : �
   -- what all decisions did
   pub record Decided (new taken : List NodeFields) (result : UnparkResult) : Type 0 where
     pub decisions : List FilterOp
-    pub decided : IsFiltered calls first (lists_of all key) decisions
+    pub decided : IsFiltered calls first (park_tokens (lists_of all key)) decisions
     pub lists : (k : ℕ) → lists_of new k ≡ replaced (lists_of all) key (left_by decisions (lists_of all key)) k
     pub answer : result ≡ answer_of (split_filter decisions (lists_of all key))
     pub takes : taken ≡ taken_by decisions (lists_of all key)
@@ -103,7 +103,7 @@ module _ {F : Type 0} (calls : Mut F (ParkToken × Unit {0}) FilterOp) (key : �
 
   module _ (filter next : F) (queue passed taken rest kept : List NodeFields) (waiter : NodeFields) (result : UnparkResult) (so_far : Deciding filter queue passed taken result) where
     -- decisions behind this one
-    more : (decision : FilterOp) (to_come : List FilterOp) → Asked filter queue passed waiter decision next rest kept → IfStop decision (to_come ≡ []) (IsFiltered calls next (lists_of rest key) to_come) → IsFiltered calls filter (lists_of queue key) (decision ∷ to_come)
+    more : (decision : FilterOp) (to_come : List FilterOp) → Asked filter queue passed waiter decision next rest kept → IfStop decision (to_come ≡ []) (IsFiltered calls next (park_tokens (lists_of rest key)) to_come) → IsFiltered calls filter (park_tokens (lists_of queue key)) (decision ∷ to_come)
     more decision to_come asked behind = rw asked.waiters (next, asked.called, behind)
 
     waiters_kept : (decision : FilterOp) (kept' : List NodeFields) → Asked filter queue passed waiter decision next rest kept → kept' ≡ kept ++ waiter ∷ [] → lists_of kept' key ≡ lists_of passed key ++ waiter ∷ []
@@ -176,11 +176,11 @@ IfStop-else Skip Q q = q
 IfStop-else Stop Q q = tt
 
 -- a filter that may be called while P holds of it, which each call keeps
-pub TakesUntilStop-while : {F : Type 0} (calls : Mut F (ParkToken × Unit {0}) FilterOp) (P : F → Type 0) → ((filter : F) (token : ParkToken) → P filter → calls.pre filter (token, tt)) → ((filter : F) (token : ParkToken) (decision : FilterOp) (next : F) → P filter → Called calls filter (token, tt) decision next → P next) → (filter : F) (waiters : List NodeFields) → P filter → TakesUntilStop calls filter waiters
+pub TakesUntilStop-while : {F : Type 0} (calls : Mut F (ParkToken × Unit {0}) FilterOp) (P : F → Type 0) → ((filter : F) (token : ParkToken) → P filter → calls.pre filter (token, tt)) → ((filter : F) (token : ParkToken) (decision : FilterOp) (next : F) → P filter → Called calls filter (token, tt) decision next → P next) → (filter : F) (tokens : List ParkToken) → P filter → TakesUntilStop calls filter tokens
 TakesUntilStop-while calls P may keeps filter [] holds = tt
-TakesUntilStop-while calls P may keeps filter (waiter ∷ waiters) holds =
-    (may filter waiter.park_token holds, λ decision next called. IfStop-else decision (TakesUntilStop calls next waiters) (TakesUntilStop-while calls P may keeps next waiters (keeps filter waiter.park_token decision next holds called)))
+TakesUntilStop-while calls P may keeps filter (token ∷ tokens) holds =
+    (may filter token holds, λ decision next called. IfStop-else decision (TakesUntilStop calls next tokens) (TakesUntilStop-while calls P may keeps next tokens (keeps filter token decision next holds called)))
 
 -- a filter that may be called at any time
-pub TakesUntilStop-always : {F : Type 0} (calls : Mut F (ParkToken × Unit {0}) FilterOp) → ((filter : F) (token : ParkToken) → calls.pre filter (token, tt)) → (filter : F) (waiters : List NodeFields) → TakesUntilStop calls filter waiters
-TakesUntilStop-always {F} calls may filter waiters = TakesUntilStop-while calls (λ (f : F). Unit {0}) (λ f token holds. may f token) (λ f token decision next holds called. tt) filter waiters tt
+pub TakesUntilStop-always : {F : Type 0} (calls : Mut F (ParkToken × Unit {0}) FilterOp) → ((filter : F) (token : ParkToken) → calls.pre filter (token, tt)) → (filter : F) (tokens : List ParkToken) → TakesUntilStop calls filter tokens
+TakesUntilStop-always {F} calls may filter tokens = TakesUntilStop-while calls (λ (f : F). Unit {0}) (λ f token holds. may f token) (λ f token decision next holds called. tt) filter tokens tt

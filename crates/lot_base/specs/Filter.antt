@@ -1,5 +1,5 @@
--- The calls of a filter at the waiters of a key.
-use Rattle.std.specs.Prelude.{◌≡◌, List, [], ◌∷◌, ⊤}
+-- The calls of a filter at the park tokens of the waiters of a key.
+use Rattle.std.specs.Prelude.{◌≡◌, List, [], ◌∷◌, map, ⊤}
 use Rattle.std.specs.Fn.{Mut, Called}
 use Rattle.lot_base.specs.declared.token.ParkToken.{ParkToken}
 use Rattle.lot_base.specs.declared.token.FilterOp.{FilterOp}
@@ -12,19 +12,23 @@ IfStop Stop P Q = P
 IfStop Unpark P Q = Q
 IfStop Skip P Q = Q
 
-module _ {F : Type 0} (calls : Mut F (ParkToken × Unit {0}) FilterOp) where
-  -- the filter may be called with the park tokens of the waiters in order, until it answers `Stop`
-  abbrev pub TakesUntilStop : F → List NodeFields → Type 0
-  TakesUntilStop filter [] = ⊤
-  TakesUntilStop filter (waiter ∷ waiters) =
-      calls.pre filter (waiter.park_token, tt)
-      × ((decision : FilterOp) (next : F) → Called calls filter (waiter.park_token, tt) decision next → IfStop decision ⊤ (TakesUntilStop next waiters))
+-- the park tokens of waiters, in order
+abbrev pub park_tokens : List NodeFields → List ParkToken
+park_tokens waiters = map (λ waiter. waiter.park_token) waiters
 
-  -- it was called so, and these are its answers, up to and with its first `Stop` or else one for each waiter
-  abbrev pub IsFiltered : F → List NodeFields → List FilterOp → Type 0
+module _ {F : Type 0} (calls : Mut F (ParkToken × Unit {0}) FilterOp) where
+  -- the filter may be called with these park tokens in order, until it answers `Stop`
+  abbrev pub TakesUntilStop : F → List ParkToken → Type 0
+  TakesUntilStop filter [] = ⊤
+  TakesUntilStop filter (token ∷ tokens) =
+      calls.pre filter (token, tt)
+      × ((decision : FilterOp) (next : F) → Called calls filter (token, tt) decision next → IfStop decision ⊤ (TakesUntilStop next tokens))
+
+  -- it was called so, and these are its answers, up to and with its first `Stop` or else one for each token
+  abbrev pub IsFiltered : F → List ParkToken → List FilterOp → Type 0
   IsFiltered filter [] decisions = decisions ≡ []
   IsFiltered filter (_ ∷ _) [] = ⊥
-  IsFiltered filter (waiter ∷ waiters) (decision ∷ decisions) =
+  IsFiltered filter (token ∷ tokens) (decision ∷ decisions) =
       (next : F)
-      × Called calls filter (waiter.park_token, tt) decision next
-      × IfStop decision (decisions ≡ []) (IsFiltered next waiters decisions)
+      × Called calls filter (token, tt) decision next
+      × IfStop decision (decisions ≡ []) (IsFiltered next tokens decisions)

@@ -1,7 +1,7 @@
 //! The buckets of the hash table: the steps of parking and unparking on the queue of one bucket.
 
 ghost use Rattle.std.specs.Prelude.{◌≡◌, ℕ, [], ◌∷◌, ◌++◌, ◌<◌, map, take, drop, IfErr, IfNone, IfSome, OnOk, IfOk, IsOkAnd, OnErr, is_ok, is_some, IsTrue, length, List, ◌≢◌, ◌↔◌, find, option_map, not, None, Some, IsNone, MatchOption};
-ghost use Rattle.lot_base.specs.Filter.{TakesUntilStop, IsFiltered};
+ghost use Rattle.lot_base.specs.Filter.{TakesUntilStop, IsFiltered, park_tokens};
 ghost use Rattle.lot_base.specs.Node.{fields, option_nodes};
 ghost use Rattle.lot_base.specs.Place.{IsTableSize, place_of};
 ghost use Rattle.lot_base.specs.Requeue.{numbers, IsCallableAtEach, IsCalledAtEach, AreCallable, AreCalled, IsRequeueCallable, IsRequeue};
@@ -189,15 +189,15 @@ impl Bucket {
         filter: F,
         callback: C,
     ) -> (UnparkResult, Queue)
-        requires filter { TakesUntilStop F.FnMut filter (lists_of self.old.nodes key) }
-        requires callback { (decisions : _) → IsFiltered F.FnMut filter (lists_of self.old.nodes key) decisions
+        requires filter { TakesUntilStop F.FnMut filter (park_tokens (lists_of self.old.nodes key)) }
+        requires callback { (decisions : _) → IsFiltered F.FnMut filter (park_tokens (lists_of self.old.nodes key)) decisions
             → C.pre callback (answer_of (split_filter decisions (lists_of self.old.nodes key))) }
 
         ensures place { self.new.place ≡ self.old.place }
         ensures size { self.new.size ≡ self.old.size }
         ensures filtered { let waiters = lists_of self.old.nodes key in record {
           decisions : List FilterOp;
-          decided : IsFiltered F.FnMut filter waiters decisions;
+          decided : IsFiltered F.FnMut filter (park_tokens waiters) decisions;
           lists : (k : ℕ) → lists_of self.new.nodes k
               ≡ replaced (lists_of self.old.nodes) key (split_filter decisions waiters).left k;
           answer : result.0 ≡ answer_of (split_filter decisions waiters);
@@ -434,10 +434,10 @@ fn take_chosen<F: FnMut(ParkToken) -> FilterOp>(
     key: usize,
     mut filter: F,
 ) -> (UnparkResult, Queue)
-    requires { TakesUntilStop F.FnMut filter (lists_of queue.old key) }
+    requires { TakesUntilStop F.FnMut filter (park_tokens (lists_of queue.old key)) }
     ensures { let waiters = lists_of queue.old key in record {
       decisions : List FilterOp;
-      decided : IsFiltered F.FnMut filter waiters decisions;
+      decided : IsFiltered F.FnMut filter (park_tokens waiters) decisions;
       lists : (k : ℕ) → lists_of queue.new k
           ≡ replaced (lists_of queue.old) key (split_filter decisions waiters).left k;
       answer : result.0 ≡ answer_of (split_filter decisions waiters);
