@@ -78,7 +78,7 @@ pub lists_of-requeued : (from to : ℕ) (old kept : List NodeFields) (left moved
 lists_of-requeued from to old kept left moved lists k = lists_of-moved to kept moved k ∙ rw (lists to, lists k) refl
 
 -- a bucket's invariant through a requeue
-All-left : (P : NodeFields → Type 0) (op : RequeueOp) (waiters : List NodeFields) → All P waiters → All P (split_by op waiters).left
+pub All-left : (P : NodeFields → Type 0) (op : RequeueOp) (waiters : List NodeFields) → All P waiters → All P (split_by op waiters).left
 All-left P Abort waiters all = all
 All-left P UnparkOneRequeueRest waiters all = All-nil P
 All-left P RequeueAll waiters all = All-nil P

@@ -7,5 +7,9 @@ pub mod LotLemmas
 pub mod NumberLemmas
 pub mod TableLemmas
 pub mod UseLemmas
+pub mod KeyLemmas
+pub mod RequeuedLemmas
+pub mod RequeueRowLemmas
+pub mod RequeueLotLemmas
 pub mod GrowthLemmas
 pub mod ParkingLotLemmas

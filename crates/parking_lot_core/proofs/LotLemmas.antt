@@ -20,10 +20,10 @@ use Rattle.parking_lot_core.specs.Lot.{thread_at, free_thread, statuses, keys, m
 use Rattle.parking_lot_core.specs.LotState.{LotState, ThreadState}
 use Rattle.parking_lot_core.specs.Machine.{Waiter, Machine, StandRight, new_machine, is_queued, times_in, all_taken, turned, entered, unparked, moved_on}
 use Rattle.parking_lot_core.specs.Represents.{bucket_at, with_node, waiter_of, waiters_in}
-use Rattle.parking_lot_core.specs.Table.{nodes_in, KeepsLists}
+use Rattle.parking_lot_core.specs.Table.{nodes_in, IsRowStep, KeepsLists}
 use Rattle.parking_lot_core.proofs.CommitLemmas.{statuses-set, uses-set, keys-set_other, keys-set_same, numbers-set, below_from_status, ne-free-running, length-committed, numbers-committed, keys-committed, statuses-committed, uses-committed, CanCommit-standing}
 use Rattle.parking_lot_core.proofs.MachineLemmas.{replaced-same, replaced-other, same_machine, times_in-append, is_queued-standing, StandsAt-standing, StandRight-turned, StandRight-entered, StandRight-moved_on, moved_on-unparked}
-use Rattle.parking_lot_core.proofs.RowLemmas.{IsRowStep, IsRowStep-with_node, IsRowStep-put, All-nodes_in}
+use Rattle.parking_lot_core.proofs.RowLemmas.{IsRowStep-with_node, IsRowStep-put, All-nodes_in}
 
 -- a lot by its fields
 abbrev pub lot_of : Inside → LotState

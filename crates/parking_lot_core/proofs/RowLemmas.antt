@@ -12,7 +12,7 @@ use Rattle.lot_base.specs.NodeFields.{NodeFields}
 use Rattle.lot_base.specs.Place.{IsTableSize, place_of}
 use Rattle.lot_base.specs.Waiting.{lists_of, replaced}
 use Rattle.parking_lot_core.specs.Represents.{bucket_at, waiters_in, with_node, Represents}
-use Rattle.parking_lot_core.specs.Table.{nodes_in}
+use Rattle.parking_lot_core.specs.Table.{nodes_in, IsRowStep}
 use Rattle.parking_lot_core.proofs.MachineLemmas.{replaced-same, replaced-other}
 
 pub bucket_at-set_same : (row : List BucketState) (place : ℕ) (bucket : BucketState) → place < length row → bucket_at (slice_set row place bucket) place ≡ bucket
@@ -43,12 +43,6 @@ Represents-set row place bucket below nodes represents = record {
   in_place = λ i low. subst (λ size. All (λ node. place_of node.key size ≡ i) (bucket_at (slice_set row place bucket) i).nodes) (sym (length-set row place bucket)) (⊎_elim (λ (same : i ≡ place). subst (λ p. All (λ node. place_of node.key (length row) ≡ p) (bucket_at (slice_set row place bucket) p).nodes) (sym same) (subst (λ b. All (λ node. place_of node.key (length row) ≡ place) b.nodes) (sym (bucket_at-set_same row place bucket below)) nodes)) (λ (other : i ≢ place). subst (λ b. All (λ node. place_of node.key (length row) ≡ i) b.nodes) (sym (bucket_at-set_other row place bucket i other)) (represents.in_place i (omega (arith, length-set row place bucket)))) (cases_eq i place));
   in_order = λ key. refl;
 }
-
--- a row after a step: the nodes of each key, all in place
-pub record IsRowStep (row new : List BucketState) (lists : ℕ → List NodeFields) : Type 0 where
-  pub count : length new ≡ length row
-  pub nodes : (k : ℕ) → nodes_in new k ≡ lists k
-  pub represents : Represents new (waiters_in new)
 
 -- what holds of the nodes of a key where each is in place: their keys have its place
 pub All-nodes_in : (row : List BucketState) (key : ℕ) → IsTableSize (length row) → Represents row (waiters_in row) → All (λ node. place_of node.key (length row) ≡ place_of key (length row)) (nodes_in row key)

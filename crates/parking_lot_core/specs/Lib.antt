@@ -4,6 +4,7 @@ pub mod Represents
 pub mod Lot
 pub mod Thread
 pub mod Committed
+pub mod Requeued
 pub mod TableState
 pub mod Table
 pub use Rattle.lot_base.specs.Waiting

@@ -8,7 +8,7 @@ use Rattle.lot_base.specs.Waiting.{lists_of}
 use Rattle.parking_lot_core.specs.declared.table.TheConstants.{MAX_THREADS}
 use Rattle.parking_lot_core.specs.declared.table.Use.{Use}
 use Rattle.parking_lot_core.specs.declared.table.Use.TheVariants.{Free, Registered}
-use Rattle.parking_lot_core.specs.Represents.{bucket_at, Represents}
+use Rattle.parking_lot_core.specs.Represents.{bucket_at, waiters_in, Represents}
 use Rattle.parking_lot_core.specs.TableState.{TableState}
 
 -- whether a number is registered
@@ -49,6 +49,12 @@ AreEmpty size row = (i : ℕ) → i < length row → bucket_at row i ≡ record 
 -- the nodes of a key: those in the bucket of its place, in order
 abbrev pub nodes_in : List BucketState → ℕ → List NodeFields
 nodes_in row key = lists_of (bucket_at row (place_of key (length row))).nodes key
+
+-- a row after a step: the nodes of each key, all in place
+pub record IsRowStep (row new : List BucketState) (lists : ℕ → List NodeFields) : Type 0 where
+  pub count : length new ≡ length row
+  pub nodes : (k : ℕ) → nodes_in new k ≡ lists k
+  pub represents : Represents new (waiters_in new)
 
 -- the new row has the nodes of each key as the old one had, and represents what the old one represented
 pub record KeepsLists (old new : List BucketState) : Type 0 where

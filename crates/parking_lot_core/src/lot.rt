@@ -1,21 +1,26 @@
 //! The exclusive lot: the steps of parking on a lot that is borrowed for writing.
 
-ghost use Rattle.std.specs.Prelude.{◌≡◌, ◌≢◌, ◌↔◌, ◌<◌, ◌∷◌, [], true, IsTrue, IsOk, IsErr, IsErrOf, IfOk, IfErr, OnOk, OnErr, MatchOption, map, length, replicate, slice_set, is_some, is_ok, if◌then◌else◌};
+ghost use Rattle.std.specs.Prelude.{◌≡◌, ℕ, ◌≢◌, ◌↔◌, ◌<◌, ◌∷◌, ◌++◌, [], true, IsTrue, IsOk, IsErr, IsErrOf, IfOk, IfErr, OnOk, OnErr, MatchOption, map, length, replicate, slice_set, is_some, is_ok, if◌then◌else◌};
 ghost use Rattle.std.specs.List.{range_with_len};
 ghost use Rattle.lot_base.specs.Node.{fields};
-ghost use Rattle.lot_base.specs.Place.{IsTableSize};
-ghost use Rattle.lot_base.specs.Waiting.{split_first, split_all, answer_of, count_of, has_any};
-ghost use Rattle.parking_lot_core.specs.Committed.{with_status, committed, CanCommit};
+ghost use Rattle.lot_base.specs.Place.{IsTableSize, place_of};
+ghost use Rattle.lot_base.specs.Requeue.{MatchAbort, nobody};
+ghost use Rattle.lot_base.specs.declared.token.RequeueOp.{RequeueOp};
+ghost use Rattle.lot_base.specs.Waiting.{lists_of, replaced, with_new_key, requeued, split_first, split_all, split_by, answer_of, count_of, has_any};
+ghost use Rattle.parking_lot_core.specs.Committed.{with_key, committed, CanCommit};
 ghost use Rattle.parking_lot_core.specs.Lot.{machine, statuses, thread_at, free_thread};
-ghost use Rattle.parking_lot_core.specs.Represents.{with_node};
-ghost use Rattle.parking_lot_core.specs.Table.{IsSizeFor};
-ghost use Rattle.parking_lot_core.specs.Machine.{new_machine, IsLeastFree, IsFull, threads_of, turned, entered, unparked, is_queued, is_taken};
+ghost use Rattle.parking_lot_core.specs.Requeued.{IsThreadsRequeue};
+ghost use Rattle.parking_lot_core.specs.Represents.{with_node, waiters_in, Represents};
+ghost use Rattle.parking_lot_core.specs.Table.{IsSizeFor, IsRowStep, nodes_in};
+ghost use Rattle.parking_lot_core.specs.Machine.{new_machine, IsLeastFree, IsFull, threads_of, turned, entered, unparked, moved_on, is_queued, is_taken};
 
 use crate::table::{MAX_THREADS, Table};
-use lot_base::bucket::Bucket;
+use lot_base::bucket::{Bucket, place};
 use lot_base::queue::{Node, Queue};
 use lot_base::thread_parker::Slot;
-use lot_base::token::{LotError, Misfit, NoMemory, ParkToken, UnparkResult, UnparkToken};
+use lot_base::token::{
+    LotError, Misfit, NoMemory, ParkToken, RequeueOp, UnparkResult, UnparkToken,
+};
 use std::alloc::Global;
 use std::marker::Model;
 use std::mem;
@@ -89,6 +94,12 @@ impl Thread {
         ensures { result ≡ self.now.key }
     {
         self.key
+    }
+
+    fn set_key(&mut self, key: usize)
+        ensures { self.new ≡ record self.old { key = key } }
+    {
+        self.key = key;
     }
 
     fn status(&self) -> Status
@@ -244,6 +255,127 @@ fn enter_bucket<V: FnOnce() -> bool>(
     let entered = bucket.enter(node, validate);
     table.put(bucket);
     entered
+}
+
+// Lets a waiting thread know that it waits on another key.
+fn set_key(threads: &mut Vec<Thread>, number: usize, key: usize)
+    ensures { threads.new.items ≡ with_key threads.old.items number key }
+{
+    if let Some(thread) = threads.get_mut(number) {
+        thread.set_key(key);
+    }
+}
+
+// Does what `Bucket::requeue_one` does, and lets the threads that move know.
+fn requeue_within<V: FnOnce() -> RequeueOp, C: FnOnce(RequeueOp, UnparkResult) -> UnparkToken>(
+    bucket: &mut Bucket,
+    threads: &mut Vec<Thread>,
+    from: usize,
+    to: usize,
+    validate: V,
+    callback: C,
+) -> (UnparkResult, Queue)
+    requires from { place_of from bucket.old.size ≡ bucket.old.place }
+    requires to { place_of to bucket.old.size ≡ bucket.old.place }
+    requires validate { V.pre validate }
+    requires callback { (op : _) → V.post validate op → op ≢ RequeueOp.Abort
+        → C.pre callback op (answer_of (split_by op (lists_of bucket.old.nodes from))) }
+
+    ensures place { bucket.new.place ≡ bucket.old.place }
+    ensures size { bucket.new.size ≡ bucket.old.size }
+    ensures requeued { IsThreadsRequeue V.FnOnce C.FnOnce validate callback to (lists_of bucket.old.nodes from)
+        (bucket.new ≡ bucket.old)
+        (λ split. (k : ℕ) → lists_of bucket.new.nodes k
+        ≡ requeued (lists_of bucket.old.nodes) from to split.left (map (with_new_key to) split.moved) k)
+        threads.old.items threads.new.items result.0 result.1 }
+{
+    let mut moved = |number: usize|
+        ensures same_threads { threads.exit.ghost_name ≡ threads.entry.ghost_name }
+        ensures moved { threads.exit.now.items ≡ with_key threads.entry.now.items number to }
+    {
+        set_key(threads, number, to);
+    };
+    bucket.requeue_one(from, to, validate, callback, &mut moved)
+}
+
+// Does what `Bucket::requeue_two` does, and lets the threads that move know.
+fn requeue_across<V: FnOnce() -> RequeueOp, C: FnOnce(RequeueOp, UnparkResult) -> UnparkToken>(
+    source: &mut Bucket,
+    target: &mut Bucket,
+    threads: &mut Vec<Thread>,
+    from: usize,
+    to: usize,
+    validate: V,
+    callback: C,
+) -> (UnparkResult, Queue)
+    requires size { target.old.size ≡ source.old.size }
+    requires places { target.old.place ≢ source.old.place }
+    requires from { place_of from source.old.size ≡ source.old.place }
+    requires to { place_of to target.old.size ≡ target.old.place }
+    requires validate { V.pre validate }
+    requires callback { (op : _) → V.post validate op → op ≢ RequeueOp.Abort
+        → C.pre callback op (answer_of (split_by op (lists_of source.old.nodes from))) }
+
+    ensures place { (source.new.place ≡ source.old.place) × (target.new.place ≡ target.old.place) }
+    ensures size { (source.new.size ≡ source.old.size) × (target.new.size ≡ target.old.size) }
+    ensures requeued { IsThreadsRequeue V.FnOnce C.FnOnce validate callback to (lists_of source.old.nodes from)
+        ((source.new ≡ source.old) × (target.new ≡ target.old))
+        (λ split.
+        ((k : ℕ) → lists_of source.new.nodes k ≡ replaced (lists_of source.old.nodes) from split.left k)
+        × ((k : ℕ) → lists_of target.new.nodes k
+        ≡ replaced (lists_of target.old.nodes) to (lists_of target.old.nodes to ++ map (with_new_key to) split.moved) k))
+        threads.old.items threads.new.items result.0 result.1 }
+{
+    let mut moved = |number: usize|
+        ensures same_threads { threads.exit.ghost_name ≡ threads.entry.ghost_name }
+        ensures moved { threads.exit.now.items ≡ with_key threads.entry.now.items number to }
+    {
+        set_key(threads, number, to);
+    };
+    source.requeue_two(target, from, to, validate, callback, &mut moved)
+}
+
+// Requeues waiters within the table, and lets the threads that move know.
+fn requeue<V: FnOnce() -> RequeueOp, C: FnOnce(RequeueOp, UnparkResult) -> UnparkToken>(
+    table: &mut Table<Bucket>,
+    threads: &mut Vec<Thread>,
+    from: usize,
+    to: usize,
+    validate: V,
+    callback: C,
+) -> (UnparkResult, Queue)
+    requires represents { Represents table.old.cells (waiters_in table.old.cells) }
+    requires validate { V.pre validate }
+    requires callback { (op : _) → V.post validate op → op ≢ RequeueOp.Abort
+        → C.pre callback op (answer_of (split_by op (nodes_in table.old.cells from))) }
+
+    ensures numbers { table.new.numbers ≡ table.old.numbers }
+    ensures size { length table.new.cells ≡ length table.old.cells }
+    ensures requeued { IsThreadsRequeue V.FnOnce C.FnOnce validate callback to (nodes_in table.old.cells from)
+        (table.new.cells ≡ table.old.cells)
+        (λ split. IsRowStep table.old.cells table.new.cells
+        (requeued (nodes_in table.old.cells) from to split.left (map (with_new_key to) split.moved)))
+        threads.old.items threads.new.items result.0 result.1 }
+{
+    let mut source = table.take(from);
+    if place(to, source.size()) == source.place() {
+        let done = requeue_within(&mut source, threads, from, to, validate, callback);
+        table.put(source);
+        return done;
+    }
+    let mut target = table.take(to);
+    let done = requeue_across(
+        &mut source,
+        &mut target,
+        threads,
+        from,
+        to,
+        validate,
+        callback,
+    );
+    table.put(target);
+    table.put(source);
+    done
 }
 
 // Hands each of the nodes to its thread.
@@ -433,6 +565,45 @@ impl Lot {
         self.table.put(bucket);
         commit(&mut self.threads, taken);
         count
+    }
+
+    /// Unparks or requeues waiters of the key `from` onto the key `to`, as `validate` chooses. The keys
+    /// may be equal.
+    ///
+    /// `validate` is called first. If it aborts, nothing changes, `callback` is not called, and the
+    /// answer is the default result. Otherwise `callback` is called once with the operation and the
+    /// result that is answered too, also where nobody waits; a thread that is unparked is handed the
+    /// token that it answers. Requeued threads stand behind the waiters of `to`, in order.
+    ///
+    /// It is one `Bucket::requeue_one` or `requeue_two`, and allocates nothing. Upstream has it under
+    /// this name.
+    pub fn unpark_requeue<
+        V: FnOnce() -> RequeueOp,
+        C: FnOnce(RequeueOp, UnparkResult) -> UnparkToken,
+    >(&mut self, from: usize, to: usize, validate: V, callback: C) -> UnparkResult
+        requires validate { V.pre validate }
+        requires callback { (op : _) → V.post validate op → op ≢ RequeueOp.Abort
+            → C.pre callback op (answer_of (split_by op ((machine self.old).lists from))) }
+
+        ensures requeued { let waiters = (machine self.old).lists from in record {
+          op : RequeueOp;
+          chosen : V.post validate op;
+          done : MatchAbort op ((self.new ≡ self.old) × (result ≡ nobody))
+              ((result ≡ answer_of (split_by op waiters)) × ((token : _) × C.post callback op result token
+              × (machine self.new ≡ moved_on (machine self.old) from to (split_by op waiters) token)));
+        } }
+        ensures size { length self.new.buckets ≡ length self.old.buckets }
+    {
+        let (result, taken) = requeue(
+            &mut self.table,
+            &mut self.threads,
+            from,
+            to,
+            validate,
+            callback,
+        );
+        commit(&mut self.threads, taken);
+        result
     }
 
     /// Lets the deadline of a thread pass that waits with a timeout. It stays in its list, until
