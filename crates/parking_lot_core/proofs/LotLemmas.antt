@@ -1,8 +1,8 @@
 -- Each step of a lot is the machine's, and leaves a lot.
-use Rattle.std.proofs.Common.{◌≡◌, ◌≢◌, ℕ, ◌+◌, ◌<◌, Bool, false, List, [], ◌∷◌, ◌++◌, length, append-nil, map, take, drop, refl, sym, ap, ◌∙◌, subst, ⊎_elim, ◌⊎◌, inl, inr, arith, slice_set, All}
+use Rattle.std.proofs.Common.{◌≡◌, ◌≢◌, ℕ, ◌+◌, ◌-◌, ◌^◌, ◌<◌, min, Bool, false, List, [], ◌∷◌, ◌++◌, length, append-nil, map, take, drop, refl, sym, ap, ◌∙◌, subst, ⊎_elim, ◌⊎◌, inl, inr, arith, slice_set, All}
 use Rattle.std.proofs.Math.ListN.{length-set}
 use Rattle.std.proofs.lemmas.Bool.{cases_eq}
-use Rattle.std.proofs.lemmas.List.{map-append}
+use Rattle.std.proofs.lemmas.List.{map-append, length-map}
 use Rattle.std.proofs.lemmas.List.Elements.{All-drop, All-nil}
 use Rattle.std.specs.List.{range_with_len}
 use Rattle.std.proofs.lemmas.List.FromFn.{length-map-range_with_len}
@@ -10,7 +10,11 @@ use Rattle.parking_lot_core.proofs.UseLemmas.{thread_at-free}
 use Rattle.lot_base.specs.BucketState.{BucketState}
 use Rattle.lot_base.specs.NodeFields.{NodeFields}
 use Rattle.lot_base.specs.Place.{IsTableSize, place_of}
-use Rattle.lot_base.specs.Waiting.{lists_of, replaced, requeued, with_token, with_new_key, Split, split_first, split_all}
+use Rattle.lot_base.specs.Waiting.{lists_of, replaced, requeued, with_token, with_new_key, count_of, has_any, answer_of, taken_by, left_by, Split, split_first, split_all, split_filter}
+use Rattle.lot_base.specs.Filter.{park_tokens}
+use Rattle.lot_base.proofs.FilterLemmas.{All-left_by}
+use Rattle.lot_base.specs.declared.token.FilterOp.{FilterOp}
+use Rattle.lot_base.specs.declared.token.FilterOp.TheVariants.{Unpark, Skip, Stop}
 use Rattle.lot_base.specs.declared.token.ParkToken.{ParkToken}
 use Rattle.lot_base.specs.declared.token.UnparkToken.{UnparkToken}
 use Rattle.parking_lot_core.specs.declared.lot.Lot.TheInside.{Inside}
@@ -18,7 +22,7 @@ use Rattle.parking_lot_core.specs.declared.lot.Status.TheVariants.{Free, Running
 use Rattle.parking_lot_core.specs.Committed.{committed, CanCommit}
 use Rattle.parking_lot_core.specs.Lot.{thread_at, free_thread, statuses, keys, machine, uses, use_of, IsLot}
 use Rattle.parking_lot_core.specs.LotState.{LotState, ThreadState}
-use Rattle.parking_lot_core.specs.Machine.{Waiter, Machine, StandRight, new_machine, is_queued, times_in, all_taken, turned, entered, unparked, moved_on}
+use Rattle.parking_lot_core.specs.Machine.{Waiter, Machine, StandRight, new_machine, is_queued, times_in, all_taken, turned, entered, unparked, moved_on, tokens_of}
 use Rattle.parking_lot_core.specs.Represents.{bucket_at, with_node, waiter_of, waiters_in}
 use Rattle.parking_lot_core.specs.Table.{nodes_in, IsRowStep, KeepsLists}
 use Rattle.parking_lot_core.proofs.CommitLemmas.{statuses-set, uses-set, keys-set_other, keys-set_same, numbers-set, below_from_status, ne-free-running, length-committed, numbers-committed, keys-committed, statuses-committed, uses-committed, CanCommit-standing}
@@ -174,11 +178,11 @@ IsStep-unparked lot key split token row none is parts step =
         ∙ ⊎_elim (λ (same : k ≡ key). replaced-same kept key (kept key ++ []) k same ∙ append-nil (kept key) ∙ ap kept (sym same)) (replaced-other kept key (kept key ++ []) k) (cases_eq k key)
 
 -- the first is taken
-take_first-map : {A B : Type 0} (f : A → B) (xs : List A) → map f (take 1 xs) ≡ take 1 (map f xs)
+pub take_first-map : {A B : Type 0} (f : A → B) (xs : List A) → map f (take 1 xs) ≡ take 1 (map f xs)
 take_first-map f [] = refl
 take_first-map f (x ∷ xs) = refl
 
-drop_first-map : {A B : Type 0} (f : A → B) (xs : List A) → map f (drop 1 xs) ≡ drop 1 (map f xs)
+pub drop_first-map : {A B : Type 0} (f : A → B) (xs : List A) → map f (drop 1 xs) ≡ drop 1 (map f xs)
 drop_first-map f [] = refl
 drop_first-map f (x ∷ xs) = refl
 
@@ -192,6 +196,57 @@ AreParts-first (waiter ∷ waiters) j = omega (arith, times_in-append j (waiter 
 
 pub AreParts-all : (waiters : List Waiter) → AreParts (split_all waiters) waiters
 AreParts-all waiters j = omega arith
+
+-- some are taken by the decisions of a filter
+taken_by-map : {A B : Type 0} (f : A → B) (decisions : List FilterOp) (xs : List A) → map f (taken_by decisions xs) ≡ taken_by decisions (map f xs)
+taken_by-map f [] xs = refl
+taken_by-map f (_ ∷ _) [] = refl
+taken_by-map f (Unpark ∷ decisions) (x ∷ xs) = ap (λ rest. f x ∷ rest) (taken_by-map f decisions xs)
+taken_by-map f (Skip ∷ decisions) (x ∷ xs) = taken_by-map f decisions xs
+taken_by-map f (Stop ∷ _) (x ∷ xs) = refl
+
+left_by-map : {A B : Type 0} (f : A → B) (decisions : List FilterOp) (xs : List A) → map f (left_by decisions xs) ≡ left_by decisions (map f xs)
+left_by-map f [] xs = refl
+left_by-map f (_ ∷ _) [] = refl
+left_by-map f (Unpark ∷ decisions) (x ∷ xs) = left_by-map f decisions xs
+left_by-map f (Skip ∷ decisions) (x ∷ xs) = ap (λ rest. f x ∷ rest) (left_by-map f decisions xs)
+left_by-map f (Stop ∷ _) (x ∷ xs) = refl
+
+pub split_filter-map : (decisions : List FilterOp) (nodes : List NodeFields) → split_of (split_filter decisions nodes) ≡ split_filter decisions (map waiter_of nodes)
+split_filter-map decisions nodes =
+    λ i. record { taken = taken_by-map waiter_of decisions nodes i; moved = []; left = left_by-map waiter_of decisions nodes i }
+
+pub AreParts-filter : (decisions : List FilterOp) (waiters : List Waiter) → AreParts (split_filter decisions waiters) waiters
+AreParts-filter [] waiters j = omega arith
+AreParts-filter (_ ∷ _) [] j = refl
+AreParts-filter (Unpark ∷ decisions) (waiter ∷ waiters) j =
+    omega (arith, AreParts-filter decisions waiters j, times_in-append j (waiter ∷ []) waiters, times_in-append j (waiter ∷ []) (taken_by decisions waiters))
+AreParts-filter (Skip ∷ decisions) (waiter ∷ waiters) j =
+    omega (arith, AreParts-filter decisions waiters j, times_in-append j (waiter ∷ []) waiters, times_in-append j (waiter ∷ []) (left_by decisions waiters))
+AreParts-filter (Stop ∷ _) (waiter ∷ waiters) j = omega arith
+
+-- what a filter sees of nodes, and what it answers, is what the machine says
+pub park_tokens-map : (nodes : List NodeFields) → park_tokens nodes ≡ tokens_of (map waiter_of nodes)
+park_tokens-map [] = refl
+park_tokens-map (node ∷ nodes) = ap (λ rest. node.park_token ∷ rest) (park_tokens-map nodes)
+
+has_any-map : {A B : Type 0} (f : A → B) (xs : List A) → has_any (map f xs) ≡ has_any xs
+has_any-map f [] = refl
+has_any-map f (x ∷ xs) = refl
+
+pub answer_of-map : (split : Split NodeFields) → answer_of (split_of split) ≡ answer_of split
+answer_of-map split = λ i. record {
+  unparked_threads = count (split.taken) i;
+  requeued_threads = count (split.moved) i;
+  have_more_threads = has_any-map waiter_of split.left i;
+}
+  where
+    count : (nodes : List NodeFields) → count_of (map waiter_of nodes) ≡ count_of nodes
+    count nodes = ap (λ n. min n (2 ^ 64 - 1)) (length-map nodes waiter_of)
+
+pub answer_of-filter : (decisions : List FilterOp) (nodes : List NodeFields) → answer_of (split_filter decisions nodes) ≡ answer_of (split_filter decisions (map waiter_of nodes))
+answer_of-filter decisions nodes =
+    sym (answer_of-map (split_filter decisions nodes)) ∙ ap answer_of (split_filter-map decisions nodes)
 
 -- a growth keeps what a lot means
 pub IsStep-grown : (lot : LotState) (row : List BucketState) → KeepsLists lot.buckets row → IsLot lot → IsStep (record lot { buckets = row }) (machine lot)
@@ -241,6 +296,13 @@ IsUnpark-first nodes = record {
 pub IsUnpark-all : (nodes : List NodeFields) → IsUnpark nodes (split_all nodes)
 IsUnpark-all nodes =
     record { nobody = refl; parts = AreParts-all (map waiter_of nodes); left = λ P all. All-nil P }
+
+pub IsUnpark-filter : (decisions : List FilterOp) (nodes : List NodeFields) → IsUnpark nodes (split_filter decisions nodes)
+IsUnpark-filter decisions nodes = record {
+  nobody = refl;
+  parts = subst (λ split. AreParts split (map waiter_of nodes)) (sym (split_filter-map decisions nodes)) (AreParts-filter decisions (map waiter_of nodes));
+  left = λ P all. All-left_by P decisions nodes all;
+}
 
 pub IsTaking-from : (row : List BucketState) (key : ℕ) (before after : BucketState) (left : List NodeFields) → IsTableSize before.size → before.size ≡ length row → before ≡ bucket_at row (place_of key (length row)) → before.place ≡ place_of key (length row) → after.place ≡ before.place → ((k : ℕ) → lists_of after.nodes k ≡ replaced (lists_of before.nodes) key left k) → IsTaking row key before after left
 IsTaking-from row key before after left table sized taken at back lists =

@@ -1,6 +1,5 @@
 -- A requeue of a lot is the machine's, and leaves a lot.
-use Rattle.std.proofs.Common.{◌≡◌, ◌≢◌, ℕ, ◌-◌, ◌^◌, ◌<◌, min, List, [], ◌∷◌, length, map, take, drop, refl, sym, ap, ◌∙◌, subst, arith}
-use Rattle.std.proofs.lemmas.List.{length-map}
+use Rattle.std.proofs.Common.{◌≡◌, ◌≢◌, ℕ, ◌<◌, List, [], ◌∷◌, length, map, refl, sym, ap, ◌∙◌, subst, arith}
 use Rattle.std.specs.Fn.{Once}
 use Rattle.lot_base.specs.BucketState.{BucketState}
 use Rattle.lot_base.specs.NodeFields.{NodeFields}
@@ -9,7 +8,7 @@ use Rattle.lot_base.specs.declared.token.UnparkToken.{UnparkToken}
 use Rattle.lot_base.specs.declared.token.RequeueOp.{RequeueOp}
 use Rattle.lot_base.specs.declared.token.RequeueOp.TheVariants.{Abort, UnparkOneRequeueRest, RequeueAll, UnparkOne, RequeueOne}
 use Rattle.lot_base.specs.Requeue.{MatchAbort, numbers, nobody}
-use Rattle.lot_base.specs.Waiting.{requeued, with_token, with_new_key, Split, split_by, answer_of, has_any}
+use Rattle.lot_base.specs.Waiting.{requeued, with_token, with_new_key, split_by, answer_of}
 use Rattle.parking_lot_core.specs.Committed.{all_with_key, committed, CanCommit}
 use Rattle.parking_lot_core.specs.Lot.{keys, machine, uses, IsLot}
 use Rattle.parking_lot_core.specs.LotState.{LotState, ThreadState}
@@ -19,28 +18,19 @@ use Rattle.parking_lot_core.specs.Requeued.{IsThreadsRequeue}
 use Rattle.parking_lot_core.specs.Table.{nodes_in, IsRowStep}
 use Rattle.parking_lot_core.proofs.CommitLemmas.{below_from_status, ne-free-queued, uses-committed}
 use Rattle.parking_lot_core.proofs.KeyLemmas.{length-moved, numbers-moved, statuses-moved, uses-moved, keys-not_moved, keys-moved}
-use Rattle.parking_lot_core.proofs.LotLemmas.{split_of, AreParts, AreMoved, CanCommit-split, IsStep, IsStep-moved_on, split_first-map, AreParts-first}
+use Rattle.parking_lot_core.proofs.LotLemmas.{split_of, AreParts, AreMoved, CanCommit-split, IsStep, IsStep-moved_on, split_first-map, take_first-map, drop_first-map, answer_of-map, AreParts-first}
 use Rattle.parking_lot_core.proofs.MachineLemmas.{is_queued-standing, times_in-append}
 use Rattle.parking_lot_core.proofs.RequeuedLemmas.{MatchAbort-map, MatchAbort-either}
-
--- the first is taken, or moved
-take_first-map : (nodes : List NodeFields) → map waiter_of (take 1 nodes) ≡ take 1 (map waiter_of nodes)
-take_first-map [] = refl
-take_first-map (node ∷ nodes) = refl
-
-drop_first-map : (nodes : List NodeFields) → map waiter_of (drop 1 nodes) ≡ drop 1 (map waiter_of nodes)
-drop_first-map [] = refl
-drop_first-map (node ∷ nodes) = refl
 
 -- a requeue splits nodes as it splits their waiters
 pub split_by-map : (op : RequeueOp) (nodes : List NodeFields) → split_of (split_by op nodes) ≡ split_by op (map waiter_of nodes)
 split_by-map Abort nodes = refl
 split_by-map UnparkOneRequeueRest nodes =
-    λ i. record { taken = take_first-map nodes i; moved = drop_first-map nodes i; left = [] }
+    λ i. record { taken = take_first-map waiter_of nodes i; moved = drop_first-map waiter_of nodes i; left = [] }
 split_by-map RequeueAll nodes = refl
 split_by-map UnparkOne nodes = split_first-map nodes
 split_by-map RequeueOne nodes =
-    λ i. record { taken = []; moved = take_first-map nodes i; left = drop_first-map nodes i }
+    λ i. record { taken = []; moved = take_first-map waiter_of nodes i; left = drop_first-map waiter_of nodes i }
 
 AreParts-by : (op : RequeueOp) (waiters : List Waiter) → AreParts (split_by op waiters) waiters
 AreParts-by Abort waiters j = omega arith
@@ -50,15 +40,6 @@ AreParts-by RequeueAll waiters j = omega arith
 AreParts-by UnparkOne waiters j = AreParts-first waiters j
 AreParts-by RequeueOne [] j = refl
 AreParts-by RequeueOne (waiter ∷ waiters) j = omega (arith, times_in-append j (waiter ∷ []) waiters)
-
--- the answer does not depend on what is seen of a waiter
-has_any-map : (nodes : List NodeFields) → has_any (map waiter_of nodes) ≡ has_any nodes
-has_any-map [] = refl
-has_any-map (node ∷ nodes) = refl
-
-pub answer_of-split_of : (split : Split NodeFields) → answer_of (split_of split) ≡ answer_of split
-answer_of-split_of split =
-    λ i. record { unparked_threads = min (length-map split.taken waiter_of i) (2 ^ 64 - 1); requeued_threads = min (length-map split.moved waiter_of i) (2 ^ 64 - 1); have_more_threads = has_any-map split.left i }
 
 module _ (lot : LotState) (from to : ℕ) (is : IsLot lot) where
   parts : (op : RequeueOp) → AreParts (split_of (split_by op (nodes_in lot.buckets from))) (waiters_in lot.buckets from)
@@ -124,5 +105,5 @@ module _ (lot : LotState) (from to : ℕ) (is : IsLot lot) where
     means-requeue =
         MatchAbort-map requeue.op
         (λ (unchanged, same, answer, none). (unchanged_lot unchanged same none, answer))
-        (λ (lists, moved, answer, (token, called, with_tokens)). (answer ∙ sym (answer_of-split_of (split_by requeue.op (nodes_in lot.buckets from))) ∙ ap answer_of (split_by-map requeue.op (nodes_in lot.buckets from)), (token, called, (step requeue.op token lists moved with_tokens).means)))
+        (λ (lists, moved, answer, (token, called, with_tokens)). (answer ∙ sym (answer_of-map (split_by requeue.op (nodes_in lot.buckets from))) ∙ ap answer_of (split_by-map requeue.op (nodes_in lot.buckets from)), (token, called, (step requeue.op token lists moved with_tokens).means)))
         requeue.done

@@ -1,5 +1,5 @@
 -- The machine with one list of waiters for each key: its state, and the rule of each step. It knows no table.
-use Rattle.std.specs.Prelude.{◌≡◌, ◌≢◌, ℕ, ◌<◌, Bool, true, false, ◌==◌, if◌then◌else◌, List, [], ◌∷◌, ◌++◌, length, filter, MatchBool}
+use Rattle.std.specs.Prelude.{◌≡◌, ◌≢◌, ℕ, ◌<◌, Bool, true, false, ◌==◌, if◌then◌else◌, List, [], ◌∷◌, ◌++◌, length, map, filter, MatchBool}
 use Rattle.std.specs.List.{count_by, range_with_len}
 use Rattle.lot_base.specs.declared.token.ParkToken.{ParkToken}
 use Rattle.lot_base.specs.declared.token.UnparkToken.{UnparkToken}
@@ -63,6 +63,10 @@ all_taken token waiters status number = if times_in number waiters == 0 then sta
 abbrev pub unparked : Machine → ℕ → Split Waiter → UnparkToken → Machine
 unparked m key split token =
     record m { lists = replaced m.lists key split.left; status = all_taken token split.taken m.status }
+
+-- what a filter is shown of waiters: their park tokens, in order
+abbrev pub tokens_of : List Waiter → List ParkToken
+tokens_of waiters = map (λ waiter. waiter.park_token) waiters
 
 -- Requeue: some are taken, some moved behind the waiters of another key, and the others are left
 abbrev pub moved_on : Machine → ℕ → ℕ → Split Waiter → UnparkToken → Machine

@@ -1,25 +1,26 @@
 //! The exclusive lot: the steps of parking on a lot that is borrowed for writing.
 
-ghost use Rattle.std.specs.Prelude.{◌≡◌, ℕ, ◌≢◌, ◌↔◌, ◌<◌, ◌∷◌, ◌++◌, [], true, IsTrue, IsOk, IsErr, IsErrOf, IfOk, IfErr, OnOk, OnErr, MatchOption, map, length, replicate, slice_set, is_some, is_ok, if◌then◌else◌};
+ghost use Rattle.std.specs.Prelude.{◌≡◌, ℕ, ◌≢◌, ◌↔◌, ◌<◌, List, ◌∷◌, ◌++◌, [], true, IsTrue, IsOk, IsErr, IsErrOf, IfOk, IfErr, OnOk, OnErr, MatchOption, map, length, replicate, slice_set, is_some, is_ok, if◌then◌else◌};
 ghost use Rattle.std.specs.List.{range_with_len};
 ghost use Rattle.lot_base.specs.Node.{fields};
+ghost use Rattle.lot_base.specs.Filter.{TakesUntilStop, IsFiltered};
 ghost use Rattle.lot_base.specs.Place.{IsTableSize, place_of};
 ghost use Rattle.lot_base.specs.Requeue.{MatchAbort, nobody};
 ghost use Rattle.lot_base.specs.declared.token.RequeueOp.{RequeueOp};
-ghost use Rattle.lot_base.specs.Waiting.{lists_of, replaced, with_new_key, requeued, split_first, split_all, split_by, answer_of, count_of, has_any};
+ghost use Rattle.lot_base.specs.Waiting.{lists_of, replaced, with_new_key, requeued, split_first, split_all, split_filter, split_by, answer_of, count_of, has_any};
 ghost use Rattle.parking_lot_core.specs.Committed.{with_key, committed, CanCommit};
 ghost use Rattle.parking_lot_core.specs.Lot.{machine, statuses, thread_at, free_thread};
 ghost use Rattle.parking_lot_core.specs.Requeued.{IsThreadsRequeue};
 ghost use Rattle.parking_lot_core.specs.Represents.{with_node, waiters_in, Represents};
 ghost use Rattle.parking_lot_core.specs.Table.{IsSizeFor, IsRowStep, nodes_in};
-ghost use Rattle.parking_lot_core.specs.Machine.{new_machine, IsLeastFree, IsFull, threads_of, turned, entered, unparked, moved_on, is_queued, is_taken};
+ghost use Rattle.parking_lot_core.specs.Machine.{new_machine, IsLeastFree, IsFull, threads_of, turned, entered, unparked, moved_on, tokens_of, is_queued, is_taken};
 
 use crate::table::{MAX_THREADS, Table};
 use lot_base::bucket::{Bucket, place};
 use lot_base::queue::{Node, Queue};
 use lot_base::thread_parker::Slot;
 use lot_base::token::{
-    LotError, Misfit, NoMemory, ParkToken, RequeueOp, UnparkResult, UnparkToken,
+    FilterOp, LotError, Misfit, NoMemory, ParkToken, RequeueOp, UnparkResult, UnparkToken,
 };
 use std::alloc::Global;
 use std::marker::Model;
@@ -602,6 +603,41 @@ impl Lot {
             validate,
             callback,
         );
+        commit(&mut self.threads, taken);
+        result
+    }
+
+    /// Takes the waiters of the key that the filter unparks, in order, and hands each thread the
+    /// token that `callback` answers.
+    ///
+    /// `filter` is called with the park token of each waiter of the key, in order, until it answers
+    /// `Stop`; that one and all behind it stay. `callback` is called once, then, with the result that
+    /// is answered too: how many were taken, 0, and whether a waiter of the key is left. What it
+    /// answers where none was taken is ignored.
+    ///
+    /// It is one `Bucket::take_filter`, and allocates nothing. Upstream has it under this name.
+    pub fn unpark_filter<F: FnMut(ParkToken) -> FilterOp, C: FnOnce(UnparkResult) -> UnparkToken>(
+        &mut self,
+        key: usize,
+        filter: F,
+        callback: C,
+    ) -> UnparkResult
+        requires filter { TakesUntilStop F.FnMut filter (tokens_of ((machine self.old).lists key)) }
+        requires callback { (decisions : _) → IsFiltered F.FnMut filter (tokens_of ((machine self.old).lists key)) decisions
+            → C.pre callback (answer_of (split_filter decisions ((machine self.old).lists key))) }
+
+        ensures filtered { let waiters = (machine self.old).lists key in record {
+          decisions : List FilterOp;
+          decided : IsFiltered F.FnMut filter (tokens_of waiters) decisions;
+          answer : result ≡ answer_of (split_filter decisions waiters);
+          taken : (token : _) × C.post callback result token
+              × (machine self.new ≡ unparked (machine self.old) key (split_filter decisions waiters) token);
+        } }
+        ensures size { length self.new.buckets ≡ length self.old.buckets }
+    {
+        let mut bucket = self.table.take(key);
+        let (result, taken) = bucket.take_filter(key, filter, callback);
+        self.table.put(bucket);
         commit(&mut self.threads, taken);
         result
     }
