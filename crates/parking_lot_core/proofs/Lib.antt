@@ -11,5 +11,6 @@ pub mod KeyLemmas
 pub mod RequeuedLemmas
 pub mod RequeueRowLemmas
 pub mod RequeueLotLemmas
+pub mod ScheduleLemmas
 pub mod GrowthLemmas
 pub mod ParkingLotLemmas

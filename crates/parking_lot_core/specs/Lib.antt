@@ -5,6 +5,8 @@ pub mod Lot
 pub mod Thread
 pub mod Committed
 pub mod Requeued
+pub mod Decides
+pub mod Steps
 pub mod TableState
 pub mod Table
 pub use Rattle.lot_base.specs.Waiting

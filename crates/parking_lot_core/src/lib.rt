@@ -4,6 +4,7 @@
 
 pub mod lot;
 pub mod parking_lot;
+pub mod schedule;
 pub mod table;
 
 pub use lot_base::bucket::{Bucket, place};

@@ -1,0 +1,21 @@
+use Rattle.std.proofs.Common.{◌≡◌, ◌∙◌, ◌+◌, ◌++◌, ◌∷◌, [], sym, ap, take, append_assoc, rules, arith}
+use Rattle.std.proofs.lemmas.List.{take_more}
+use Rattle.parking_lot_core.proofs.ScheduleLemmas.{IsRun-push}
+use Rattle.parking_lot_core.specs.Lot.{machine}
+use Rattle.parking_lot_core.specs.Steps.{IsRun, Steps}
+use Rattle.parking_lot_core.proofs.schedule.run.Goals as goal
+
+pub loop-step-preserved : goal.loop-step-preserved
+loop-step-preserved c =
+    let (given, so_far, ran) = c.loop-step.invariant.ran in
+    let answer = c.apply.result in
+    let pushed = c.in_ok-push.ensures.items in
+    let more : take (c.loop-step.step-index + 1) c.args.steps.now ≡ take c.loop-step.step-index c.args.steps.now ++ c.step-item.result ∷ [] = take_more c.args.steps.now c.loop-step.step-index c.step-item.result (omega arith) ∙ ap (λ step. take c.loop-step.step-index c.args.steps.now ++ step ∷ []) (sym c.step-item.is) in
+    record {
+      room = omega (arith, c.loop-step.invariant.room, c.in_ok-push.ensures.len, c.in_ok-push.ensures.capacity);
+      ran = (
+        given ++ answer ∷ [],
+        pushed ∙ ap (λ items. items ++ answer ∷ []) so_far ∙ append_assoc c.args.answers.now.items given (answer ∷ []),
+        rw more (IsRun-push (machine c.args.lot.now) (take c.loop-step.step-index c.args.steps.now) given (machine c.loop-step.lot) (machine c.apply.new.self) c.step-item.result answer ran c.apply.ensures),
+      );
+    }

@@ -1,0 +1,310 @@
+//! Schedules: lists of steps of any threads, done one after another on an exclusive lot.
+
+ghost use Rattle.std.specs.Prelude.{◌≡◌, ◌++◌, List, OnOk, OnErr};
+ghost use Rattle.parking_lot_core.specs.declared.schedule.Answer.{Answer};
+ghost use Rattle.lot_base.specs.Waiting.{answer_of, split_filter};
+ghost use Rattle.parking_lot_core.specs.Decides.{Decides};
+ghost use Rattle.parking_lot_core.specs.Lot.{machine};
+ghost use Rattle.parking_lot_core.specs.Machine.{unparked};
+ghost use Rattle.parking_lot_core.specs.Steps.{IsRegister, IsReturn, IsUnpark, Steps, IsRun};
+
+use crate::lot::Lot;
+use lot_base::token::{
+    FilterOp, LotError, Misfit, NoMemory, ParkToken, RequeueOp, UnparkResult, UnparkToken,
+};
+
+/// An unpark, with what its closures answer.
+#[derive(Drop)]
+pub enum Op {
+    /// `Lot::unpark_one`.
+    One {
+        /// The key whose first waiter is unparked.
+        key: usize,
+        /// What the callback answers.
+        token: UnparkToken,
+    },
+
+    /// `Lot::unpark_all`.
+    All {
+        /// The key whose waiters are unparked.
+        key: usize,
+        /// The token that they are handed.
+        token: UnparkToken,
+    },
+
+    /// `Lot::unpark_filter`.
+    Filter {
+        /// The key whose waiters the filter sees.
+        key: usize,
+        /// What the filter answers, in order, and `Skip` when these are used up.
+        decisions: Vec<FilterOp>,
+        /// What the callback answers.
+        token: UnparkToken,
+    },
+
+    /// `Lot::unpark_requeue`.
+    Requeue {
+        /// The key whose waiters are unparked or requeued.
+        from: usize,
+        /// The key that they are requeued onto.
+        to: usize,
+        /// What `validate` answers.
+        op: RequeueOp,
+        /// What the callback answers.
+        token: UnparkToken,
+    },
+}
+
+/// A step of a lot, with what its closures answer.
+#[derive(Drop)]
+pub enum Step {
+    /// `Lot::register`.
+    Register,
+
+    /// `Lot::retire`.
+    Retire {
+        /// The number of the thread.
+        thread: usize,
+    },
+
+    /// `Lot::enter`.
+    Enter {
+        /// The number of the thread.
+        thread: usize,
+        /// The key that it waits on.
+        key: usize,
+        /// What `validate` answers.
+        valid: bool,
+        /// What a filter sees of it.
+        park_token: ParkToken,
+        /// Whether its deadline may pass.
+        timed: bool,
+    },
+
+    /// One of the four unparks.
+    Unpark(Op),
+
+    /// `Lot::deadline`.
+    Deadline {
+        /// The number of the thread.
+        thread: usize,
+    },
+
+    /// `Lot::resolve`.
+    Resolve {
+        /// The number of the thread.
+        thread: usize,
+    },
+
+    /// `Lot::give_back`.
+    Return {
+        /// The number of the thread.
+        thread: usize,
+    },
+}
+
+/// What a step answers.
+#[derive(Copy, Clone, Eq, PartialEq, Debug)]
+pub enum Answer {
+    /// A thread was registered under this number.
+    Registered(usize),
+
+    /// The greatest number of threads is registered.
+    Full,
+
+    /// A request for memory was refused.
+    NoMemory,
+
+    /// The thread's number is free.
+    Retired,
+
+    /// The thread waits.
+    Entered,
+
+    /// The validation answered false.
+    Invalid,
+
+    /// The result of `One`, `Filter` or `Requeue`.
+    Unpark(UnparkResult),
+
+    /// How many threads `All` unparked.
+    Count(usize),
+
+    /// The thread's deadline has passed.
+    Late,
+
+    /// The thread's wait timed out.
+    TimedOut {
+        /// The key that it waited on.
+        key: usize,
+        /// Whether it was the last that waited there.
+        last: bool,
+    },
+
+    /// The thread was unparked with this token.
+    Unparked(UnparkToken),
+
+    /// The step does not fit the status of its thread.
+    Misfit,
+}
+
+impl Lot {
+    /// Does the step, with closures that answer as the step says, and answers what it gave.
+    ///
+    /// It costs what the call costs that the step names.
+    pub fn apply(&mut self, step: &Step) -> Answer
+        ensures { Steps (machine self.old) step.now result (machine self.new) }
+    {
+        match step {
+            Step::Register => apply_register(self),
+            Step::Retire { thread } => apply_retire(self, *thread),
+            Step::Enter {
+                thread,
+                key,
+                valid,
+                park_token,
+                timed,
+            } => apply_enter(self, *thread, *key, *valid, *park_token, *timed),
+            Step::Unpark(op) => apply_unpark(self, op),
+            Step::Deadline { thread } => apply_deadline(self, *thread),
+            Step::Resolve { thread } => apply_return(self, *thread),
+            Step::Return { thread } => apply_return(self, *thread),
+        }
+    }
+}
+
+fn apply_register(lot: &mut Lot) -> Answer
+    ensures { IsRegister (machine lot.old) result (machine lot.new) }
+{
+    match lot.register() {
+        Ok(number) => Answer::Registered(number),
+        Err(LotError::Full) => Answer::Full,
+        Err(_) => Answer::NoMemory,
+    }
+}
+
+fn apply_retire(lot: &mut Lot, thread: usize) -> Answer
+    ensures { Steps (machine lot.old) (Step.Retire thread) result (machine lot.new) }
+{
+    match lot.retire(thread) {
+        Ok(()) => Answer::Retired,
+        Err(Misfit) => Answer::Misfit,
+    }
+}
+
+fn apply_enter(
+    lot: &mut Lot,
+    thread: usize,
+    key: usize,
+    valid: bool,
+    park_token: ParkToken,
+    timed: bool,
+) -> Answer
+    ensures { Steps (machine lot.old) (Step.Enter thread key valid park_token timed) result (machine lot.new) }
+{
+    match lot.enter(thread, key, || valid, park_token, timed) {
+        Ok(true) => Answer::Entered,
+        Ok(false) => Answer::Invalid,
+        Err(Misfit) => Answer::Misfit,
+    }
+}
+
+fn apply_deadline(lot: &mut Lot, thread: usize) -> Answer
+    ensures { Steps (machine lot.old) (Step.Deadline thread) result (machine lot.new) }
+{
+    match lot.deadline(thread) {
+        Ok(()) => Answer::Late,
+        Err(Misfit) => Answer::Misfit,
+    }
+}
+
+fn apply_return(lot: &mut Lot, thread: usize) -> Answer
+    ensures { Steps (machine lot.old) (Step.Return thread) result (machine lot.new) }
+{
+    match lot.give_back(thread) {
+        Ok(token) => Answer::Unparked(token),
+        Err(Misfit) => Answer::Misfit,
+    }
+}
+
+fn apply_unpark(lot: &mut Lot, op: &Op) -> Answer
+    ensures { IsUnpark (machine lot.old) op.now result (machine lot.new) }
+{
+    match op {
+        Op::One { key, token } => Answer::Unpark(lot.unpark_one(*key, |_| *token)),
+        Op::All { key, token } => Answer::Count(lot.unpark_all(*key, *token)),
+        Op::Filter {
+            key,
+            decisions,
+            token,
+        } => Answer::Unpark(apply_filter(lot, *key, decisions.as_slice(), *token)),
+        Op::Requeue {
+            from,
+            to,
+            op,
+            token,
+        } => Answer::Unpark(apply_requeue(lot, *from, *to, *op, *token)),
+    }
+}
+
+fn apply_requeue(
+    lot: &mut Lot,
+    from: usize,
+    to: usize,
+    op: RequeueOp,
+    token: UnparkToken,
+) -> UnparkResult
+    ensures { IsUnpark (machine lot.old) (Op.Requeue from to op token) (Answer.Unpark result) (machine lot.new) }
+{
+    lot.unpark_requeue(from, to, || op, |_, _| token)
+}
+
+// Unparks by a filter that answers these decisions, and `Skip` once they are used up.
+fn apply_filter(
+    lot: &mut Lot,
+    key: usize,
+    decisions: &[FilterOp],
+    token: UnparkToken,
+) -> UnparkResult
+    ensures answer { result ≡ answer_of (split_filter decisions.now ((machine lot.old).lists key)) }
+    ensures taken { machine lot.new
+        ≡ unparked (machine lot.old) key (split_filter decisions.now ((machine lot.old).lists key)) token }
+{
+    let mut rest = decisions;
+    let filter = move |_: ParkToken| -> FilterOp
+        ensures { Decides rest.entry.now result rest.exit.now }
+    {
+        match rest.split_first() {
+            Some((decision, behind)) => {
+                rest = behind;
+                *decision
+            }
+            None => FilterOp::Skip,
+        }
+    };
+    lot.unpark_filter(key, filter, |_| token)
+}
+
+/// Does the steps one after another, and appends one answer for each.
+///
+/// The answers are those of a run of the machine with one list of waiters for each key: from what the
+/// lot meant before, by these steps, to what it means after. Steps of numbers that are free and
+/// steps that do not fit are answered by `Misfit`. A registration that finds no memory is
+/// answered by `NoMemory`.
+///
+/// It asks for room for all answers first, and costs what the steps cost.
+///
+/// # Errors
+///
+/// `NoMemory` if room for the answers cannot be had. Nothing changed then.
+pub fn run(lot: &mut Lot, steps: &[Step], answers: &mut Vec<Answer>) -> Result<(), NoMemory>
+    ensures ran { OnOk result ((given : List Answer) × (answers.new.items ≡ answers.old.items ++ given)
+        × IsRun (machine lot.old) steps.now given (machine lot.new)) }
+    ensures err { OnErr result ((lot.new ≡ lot.old) × (answers.new.items ≡ answers.old.items)) }
+{
+    answers.reserve(steps.len())?;
+    for step in steps {
+        answers.push(lot.apply(step))?;
+    }
+    Ok(())
+}
