@@ -1,7 +1,7 @@
 -- Each step of a lot is the machine's, and leaves a lot.
-use Rattle.std.proofs.Common.{◌≡◌, ◌≢◌, ℕ, ◌+◌, ◌-◌, ◌^◌, ◌<◌, min, Bool, false, List, [], ◌∷◌, ◌++◌, length, append-nil, map, take, drop, refl, sym, ap, ◌∙◌, subst, ⊎_elim, ◌⊎◌, inl, inr, arith, slice_set, All}
+use Rattle.std.proofs.Common.{◌≡◌, ◌≢◌, ℕ, ◌+◌, ◌-◌, ◌^◌, ◌<◌, ◌==◌, min, Bool, true, false, not, IsTrue, if◌then◌else◌, IsSomeAnd, find, Some, List, [], ◌∷◌, ◌++◌, length, append-nil, map, take, drop, refl, sym, ap, ◌∙◌, subst, ⊎_elim, ◌⊎◌, inl, inr, arith, slice_set, All}
 use Rattle.std.proofs.Math.ListN.{length-set}
-use Rattle.std.proofs.lemmas.Bool.{cases_eq}
+use Rattle.std.proofs.lemmas.Bool.{cases_eq, eq-eqb, ne_eqb, cond-true, cond-false, MatchBool-at_true}
 use Rattle.std.proofs.lemmas.List.{map-append, length-map}
 use Rattle.std.proofs.lemmas.List.Elements.{All-drop, All-nil}
 use Rattle.std.specs.List.{range_with_len}
@@ -10,23 +10,25 @@ use Rattle.parking_lot_core.proofs.UseLemmas.{thread_at-free}
 use Rattle.lot_base.specs.BucketState.{BucketState}
 use Rattle.lot_base.specs.NodeFields.{NodeFields}
 use Rattle.lot_base.specs.Place.{IsTableSize, place_of}
-use Rattle.lot_base.specs.Waiting.{lists_of, replaced, requeued, with_token, with_new_key, count_of, has_any, answer_of, taken_by, left_by, Split, split_first, split_all, split_filter}
+use Rattle.lot_base.specs.Waiting.{lists_of, replaced, requeued, with_token, with_new_key, count_of, has_any, answer_of, taken_by, left_by, without_first, Split, split_first, split_all, split_filter}
 use Rattle.lot_base.specs.Filter.{park_tokens}
+use Rattle.lot_base.specs.Spread.{has_number}
 use Rattle.lot_base.proofs.FilterLemmas.{All-left_by}
+use Rattle.lot_base.proofs.RemoveLemmas.{All-without_first}
 use Rattle.lot_base.specs.declared.token.FilterOp.{FilterOp}
 use Rattle.lot_base.specs.declared.token.FilterOp.TheVariants.{Unpark, Skip, Stop}
 use Rattle.lot_base.specs.declared.token.ParkToken.{ParkToken}
 use Rattle.lot_base.specs.declared.token.UnparkToken.{UnparkToken}
 use Rattle.parking_lot_core.specs.declared.lot.Lot.TheInside.{Inside}
 use Rattle.parking_lot_core.specs.declared.lot.Status.TheVariants.{Free, Running, Waiting}
-use Rattle.parking_lot_core.specs.Committed.{committed, CanCommit}
+use Rattle.parking_lot_core.specs.Committed.{committed, with_status, CanCommit}
 use Rattle.parking_lot_core.specs.Lot.{thread_at, free_thread, statuses, keys, machine, uses, use_of, IsLot}
 use Rattle.parking_lot_core.specs.LotState.{LotState, ThreadState}
-use Rattle.parking_lot_core.specs.Machine.{Waiter, Machine, StandRight, new_machine, is_queued, times_in, all_taken, turned, entered, unparked, moved_on, tokens_of}
+use Rattle.parking_lot_core.specs.Machine.{Waiter, Machine, StandRight, new_machine, is_queued, times_in, all_taken, turned, entered, unparked, moved_on, tokens_of, timed_out, StandsAt}
 use Rattle.parking_lot_core.specs.Represents.{bucket_at, with_node, waiter_of, waiters_in}
 use Rattle.parking_lot_core.specs.Table.{nodes_in, IsRowStep, KeepsLists}
-use Rattle.parking_lot_core.proofs.CommitLemmas.{statuses-set, uses-set, keys-set_other, keys-set_same, numbers-set, below_from_status, ne-free-running, length-committed, numbers-committed, keys-committed, statuses-committed, uses-committed, CanCommit-standing}
-use Rattle.parking_lot_core.proofs.MachineLemmas.{replaced-same, replaced-other, same_machine, times_in-append, is_queued-standing, StandsAt-standing, StandRight-turned, StandRight-entered, StandRight-moved_on, moved_on-unparked}
+use Rattle.parking_lot_core.proofs.CommitLemmas.{statuses-set, uses-set, uses-same, use_of-queued, keys-set_other, keys-set_same, numbers-set, below_from_status, ne-free-queued, ne-free-running, length-committed, numbers-committed, keys-committed, statuses-committed, uses-committed, CanCommit-standing}
+use Rattle.parking_lot_core.proofs.MachineLemmas.{replaced-same, replaced-other, same_machine, times_in-append, times_in-not_own, is_queued-standing, StandsAt-standing, StandRight-turned, StandRight-entered, StandRight-moved_on, StandRight-timed_out, moved_on-unparked}
 use Rattle.parking_lot_core.proofs.RowLemmas.{IsRowStep-with_node, IsRowStep-put, All-nodes_in}
 
 -- a lot by its fields
@@ -318,6 +320,77 @@ IsStepOfUse-taking lot key before empty after split token is taking unpark = rec
   step = IsStep-taking lot key before empty after split token is taking unpark;
   uses = uses-committed (map (with_token token) split.taken) lot.threads (CanCommit-taking lot key before after split token is taking unpark);
 }
+
+-- a thread that waits or is late stands in the list of its key
+pub StandsAt-queued : (lot : LotState) (number : ℕ) → IsLot lot → IsTrue (is_queued (statuses lot.threads number)) → StandsAt (machine lot) number (keys lot.threads number)
+StandsAt-queued lot number is queued = MatchBool-at_true _ _ queued (is.standing number)
+
+without_first-map : (number : ℕ) (nodes : List NodeFields) → map waiter_of (without_first (has_number number) nodes) ≡ without_first (λ waiter. waiter.number == number) (map waiter_of nodes)
+without_first-map number [] = refl
+without_first-map number (node ∷ nodes) = chosen (node.number == number) (without_first-map number nodes)
+  where
+    chosen : (b : Bool) → map waiter_of (without_first (has_number number) nodes) ≡ without_first (λ waiter. waiter.number == number) (map waiter_of nodes) → map waiter_of (if b then nodes else node ∷ without_first (has_number number) nodes) ≡ (if b then map waiter_of nodes else waiter_of node ∷ without_first (λ waiter. waiter.number == number) (map waiter_of nodes))
+    chosen true rest = refl
+    chosen false rest = ap (λ waiters. waiter_of node ∷ waiters) rest
+
+-- the node of a thread that stands among the waiters is found, and is its own
+pub find-standing : (number : ℕ) (nodes : List NodeFields) → times_in number (map waiter_of nodes) ≡ 1 → IsSomeAnd (find (has_number number) nodes) (λ node. node.number ≡ number)
+find-standing number [] once = absurd (omega (arith, once))
+find-standing number (node ∷ nodes) once =
+    ⊎_elim own (other (find-standing number nodes)) (cases_eq node.number number)
+  where
+    own : node.number ≡ number → IsSomeAnd (find (has_number number) (node ∷ nodes)) (λ node. node.number ≡ number)
+    own same =
+        subst (λ found. IsSomeAnd found (λ node. node.number ≡ number)) (sym (cond-true (node.number == number) (Some node) (find (has_number number) nodes) (eq-eqb node.number number same))) same
+
+    other : (times_in number (map waiter_of nodes) ≡ 1 → IsSomeAnd (find (has_number number) nodes) (λ node. node.number ≡ number)) → node.number ≢ number → IsSomeAnd (find (has_number number) (node ∷ nodes)) (λ node. node.number ≡ number)
+    other behind ne =
+        subst (λ found. IsSomeAnd found (λ node. node.number ≡ number)) (sym (cond-false (node.number == number) (Some node) (find (has_number number) nodes) (ne_eqb node.number number ne)))
+        (behind (omega (arith, times_in-append number (waiter_of node ∷ []) (map waiter_of nodes), times_in-not_own (waiter_of node) number (λ same. ne (sym same)), once)))
+
+-- whether a key has no waiter left once the node of a thread is out, as the machine says it
+pub is_last-map : (number : ℕ) (nodes : List NodeFields) → not (has_any (without_first (has_number number) nodes)) ≡ not (has_any (without_first (λ (waiter : Waiter). waiter.number == number) (map waiter_of nodes)))
+is_last-map number nodes =
+    ap not (sym (has_any-map waiter_of (without_first (has_number number) nodes)) ∙ ap has_any (without_first-map number nodes))
+
+-- a thread was taken out of the list where it stands, and runs
+pub IsStepOfUse-timed_out : (lot : LotState) (number key : ℕ) (before empty after : BucketState) → IsLot lot → IsTrue (is_queued (statuses lot.threads number)) → StandsAt (machine lot) number key → IsTaking lot.buckets key before after (without_first (has_number number) (lists_of before.nodes key)) → IsStepOfUse lot (record { buckets = slice_set (slice_set lot.buckets before.place empty) after.place after; threads = with_status lot.threads number Running }) (timed_out (machine lot) number key)
+IsStepOfUse-timed_out lot number key before empty after is queued stands taking = record {
+  step = record {
+    is_lot = record {
+      represents = row.represents;
+      numbers = numbers-set lot.threads number thread below (is.numbers number) is.numbers;
+      standing = subst (StandRight (keys (with_status lot.threads number Running))) (sym means) (StandRight-timed_out (keys lot.threads) (keys (with_status lot.threads number Running)) (machine lot) number key stands (keys-set_other lot.threads number thread) is.standing);
+    };
+    means = means;
+  };
+  uses = uses-same lot.threads number thread (sym (use_of-queued (statuses lot.threads number) queued));
+}
+  where
+    thread : ThreadState
+    thread = record (thread_at lot.threads number) { status = Running }
+
+    below : number < length lot.threads
+    below = below_from_status lot.threads number (ne-free-queued (statuses lot.threads number) queued)
+
+    left : List NodeFields
+    left = without_first (has_number number) (nodes_in lot.buckets key)
+
+    put_row : List BucketState
+    put_row = slice_set (slice_set lot.buckets before.place empty) after.place after
+
+    row : IsRowStep lot.buckets put_row (replaced (nodes_in lot.buckets) key left)
+    row =
+        IsRowStep-put lot.buckets key before empty after left taking.table is.represents taking.taken taking.at taking.back
+        (subst (λ b. (k : ℕ) → lists_of after.nodes k ≡ replaced (lists_of before.nodes) key (without_first (has_number number) (lists_of b.nodes key)) k) taking.taken taking.lists)
+        (All-without_first (λ node. place_of node.key (length lot.buckets) ≡ place_of key (length lot.buckets)) (has_number number) (nodes_in lot.buckets key) (All-nodes_in lot.buckets key taking.table is.represents))
+
+    means : machine (record { buckets = put_row; threads = with_status lot.threads number Running }) ≡ timed_out (machine lot) number key
+    means =
+        same_machine _ _
+        (λ k. ap (map waiter_of) (row.nodes k) ∙ map-replaced waiter_of (nodes_in lot.buckets) key left k ∙ ap (λ list. replaced (waiters_in lot.buckets) key list k) (without_first-map number (nodes_in lot.buckets key)))
+        (statuses-set lot.threads number thread below)
+        (length-set lot.threads number thread)
 
 -- the thread of a number that was read
 pub read_thread : (lot : LotState) (number : ℕ) (thread : ThreadState) → IsLot lot → thread ≡ thread_at lot.threads number → thread.number ≡ number

@@ -1,13 +1,13 @@
 -- The machine's states: their lists, their statuses, and that each rule lets every thread stand where it should.
-use Rattle.std.proofs.Common.{◌≡◌, ◌≢◌, ℕ, ◌+◌, ◌<◌, ◌==◌, Bool, true, false, MatchBool, IsTrue, List, [], ◌∷◌, ◌++◌, length, filter, length-append, append-nil, refl, sym, ap, ◌∙◌, subst, ⊎_elim, ◌⊎◌, arith}
+use Rattle.std.proofs.Common.{◌≡◌, ◌≢◌, ℕ, ◌+◌, ◌<◌, ◌==◌, Bool, true, false, MatchBool, IsTrue, if◌then◌else◌, List, [], ◌∷◌, ◌++◌, length, filter, length-append, append-nil, refl, sym, ap, ◌∙◌, subst, ⊎_elim, ◌⊎◌, arith}
 use Rattle.std.proofs.lemmas.Bool.{cases_eq, cases_Bool, eq-eqb, ne_eqb, MatchBool-at_true, MatchBool-at_false, true≢false, false≢true, cond-true, cond-false}
 use Rattle.std.proofs.lemmas.List.Elements.{filter-append}
 use Rattle.lot_base.specs.declared.token.ParkToken.{ParkToken}
 use Rattle.lot_base.specs.declared.token.UnparkToken.{UnparkToken}
-use Rattle.lot_base.specs.Waiting.{replaced, Split}
+use Rattle.lot_base.specs.Waiting.{replaced, without_first, Split}
 use Rattle.parking_lot_core.specs.declared.lot.Status.{Status}
-use Rattle.parking_lot_core.specs.declared.lot.Status.TheVariants.{Waiting, Taken}
-use Rattle.parking_lot_core.specs.Machine.{Waiter, Machine, StandsAt, StandRight, is_queued, times_in, all_taken, turned, entered, moved_on, unparked}
+use Rattle.parking_lot_core.specs.declared.lot.Status.TheVariants.{Running, Waiting, Taken}
+use Rattle.parking_lot_core.specs.Machine.{Waiter, Machine, StandsAt, StandRight, is_queued, times_in, all_taken, turned, entered, moved_on, unparked, list_without, timed_out}
 
 pub replaced-same : {A : Type 0} (all : ℕ → A) (key : ℕ) (one : A) (k : ℕ) → k ≡ key → replaced all key one k ≡ one
 replaced-same all key one k same = cond-true (k == key) one (all k) (eq-eqb k key same)
@@ -37,6 +37,50 @@ times_in-own waiter j same = let e = eq-eqb waiter.number j (sym same) in rw e r
 
 pub times_in-not_own : (waiter : Waiter) (j : ℕ) → j ≢ waiter.number → times_in j (waiter ∷ []) ≡ 0
 times_in-not_own waiter j other = let e = ne_eqb waiter.number j (λ same. other (sym same)) in rw e refl
+
+-- without its first of a number, a list has one of it less, and each other number as often
+pub times_in-without_own : (number : ℕ) (waiters : List Waiter) → times_in number waiters ≡ 1 → times_in number (without_first (λ waiter. waiter.number == number) waiters) ≡ 0
+times_in-without_own number [] once = absurd (omega (arith, once))
+times_in-without_own number (waiter ∷ waiters) once = ⊎_elim own (other (times_in-without_own number waiters)) (cases_eq waiter.number number)
+  where
+    rest : List Waiter
+    rest = without_first (λ waiter. waiter.number == number) waiters
+
+    counted : times_in number (waiter ∷ waiters) ≡ times_in number (waiter ∷ []) + times_in number waiters
+    counted = times_in-append number (waiter ∷ []) waiters
+
+    own : waiter.number ≡ number → times_in number (if waiter.number == number then waiters else waiter ∷ rest) ≡ 0
+    own same =
+        ap (times_in number) (cond-true (waiter.number == number) waiters (waiter ∷ rest) (eq-eqb waiter.number number same))
+        ∙ omega (arith, counted, times_in-own waiter number (sym same), once)
+
+    other : (times_in number waiters ≡ 1 → times_in number rest ≡ 0) → waiter.number ≢ number → times_in number (if waiter.number == number then waiters else waiter ∷ rest) ≡ 0
+    other behind ne =
+        let none = times_in-not_own waiter number (λ same. ne (sym same)) in
+        ap (times_in number) (cond-false (waiter.number == number) waiters (waiter ∷ rest) (ne_eqb waiter.number number ne))
+        ∙ times_in-append number (waiter ∷ []) rest
+        ∙ omega (arith, none, behind (omega (arith, counted, none, once)))
+
+pub times_in-without_other : (number j : ℕ) (waiters : List Waiter) → j ≢ number → times_in j (without_first (λ waiter. waiter.number == number) waiters) ≡ times_in j waiters
+times_in-without_other number j [] apart = refl
+times_in-without_other number j (waiter ∷ waiters) apart = ⊎_elim own (other (times_in-without_other number j waiters apart)) (cases_eq waiter.number number)
+  where
+    rest : List Waiter
+    rest = without_first (λ waiter. waiter.number == number) waiters
+
+    counted : times_in j (waiter ∷ waiters) ≡ times_in j (waiter ∷ []) + times_in j waiters
+    counted = times_in-append j (waiter ∷ []) waiters
+
+    own : waiter.number ≡ number → times_in j (if waiter.number == number then waiters else waiter ∷ rest) ≡ times_in j (waiter ∷ waiters)
+    own same =
+        ap (times_in j) (cond-true (waiter.number == number) waiters (waiter ∷ rest) (eq-eqb waiter.number number same))
+        ∙ omega (arith, counted, times_in-not_own waiter j (λ here. apart (here ∙ same)))
+
+    other : times_in j rest ≡ times_in j waiters → waiter.number ≢ number → times_in j (if waiter.number == number then waiters else waiter ∷ rest) ≡ times_in j (waiter ∷ waiters)
+    other behind ne =
+        ap (times_in j) (cond-false (waiter.number == number) waiters (waiter ∷ rest) (ne_eqb waiter.number number ne))
+        ∙ times_in-append j (waiter ∷ []) rest
+        ∙ omega (arith, counted, behind)
 
 -- who stands in a list is queued
 pub is_queued-standing : (keys : ℕ → ℕ) (m : Machine) (j key : ℕ) → StandRight keys m → 0 < times_in j (m.lists key) → IsTrue (is_queued (m.status j))
@@ -188,6 +232,34 @@ StandRight-moved_on keys after m from to split token parts others own right j =
 
         lists : (k : ℕ) → times_in j (new.lists k) ≡ times_in j (m.lists k)
         lists k = ⊎_elim (λ (same : k ≡ to). omega (arith, at_to k same, kept_all k)) (λ (other : k ≢ to). not_at_to k other ∙ kept_all k) (cases_eq k to)
+
+-- a thread leaves the list where it stands, and runs
+pub StandRight-timed_out : (keys after : ℕ → ℕ) (m : Machine) (number key : ℕ) → StandsAt m number key → ((j : ℕ) → j ≢ number → after j ≡ keys j) → StandRight keys m → StandRight after (timed_out m number key)
+StandRight-timed_out keys after m number key stands others right j =
+    ⊎_elim (λ (same : j ≡ number). subst (λ n. StandsRight new (after n) n) (sym same) (StandsRight-none new (after number) number (ap is_queued (replaced-same m.status number Running number refl)) nowhere))
+    (λ (other : j ≢ number). subst (λ k. StandsRight new k j) (sym (others j other)) (StandsRight-same m new (keys j) j (ap is_queued (replaced-other m.status number Running j other)) (elsewhere j other) (right j)))
+    (cases_eq j number)
+  where
+    new : Machine
+    new = timed_out m number key
+
+    at_key : (j k : ℕ) → k ≡ key → times_in j (new.lists k) ≡ times_in j (list_without m number key)
+    at_key j k same = ap (times_in j) (replaced-same m.lists key (list_without m number key) k same)
+
+    not_at_key : (j k : ℕ) → k ≢ key → times_in j (new.lists k) ≡ times_in j (m.lists k)
+    not_at_key j k other = ap (times_in j) (replaced-other m.lists key (list_without m number key) k other)
+
+    nowhere : (k : ℕ) → times_in number (new.lists k) ≡ 0
+    nowhere k =
+        ⊎_elim (λ (same : k ≡ key). at_key number k same ∙ times_in-without_own number (m.lists key) stands.once)
+        (λ (other : k ≢ key). not_at_key number k other ∙ stands.nowhere_else k other)
+        (cases_eq k key)
+
+    elsewhere : (j : ℕ) → j ≢ number → (k : ℕ) → times_in j (new.lists k) ≡ times_in j (m.lists k)
+    elsewhere j other k =
+        ⊎_elim (λ (same : k ≡ key). at_key j k same ∙ times_in-without_other number j (m.lists key) other ∙ ap (λ q. times_in j (m.lists q)) (sym same))
+        (not_at_key j k)
+        (cases_eq k key)
 
 -- an unpark moves nobody
 pub moved_on-unparked : (m : Machine) (key : ℕ) (split : Split Waiter) (token : UnparkToken) → split.moved ≡ [] → moved_on m key key split token ≡ unparked m key split token

@@ -1,5 +1,5 @@
 -- Closures that answer from a step, and runs.
-use Rattle.std.proofs.Common.{◌≡◌, ℕ, List, [], ◌∷◌, ◌++◌, refl, sym, ap, ◌∙◌, subst}
+use Rattle.std.proofs.Common.{◌≡◌, List, [], ◌∷◌, ◌++◌, refl, sym, ap, ◌∙◌, subst}
 use Rattle.std.specs.Fn.{Mut, Called}
 use Rattle.lot_base.specs.Filter.{IfStop, IsFiltered}
 use Rattle.lot_base.specs.Waiting.{taken_by, left_by, split_filter}

@@ -1,9 +1,11 @@
 -- The machine with one list of waiters for each key: its state, and the rule of each step. It knows no table.
-use Rattle.std.specs.Prelude.{◌≡◌, ◌≢◌, ℕ, ◌<◌, Bool, true, false, ◌==◌, if◌then◌else◌, List, [], ◌∷◌, ◌++◌, length, map, filter, MatchBool}
+use Rattle.std.specs.Prelude.{◌≡◌, ◌≢◌, ℕ, ◌<◌, Bool, true, false, ◌==◌, not, if◌then◌else◌, List, [], ◌∷◌, ◌++◌, length, map, filter, MatchBool}
 use Rattle.std.specs.List.{count_by, range_with_len}
+use Rattle.lot_base.specs.declared.token.ParkResult.{ParkResult}
+use Rattle.lot_base.specs.declared.token.ParkResult.TheVariants.{Unparked, Invalid, TimedOut}
 use Rattle.lot_base.specs.declared.token.ParkToken.{ParkToken}
 use Rattle.lot_base.specs.declared.token.UnparkToken.{UnparkToken}
-use Rattle.lot_base.specs.Waiting.{replaced, requeued, without_first, Split}
+use Rattle.lot_base.specs.Waiting.{replaced, requeued, without_first, has_any, Split}
 use Rattle.parking_lot_core.specs.declared.lot.Status.{Status}
 use Rattle.parking_lot_core.specs.declared.lot.Status.TheVariants.{Free, Running, Waiting, Late, Taken}
 
@@ -73,15 +75,33 @@ abbrev pub moved_on : Machine → ℕ → ℕ → Split Waiter → UnparkToken �
 moved_on m from to split token =
     record m { lists = requeued m.lists from to split.left split.moved; status = all_taken token split.taken m.status }
 
+-- the list of a key once a thread left it
+abbrev pub list_without : Machine → ℕ → ℕ → List Waiter
+list_without m number key = without_first (λ waiter. waiter.number == number) (m.lists key)
+
+-- whether it is empty then
+abbrev pub is_last : Machine → ℕ → ℕ → Bool
+is_last m number key = not (has_any (list_without m number key))
+
 -- Resolve of a late thread: it leaves the list of the key, and runs
 abbrev pub timed_out : Machine → ℕ → ℕ → Machine
-timed_out m number key =
-    record (turned m number Running) { lists = replaced m.lists key (without_first (λ waiter. waiter.number == number) (m.lists key)) }
+timed_out m number key = record (turned m number Running) { lists = replaced m.lists key (list_without m number key) }
 
 -- a status that a token was handed to
 abbrev pub is_taken : Status → Bool
 is_taken (Taken _) = true
 is_taken _ = false
+
+-- a status that Resolve ends: the deadline passed, or a token was handed
+abbrev pub resolves : Status → Bool
+resolves Late = true
+resolves status = is_taken status
+
+-- one fact of a park that timed out, and another, by its token, of one that was unparked
+abbrev pub MatchResolved : ParkResult → Type 0 → (UnparkToken → Type 0) → Type 0
+MatchResolved TimedOut P Q = P
+MatchResolved (Unparked token) P Q = Q token
+MatchResolved Invalid P Q = ⊥
 
 -- a status of a thread that stands in a list
 abbrev pub is_queued : Status → Bool

@@ -1,7 +1,7 @@
 -- The steps of the machine, its runs, and that parks and outcomes alternate.
-use Rattle.std.specs.Prelude.{◌≡◌, ◌≢◌, ℕ, ◌==◌, Bool, true, false, not, ◌&&◌, if◌then◌else◌, MatchBool, List, [], ◌∷◌}
+use Rattle.std.specs.Prelude.{◌≡◌, ℕ, Bool, true, false, MatchBool, List, [], ◌∷◌}
 use Rattle.lot_base.specs.Requeue.{MatchAbort, nobody}
-use Rattle.lot_base.specs.Waiting.{split_first, split_all, split_filter, split_by, answer_of, count_of, has_any, without_first}
+use Rattle.lot_base.specs.Waiting.{split_first, split_all, split_filter, split_by, answer_of, count_of}
 use Rattle.parking_lot_core.specs.declared.lot.Status.{Status}
 use Rattle.parking_lot_core.specs.declared.lot.Status.TheVariants as status
 use Rattle.parking_lot_core.specs.declared.schedule.Answer.{Answer}
@@ -10,7 +10,7 @@ use Rattle.parking_lot_core.specs.declared.schedule.Op.{Op}
 use Rattle.parking_lot_core.specs.declared.schedule.Op.TheVariants.{One, All, Filter, Requeue}
 use Rattle.parking_lot_core.specs.declared.schedule.Step.{Step}
 use Rattle.parking_lot_core.specs.declared.schedule.Step.TheVariants.{Register, Retire, Enter, Unpark, Deadline, Resolve, Return}
-use Rattle.parking_lot_core.specs.Machine.{Machine, IsLeastFree, IsFull, StandsAt, turned, entered, unparked, moved_on, timed_out}
+use Rattle.parking_lot_core.specs.Machine.{Machine, IsLeastFree, IsFull, StandsAt, is_last, turned, entered, unparked, moved_on, timed_out}
 
 -- what a step answers, and the machine that it leaves
 abbrev pub Gives : Machine → Answer → Answer → Machine → Type 0
@@ -55,7 +55,7 @@ IsReturn m thread _ given new = IsMisfit m given new
 -- Resolve: a late thread leaves its list, and a taken one runs again with its token
 abbrev pub IsResolve : Machine → ℕ → Status → Answer → Machine → Type 0
 IsResolve m thread status.Late given new =
-    (key : ℕ) × StandsAt m thread key × Gives (timed_out m thread key) (answer.TimedOut key (not (has_any (without_first (λ waiter. waiter.number == thread) (m.lists key))))) given new
+    (key : ℕ) × StandsAt m thread key × Gives (timed_out m thread key) (answer.TimedOut key (is_last m thread key)) given new
 IsResolve m thread s given new = IsReturn m thread s given new
 
 -- one step: the state before, the step, its answer and the state after

@@ -13,14 +13,15 @@ ghost use Rattle.parking_lot_core.specs.Lot.{machine, statuses, thread_at, free_
 ghost use Rattle.parking_lot_core.specs.Requeued.{IsThreadsRequeue};
 ghost use Rattle.parking_lot_core.specs.Represents.{with_node, waiters_in, Represents};
 ghost use Rattle.parking_lot_core.specs.Table.{IsSizeFor, IsRowStep, nodes_in};
-ghost use Rattle.parking_lot_core.specs.Machine.{new_machine, IsLeastFree, IsFull, threads_of, turned, entered, unparked, moved_on, tokens_of, is_queued, is_taken};
+ghost use Rattle.parking_lot_core.specs.Machine.{new_machine, IsLeastFree, IsFull, threads_of, turned, entered, unparked, moved_on, tokens_of, is_last, is_queued, is_taken, resolves, timed_out as after_timeout, MatchResolved, StandsAt};
 
 use crate::table::{MAX_THREADS, Table};
 use lot_base::bucket::{Bucket, place};
 use lot_base::queue::{Node, Queue};
 use lot_base::thread_parker::Slot;
 use lot_base::token::{
-    FilterOp, LotError, Misfit, NoMemory, ParkToken, RequeueOp, UnparkResult, UnparkToken,
+    FilterOp, LotError, Misfit, NoMemory, ParkResult, ParkToken, RequeueOp, UnparkResult,
+    UnparkToken,
 };
 use std::alloc::Global;
 use std::marker::Model;
@@ -399,7 +400,7 @@ fn commit(threads: &mut Vec<Thread>, taken: Queue)
 /// answers `Misfit`, changes nothing and calls no closure. Only `new`, `register` and `list` ask
 /// for memory. No call takes a lock.
 ///
-/// Upstream has no such type. Its `park` is `enter`, and after the sleep `give_back`.
+/// Upstream has no such type. Its `park` is `enter`, and after the sleep `resolve`.
 #[derive(Drop)]
 pub struct Lot {
     table: Table<Bucket>,
@@ -680,6 +681,67 @@ impl Lot {
         };
         let token = thread.give_back()?;
         Ok(token)
+    }
+
+    /// Ends the park of a thread whose deadline has passed, or that was taken, and lets it run again:
+    /// the second half of upstream's `park`, in full.
+    ///
+    /// A late thread leaves the list of the key that it waits on, and `timed_out` is called once with
+    /// that key and with whether its list is empty now; the answer is `TimedOut`. It is one
+    /// `Bucket::remove`. One that was taken is given its token, and `timed_out` is not called; the
+    /// answer is `Unparked` and never `Invalid`. It allocates nothing.
+    ///
+    /// # Errors
+    ///
+    /// `Misfit` exactly if the thread is neither late nor taken. Nothing changed then, and nothing was
+    /// called.
+    pub fn resolve<T: FnOnce(usize, bool)>(
+        &mut self,
+        number: usize,
+        timed_out: T,
+    ) -> Result<ParkResult, Misfit>
+        requires { (machine self.old).status number ≡ Status.Late
+            → (key : ℕ) → StandsAt (machine self.old) number key → T.pre timed_out key (is_last (machine self.old) number key) }
+
+        ensures fits { IsOk result ↔ IsTrue (resolves ((machine self.old).status number)) }
+        ensures resolved { IfOk result (λ answer. MatchResolved answer
+            (((machine self.old).status number ≡ Status.Late)
+            × (key : ℕ) × StandsAt (machine self.old) number key
+            × T.post timed_out key (is_last (machine self.old) number key) tt
+            × (machine self.new ≡ after_timeout (machine self.old) number key))
+            (λ token. ((machine self.old).status number ≡ Status.Taken token)
+            × (machine self.new ≡ turned (machine self.old) number Status.Running))) }
+        ensures size { length self.new.buckets ≡ length self.old.buckets }
+        ensures err { OnErr result (self.new ≡ self.old) }
+    {
+        if let Status::Late = self.status(number) {
+            self.time_out(number, timed_out);
+            return Ok(ParkResult::TimedOut);
+        }
+        let token = self.give_back(number)?;
+        Ok(ParkResult::Unparked(token))
+    }
+
+    // Takes a late thread out of the list of its key, and lets it run again. Answers what `timed_out`
+    // answered.
+    pub(crate) fn time_out<A, T: FnOnce(usize, bool) -> A>(
+        &mut self,
+        number: usize,
+        timed_out: T,
+    ) -> A
+        requires late { (machine self.old).status number ≡ Status.Late }
+        requires callable { (key : ℕ) → StandsAt (machine self.old) number key → T.pre timed_out key (is_last (machine self.old) number key) }
+        ensures timed_out { (key : ℕ) × StandsAt (machine self.old) number key
+            × T.post timed_out key (is_last (machine self.old) number key) result
+            × (machine self.new ≡ after_timeout (machine self.old) number key) }
+        ensures size { length self.new.buckets ≡ length self.old.buckets }
+    {
+        let key = self.threads[number].key();
+        let mut bucket = self.table.take(key);
+        let (node, answer) = bucket.remove(number, key, timed_out).unwrap();
+        self.table.put(bucket);
+        self.threads[number].stop_waiting(node);
+        answer
     }
 
     /// The numbers of the threads that wait on the key, in order. It is one `Bucket::list`.

@@ -8,7 +8,7 @@ ghost use Rattle.parking_lot_core.specs.Lot.{machine};
 ghost use Rattle.parking_lot_core.specs.Machine.{unparked};
 ghost use Rattle.parking_lot_core.specs.Steps.{IsRegister, IsReturn, IsUnpark, Steps, IsRun};
 
-use crate::lot::Lot;
+use crate::lot::{Lot, Status};
 use lot_base::token::{
     FilterOp, LotError, Misfit, NoMemory, ParkToken, RequeueOp, UnparkResult, UnparkToken,
 };
@@ -167,7 +167,7 @@ impl Lot {
             } => apply_enter(self, *thread, *key, *valid, *park_token, *timed),
             Step::Unpark(op) => apply_unpark(self, op),
             Step::Deadline { thread } => apply_deadline(self, *thread),
-            Step::Resolve { thread } => apply_return(self, *thread),
+            Step::Resolve { thread } => apply_resolve(self, *thread),
             Step::Return { thread } => apply_return(self, *thread),
         }
     }
@@ -216,6 +216,16 @@ fn apply_deadline(lot: &mut Lot, thread: usize) -> Answer
         Ok(()) => Answer::Late,
         Err(Misfit) => Answer::Misfit,
     }
+}
+
+fn apply_resolve(lot: &mut Lot, thread: usize) -> Answer
+    ensures { Steps (machine lot.old) (Step.Resolve thread) result (machine lot.new) }
+{
+    if let Status::Late = lot.status(thread) {
+        let (key, last) = lot.time_out(thread, |key, last| (key, last));
+        return Answer::TimedOut { key, last };
+    }
+    apply_return(lot, thread)
 }
 
 fn apply_return(lot: &mut Lot, thread: usize) -> Answer

@@ -1,8 +1,7 @@
-use Rattle.std.proofs.Common.{◌≡◌, ◌∙◌, ◌+◌, ◌++◌, ◌∷◌, [], sym, ap, take, append_assoc, rules, arith}
+use Rattle.std.proofs.Common.{◌≡◌, ◌∙◌, ◌+◌, ◌++◌, ◌∷◌, [], sym, ap, take, append_assoc, arith}
 use Rattle.std.proofs.lemmas.List.{take_more}
 use Rattle.parking_lot_core.proofs.ScheduleLemmas.{IsRun-push}
 use Rattle.parking_lot_core.specs.Lot.{machine}
-use Rattle.parking_lot_core.specs.Steps.{IsRun, Steps}
 use Rattle.parking_lot_core.proofs.schedule.run.Goals as goal
 
 pub loop-step-preserved : goal.loop-step-preserved
