@@ -19,6 +19,36 @@ fn enter(rt: &impl Abort, lot: &mut Lot, number: usize, key: usize) {
     assert_eq!(rt; entered, Ok(true), "{number} on {key}");
 }
 
+fn enter_timed(rt: &impl Abort, lot: &mut Lot, number: usize, key: usize) {
+    let entered = lot.enter(number, key, || true, DEFAULT_PARK_TOKEN, true);
+    assert_eq!(rt; entered, Ok(true), "{number} on {key}");
+}
+
+// What an unpark by a filter answers, and what its callback was handed.
+fn unpark_by<F: FnMut(ParkToken) -> FilterOp>(
+    lot: &mut Lot,
+    key: usize,
+    filter: F,
+) -> (UnparkResult, Option<UnparkResult>)
+    requires { (state : F) (park_token : _) → F.pre state park_token }
+{
+    let mut told = None;
+    let result = lot.unpark_filter(key, filter, |handed| {
+        told = Some(handed);
+        TOKEN
+    });
+    (result, told)
+}
+
+// What a resolution answers, and what `timed_out` was called with.
+fn resolve(lot: &mut Lot, number: usize) -> (Result<ParkResult, Misfit>, Option<(usize, bool)>) {
+    let mut told = None;
+    let result = lot.resolve(number, |key, last| {
+        told = Some((key, last));
+    });
+    (result, told)
+}
+
 fn expect_list(rt: &impl Abort, lot: &Lot, key: usize, numbers: &[usize]) -> Result<(), NoMemory> {
     assert_eq!(rt; lot.list(key)?.as_slice(), numbers, "key {key}");
     Ok(())
@@ -170,6 +200,105 @@ fn waiters_of_a_key_are_taken_in_order(rt: HostRuntime) -> Result<(), Fail> {
     );
     assert_eq!(rt; lot.status(2), Status::Taken(TOKEN));
     expect_list(&rt, &lot, 7, &[0, 1])?;
+    Ok(())
+}
+
+#[test]
+fn a_filter_takes_the_second_of_three_and_stops_at_the_last(rt: HostRuntime) -> Result<(), Fail> {
+    let mut lot = lot_with(rt.alloc(), 3)?;
+    for number in 0..3 {
+        enter(&rt, &mut lot, number, 1);
+    }
+    let mut asked: usize = 0;
+    let answered = unpark_by(&mut lot, 1, |_| {
+        asked = asked.wrapping_add(1);
+        match asked {
+            1 => FilterOp::Skip,
+            2 => FilterOp::Unpark,
+            _ => FilterOp::Stop,
+        }
+    });
+    let result = UnparkResult {
+        unparked_threads: 1,
+        requeued_threads: 0,
+        have_more_threads: true,
+    };
+    assert_eq!(rt; answered, (result, Some(result)));
+    assert_eq!(rt; asked, 3);
+    assert_eq!(rt; lot.status(1), Status::Taken(TOKEN));
+    expect_list(&rt, &lot, 1, &[0, 2])?;
+    Ok(())
+}
+
+#[test]
+fn a_filter_is_not_asked_again_after_stop(rt: HostRuntime) -> Result<(), Fail> {
+    let mut lot = lot_with(rt.alloc(), 2)?;
+    for number in 0..2 {
+        enter(&rt, &mut lot, number, 1);
+    }
+    let mut asked: usize = 0;
+    let answered = unpark_by(&mut lot, 1, |_| {
+        asked = asked.wrapping_add(1);
+        if asked == 1 {
+            FilterOp::Stop
+        } else {
+            FilterOp::Unpark
+        }
+    });
+    let result = UnparkResult {
+        unparked_threads: 0,
+        requeued_threads: 0,
+        have_more_threads: true,
+    };
+    assert_eq!(rt; answered, (result, Some(result)));
+    assert_eq!(rt; asked, 1);
+    expect_list(&rt, &lot, 1, &[0, 1])?;
+    Ok(())
+}
+
+#[test]
+fn a_late_thread_times_out_and_is_not_unparked_then(rt: HostRuntime) -> Result<(), Fail> {
+    let mut lot = lot_with(rt.alloc(), 1)?;
+    enter_timed(&rt, &mut lot, 0, 1);
+    assert_eq!(rt; resolve(&mut lot, 0), (Err(Misfit), None));
+    assert_eq!(rt; lot.deadline(0), Ok(()));
+    let resolved = resolve(&mut lot, 0);
+    assert_eq!(rt; resolved, (Ok(ParkResult::TimedOut), Some((1, true))));
+    assert_eq!(rt; lot.status(0), Status::Running);
+    assert_eq!(rt; lot.unpark_all(1, TOKEN), 0);
+    Ok(())
+}
+
+#[test]
+fn a_late_thread_that_was_unparked_gets_the_token(rt: HostRuntime) -> Result<(), Fail> {
+    let mut lot = lot_with(rt.alloc(), 1)?;
+    enter_timed(&rt, &mut lot, 0, 1);
+    assert_eq!(rt; lot.deadline(0), Ok(()));
+    let result = lot.unpark_one(1, |_| TOKEN);
+    assert_eq!(rt;
+        result,
+        UnparkResult {
+            unparked_threads: 1,
+            requeued_threads: 0,
+            have_more_threads: false
+        }
+    );
+    let resolved = resolve(&mut lot, 0);
+    assert_eq!(rt; resolved, (Ok(ParkResult::Unparked(TOKEN)), None));
+    assert_eq!(rt; resolve(&mut lot, 0), (Err(Misfit), None));
+    Ok(())
+}
+
+#[test]
+fn a_thread_that_times_out_leaves_the_others_of_its_key(rt: HostRuntime) -> Result<(), Fail> {
+    let mut lot = lot_with(rt.alloc(), 2)?;
+    for number in 0..2 {
+        enter_timed(&rt, &mut lot, number, 1);
+    }
+    assert_eq!(rt; lot.deadline(0), Ok(()));
+    let resolved = resolve(&mut lot, 0);
+    assert_eq!(rt; resolved, (Ok(ParkResult::TimedOut), Some((1, false))));
+    expect_list(&rt, &lot, 1, &[1])?;
     Ok(())
 }
 
