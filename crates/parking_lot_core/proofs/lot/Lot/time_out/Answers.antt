@@ -13,7 +13,7 @@ use Rattle.parking_lot_core.proofs.CommitLemmas.{below_from_status, ne-free-queu
 use Rattle.parking_lot_core.proofs.LotLemmas.{lot_of, read_thread, StandsAt-queued, find-standing, is_last-map, IsStepOfUse, IsTaking-from, IsStepOfUse-timed_out}
 use Rattle.parking_lot_core.proofs.lot.Lot.time_out.Given as given
 use Rattle.parking_lot_core.proofs.lot.Lot.time_out.Goals as goal
-use Rattle.parking_lot_core.proofs.lot.Lot.time_out.Goals.{After-take-bucket, After-remove}
+use Rattle.parking_lot_core.proofs.lot.Lot.time_out.Goals.{After-take-bucket}
 
 -- a late thread is one of the lot's, and stands in the list of its key
 queued : (g : given.Over) (c : After-take-bucket g) → IsTrue (is_queued (statuses c.self.inside.threads.items c.args.number))
