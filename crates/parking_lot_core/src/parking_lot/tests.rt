@@ -253,6 +253,7 @@ fn a_refused_request_for_memory_leaves_the_lot_as_it_was(rt: HostRuntime) -> Res
         };
         assert_eq!(rt; data.number(), number);
     }
-    assert!(rt; matches!(&lot.thread_data(&rt, rt.alloc()), Err(LotError::Full)));
+    let seventh = lot.thread_data(&rt, rt.alloc());
+    assert!(rt; matches!(&seventh, Err(LotError::Full | LotError::NoMemory)));
     Ok(())
 }
