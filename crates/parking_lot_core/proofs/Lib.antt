@@ -12,5 +12,6 @@ pub mod RequeuedLemmas
 pub mod RequeueRowLemmas
 pub mod RequeueLotLemmas
 pub mod ScheduleLemmas
+pub mod LawLemmas
 pub mod GrowthLemmas
 pub mod ParkingLotLemmas

@@ -1,0 +1,12 @@
+//! Laws of the machine with one list of waiters for each key, for every machine and every run. Each
+//! function does nothing: its contract is the law, over the definitions that the contracts of the lot
+//! and of `run` cite.
+
+ghost use Rattle.parking_lot_core.specs.Laws.{StepAndAnswerFixTheState, AnswersFixTheRun};
+
+/// A step and its answer leave nothing open about the state after it: whatever is proved of one
+/// lot's run holds of each other lot that began alike, took the same steps and gave the same answers.
+pub fn answers_fix_the_run()
+    ensures step { StepAndAnswerFixTheState }
+    ensures run { AnswersFixTheRun }
+{}
