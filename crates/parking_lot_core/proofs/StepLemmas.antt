@@ -14,7 +14,7 @@ use Rattle.parking_lot_core.specs.declared.schedule.Step.{Step}
 use Rattle.parking_lot_core.specs.declared.schedule.Step.TheVariants.{Register, Retire, Enter, Unpark, Deadline, Resolve, Return}
 use Rattle.parking_lot_core.specs.Machine.{Machine, Waiter, StandsAt, StandRight, IsConsistent, is_queued, times_in, turned, entered, unparked, moved_on, timed_out}
 use Rattle.parking_lot_core.specs.Steps.{IsRegister, is_running, is_timed, IsUnpark, IsReturn, IsResolve, Steps}
-use Rattle.parking_lot_core.specs.Laws.{StepsKeepConsistency}
+use Rattle.parking_lot_core.specs.Laws.{NewMachinesAreConsistent, StepsKeepConsistency}
 use Rattle.parking_lot_core.proofs.LotLemmas.{AreParts, AreParts-first, AreParts-all, AreParts-filter}
 use Rattle.parking_lot_core.proofs.MachineLemmas.{replaced-same, replaced-other, StandRight-turned, StandRight-entered, StandRight-moved_on, StandRight-timed_out, moved_on-unparked}
 use Rattle.parking_lot_core.proofs.RequeuedLemmas.{MatchAbort-either}
@@ -118,6 +118,9 @@ module _ (m : Machine) (keys : ℕ → ℕ) (right : StandRight keys m) where
         (λ _ (_, new_is). unchanged new_is)
     Steps-keep (Resolve thread) = IsResolve-keeps thread (m.status thread) refl
     Steps-keep (Return thread) = IsReturn-keeps thread (m.status thread) refl
+
+pub IsConsistent-new : NewMachinesAreConsistent
+IsConsistent-new max_threads = (λ _. 0, λ _ _. refl)
 
 pub IsConsistent-step : StepsKeepConsistency
 IsConsistent-step m step given new (keys, right) = Steps-keep m keys right given new step

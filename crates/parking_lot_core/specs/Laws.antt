@@ -2,7 +2,7 @@
 use Rattle.std.specs.Prelude.{◌≡◌, ℕ, List}
 use Rattle.parking_lot_core.specs.declared.schedule.Answer.{Answer}
 use Rattle.parking_lot_core.specs.declared.schedule.Step.{Step}
-use Rattle.parking_lot_core.specs.Machine.{Machine, IsConsistent}
+use Rattle.parking_lot_core.specs.Machine.{Machine, IsConsistent, new_machine}
 use Rattle.parking_lot_core.specs.Steps.{Steps, IsRun, is_parked, OutcomesAlternate}
 
 -- from one machine, one step with one answer leads to one machine
@@ -12,6 +12,10 @@ StepAndAnswerFixTheState = (m : Machine) (step : Step) (given : Answer) (new oth
 -- and so does one list of steps with one list of answers
 abbrev pub AnswersFixTheRun : Type 0
 AnswersFixTheRun = (m : Machine) (steps : List Step) (answers : List Answer) (last other : Machine) → IsRun m steps answers last → IsRun m steps answers other → last ≡ other
+
+-- where nobody waits, every thread stands where it should
+abbrev pub NewMachinesAreConsistent : Type 0
+NewMachinesAreConsistent = (max_threads : ℕ) → IsConsistent (new_machine max_threads)
 
 -- a step keeps that each thread that waits or is late stands in one list, once, and any other in none
 abbrev pub StepsKeepConsistency : Type 0
