@@ -12,5 +12,7 @@ pub mod RequeuedLemmas
 pub mod RequeueRowLemmas
 pub mod RequeueLotLemmas
 pub mod ScheduleLemmas
+pub mod StepLemmas
+pub mod LawLemmas
 pub mod GrowthLemmas
 pub mod ParkingLotLemmas

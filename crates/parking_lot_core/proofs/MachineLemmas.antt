@@ -97,7 +97,7 @@ StandsAt-standing keys m j key right standing =
     (λ (other : key ≢ keys j). absurd (let none = at.nowhere_else key other in omega arith))
     (cases_eq key (keys j))
 
-MatchBool-from : (b : Bool) (P Q : Type 0) → (b ≡ true → P) → (b ≡ false → Q) → MatchBool b P Q
+pub MatchBool-from : (b : Bool) (P Q : Type 0) → (b ≡ true → P) → (b ≡ false → Q) → MatchBool b P Q
 MatchBool-from true P Q p q = p refl
 MatchBool-from false P Q p q = q refl
 

@@ -32,7 +32,7 @@ split_by-map UnparkOne nodes = split_first-map nodes
 split_by-map RequeueOne nodes =
     λ i. record { taken = []; moved = take_first-map waiter_of nodes i; left = drop_first-map waiter_of nodes i }
 
-AreParts-by : (op : RequeueOp) (waiters : List Waiter) → AreParts (split_by op waiters) waiters
+pub AreParts-by : (op : RequeueOp) (waiters : List Waiter) → AreParts (split_by op waiters) waiters
 AreParts-by Abort waiters j = omega arith
 AreParts-by UnparkOneRequeueRest [] j = refl
 AreParts-by UnparkOneRequeueRest (waiter ∷ waiters) j = omega (arith, times_in-append j (waiter ∷ []) waiters)

@@ -7,6 +7,7 @@ pub mod Committed
 pub mod Requeued
 pub mod Decides
 pub mod Steps
+pub mod Laws
 pub mod TableState
 pub mod Table
 pub use Rattle.lot_base.specs.Waiting

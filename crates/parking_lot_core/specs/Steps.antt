@@ -1,5 +1,5 @@
 -- The steps of the machine, its runs, and that parks and outcomes alternate.
-use Rattle.std.specs.Prelude.{◌≡◌, ℕ, Bool, true, false, MatchBool, List, [], ◌∷◌}
+use Rattle.std.specs.Prelude.{◌≡◌, ℕ, ◌==◌, Bool, true, false, ◌&&◌, MatchBool, ⊤, List, [], ◌∷◌}
 use Rattle.lot_base.specs.Requeue.{MatchAbort, nobody}
 use Rattle.lot_base.specs.Waiting.{split_first, split_all, split_filter, split_by, answer_of, count_of}
 use Rattle.parking_lot_core.specs.declared.lot.Status.{Status}
@@ -79,3 +79,37 @@ IsRun m [] [] last = m ≡ last
 IsRun m [] (_ ∷ _) last = ⊥
 IsRun m (_ ∷ _) [] last = ⊥
 IsRun m (step ∷ steps) (given ∷ answers) last = (next : Machine) × Steps m step given next × IsRun next steps answers last
+
+-- a status of a thread whose park has no outcome yet
+abbrev pub is_parked : Status → Bool
+is_parked (status.Waiting _) = true
+is_parked status.Late = true
+is_parked (status.Taken _) = true
+is_parked _ = false
+
+-- an answer that is the outcome of a park
+abbrev pub is_outcome : Answer → Bool
+is_outcome (answer.TimedOut _ _) = true
+is_outcome (answer.Unparked _) = true
+is_outcome _ = false
+
+-- whether this thread parked in a step
+abbrev pub parks : ℕ → Step → Answer → Bool
+parks number (Enter thread _ _ _ _) answer.Entered = thread == number
+parks number _ _ = false
+
+-- whether a step gave this thread the outcome of its park
+abbrev pub ends_park : ℕ → Step → Answer → Bool
+ends_park number (Resolve thread) given = is_outcome given && thread == number
+ends_park number (Return thread) given = is_outcome given && thread == number
+ends_park number _ given = false
+
+-- the parks of a thread and their outcomes take turns: it parks where it is not parked, and has an outcome where it is
+abbrev pub OutcomesAlternate : Bool → ℕ → List Step → List Answer → Type 0
+OutcomesAlternate parked number [] [] = ⊤
+OutcomesAlternate parked number [] (_ ∷ _) = ⊥
+OutcomesAlternate parked number (_ ∷ _) [] = ⊥
+OutcomesAlternate parked number (step ∷ steps) (given ∷ answers) =
+    MatchBool (parks number step given) ((parked ≡ false) × OutcomesAlternate true number steps answers)
+    (MatchBool (ends_park number step given) ((parked ≡ true) × OutcomesAlternate false number steps answers)
+    (OutcomesAlternate parked number steps answers))

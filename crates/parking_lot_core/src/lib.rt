@@ -2,6 +2,7 @@
 //! schedulers.
 #![tactic(auto)]
 
+pub mod laws;
 pub mod lot;
 pub mod parking_lot;
 pub mod schedule;

@@ -302,6 +302,9 @@ fn apply_filter(
 /// steps that do not fit are answered by `Misfit`. A registration that finds no memory is
 /// answered by `NoMemory`.
 ///
+/// The answers leave nothing open about what the lot means after, by `laws::answers_fix_the_run`, and
+/// each thread's parks and outcomes take turns in them, by `laws::parks_and_outcomes_alternate`.
+///
 /// It asks for room for all answers first, and costs what the steps cost.
 ///
 /// # Errors
