@@ -13,7 +13,7 @@ ghost use Rattle.parking_lot_core.specs.Lot.{machine, statuses, thread_at, free_
 ghost use Rattle.parking_lot_core.specs.Requeued.{IsThreadsRequeue};
 ghost use Rattle.parking_lot_core.specs.Represents.{with_node, waiters_in, Represents};
 ghost use Rattle.parking_lot_core.specs.Table.{IsSizeFor, IsRowStep, nodes_in};
-ghost use Rattle.parking_lot_core.specs.Machine.{new_machine, IsLeastFree, IsFull, threads_of, turned, entered, unparked, moved_on, tokens_of, is_last, is_queued, is_taken, resolves, timed_out as after_timeout, MatchResolved, StandsAt};
+ghost use Rattle.parking_lot_core.specs.Machine.{new_machine, IsLeastFree, IsFull, threads_of, turned, entered, unparked, moved_on, tokens_of, is_last, is_queued, is_taken, resolves, timed_out as after_timeout, MatchResolved, StandsAt, IsConsistent};
 
 use crate::table::{MAX_THREADS, Table};
 use lot_base::bucket::{Bucket, place};
@@ -764,6 +764,14 @@ impl Lot {
         self.threads
             .get(number)
             .map_or(Status::Free, |thread| thread.status())
+    }
+
+    /// Does nothing. Its contract tells what the lot's type keeps: each thread that waits or is late
+    /// stands in one list, once, and any other in none.
+    pub fn consistency(&self)
+        ensures { IsConsistent (machine self.now) }
+    {
+        let _ = &self.threads;
     }
 
     /// How many threads are registered.

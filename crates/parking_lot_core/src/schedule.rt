@@ -1,12 +1,12 @@
 //! Schedules: lists of steps of any threads, done one after another on an exclusive lot.
 
-ghost use Rattle.std.specs.Prelude.{◌≡◌, ◌++◌, List, OnOk, OnErr};
+ghost use Rattle.std.specs.Prelude.{◌≡◌, ℕ, ◌++◌, List, OnOk, OnErr};
 ghost use Rattle.parking_lot_core.specs.declared.schedule.Answer.{Answer};
 ghost use Rattle.lot_base.specs.Waiting.{answer_of, split_filter};
 ghost use Rattle.parking_lot_core.specs.Decides.{Decides};
 ghost use Rattle.parking_lot_core.specs.Lot.{machine};
 ghost use Rattle.parking_lot_core.specs.Machine.{unparked};
-ghost use Rattle.parking_lot_core.specs.Steps.{IsRegister, IsReturn, IsUnpark, Steps, IsRun};
+ghost use Rattle.parking_lot_core.specs.Steps.{IsRegister, IsReturn, IsUnpark, Steps, IsRun, OutcomesAlternate, is_parked};
 
 use crate::lot::{Lot, Status};
 use lot_base::token::{
@@ -302,8 +302,9 @@ fn apply_filter(
 /// steps that do not fit are answered by `Misfit`. A registration that finds no memory is
 /// answered by `NoMemory`.
 ///
-/// The answers leave nothing open about what the lot means after, by `laws::answers_fix_the_run`, and
-/// each thread's parks and outcomes take turns in them, by `laws::parks_and_outcomes_alternate`.
+/// Each thread's parks and outcomes take turns in these answers, so no park has two outcomes; an outcome
+/// comes first only for a thread that was parked before. Steps and answers leave nothing open about
+/// what the lot means after, by `laws::answers_fix_the_run`.
 ///
 /// It asks for room for all answers first, and costs what the steps cost.
 ///
@@ -312,9 +313,11 @@ fn apply_filter(
 /// `NoMemory` if room for the answers cannot be had. Nothing changed then.
 pub fn run(lot: &mut Lot, steps: &[Step], answers: &mut Vec<Answer>) -> Result<(), NoMemory>
     ensures ran { OnOk result ((given : List Answer) × (answers.new.items ≡ answers.old.items ++ given)
-        × IsRun (machine lot.old) steps.now given (machine lot.new)) }
+        × IsRun (machine lot.old) steps.now given (machine lot.new)
+        × ((number : ℕ) → OutcomesAlternate (is_parked ((machine lot.old).status number)) number steps.now given)) }
     ensures err { OnErr result ((lot.new ≡ lot.old) × (answers.new.items ≡ answers.old.items)) }
 {
+    lot.consistency();
     answers.reserve(steps.len())?;
     for step in steps {
         answers.push(lot.apply(step))?;

@@ -1,7 +1,9 @@
 use Rattle.std.proofs.Common.{◌≡◌, ◌∙◌, ◌+◌, ◌++◌, ◌∷◌, [], sym, ap, take, append_assoc, arith}
-use Rattle.std.proofs.lemmas.List.{take_more}
+use Rattle.std.proofs.lemmas.List.{take_all, take_more}
+use Rattle.parking_lot_core.proofs.LawLemmas.{OutcomesAlternate-run}
 use Rattle.parking_lot_core.proofs.ScheduleLemmas.{IsRun-push}
 use Rattle.parking_lot_core.specs.Lot.{machine}
+use Rattle.parking_lot_core.specs.Steps.{IsRun}
 use Rattle.parking_lot_core.proofs.schedule.run.Goals as goal
 
 pub loop-step-preserved : goal.loop-step-preserved
@@ -18,3 +20,10 @@ loop-step-preserved c =
         rw more (IsRun-push (machine c.args.lot.now) (take c.loop-step.step-index c.args.steps.now) given (machine c.loop-step.lot) (machine c.apply.new.self) c.step-item.result answer ran c.apply.ensures),
       );
     }
+
+pub returns-clause-ran : goal.returns-clause-ran
+returns-clause-ran c =
+    let (given, appended, ran) = c.loop-step.invariant.ran in
+    let all : take c.loop-step.step-index c.args.steps.now ≡ c.args.steps.now = take_all c.loop-step.step-index c.args.steps.now (omega arith) in
+    let whole : IsRun (machine c.args.lot.now) c.args.steps.now given (machine c.loop-step.lot) = rw all at ran in
+    (given, appended, whole, OutcomesAlternate-run (machine c.args.lot.now) c.args.steps.now given (machine c.loop-step.lot) c.consistency.ensures whole)
