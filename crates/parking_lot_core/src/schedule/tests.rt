@@ -1,0 +1,297 @@
+//! Worked rows of `run`. The threads a, b, c and d are 0, 1, 2 and 3.
+#![tactic(auto)]
+
+mod compare;
+mod plain;
+mod split;
+mod steps;
+
+use super::*;
+use std::alloc::Global;
+use std::process::Abort;
+use std::test::Fail;
+use steps::{all, enter, enter_invalid, filter, one, requeue, unparked};
+
+const A: usize = 0;
+
+const B: usize = 1;
+
+const C: usize = 2;
+
+const D: usize = 3;
+
+const WAITS: Status = Status::Waiting { timed: false };
+
+// A lot for six threads, four of which are registered, where these threads have entered, each on its
+// key and untimed.
+fn lot_of(alloc: Global, waiters: &[(usize, usize)]) -> Result<Lot, LotError> {
+    let mut lot = Lot::new(alloc, 6)?;
+    for _ in 0..4 {
+        lot.register()?;
+    }
+    for (number, key) in waiters {
+        lot.apply(&enter(*number, *key, false));
+    }
+    Ok(lot)
+}
+
+// Runs the steps, and compares the answers.
+fn expect(
+    rt: &impl Abort,
+    alloc: Global,
+    lot: &mut Lot,
+    steps: &[Step],
+    expected: &[Answer],
+) -> Result<(), NoMemory> {
+    let mut answers = Vec::new(alloc);
+    run(lot, steps, &mut answers)?;
+    assert_eq!(rt; answers.as_slice(), expected);
+    Ok(())
+}
+
+// Compares the lists of the keys 1 and 2.
+fn expect_lists(
+    rt: &impl Abort,
+    lot: &Lot,
+    on_1: &[usize],
+    on_2: &[usize],
+) -> Result<(), NoMemory> {
+    assert_eq!(rt; lot.list(1)?.as_slice(), on_1, "key 1");
+    assert_eq!(rt; lot.list(2)?.as_slice(), on_2, "key 2");
+    Ok(())
+}
+
+#[test]
+fn six_threads_are_registered_and_the_seventh_is_refused(rt: HostRuntime) -> Result<(), Fail> {
+    let mut lot = Lot::new(rt.alloc(), 6)?;
+    let steps = [
+        Step::Register,
+        Step::Register,
+        Step::Register,
+        Step::Register,
+        Step::Register,
+        Step::Register,
+        Step::Register,
+    ];
+    let answers = [
+        Answer::Registered(0),
+        Answer::Registered(1),
+        Answer::Registered(2),
+        Answer::Registered(3),
+        Answer::Registered(4),
+        Answer::Registered(5),
+        Answer::Full,
+    ];
+    expect(&rt, rt.alloc(), &mut lot, &steps, &answers)?;
+    assert_eq!(rt; lot.size(), 32);
+    Ok(())
+}
+
+#[test]
+fn the_first_is_unparked_and_the_rest_stand_behind_the_second_key(
+    rt: HostRuntime,
+) -> Result<(), Fail> {
+    let mut lot = lot_of(rt.alloc(), &[(A, 1), (B, 1), (C, 1), (D, 2)])?;
+    let steps = [requeue((1, 2), RequeueOp::UnparkOneRequeueRest, 9)];
+    expect(&rt, rt.alloc(), &mut lot, &steps, &[unparked(1, 2, false)])?;
+    assert_eq!(rt; lot.status(A), Status::Taken(UnparkToken(9)));
+    assert_eq!(rt; lot.status(B), WAITS);
+    expect_lists(&rt, &lot, &[], &[D, B, C])?;
+    Ok(())
+}
+
+#[test]
+fn a_requeue_to_the_same_key_puts_the_moved_behind_the_left(rt: HostRuntime) -> Result<(), Fail> {
+    let one = RequeueOp::RequeueOne;
+    let mut lot = lot_of(rt.alloc(), &[(A, 1), (B, 1), (C, 1)])?;
+    let steps = [requeue((1, 1), one, 9)];
+    expect(&rt, rt.alloc(), &mut lot, &steps, &[unparked(0, 1, true)])?;
+    expect_lists(&rt, &lot, &[B, C, A], &[])?;
+
+    let mut lot = lot_of(rt.alloc(), &[(A, 1)])?;
+    expect(&rt, rt.alloc(), &mut lot, &steps, &[unparked(0, 1, false)])?;
+    expect_lists(&rt, &lot, &[A], &[])?;
+
+    let mut lot = lot_of(rt.alloc(), &[(A, 1), (B, 1), (C, 1)])?;
+    let steps = [requeue((1, 1), RequeueOp::RequeueAll, 9)];
+    expect(&rt, rt.alloc(), &mut lot, &steps, &[unparked(0, 3, false)])?;
+    expect_lists(&rt, &lot, &[A, B, C], &[])?;
+    Ok(())
+}
+
+#[test]
+fn an_abort_and_a_requeue_of_nobody_change_nothing(rt: HostRuntime) -> Result<(), Fail> {
+    let mut lot = lot_of(rt.alloc(), &[(A, 1), (B, 1), (D, 2)])?;
+    let steps = [requeue((1, 2), RequeueOp::Abort, 9)];
+    expect(&rt, rt.alloc(), &mut lot, &steps, &[unparked(0, 0, false)])?;
+    expect_lists(&rt, &lot, &[A, B], &[D])?;
+
+    let mut lot = lot_of(rt.alloc(), &[(D, 2)])?;
+    let steps = [requeue((1, 2), RequeueOp::RequeueAll, 9)];
+    expect(&rt, rt.alloc(), &mut lot, &steps, &[unparked(0, 0, false)])?;
+    expect_lists(&rt, &lot, &[], &[D])?;
+    Ok(())
+}
+
+#[test]
+fn a_filter_leaves_whom_it_skips_and_whom_it_does_not_see(rt: HostRuntime) -> Result<(), Fail> {
+    let mut lot = lot_of(rt.alloc(), &[(A, 1), (B, 1), (C, 1)])?;
+    let decisions = [FilterOp::Skip, FilterOp::Unpark, FilterOp::Stop];
+    let steps = [filter(rt.alloc(), 1, &decisions, 9)?];
+    expect(&rt, rt.alloc(), &mut lot, &steps, &[unparked(1, 0, true)])?;
+    assert_eq!(rt; lot.status(B), Status::Taken(UnparkToken(9)));
+    expect_lists(&rt, &lot, &[A, C], &[])?;
+
+    let mut lot = lot_of(rt.alloc(), &[(A, 1), (B, 1)])?;
+    let steps = [filter(rt.alloc(), 1, &[FilterOp::Stop], 9)?];
+    expect(&rt, rt.alloc(), &mut lot, &steps, &[unparked(0, 0, true)])?;
+    expect_lists(&rt, &lot, &[A, B], &[])?;
+
+    let mut lot = lot_of(rt.alloc(), &[(A, 1), (B, 1), (C, 1)])?;
+    let steps = [filter(rt.alloc(), 1, &[FilterOp::Unpark], 9)?];
+    expect(&rt, rt.alloc(), &mut lot, &steps, &[unparked(1, 0, true)])?;
+    assert_eq!(rt; lot.status(A), Status::Taken(UnparkToken(9)));
+    expect_lists(&rt, &lot, &[B, C], &[])?;
+    Ok(())
+}
+
+#[test]
+fn a_late_thread_times_out_or_gets_the_token_that_overtook_it(rt: HostRuntime) -> Result<(), Fail> {
+    let mut lot = lot_of(rt.alloc(), &[])?;
+    let steps = [
+        enter(A, 1, true),
+        Step::Deadline { thread: A },
+        Step::Resolve { thread: A },
+        all(1, 42),
+    ];
+    let answers = [
+        Answer::Entered,
+        Answer::Late,
+        Answer::TimedOut { key: 1, last: true },
+        Answer::Count(0),
+    ];
+    expect(&rt, rt.alloc(), &mut lot, &steps, &answers)?;
+
+    let mut lot = lot_of(rt.alloc(), &[])?;
+    let steps = [
+        enter(A, 1, true),
+        Step::Deadline { thread: A },
+        one(1, 42),
+        Step::Resolve { thread: A },
+        Step::Resolve { thread: A },
+    ];
+    let answers = [
+        Answer::Entered,
+        Answer::Late,
+        unparked(1, 0, false),
+        Answer::Unparked(UnparkToken(42)),
+        Answer::Misfit,
+    ];
+    expect(&rt, rt.alloc(), &mut lot, &steps, &answers)?;
+    Ok(())
+}
+
+#[test]
+fn a_requeued_thread_times_out_on_its_new_key(rt: HostRuntime) -> Result<(), Fail> {
+    let mut lot = lot_of(rt.alloc(), &[])?;
+    let steps = [
+        enter(A, 1, true),
+        enter(B, 1, true),
+        requeue((1, 2), RequeueOp::RequeueAll, 9),
+        Step::Deadline { thread: A },
+        Step::Resolve { thread: A },
+    ];
+    let answers = [
+        Answer::Entered,
+        Answer::Entered,
+        unparked(0, 2, false),
+        Answer::Late,
+        Answer::TimedOut {
+            key: 2,
+            last: false,
+        },
+    ];
+    expect(&rt, rt.alloc(), &mut lot, &steps, &answers)?;
+    expect_lists(&rt, &lot, &[], &[B])?;
+    Ok(())
+}
+
+#[test]
+fn an_untimed_waiter_stays_until_it_is_handed_a_token(rt: HostRuntime) -> Result<(), Fail> {
+    let mut lot = lot_of(rt.alloc(), &[])?;
+    let steps = [
+        enter(A, 1, false),
+        Step::Deadline { thread: A },
+        Step::Retire { thread: A },
+        all(1, usize::MAX),
+        Step::Return { thread: A },
+    ];
+    let answers = [
+        Answer::Entered,
+        Answer::Misfit,
+        Answer::Misfit,
+        Answer::Count(1),
+        Answer::Unparked(UnparkToken(usize::MAX)),
+    ];
+    expect(&rt, rt.alloc(), &mut lot, &steps, &answers)?;
+    assert_eq!(rt; lot.status(A), Status::Running);
+    Ok(())
+}
+
+// The number 4 could be registered, and 9 could not.
+#[test]
+fn no_step_fits_a_free_number(rt: HostRuntime) -> Result<(), Fail> {
+    let mut lot = lot_of(rt.alloc(), &[])?;
+    for thread in [4, 9] {
+        let steps = [
+            Step::Retire { thread },
+            enter(thread, 1, true),
+            enter_invalid(thread, 1),
+            Step::Deadline { thread },
+            Step::Resolve { thread },
+            Step::Return { thread },
+        ];
+        expect(&rt, rt.alloc(), &mut lot, &steps, &[Answer::Misfit; 6])?;
+        assert_eq!(rt; lot.status(thread), Status::Free);
+    }
+    expect_lists(&rt, &lot, &[], &[])?;
+    Ok(())
+}
+
+#[test]
+fn answers_stand_behind_those_that_are_there(rt: HostRuntime) -> Result<(), Fail> {
+    let mut lot = lot_of(rt.alloc(), &[])?;
+    let mut answers = Vec::new(rt.alloc());
+    run(&mut lot, &[], &mut answers)?;
+    assert_eq!(rt; answers.len(), 0);
+
+    run(&mut lot, &[enter_invalid(A, 1), all(1, 9)], &mut answers)?;
+    run(&mut lot, &[], &mut answers)?;
+    run(&mut lot, &[Step::Retire { thread: D }], &mut answers)?;
+    let expected = [Answer::Invalid, Answer::Count(0), Answer::Retired];
+    assert_eq!(rt; answers.as_slice(), expected.as_slice());
+    Ok(())
+}
+
+// It ends well whichever one of its requests for memory is refused, as `rt try --test --fail-alloc N`
+// refuses the Nth: a run that has no room for its answers leaves all as it was, and a registration
+// that is refused is answered so.
+#[test]
+fn a_run_without_room_for_its_answers_changes_nothing(rt: HostRuntime) {
+    let Ok(mut lot) = Lot::new(rt.alloc(), 2) else {
+        return;
+    };
+    let steps = [Step::Register, enter(A, 7, false)];
+    let mut answers = Vec::new(rt.alloc());
+    if run(&mut lot, &steps, &mut answers).is_err() {
+        assert_eq!(rt; (answers.len(), lot.registered()), (0, 0));
+        assert!(rt; run(&mut lot, &steps, &mut answers).is_ok());
+        assert_eq!(rt; lot.status(A), WAITS);
+    }
+    let (expected, status) = match lot.registered() {
+        0 => ([Answer::NoMemory, Answer::Misfit], Status::Free),
+        _ => ([Answer::Registered(0), Answer::Entered], WAITS),
+    };
+    assert_eq!(rt; answers.as_slice(), expected.as_slice());
+    assert_eq!(rt; lot.status(A), status);
+}

@@ -1,0 +1,233 @@
+//! The lot beside the plain machine: all short lists of steps, and long lists of arbitrary ones.
+
+use crate::lot::Lot;
+use crate::schedule::tests::plain::Plain;
+use crate::schedule::tests::steps::{all, enter, enter_invalid, filter, one, requeue};
+use crate::schedule::{Answer, Step, run};
+use lot_base::token::{FilterOp, LotError, NoMemory, RequeueOp};
+use std::alloc::Global;
+use std::process::Abort;
+use std::test::Fail;
+
+// How many steps the longest of the short lists has.
+const LONGEST: usize = 3;
+
+// The steps that the short lists are made of. The keys 0 and 13 have place 0 of 16.
+const KINDS: usize = 27;
+
+fn alphabet(alloc: Global) -> Result<Vec<Step>, NoMemory> {
+    let mut steps = Vec::new(alloc);
+    for thread in 0..2 {
+        for key in [0, 13] {
+            steps.push(enter(thread, key, false))?;
+            steps.push(enter(thread, key, true))?;
+        }
+        steps.push(Step::Deadline { thread })?;
+        steps.push(Step::Resolve { thread })?;
+        steps.push(Step::Return { thread })?;
+    }
+    for (op, token) in [
+        (RequeueOp::Abort, 100),
+        (RequeueOp::UnparkOneRequeueRest, 101),
+        (RequeueOp::RequeueAll, 102),
+        (RequeueOp::UnparkOne, 103),
+        (RequeueOp::RequeueOne, 104),
+    ] {
+        steps.push(requeue((0, 13), op, token))?;
+    }
+    steps.push(requeue((13, 13), RequeueOp::RequeueAll, 105))?;
+    let decisions = [FilterOp::Skip, FilterOp::Unpark];
+    steps.push(filter(alloc, 0, decisions.as_slice(), 106)?)?;
+    steps.push(one(0, 107))?;
+    steps.push(one(13, 108))?;
+    steps.push(all(13, 109))?;
+    steps.push(enter_invalid(0, 0))?;
+    steps.push(Step::Retire { thread: 1 })?;
+    steps.push(Step::Register)?;
+    Ok(steps)
+}
+
+// A lot and the plain machine, for as many threads.
+#[derive(Drop)]
+struct Pair {
+    lot: Lot,
+    plain: Plain,
+}
+
+impl Pair {
+    fn new(alloc: Global, max_threads: usize) -> Result<Pair, LotError> {
+        Ok(Pair {
+            lot: Lot::new(alloc, max_threads)?,
+            plain: Plain::new(alloc, max_threads)?,
+        })
+    }
+
+    // Does the step in both, and compares the answers.
+    fn step(&mut self, rt: &impl Abort, step: &Step) -> Result<Answer, NoMemory> {
+        let answer = self.lot.apply(step);
+        assert_eq!(rt; answer, self.plain.step(step)?);
+        Ok(answer)
+    }
+
+    // Compares the statuses of the numbers below the bound, and the lists of the keys.
+    fn compare(&self, rt: &impl Abort, bound: usize, keys: &[usize]) -> Result<(), NoMemory> {
+        for number in 0..bound {
+            assert_eq!(rt;
+                self.lot.status(number),
+                self.plain.status(number),
+                "{number}"
+            );
+        }
+        for key in keys {
+            let found = self.lot.list(*key)?;
+            assert_eq!(rt; found.as_slice(), self.plain.list(*key), "key {key}");
+        }
+        Ok(())
+    }
+}
+
+// Does the list of so many steps whose kinds are the digits of the code. What is compared at its end
+// is compared at the end of each of its beginnings too: they are lists themselves.
+fn check_list(
+    rt: &impl Abort,
+    alloc: Global,
+    steps: &[Step],
+    length: usize,
+    code: usize,
+) -> Result<(), LotError> {
+    let mut pair = Pair::new(alloc, 2)?;
+    pair.step(rt, &Step::Register)?;
+    pair.step(rt, &Step::Register)?;
+    let mut kinds = code;
+    for _ in 0..length {
+        let step = steps.get(kinds % KINDS).expect(rt, "a step");
+        pair.step(rt, step)?;
+        kinds /= KINDS;
+    }
+    assert_eq!(rt; (pair.lot.size(), kinds), (16, 0));
+    pair.compare(rt, 3, [0, 13].as_slice())?;
+    Ok(())
+}
+
+// There are 1 + 27 + 729 + 19_683 = 20_440 lists of up to three steps of 27 kinds.
+#[test]
+fn short_lists_of_steps_are_those_of_the_plain_machine(rt: HostRuntime) -> Result<(), Fail> {
+    let steps = alphabet(rt.alloc())?;
+    assert_eq!(rt; steps.len(), KINDS);
+    let mut lists: usize = 0;
+    let mut count: usize = 1;
+    for length in 0..=LONGEST {
+        for code in 0..count {
+            check_list(&rt, rt.alloc(), steps.as_slice(), length, code)?;
+            lists = lists.wrapping_add(1);
+        }
+        count = count.wrapping_mul(KINDS);
+    }
+    assert_eq!(rt; lists, 20_440);
+    Ok(())
+}
+
+const KEYS: [usize; 5] = [0, 13, 1, 2, 7];
+
+// Arbitrary numbers: those of a linear congruential generator.
+#[derive(Drop)]
+struct Arbitrary {
+    state: usize,
+}
+
+impl Arbitrary {
+    // A number below the bound.
+    fn below(&mut self, bound: usize) -> usize {
+        self.state = self
+            .state
+            .wrapping_mul(6_364_136_223_846_793_005)
+            .wrapping_add(1_442_695_040_888_963_407);
+        (self.state >> 33).checked_rem(bound).unwrap_or(0)
+    }
+
+    fn key(&mut self) -> usize {
+        KEYS.get(self.below(5)).copied().unwrap_or(0)
+    }
+
+    fn op(&mut self) -> RequeueOp {
+        match self.below(5) {
+            0 => RequeueOp::Abort,
+            1 => RequeueOp::UnparkOneRequeueRest,
+            2 => RequeueOp::RequeueAll,
+            3 => RequeueOp::UnparkOne,
+            _ => RequeueOp::RequeueOne,
+        }
+    }
+
+    // A filter with up to seven decisions.
+    fn filter(&mut self, alloc: Global) -> Result<Step, NoMemory> {
+        let mut decisions = Vec::new(alloc);
+        for _ in 0..self.below(8) {
+            decisions.push(match self.below(8) {
+                0 => FilterOp::Stop,
+                1..=4 => FilterOp::Skip,
+                _ => FilterOp::Unpark,
+            })?;
+        }
+        filter(alloc, self.key(), decisions.as_slice(), self.below(1_000))
+    }
+
+    // A step of one of 40 threads. Two of 64 are registrations, and one is a retirement.
+    fn step(&mut self, alloc: Global) -> Result<Step, NoMemory> {
+        let thread = self.below(40);
+        Ok(match self.below(64) {
+            0..=1 => Step::Register,
+            2 => Step::Retire { thread },
+            3 => enter_invalid(thread, self.key()),
+            4..=12 => enter(thread, self.key(), false),
+            13..=23 => enter(thread, self.key(), true),
+            24..=27 => one(self.key(), self.below(1_000)),
+            28 => all(self.key(), self.below(1_000)),
+            29..=31 => self.filter(alloc)?,
+            32..=39 => requeue((self.key(), self.key()), self.op(), self.below(1_000)),
+            40..=47 => Step::Deadline { thread },
+            48..=55 => Step::Resolve { thread },
+            _ => Step::Return { thread },
+        })
+    }
+
+    fn steps(&mut self, alloc: Global, count: usize) -> Result<Vec<Step>, NoMemory> {
+        let mut steps = Vec::new(alloc);
+        for _ in 0..count {
+            steps.push(self.step(alloc)?)?;
+        }
+        Ok(steps)
+    }
+}
+
+// Runs the steps on the lot, and compares the answers with those of the plain machine.
+fn check_run(
+    rt: &impl Abort,
+    alloc: Global,
+    pair: &mut Pair,
+    steps: &[Step],
+) -> Result<(), NoMemory> {
+    let mut answers = Vec::new(alloc);
+    run(&mut pair.lot, steps, &mut answers)?;
+    assert_eq!(rt; answers.len(), steps.len());
+    for (index, (step, answer)) in steps.iter().zip(&answers).enumerate() {
+        assert_eq!(rt; *answer, pair.plain.step(step)?, "step {index}");
+    }
+    Ok(())
+}
+
+// A lot for 40 threads grows three times, to 128 buckets, where more than 21 are registered.
+#[test]
+fn long_lists_of_steps_are_those_of_the_plain_machine(rt: HostRuntime) -> Result<(), Fail> {
+    for seed in [1, 2, 3, 4, 5] {
+        let mut arbitrary = Arbitrary { state: seed };
+        let mut pair = Pair::new(rt.alloc(), 40)?;
+        for _ in 0..60 {
+            let steps = arbitrary.steps(rt.alloc(), 50)?;
+            check_run(&rt, rt.alloc(), &mut pair, steps.as_slice())?;
+            pair.compare(&rt, 41, KEYS.as_slice())?;
+        }
+        assert_eq!(rt; pair.lot.size(), 128);
+    }
+    Ok(())
+}

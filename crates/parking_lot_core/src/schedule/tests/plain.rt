@@ -1,0 +1,245 @@
+//! The machine of docs/MODEL.md, as slow and plain as it is told there: a list of thread numbers for
+//! each key, a status for each number, and the greatest number of threads.
+//!
+//! It knows no bucket, no node and no place, and no lot.
+
+use crate::lot::Status;
+use crate::schedule::tests::split::{Split, split_all, split_by, split_filter, split_first};
+use crate::schedule::{Answer, Op, Step};
+use lot_base::token::{NoMemory, RequeueOp, UnparkResult, UnparkToken};
+use std::alloc::Global;
+
+// The numbers of the threads that wait on a key, in order.
+#[derive(Drop)]
+struct List {
+    key: usize,
+    waiters: Vec<usize>,
+}
+
+// The numbers without this one.
+fn without(alloc: Global, waiters: &[usize], number: usize) -> Result<Vec<usize>, NoMemory> {
+    let mut others = Vec::new(alloc);
+    for waiter in waiters {
+        if *waiter != number {
+            others.push(*waiter)?;
+        }
+    }
+    Ok(others)
+}
+
+/// The plain machine.
+#[derive(Drop)]
+pub struct Plain {
+    alloc: Global,
+    lists: Vec<List>,
+    statuses: Vec<Status>,
+}
+
+impl Plain {
+    /// A machine for this many threads, with no registered thread and no waiter.
+    pub fn new(alloc: Global, max_threads: usize) -> Result<Plain, NoMemory> {
+        let mut statuses = Vec::new(alloc);
+        for _ in 0..max_threads {
+            statuses.push(Status::Free)?;
+        }
+        Ok(Plain {
+            alloc,
+            lists: Vec::new(alloc),
+            statuses,
+        })
+    }
+
+    /// The numbers of the threads that wait on the key, in order.
+    pub fn list(&self, key: usize) -> &[usize] {
+        for list in &self.lists {
+            if list.key == key {
+                return list.waiters.as_slice();
+            }
+        }
+        &[]
+    }
+
+    /// What the number is doing.
+    pub fn status(&self, number: usize) -> Status {
+        self.statuses.get(number).copied().unwrap_or(Status::Free)
+    }
+
+    /// Does the step by its rule.
+    pub fn step(&mut self, step: &Step) -> Result<Answer, NoMemory> {
+        match step {
+            Step::Register => Ok(self.register()),
+            Step::Retire { thread } => Ok(self.retire(*thread)),
+            Step::Enter {
+                thread,
+                key,
+                valid,
+                park_token: _,
+                timed,
+            } => self.enter(*thread, *key, *valid, *timed),
+            Step::Unpark(op) => self.unpark(op),
+            Step::Deadline { thread } => Ok(self.deadline(*thread)),
+            Step::Resolve { thread } => self.resolve(*thread),
+            Step::Return { thread } => Ok(self.give_back(*thread)),
+        }
+    }
+
+    fn set_status(&mut self, number: usize, status: Status) {
+        if let Some(old) = self.statuses.get_mut(number) {
+            *old = status;
+        }
+    }
+
+    fn set_list(&mut self, key: usize, waiters: Vec<usize>) -> Result<(), NoMemory> {
+        for list in &mut self.lists {
+            if list.key == key {
+                list.waiters = waiters;
+                return Ok(());
+            }
+        }
+        self.lists.push(List { key, waiters })?;
+        Ok(())
+    }
+
+    // Puts the numbers behind the list of the key.
+    fn append(&mut self, key: usize, numbers: &[usize]) -> Result<(), NoMemory> {
+        let mut all = Vec::new(self.alloc);
+        for number in self.list(key) {
+            all.push(*number)?;
+        }
+        for number in numbers {
+            all.push(*number)?;
+        }
+        self.set_list(key, all)
+    }
+
+    fn register(&mut self) -> Answer {
+        for (number, status) in self.statuses.iter_mut().enumerate() {
+            if *status == Status::Free {
+                *status = Status::Running;
+                return Answer::Registered(number);
+            }
+        }
+        Answer::Full
+    }
+
+    fn retire(&mut self, number: usize) -> Answer {
+        if self.status(number) != Status::Running {
+            return Answer::Misfit;
+        }
+        self.set_status(number, Status::Free);
+        Answer::Retired
+    }
+
+    fn enter(
+        &mut self,
+        number: usize,
+        key: usize,
+        valid: bool,
+        timed: bool,
+    ) -> Result<Answer, NoMemory> {
+        if self.status(number) != Status::Running {
+            return Ok(Answer::Misfit);
+        }
+        if !valid {
+            return Ok(Answer::Invalid);
+        }
+        self.append(key, [number].as_slice())?;
+        self.set_status(number, Status::Waiting { timed });
+        Ok(Answer::Entered)
+    }
+
+    fn deadline(&mut self, number: usize) -> Answer {
+        if self.status(number) != (Status::Waiting { timed: true }) {
+            return Answer::Misfit;
+        }
+        self.set_status(number, Status::Late);
+        Answer::Late
+    }
+
+    fn resolve(&mut self, number: usize) -> Result<Answer, NoMemory> {
+        if self.status(number) != Status::Late {
+            return Ok(self.give_back(number));
+        }
+        self.set_status(number, Status::Running);
+        for list in &mut self.lists {
+            if list.waiters.as_slice().contains(&number) {
+                list.waiters = without(self.alloc, list.waiters.as_slice(), number)?;
+                return Ok(Answer::TimedOut {
+                    key: list.key,
+                    last: list.waiters.is_empty(),
+                });
+            }
+        }
+        Ok(Answer::Misfit)
+    }
+
+    fn give_back(&mut self, number: usize) -> Answer {
+        let Status::Taken(token) = self.status(number) else {
+            return Answer::Misfit;
+        };
+        self.set_status(number, Status::Running);
+        Answer::Unparked(token)
+    }
+
+    fn unpark(&mut self, op: &Op) -> Result<Answer, NoMemory> {
+        match op {
+            Op::One { key, token } => {
+                let split = split_first(self.alloc, self.list(*key))?;
+                self.take(*key, split, *token)
+            }
+            Op::All { key, token } => {
+                let split = split_all(self.alloc, self.list(*key))?;
+                let count = split.taken.len();
+                self.take(*key, split, *token)?;
+                Ok(Answer::Count(count))
+            }
+            Op::Filter {
+                key,
+                decisions,
+                token,
+            } => {
+                let split = split_filter(self.alloc, decisions.as_slice(), self.list(*key))?;
+                self.take(*key, split, *token)
+            }
+            Op::Requeue {
+                from,
+                to,
+                op,
+                token,
+            } => self.requeue(*from, *to, *op, *token),
+        }
+    }
+
+    fn requeue(
+        &mut self,
+        from: usize,
+        to: usize,
+        op: RequeueOp,
+        token: UnparkToken,
+    ) -> Result<Answer, NoMemory> {
+        if op == RequeueOp::Abort {
+            return Ok(Answer::Unpark(UnparkResult::default()));
+        }
+        let split = split_by(self.alloc, op, self.list(from))?;
+        let answer = split.answer();
+        self.hand(split.taken.as_slice(), token);
+        self.set_list(from, split.left)?;
+        self.append(to, split.moved.as_slice())?;
+        Ok(answer)
+    }
+
+    // The threads that are taken get the token.
+    fn hand(&mut self, taken: &[usize], token: UnparkToken) {
+        for number in taken {
+            self.set_status(*number, Status::Taken(token));
+        }
+    }
+
+    // Hands the token to those that are taken, and leaves the others on the key.
+    fn take(&mut self, key: usize, split: Split, token: UnparkToken) -> Result<Answer, NoMemory> {
+        let answer = split.answer();
+        self.hand(split.taken.as_slice(), token);
+        self.set_list(key, split.left)?;
+        Ok(answer)
+    }
+}

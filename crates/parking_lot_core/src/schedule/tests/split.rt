@@ -1,0 +1,90 @@
+//! What each step makes of the waiters of a key: the table of docs/MODEL.md, on lists of thread numbers.
+
+use crate::schedule::Answer;
+use lot_base::token::{FilterOp, NoMemory, RequeueOp, UnparkResult};
+use std::alloc::Global;
+
+/// What becomes of the waiters of a key.
+#[derive(Drop)]
+pub struct Split {
+    pub taken: Vec<usize>,
+    pub moved: Vec<usize>,
+    pub left: Vec<usize>,
+}
+
+impl Split {
+    fn new(alloc: Global) -> Split {
+        Split {
+            taken: Vec::new(alloc),
+            moved: Vec::new(alloc),
+            left: Vec::new(alloc),
+        }
+    }
+
+    /// How many are taken, how many are moved, and whether one is left.
+    pub fn answer(&self) -> Answer {
+        Answer::Unpark(UnparkResult {
+            unparked_threads: self.taken.len(),
+            requeued_threads: self.moved.len(),
+            have_more_threads: !self.left.is_empty(),
+        })
+    }
+}
+
+/// The first waiter is taken, the others are left.
+pub fn split_first(alloc: Global, waiters: &[usize]) -> Result<Split, NoMemory> {
+    let mut split = Split::new(alloc);
+    for (index, number) in waiters.iter().enumerate() {
+        match index {
+            0 => split.taken.push(*number)?,
+            _ => split.left.push(*number)?,
+        }
+    }
+    Ok(split)
+}
+
+/// All waiters are taken.
+pub fn split_all(alloc: Global, waiters: &[usize]) -> Result<Split, NoMemory> {
+    let mut split = Split::new(alloc);
+    for number in waiters {
+        split.taken.push(*number)?;
+    }
+    Ok(split)
+}
+
+/// The decisions go with the waiters in order, up to the first stop. One without a decision is left.
+pub fn split_filter(
+    alloc: Global,
+    decisions: &[FilterOp],
+    waiters: &[usize],
+) -> Result<Split, NoMemory> {
+    let mut split = Split::new(alloc);
+    let mut stopped = false;
+    for (index, number) in waiters.iter().enumerate() {
+        let decision = decisions.get(index).copied().unwrap_or(FilterOp::Skip);
+        if decision == FilterOp::Stop {
+            stopped = true;
+        }
+        if decision == FilterOp::Unpark && !stopped {
+            split.taken.push(*number)?;
+        } else {
+            split.left.push(*number)?;
+        }
+    }
+    Ok(split)
+}
+
+/// Which part of a requeue a waiter belongs to depends on whether it is the first.
+pub fn split_by(alloc: Global, op: RequeueOp, waiters: &[usize]) -> Result<Split, NoMemory> {
+    let mut split = Split::new(alloc);
+    for (index, number) in waiters.iter().enumerate() {
+        let part = match (op, index) {
+            (RequeueOp::UnparkOneRequeueRest | RequeueOp::UnparkOne, 0) => &mut split.taken,
+            (RequeueOp::RequeueOne, 0) => &mut split.moved,
+            (RequeueOp::UnparkOneRequeueRest | RequeueOp::RequeueAll, _) => &mut split.moved,
+            (RequeueOp::UnparkOne | RequeueOp::RequeueOne | RequeueOp::Abort, _) => &mut split.left,
+        };
+        part.push(*number)?;
+    }
+    Ok(split)
+}
