@@ -200,34 +200,59 @@ impl Arbitrary {
     }
 }
 
+// Notes that an answer of this kind was given. There are eleven kinds beside a refusal of memory.
+fn note(seen: &mut [bool; 12], answer: Answer) {
+    let kind = match answer {
+        Answer::Registered(_) => 0,
+        Answer::Full => 1,
+        Answer::Retired => 2,
+        Answer::Entered => 3,
+        Answer::Invalid => 4,
+        Answer::Unpark(_) => 5,
+        Answer::Count(_) => 6,
+        Answer::Late => 7,
+        Answer::TimedOut { .. } => 8,
+        Answer::Unparked(_) => 9,
+        Answer::Misfit => 10,
+        Answer::NoMemory => 11,
+    };
+    seen[kind] = true;
+}
+
 // Runs the steps on the lot, and compares the answers with those of the plain machine.
 fn check_run(
     rt: &impl Abort,
     alloc: Global,
     pair: &mut Pair,
     steps: &[Step],
+    seen: &mut [bool; 12],
 ) -> Result<(), NoMemory> {
     let mut answers = Vec::new(alloc);
     run(&mut pair.lot, steps, &mut answers)?;
     assert_eq!(rt; answers.len(), steps.len());
     for (index, (step, answer)) in steps.iter().zip(&answers).enumerate() {
         assert_eq!(rt; *answer, pair.plain.step(step)?, "step {index}");
+        note(seen, *answer);
     }
     Ok(())
 }
 
-// A lot for 40 threads grows three times, to 128 buckets, where more than 21 are registered.
+// Five lists of 3000 steps. A lot for 40 threads grows three times, to 128 buckets, where more than
+// 21 are registered, and every kind of answer comes up but that of no memory.
 #[test]
 fn long_lists_of_steps_are_those_of_the_plain_machine(rt: HostRuntime) -> Result<(), Fail> {
+    let mut expected = [true; 12];
+    expected[11] = false;
     for seed in [1, 2, 3, 4, 5] {
         let mut arbitrary = Arbitrary { state: seed };
         let mut pair = Pair::new(rt.alloc(), 40)?;
+        let mut seen = [false; 12];
         for _ in 0..60 {
             let steps = arbitrary.steps(rt.alloc(), 50)?;
-            check_run(&rt, rt.alloc(), &mut pair, steps.as_slice())?;
+            check_run(&rt, rt.alloc(), &mut pair, steps.as_slice(), &mut seen)?;
             pair.compare(&rt, 41, KEYS.as_slice())?;
         }
-        assert_eq!(rt; pair.lot.size(), 128);
+        assert_eq!(rt; (pair.lot.size(), seen), (128, expected), "seed {seed}");
     }
     Ok(())
 }
