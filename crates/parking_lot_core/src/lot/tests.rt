@@ -353,3 +353,49 @@ fn a_refused_request_for_memory_changes_nothing(rt: HostRuntime) {
     assert!(rt; !(first && second));
     assert_eq!(rt; lot.status(0), Status::Waiting { timed: false });
 }
+
+// The keys 1 and 2 have places of their own in a table of 16.
+#[test]
+fn an_abort_leaves_the_lists_and_calls_nothing_back(rt: HostRuntime) -> Result<(), Fail> {
+    let mut lot = lot_with(rt.alloc(), 2)?;
+    enter(&rt, &mut lot, 0, 1);
+    enter(&rt, &mut lot, 1, 1);
+    let mut called = false;
+    let answer = lot.unpark_requeue(
+        1,
+        2,
+        || RequeueOp::Abort,
+        |_, _| {
+            called = true;
+            TOKEN
+        },
+    );
+    assert_eq!(rt; answer, UnparkResult::default());
+    assert!(rt; !called);
+    expect_list(&rt, &lot, 1, &[0, 1])?;
+    expect_list(&rt, &lot, 2, &[])?;
+    Ok(())
+}
+
+#[test]
+fn a_requeue_of_nobody_calls_back_with_the_default_result(rt: HostRuntime) -> Result<(), Fail> {
+    let mut lot = lot_with(rt.alloc(), 1)?;
+    enter(&rt, &mut lot, 0, 2);
+    let mut told = None;
+    let answer = lot.unpark_requeue(
+        1,
+        2,
+        || RequeueOp::RequeueAll,
+        |op, answer| {
+            told = Some((op, answer));
+            TOKEN
+        },
+    );
+    assert_eq!(rt; answer, UnparkResult::default());
+    assert_eq!(rt;
+        told,
+        Some((RequeueOp::RequeueAll, UnparkResult::default()))
+    );
+    expect_list(&rt, &lot, 2, &[0])?;
+    Ok(())
+}
