@@ -2,7 +2,6 @@
 use Rattle.std.proofs.Common.{◌≡◌, ◌≢◌, ℕ, ◌+◌, ◌<◌, ◌≤◌, ◌==◌, List, [], ◌∷◌, ◌++◌, length, length-append, get_or, map, drop, slice_set, All, refl, sym, ap, ◌∙◌, subst, ⊎_elim, arith, append_assoc, append-nil}
 use Rattle.std.proofs.lemmas.Bool.{cases_eq, ne_eqb, cond-false}
 use Rattle.std.proofs.lemmas.List.{get_or_read, length-set, map-set, drop-set, length-map}
-use Rattle.std.proofs.lemmas.List.Folds.{map_fixed}
 use Rattle.std.proofs.lemmas.List.Elements.{All-push, All-cons, All-head, All-tail, filter-append}
 use Rattle.lot_base.proofs.PlaceLemmas.{place_of-below}
 use Rattle.lot_base.specs.BucketState.{BucketState}
@@ -103,9 +102,6 @@ pub record IsGathered (told told_now row row_now : List BucketState) (place : �
   pub done : (k : ℕ) → place_of k (length told) < place → nodes_in row_now k ≡ nodes_in row k ++ nodes_in told k
   pub waiting : (k : ℕ) → place ≤ place_of k (length told) → nodes_in row_now k ≡ nodes_in row k
 
-pub IsGathered-start : (told row : List BucketState) → IsGathered told told row row 0
-IsGathered-start told row = record { later = λ i from. refl; done = λ k low. absurd (omega arith); waiting = λ k from. refl }
-
 pub IsGathered-step : (told told_now row row_now row_next : List BucketState) (place : ℕ) (left bucket : BucketState) → place < length told → IsRowOf (length told) told → bucket ≡ bucket_at told_now place → All (λ node. place_of node.key bucket.size ≡ bucket.place) bucket.nodes → ((k : ℕ) → nodes_in row_next k ≡ nodes_in row_now k ++ lists_of bucket.nodes k) → IsGathered told told_now row row_now place → IsGathered told (slice_set told_now place left) row row_next (place + 1)
 IsGathered-step told told_now row row_now row_next place left bucket below is_row read all moved gathered = record {
   later = λ i from. bucket_at-set_other told_now place left i (λ same. omega (arith, same)) ∙ gathered.later i (omega arith);
@@ -140,23 +136,12 @@ pub nodes_in-empty : (size : ℕ) (row : List BucketState) → AreEmpty size row
 nodes_in-empty size row empty k =
     ap (λ nodes. lists_of nodes k) (nodes-empty size row empty (place_of k (length row)))
 
-pub Represents-empty : (size : ℕ) (row : List BucketState) → AreEmpty size row → Represents row (waiters_in row)
-Represents-empty size row empty = record {
-  in_place = λ i low. subst (All (λ node. place_of node.key (length row) ≡ i)) (sym (nodes-empty size row empty i)) (λ k d low. absurd (omega arith));
-  in_order = λ key. refl;
-}
-
 -- a row that has the nodes of another one
 pub KeepsLists-from_nodes : (old new : List BucketState) → Represents new (waiters_in new) → ((k : ℕ) → nodes_in new k ≡ nodes_in old k) → KeepsLists old new
 KeepsLists-from_nodes old new represents same = record {
   nodes = same;
   represents = λ lists was. record { in_place = represents.in_place; in_order = λ key. was.in_order key ∙ ap (map waiter_of) (sym (same key)) };
 }
-
--- buckets are cells that tell themselves
-pub KeepsLists-buckets : (old new : List BucketState) → KeepsLists (map (λ bucket. bucket) old) (map (λ bucket. bucket) new) → KeepsLists old new
-KeepsLists-buckets old new kept =
-    rw (← map_fixed (λ bucket. bucket) old (λ k d low. refl), ← map_fixed (λ bucket. bucket) new (λ k d low. refl)) kept
 
 -- buckets that are swapped into their places from the last one on
 pub filled-step : {C : Type 0} (tell : C → BucketState) (row left : List BucketState) (cells : List C) (cell : C) (bucket : BucketState) → length left < length cells → tell cell ≡ bucket → left ++ bucket ∷ [] ++ drop (length (left ++ bucket ∷ [])) (map tell cells) ≡ row → left ++ drop (length left) (map tell (slice_set cells (length left) cell)) ≡ row

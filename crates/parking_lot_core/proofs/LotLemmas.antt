@@ -22,12 +22,12 @@ use Rattle.lot_base.specs.declared.token.UnparkToken.{UnparkToken}
 use Rattle.parking_lot_core.specs.declared.lot.Lot.TheInside.{Inside}
 use Rattle.parking_lot_core.specs.declared.lot.Status.TheVariants.{Free, Running, Waiting}
 use Rattle.parking_lot_core.specs.Committed.{committed, with_status, CanCommit}
-use Rattle.parking_lot_core.specs.Lot.{thread_at, free_thread, statuses, keys, machine, uses, use_of, IsLot}
+use Rattle.parking_lot_core.specs.Lot.{thread_at, free_thread, statuses, keys, machine, uses, IsLot}
 use Rattle.parking_lot_core.specs.LotState.{LotState, ThreadState}
 use Rattle.parking_lot_core.specs.Machine.{Waiter, Machine, StandRight, new_machine, is_queued, times_in, all_taken, turned, entered, unparked, moved_on, tokens_of, timed_out, StandsAt}
 use Rattle.parking_lot_core.specs.Represents.{bucket_at, with_node, waiter_of, waiters_in}
 use Rattle.parking_lot_core.specs.Table.{nodes_in, IsRowStep, KeepsLists}
-use Rattle.parking_lot_core.proofs.CommitLemmas.{statuses-set, uses-set, uses-same, use_of-queued, keys-set_other, keys-set_same, numbers-set, below_from_status, ne-free-queued, ne-free-running, length-committed, numbers-committed, keys-committed, statuses-committed, uses-committed, CanCommit-standing}
+use Rattle.parking_lot_core.proofs.CommitLemmas.{statuses-set, uses-same, use_of-queued, keys-set_other, keys-set_same, numbers-set, below_from_status, ne-free-queued, ne-free-running, length-committed, numbers-committed, keys-committed, statuses-committed, uses-committed, CanCommit-standing}
 use Rattle.parking_lot_core.proofs.MachineLemmas.{replaced-same, replaced-other, same_machine, times_in-append, times_in-not_own, is_queued-standing, StandsAt-standing, StandRight-turned, StandRight-entered, StandRight-moved_on, StandRight-timed_out, moved_on-unparked}
 use Rattle.parking_lot_core.proofs.RowLemmas.{IsRowStep-with_node, IsRowStep-put, All-nodes_in}
 
@@ -395,15 +395,6 @@ IsStepOfUse-timed_out lot number key before empty after is queued stands taking 
 -- the thread of a number that was read
 pub read_thread : (lot : LotState) (number : ℕ) (thread : ThreadState) → IsLot lot → thread ≡ thread_at lot.threads number → thread.number ≡ number
 read_thread lot number thread is read = ap (λ t. t.number) read ∙ is.numbers number
-
--- one thread is turned, and the uses are as the table has them
-pub record IsTurn (lot : LotState) (number : ℕ) (thread : ThreadState) : Type 0 where
-  pub step : IsStep (record lot { threads = slice_set lot.threads number thread }) (turned (machine lot) number thread.status)
-  pub uses : uses (slice_set lot.threads number thread) ≡ slice_set (uses lot.threads) number (use_of thread.status)
-
-pub IsTurn-of : (lot : LotState) (number : ℕ) (thread : ThreadState) → IsLot lot → number < length lot.threads → thread.number ≡ number → is_queued thread.status ≡ is_queued (statuses lot.threads number) → thread.key ≡ keys lot.threads number ⊎ is_queued thread.status ≡ false → IsTurn lot number thread
-IsTurn-of lot number thread is below own queued key =
-    record { step = IsStep-turned lot number thread is below own queued key; uses = uses-set lot.threads number thread }
 
 -- a table of empty buckets and free numbers
 pub IsStep-new : (row : List BucketState) (max_threads : ℕ) → ((i : ℕ) → (bucket_at row i).nodes ≡ []) → IsStep (record { buckets = row; threads = map free_thread (range_with_len 0 max_threads) }) (new_machine max_threads)

@@ -104,6 +104,3 @@ IsRowStep-with_node row node table represents = record {
 
     after : BucketState
     after = record (bucket_at row place) { nodes = (bucket_at row place).nodes ++ node ∷ [] }
-
-pub IsTableSize-16 : IsTableSize 16
-IsTableSize-16 = record { bits = 4; at_least_4 = omega arith; at_most_16 = omega arith; is_power = refl }

@@ -37,13 +37,6 @@ AreEmpty-push size row bucket is empty i low =
     within : i ≢ length row → i < length row
     within other = omega (arith, length-append row (bucket ∷ []))
 
-pub IsRowOf-empty : (size : ℕ) (row : List BucketState) → length row ≡ size → AreEmpty size row → IsRowOf size row
-IsRowOf-empty size row count empty = record {
-  count = count;
-  places = λ i low. ap (λ b. b.place) (empty i (omega arith));
-  sizes = λ i low. ap (λ b. b.size) (empty i (omega arith));
-}
-
 pub nodes-empty : (size : ℕ) (row : List BucketState) → AreEmpty size row → (i : ℕ) → (bucket_at row i).nodes ≡ []
 nodes-empty size row empty i =
     ⊎_elim (λ (low : i < length row). ap (λ b. b.nodes) (empty i low))

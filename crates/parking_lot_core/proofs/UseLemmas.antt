@@ -129,8 +129,3 @@ uses-free a (suc n) = ap (λ rest. Free ∷ rest) (uses-free (a + 1) n)
 pub IsLeastFree-given : (lot : LotState) (numbers : List Use) (number : ℕ) → numbers ≡ uses lot.threads → IsLeastFreeOf numbers number → IsLeastFree (machine lot) number
 IsLeastFree-given lot numbers number same least =
     IsLeastFree-use lot number (subst (λ n. IsLeastFreeOf n number) same least)
-
--- a table that does not count all of them is not full
-pub not_full : (lot : LotState) (numbers : List Use) (registered all : ℕ) → numbers ≡ uses lot.threads → registered ≡ count_registered numbers → all ≡ length lot.threads → registered ≢ all → IsFull (machine lot) → ⊥
-not_full lot numbers registered all same counts lengths fewer full =
-    fewer (counts ∙ ap count_registered same ∙ counted-IsFull lot full ∙ sym lengths)
