@@ -1,5 +1,6 @@
 -- A chain of nodes, and calls of a closure at each.
-use Rattle.std.proofs.Common.{◌≡◌, ℕ, List, [], ◌∷◌, ◌++◌, Option, Some, Box, Vec, Result, Ok, Err, IfOk, IsOkAnd, OnOk, OnErr, IsTrue, map, refl, ap, subst, ◌==◌}
+use Rattle.std.proofs.Common.{◌≡◌, ℕ, List, [], ◌∷◌, ◌++◌, Option, Some, Box, Vec, Result, Ok, Err, IfOk, IsOkAnd, OnOk}
+use Rattle.std.proofs.Common.{OnErr, IsTrue, map, refl, ap, subst, ◌==◌}
 use Rattle.std.proofs.lemmas.Bool.{eq-eqb}
 use Rattle.std.proofs.lemmas.List.{map-append}
 use Rattle.std.proofs.lemmas.List.Elements.{filter-append}
@@ -12,7 +13,8 @@ use Rattle.lot_base.specs.declared.token.NoMemory.{NoMemory}
 use Rattle.lot_base.specs.Fold.{CanFold, Folds, CalledAtNode}
 use Rattle.lot_base.specs.Node.{fields, nodes_from, chain}
 use Rattle.lot_base.specs.NodeFields.{NodeFields}
-use Rattle.lot_base.specs.Waiting.{lists_of, has_any}
+use Rattle.lot_base.specs.Waiting.{has_any}
+use Rattle.lot_base.specs.NodeLists.{lists_of}
 use denote.Ref.{Bor}
 
 -- the first node, and the chain behind it
@@ -22,24 +24,30 @@ nodes_from-link (Node' number key park_token unpark_token timed None') = refl
 nodes_from-link (Node' number key park_token unpark_token timed (Some' p node)) = refl
 
 -- the same, where the first node was looked at
-pub chain-first : (rest : Option (Box Node Global)) (held : Box Node Global) (first second : Node) → rest ≡ Some held → first ≡ held.value → second ≡ held.value → chain rest ≡ fields first ∷ chain (out-Node second).link
+pub chain-first : (rest : Option (Box Node Global)) (held : Box Node Global) (first second : Node) → rest ≡ Some held
+    → first ≡ held.value → second ≡ held.value → chain rest ≡ fields first ∷ chain (out-Node second).link
 chain-first rest held first second is at_first at_second = rw (is, at_first, at_second) (nodes_from-link held.value)
 
 module _ {F B : Type 0} (g : Mut F (B × (Bor Node × Unit {0})) B) where
   -- the first call may be made
-  pub CanFold-first : (f : F) (start : B) (first : Bor Node) (behind : List NodeFields) → CanFold g f start (fields first.now ∷ behind) → g.pre f (start, (first, tt))
+  pub CanFold-first : (f : F) (start : B) (first : Bor Node) (behind : List NodeFields)
+      → CanFold g f start (fields first.now ∷ behind) → g.pre f (start, (first, tt))
   CanFold-first f start first behind can = can.at [] f start first behind refl (record { calls = refl })
 
   -- and after it the others
-  pub CanFold-behind : (f f' : F) (start next : B) (first : NodeFields) (behind : List NodeFields) → CalledAtNode g f start first next f' → CanFold g f start (first ∷ behind) → CanFold g f' next behind
+  pub CanFold-behind : (f f' : F) (start next : B) (first : NodeFields) (behind : List NodeFields)
+      → CalledAtNode g f start first next f' → CanFold g f start (first ∷ behind) → CanFold g f' next behind
   CanFold-behind f f' start next first behind call can = record {
-    at = λ before f'' answer shown rest is folds. can.at (first ∷ before) f'' answer shown rest (ap (λ nodes. first ∷ nodes) is) (record { calls = ((f', next), call, folds.calls) });
+    at = λ before f'' answer shown rest is folds. can.at (first ∷ before) f'' answer shown rest
+        (ap (λ nodes. first ∷ nodes) is) (record { calls = ((f', next), call, folds.calls) });
   }
 
   -- what each call keeps, of the nodes so far and the answer, holds of all nodes and the result
   pub Folds-same : (J : List NodeFields → B → Type 0) (f : F)
-      → ((seen : List NodeFields) (answer : B) (shown : Bor Node) (next : B) (f' : F) → J seen answer → Called g f (answer, (shown, tt)) next f' → J (seen ++ fields shown.now ∷ []) next × (f' ≡ f))
-      → (start : B) (nodes : List NodeFields) (last : F) (result : B) → J [] start → Folds g f start nodes last result → J nodes result
+      → ((seen : List NodeFields) (answer : B) (shown : Bor Node) (next : B) (f' : F) → J seen answer
+      → Called g f (answer, (shown, tt)) next f' → J (seen ++ fields shown.now ∷ []) next × (f' ≡ f))
+      → (start : B) (nodes : List NodeFields) (last : F) (result : B) → J [] start → Folds g f start nodes last result
+      → J nodes result
   Folds-same J f step start nodes last result at_start folds =
       (chained_keeps {P = F × B} (λ p node q. CalledAtNode g p.0 p.1 node q.1 q.0) (λ seen p. J seen p.1 × (p.0 ≡ f))
       (λ seen q node p kept call.
@@ -64,7 +72,11 @@ pub numbers-next : (key : ℕ) (seen : List NodeFields) (node : NodeFields) (bef
 numbers-next key seen node before (Err e) at_before grown = tt
 numbers-next key seen node (Err d) (Ok new) at_before grown = absurd grown
 numbers-next key seen node (Ok old) (Ok new) at_before grown =
-    rw (filter-append (λ (x : NodeFields). x.key == key) seen (node ∷ []), map-append (λ (x : NodeFields). x.number) (lists_of seen key) (lists_of (node ∷ []) key), ← at_before) grown
+    rw (
+      filter-append (λ (x : NodeFields). x.key == key) seen (node ∷ []),
+      map-append (λ (x : NodeFields). x.number) (lists_of seen key) (lists_of (node ∷ []) key),
+      ← at_before,
+    ) grown
 
 -- a list that is refused at a waiter, or was refused before
 pub refused-next : (key : ℕ) (seen : List NodeFields) (node : NodeFields) (before next : Result (Vec ℕ Global) NoMemory)
@@ -73,6 +85,8 @@ pub refused-next : (key : ℕ) (seen : List NodeFields) (node : NodeFields) (bef
     → OnErr next (IsTrue (has_any (lists_of (seen ++ node ∷ []) key)))
 refused-next key seen node before (Ok new) at_before refused = tt
 refused-next key seen node (Ok old) (Err e) at_before refused =
-    rw (filter-append (λ (x : NodeFields). x.key == key) seen (node ∷ [])) (has_any-append_right (lists_of seen key) (lists_of (node ∷ []) key) (rw (eq-eqb node.key key refused) refl))
+    rw (filter-append (λ (x : NodeFields). x.key == key) seen (node ∷ []))
+    (has_any-append_right (lists_of seen key) (lists_of (node ∷ []) key) (rw (eq-eqb node.key key refused) refl))
 refused-next key seen node (Err d) (Err e) at_before refused =
-    rw (filter-append (λ (x : NodeFields). x.key == key) seen (node ∷ [])) (has_any-append_left (lists_of seen key) (lists_of (node ∷ []) key) at_before)
+    rw (filter-append (λ (x : NodeFields). x.key == key) seen (node ∷ []))
+    (has_any-append_left (lists_of seen key) (lists_of (node ∷ []) key) at_before)

@@ -1,4 +1,5 @@
 pub mod PlaceLemmas
+pub mod ValueLemmas
 pub mod WaitingLemmas
 pub mod FoldLemmas
 pub mod FilterLemmas

@@ -1,28 +1,23 @@
 -- The calls of a filter at the park tokens of the waiters of a key.
-use Rattle.std.specs.Prelude.{◌≡◌, List, [], ◌∷◌, map, ⊤}
+use Rattle.std.specs.Prelude.{◌≡◌, ◌≢◌, List, ◌∷◌, map, ⊤, []}
 use Rattle.std.specs.Fn.{Mut, Called}
 use Rattle.lot_base.specs.declared.token.ParkToken.{ParkToken}
 use Rattle.lot_base.specs.declared.token.FilterOp.{FilterOp}
-use Rattle.lot_base.specs.declared.token.FilterOp.TheVariants.{Unpark, Skip, Stop}
+use Rattle.lot_base.specs.declared.token.FilterOp.TheVariants.{Stop}
 use Rattle.lot_base.specs.NodeFields.{NodeFields}
 
--- one fact at `Stop`, and another at each other decision
-abbrev pub IfStop : FilterOp → Type 0 → Type 0 → Type 0
-IfStop Stop P Q = P
-IfStop Unpark P Q = Q
-IfStop Skip P Q = Q
-
--- the park tokens of waiters, in order
+-- the park tokens of nodes, in order
 abbrev pub park_tokens : List NodeFields → List ParkToken
-park_tokens waiters = map (λ waiter. waiter.park_token) waiters
+park_tokens nodes = map (λ node. node.park_token) nodes
 
 module _ {F : Type 0} (calls : Mut F (ParkToken × Unit {0}) FilterOp) where
   -- the filter may be called with these park tokens in order, until it answers `Stop`
-  abbrev pub TakesUntilStop : F → List ParkToken → Type 0
-  TakesUntilStop filter [] = ⊤
-  TakesUntilStop filter (token ∷ tokens) =
+  abbrev pub IsFilterCallable : F → List ParkToken → Type 0
+  IsFilterCallable filter [] = ⊤
+  IsFilterCallable filter (token ∷ tokens) =
       calls.pre filter (token, tt)
-      × ((decision : FilterOp) (next : F) → Called calls filter (token, tt) decision next → IfStop decision ⊤ (TakesUntilStop next tokens))
+      × ((decision : FilterOp) (next : F) → Called calls filter (token, tt) decision next → decision ≢ Stop
+      → IsFilterCallable next tokens)
 
   -- it was called so, and these are its answers, up to and with its first `Stop` or else one for each token
   abbrev pub IsFiltered : F → List ParkToken → List FilterOp → Type 0
@@ -31,4 +26,5 @@ module _ {F : Type 0} (calls : Mut F (ParkToken × Unit {0}) FilterOp) where
   IsFiltered filter (token ∷ tokens) (decision ∷ decisions) =
       (next : F)
       × Called calls filter (token, tt) decision next
-      × IfStop decision (decisions ≡ []) (IsFiltered next tokens decisions)
+      × (decision ≡ Stop → decisions ≡ [])
+      × (decision ≢ Stop → IsFiltered next tokens decisions)

@@ -8,7 +8,8 @@ use Rattle.lot_base.specs.NodeFields.{NodeFields}
 use denote.Ref.{Bor}
 
 module _ {F B : Type 0} (g : Mut F (B × (Bor Node × Unit {0})) B) where
-  -- f, called with the answer so far and a `&` to a node of these fields, may give the next answer and be f' from then on
+  -- f, called with the answer so far and a `&` to a node of these fields, may give the next answer
+  -- and be f' from then on
   pub record CalledAtNode (f : F) (answer : B) (node : NodeFields) (next : B) (f' : F) : Type 0 where
     pub shown : Bor Node
     pub shows : fields shown.now ≡ node

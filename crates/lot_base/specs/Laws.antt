@@ -1,52 +1,71 @@
--- What the definitions of `Waiting` and `Spread` give for every list of waiters.
-use Rattle.std.specs.Prelude.{◌≡◌, ℕ, false, ◌≤◌, List, [], ◌∷◌, ◌++◌, length, map, replicate, All, Contains}
+-- What the definitions of `Waiting`, `NodeLists` and `Spread` give for every list of waiters.
+use Rattle.std.specs.Prelude.{◌≡◌, ℕ, false, ◌≤◌, List, ◌∷◌, ◌++◌, length, map, replicate, ◌⊎◌, []}
 use Rattle.lot_base.specs.declared.token.FilterOp.{FilterOp}
 use Rattle.lot_base.specs.declared.token.FilterOp.TheVariants.{Unpark, Stop}
 use Rattle.lot_base.specs.declared.token.RequeueOp.{RequeueOp}
-use Rattle.lot_base.specs.declared.token.RequeueOp.TheVariants.{RequeueAll}
+use Rattle.lot_base.specs.declared.token.RequeueOp.TheVariants.{Abort, RequeueAll}
 use Rattle.lot_base.specs.declared.token.UnparkToken.{UnparkToken}
 use Rattle.lot_base.specs.NodeFields.{NodeFields}
-use Rattle.lot_base.specs.Waiting.{lists_of, Split, split_first, split_all, split_by, split_filter, requeued, with_new_key, with_token, answer_of, count_of}
-use Rattle.lot_base.specs.Spread.{with_entered, spread}
+use Rattle.lot_base.specs.Waiting.{Split, split_first, split_all, split_by, split_filter, lists_after_requeue}
+use Rattle.lot_base.specs.NodeLists.{lists_of}
+use Rattle.lot_base.specs.Waiting.{result_of}
+use Rattle.lot_base.specs.NodeLists.{with_new_key, with_token}
+use Rattle.lot_base.specs.Spread.{with_entered, with_all_entered}
 
--- a filter that says `Unpark` to each waiter takes them all
-abbrev pub UnparkEachTakesAll : Type 0
-UnparkEachTakesAll = (waiters : List NodeFields) (n : ℕ) → length waiters ≤ n → split_filter (replicate n Unpark) waiters ≡ split_all waiters
+-- a list is made of two others, each of which keeps its order
+abbrev pub IsMerge : {A : Type 0} → List A → List A → List A → Type 0
+IsMerge xs ys [] = (xs ≡ []) × (ys ≡ [])
+IsMerge {A} xs ys (z ∷ zs) =
+    ((rest : List A) × (xs ≡ z ∷ rest) × IsMerge rest ys zs) ⊎ ((rest : List A) × (ys ≡ z ∷ rest) × IsMerge xs rest zs)
 
--- one that says `Unpark` and then `Stop` takes the first, if there is one
-abbrev pub UnparkThenStopTakesFirst : Type 0
-UnparkThenStopTakesFirst = (waiters : List NodeFields) (decisions : List FilterOp) → split_filter (Unpark ∷ Stop ∷ decisions) waiters ≡ split_first waiters
+module _ (A : Type 0) where
+  -- a filter that says `Unpark` to each waiter takes them all
+  abbrev pub UnparkEachTakesAll : Type 0
+  UnparkEachTakesAll = (waiters : List A) (n : ℕ) → length waiters ≤ n
+      → split_filter (replicate n Unpark) waiters ≡ split_all waiters
 
--- all waiters of a key that are requeued to the same key stay as they are
-abbrev pub RequeueToItselfKeepsLists : Type 0
-RequeueToItselfKeepsLists = (nodes : List NodeFields) (key k : ℕ) →
-    let split : Split NodeFields = split_by RequeueAll (lists_of nodes key) in
-    requeued (lists_of nodes) key key split.left (map (with_new_key key) split.moved) k ≡ lists_of nodes k
+  -- one that says `Unpark` and then `Stop` takes the first, if there is one
+  abbrev pub UnparkThenStopTakesFirst : Type 0
+  UnparkThenStopTakesFirst = (waiters : List A) (decisions : List FilterOp)
+      → split_filter (Unpark ∷ Stop ∷ decisions) waiters ≡ split_first waiters
 
--- the same of any lists, where no node has to be given the key
-abbrev pub RequeueToItselfKeepsAnyLists : Type 0
-RequeueToItselfKeepsAnyLists = (lists : ℕ → List NodeFields) (key k : ℕ) →
-    let split : Split NodeFields = split_by RequeueAll (lists key) in requeued lists key key split.left split.moved k ≡ lists k
+  -- each waiter that a filter decides on is taken or left, both in order, and none is moved
+  abbrev pub FilterSplitsInOrder : Type 0
+  FilterSplitsInOrder = (decisions : List FilterOp) (waiters : List A) →
+      let split : Split A = split_filter decisions waiters in
+      IsMerge split.taken split.left waiters × (split.moved ≡ [])
 
--- a requeue of all counts each, and has none left
-abbrev pub RequeueAllCountsEach : Type 0
-RequeueAllCountsEach = (waiters : List NodeFields) →
-    answer_of (split_by RequeueAll waiters) ≡ record { unparked_threads = 0; requeued_threads = count_of waiters; have_more_threads = false }
+  -- those that an unpark of the first, or of all, takes and leaves are the old waiters in order
+  abbrev pub UnparkSplitsInOrder : Type 0
+  UnparkSplitsInOrder = (waiters : List A) →
+      ((split_first waiters).taken ++ (split_first waiters).left ≡ waiters)
+      × ((split_all waiters).taken ++ (split_all waiters).left ≡ waiters)
 
--- a requeue's taken, moved and left are the old waiters, unchanged and in order
-abbrev pub RequeueSplitsInOrder : Type 0
-RequeueSplitsInOrder = (op : RequeueOp) (waiters : List NodeFields) →
-    let split : Split NodeFields = split_by op waiters in split.taken ++ split.moved ++ split.left ≡ waiters
+  -- so are those that a requeue takes, moves and leaves
+  abbrev pub RequeueSplitsInOrder : Type 0
+  RequeueSplitsInOrder = (op : RequeueOp) (waiters : List A) →
+      let split : Split A = split_by op waiters in split.taken ++ split.moved ++ split.left ≡ waiters
 
--- so are those of an unpark of the first, and of all
-abbrev pub UnparkSplitsInOrder : Type 0
-UnparkSplitsInOrder = (waiters : List NodeFields) →
-    ((split_first waiters).taken ++ (split_first waiters).left ≡ waiters) × ((split_all waiters).taken ++ (split_all waiters).left ≡ waiters)
+  -- an abort changes no list
+  abbrev pub AbortKeepsLists : Type 0
+  AbortKeepsLists = (lists : ℕ → List A) (from to k : ℕ)
+      → lists_after_requeue lists from to (split_by Abort (lists from)) k ≡ lists k
 
--- each waiter that a filter takes or leaves is one of the old, unchanged
-abbrev pub FilterKeepsWaiters : Type 0
-FilterKeepsWaiters = (decisions : List FilterOp) (waiters : List NodeFields) →
-    All (Contains waiters) (split_filter decisions waiters).taken × All (Contains waiters) (split_filter decisions waiters).left
+  -- a requeue of all to the same key changes no list
+  abbrev pub RequeueToItselfKeepsLists : Type 0
+  RequeueToItselfKeepsLists = (lists : ℕ → List A) (key k : ℕ)
+      → lists_after_requeue lists key key (split_by RequeueAll (lists key)) k ≡ lists k
+
+  -- a requeue of all counts each, and has none left
+  abbrev pub RequeueAllCountsEach : Type 0
+  RequeueAllCountsEach = (waiters : List A) →
+      result_of (split_by RequeueAll waiters)
+      ≡ record { unparked_threads = 0; requeued_threads = length waiters; have_more_threads = false }
+
+-- nodes that are given the key that they have stay as they are
+abbrev pub OwnKeyChangesNothing : Type 0
+OwnKeyChangesNothing = (nodes : List NodeFields) (key : ℕ)
+    → map (with_new_key key) (lists_of nodes key) ≡ lists_of nodes key
 
 -- a new key and a new unpark token leave the park token
 abbrev pub ParkTokenStays : Type 0
@@ -55,8 +74,11 @@ ParkTokenStays = (node : NodeFields) (key : ℕ) (token : UnparkToken) →
 
 -- a node that is put behind others stands last in the list of its key, and no other list changes
 abbrev pub EnteredStandsLast : Type 0
-EnteredStandsLast = (nodes : List NodeFields) (node : NodeFields) (k : ℕ) → lists_of (nodes ++ node ∷ []) k ≡ with_entered (lists_of nodes) node k
+EnteredStandsLast = (nodes : List NodeFields) (node : NodeFields) (k : ℕ)
+    → lists_of (nodes ++ node ∷ []) k ≡ with_entered (lists_of nodes) node k
 
--- nodes that are entered one by one stand behind those that were there, each key's in their order
-abbrev pub SpreadKeepsOrder : Type 0
-SpreadKeepsOrder = (lists : ℕ → List NodeFields) (nodes : List NodeFields) (k : ℕ) → spread lists nodes k ≡ lists k ++ lists_of nodes k
+-- nodes that are entered one by one, the first first, keep the order of each key
+abbrev pub EnteringKeepsOrder : Type 0
+EnteringKeepsOrder = (lists : ℕ → List NodeFields) (nodes : List NodeFields) (node : NodeFields) (k : ℕ) →
+    (with_all_entered lists [] k ≡ lists k)
+    × (with_all_entered lists (node ∷ nodes) k ≡ with_all_entered (with_entered lists node) nodes k)

@@ -1,12 +1,19 @@
-pub mod NodeFields
-pub mod Node
-pub mod Fold
-pub mod SlotState
-pub mod Place
+-- In the order of reading, after the types of src/token.rt. First the lists of waiters of all keys, and what a step on
+-- one does: what the machine's rules and the buckets' contracts both say.
 pub mod Waiting
+-- Then nodes, one for each registered thread, and their lists.
+pub mod NodeFields
+pub mod NodeLists
+pub mod Spread
+pub mod Laws
+-- Then a bucket, which is a place in a table with the nodes that wait there, and a slot, in which a thread finds its
+-- node when it was unparked.
+pub mod Place
+pub mod BucketState
+pub mod SlotState
+-- Then what closures are asked and how they were called.
 pub mod Filter
 pub mod Requeue
-pub mod Spread
-pub mod BucketState
-pub mod BucketFacts
-pub mod Laws
+pub mod Fold
+-- Last what the type of a queue holds.
+pub mod Node

@@ -1,5 +1,5 @@
 -- What contracts see of a node, and of a chain of nodes.
-use Rattle.std.specs.Prelude.{ℕ, false, List, [], ◌∷◌, Option, Some, None, Box}
+use Rattle.std.specs.Prelude.{ℕ, false, List, ◌∷◌, Option, Some, None, Box, []}
 use Rattle.std.specs.declared.alloc.Global.{Global}
 use Rattle.lot_base.specs.declared.queue.Node.{Node, Node', Held-Node-link, None', Some'}
 use Rattle.lot_base.specs.NodeFields.{NodeFields}
@@ -18,7 +18,8 @@ new_node number =
 abbrev mutual
   pub nodes_from : Node → List NodeFields
   nodes_from (Node' number key park_token unpark_token timed link) =
-      record { number = number; key = key; park_token = park_token; unpark_token = unpark_token; timed = timed } ∷ nodes_behind link
+      record { number = number; key = key; park_token = park_token; unpark_token = unpark_token; timed = timed }
+      ∷ nodes_behind link
 
   pub nodes_behind : Held-Node-link → List NodeFields
   nodes_behind None' = []
@@ -29,7 +30,7 @@ abbrev pub chain : Option (Box Node Global) → List NodeFields
 chain None = []
 chain (Some held) = nodes_from held.value
 
--- the node that a call may have given
+-- the node that a call may have given, without what is behind it
 abbrev pub option_nodes : Option (Box Node Global) → List NodeFields
 option_nodes None = []
 option_nodes (Some held) = fields held.value ∷ []

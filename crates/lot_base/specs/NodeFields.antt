@@ -3,7 +3,9 @@ use Rattle.std.specs.Prelude.{ℕ, Bool}
 use Rattle.lot_base.specs.declared.token.ParkToken.{ParkToken}
 use Rattle.lot_base.specs.declared.token.UnparkToken.{UnparkToken}
 
--- the five public fields of a node
+-- the five public fields of a node, which stands for its thread in a queue: the thread's number, the key that it
+-- waits on or waited on last, what a filter is shown of it, what it was handed when it was unparked last, and whether
+-- it waits with a timeout
 pub record NodeFields : Type 0 where
   pub number : ℕ
   pub key : ℕ

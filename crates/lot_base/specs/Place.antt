@@ -8,6 +8,7 @@ pub record IsTableSize (size : ℕ) : Type 0 where
   pub at_most_16 : bits ≤ 16
   pub is_power : size ≡ 2 ^ bits
 
--- the place of a key in a table of 2 ^ bits buckets: the highest bits of a product
+-- the place of a key in a table of this many buckets, which are 2 ^ bits: the highest bits of its product with
+-- upstream's multiplier; the contract of `bucket::place` shows that it is below the size
 abbrev pub place_of : ℕ → ℕ → ℕ
 place_of key size = key * 0x9E3779B97F4A7C15 % 2 ^ 64 / (2 ^ 64 / size)

@@ -1,20 +1,16 @@
--- The lists of waiters of all keys, and what an unpark takes of the list of one.
-use Rattle.std.specs.Prelude.{ℕ, Bool, true, false, ◌==◌, if◌then◌else◌, min, ◌-◌, ◌^◌, List, [], ◌∷◌, ◌++◌, length, take, drop, filter}
+-- What a step takes, moves and leaves of the waiters of a key, in which order, and what it answers. Waiters may be
+-- anything here: a bucket's nodes, or the machine's waiters.
+use Rattle.std.specs.Prelude.{ℕ, Bool, true, false, ◌==◌, if◌then◌else◌, List, ◌∷◌, ◌++◌, length, take, drop, []}
 use Rattle.lot_base.specs.declared.token.UnparkResult.{UnparkResult}
-use Rattle.lot_base.specs.declared.token.UnparkToken.{UnparkToken}
 use Rattle.lot_base.specs.declared.token.RequeueOp.{RequeueOp}
-use Rattle.lot_base.specs.declared.token.RequeueOp.TheVariants.{Abort, UnparkOneRequeueRest, RequeueAll, UnparkOne, RequeueOne}
+use Rattle.lot_base.specs.declared.token.RequeueOp.TheVariants.{Abort, UnparkOneRequeueRest, RequeueAll, UnparkOne}
+use Rattle.lot_base.specs.declared.token.RequeueOp.TheVariants.{RequeueOne}
 use Rattle.lot_base.specs.declared.token.FilterOp.{FilterOp}
 use Rattle.lot_base.specs.declared.token.FilterOp.TheVariants.{Unpark, Skip, Stop}
-use Rattle.lot_base.specs.NodeFields.{NodeFields}
 
--- the list of each key: the nodes that wait on it, in order
-abbrev pub lists_of : List NodeFields → ℕ → List NodeFields
-lists_of nodes key = filter (λ node. node.key == key) nodes
-
--- the same for every key but one
-abbrev pub replaced : {A : Type 0} → (ℕ → A) → ℕ → A → ℕ → A
-replaced all key one k = if k == key then one else all k
+-- a function with another value at one argument: the lists of all keys, one of them another list
+abbrev pub with_value : {A : Type 0} → (ℕ → A) → ℕ → A → ℕ → A
+with_value f key value k = if k == key then value else f k
 
 -- what becomes of the waiters of a key: some are taken, some are moved to another key, the others are left
 pub record Split (A : Type 0) : Type 0 where
@@ -22,68 +18,65 @@ pub record Split (A : Type 0) : Type 0 where
   pub moved : List A
   pub left : List A
 
--- the first waiter is taken
+-- all of them are left
+abbrev pub split_none : {A : Type 0} → List A → Split A
+split_none waiters = record { taken = []; moved = []; left = waiters }
+
+-- an unpark of one takes the first
 abbrev pub split_first : {A : Type 0} → List A → Split A
 split_first waiters = record { taken = take 1 waiters; moved = []; left = drop 1 waiters }
 
--- how many there are, as far as the code can count
-abbrev pub count_of : {A : Type 0} → List A → ℕ
-count_of waiters = min (length waiters) (2 ^ 64 - 1)
+-- an unpark of all takes each
+abbrev pub split_all : {A : Type 0} → List A → Split A
+split_all waiters = record { taken = waiters; moved = []; left = [] }
+
+-- a filter decides on each in order, up to its first `Stop`; one without a decision is left
+abbrev pub split_filter : {A : Type 0} → List FilterOp → List A → Split A
+split_filter [] waiters = split_none waiters
+split_filter (_ ∷ _) [] = split_none []
+split_filter (Unpark ∷ decisions) (waiter ∷ waiters) =
+    let rest = split_filter decisions waiters in record rest { taken = waiter ∷ rest.taken }
+split_filter (Skip ∷ decisions) (waiter ∷ waiters) =
+    let rest = split_filter decisions waiters in record rest { left = waiter ∷ rest.left }
+split_filter (Stop ∷ _) (waiter ∷ waiters) = split_none (waiter ∷ waiters)
+
+-- a requeue does what its operation says: nothing at `Abort`; else it takes or moves the first, and moves or leaves
+-- the others
+abbrev pub split_by : {A : Type 0} → RequeueOp → List A → Split A
+split_by Abort waiters = split_none waiters
+split_by UnparkOneRequeueRest waiters = record { taken = take 1 waiters; moved = drop 1 waiters; left = [] }
+split_by RequeueAll waiters = record { taken = []; moved = waiters; left = [] }
+split_by UnparkOne waiters = split_first waiters
+split_by RequeueOne waiters = record { taken = []; moved = take 1 waiters; left = drop 1 waiters }
+
+-- the lists after a requeue: first the one key keeps what is left, and then those that moved stand behind the others
+-- of the second, which may be the same key
+abbrev pub lists_after_requeue : {A : Type 0} → (ℕ → List A) → ℕ → ℕ → Split A → ℕ → List A
+lists_after_requeue {A} lists from to split =
+    let kept : ℕ → List A = with_value lists from split.left in with_value kept to (kept to ++ split.moved)
 
 -- whether there are any
 abbrev pub has_any : {A : Type 0} → List A → Bool
 has_any [] = false
 has_any (_ ∷ _) = true
 
--- how many were taken, how many were moved, and whether one is left
-abbrev pub answer_of : {A : Type 0} → Split A → UnparkResult
-answer_of split =
-    record { unparked_threads = count_of split.taken; requeued_threads = count_of split.moved; have_more_threads = has_any split.left }
+-- the result of an unpark: how many were taken, how many were moved, and whether one is left; those that moved do not
+-- count as left, also where they moved to the same key
+abbrev pub result_of : {A : Type 0} → Split A → UnparkResult
+result_of split =
+    record {
+      unparked_threads = length split.taken;
+      requeued_threads = length split.moved;
+      have_more_threads = has_any split.left;
+    }
 
--- a node that was handed a token
-abbrev pub with_token : UnparkToken → NodeFields → NodeFields
-with_token token node = record node { unpark_token = token }
-
--- every waiter is taken
-abbrev pub split_all : {A : Type 0} → List A → Split A
-split_all waiters = record { taken = waiters; moved = []; left = [] }
-
--- what a requeue does with the waiters of its first key
-abbrev pub split_by : {A : Type 0} → RequeueOp → List A → Split A
-split_by Abort waiters = record { taken = []; moved = []; left = waiters }
-split_by UnparkOneRequeueRest waiters = record { taken = take 1 waiters; moved = drop 1 waiters; left = [] }
-split_by RequeueAll waiters = record { taken = []; moved = waiters; left = [] }
-split_by UnparkOne waiters = split_first waiters
-split_by RequeueOne waiters = record { taken = []; moved = take 1 waiters; left = drop 1 waiters }
-
--- the waiters that a filter unparks, in order: it decides on each up to its first `Stop`
-abbrev pub taken_by : {A : Type 0} → List FilterOp → List A → List A
-taken_by [] waiters = []
-taken_by (_ ∷ _) [] = []
-taken_by (Unpark ∷ decisions) (waiter ∷ waiters) = waiter ∷ taken_by decisions waiters
-taken_by (Skip ∷ decisions) (_ ∷ waiters) = taken_by decisions waiters
-taken_by (Stop ∷ _) (_ ∷ _) = []
-
--- the waiters that it leaves, in order
-abbrev pub left_by : {A : Type 0} → List FilterOp → List A → List A
-left_by [] waiters = waiters
-left_by (_ ∷ _) [] = []
-left_by (Unpark ∷ decisions) (_ ∷ waiters) = left_by decisions waiters
-left_by (Skip ∷ decisions) (waiter ∷ waiters) = waiter ∷ left_by decisions waiters
-left_by (Stop ∷ _) (waiter ∷ waiters) = waiter ∷ waiters
-
--- some are taken by decisions; decisions that are used up leave the rest
-abbrev pub split_filter : {A : Type 0} → List FilterOp → List A → Split A
-split_filter decisions waiters = record { taken = taken_by decisions waiters; moved = []; left = left_by decisions waiters }
-
--- the lists after a requeue: the first key keeps what is left, and then those that moved stand last in the second
-abbrev pub requeued : {A : Type 0} → (ℕ → List A) → ℕ → ℕ → List A → List A → ℕ → List A
-requeued {A} lists from to left moved =
-    let kept : ℕ → List A = replaced lists from left in replaced kept to (kept to ++ moved)
-
--- a node that was moved to another key
-abbrev pub with_new_key : ℕ → NodeFields → NodeFields
-with_new_key key node = record node { key = key }
+-- the result of a requeue: the same, but that an abort tells of no waiter
+abbrev pub requeue_result : {A : Type 0} → RequeueOp → Split A → UnparkResult
+requeue_result Abort split = record { unparked_threads = 0; requeued_threads = 0; have_more_threads = false }
+requeue_result UnparkOneRequeueRest split = result_of split
+requeue_result RequeueAll split = result_of split
+requeue_result UnparkOne split = result_of split
+requeue_result RequeueOne split = result_of split
 
 -- the list without the first that passes the test
 abbrev pub without_first : {A : Type 0} → (A → Bool) → List A → List A

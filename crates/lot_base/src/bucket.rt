@@ -1,13 +1,15 @@
 //! The buckets of the hash table: the steps of parking and unparking on the queue of one bucket.
 
 ghost use Rattle.std.specs.Prelude.{◌≡◌, ℕ, [], ◌∷◌, ◌++◌, ◌<◌, map, take, drop, IfErr, IfNone, IfSome, OnOk, IfOk, IsOkAnd, OnErr, is_ok, is_some, IsTrue, length, List, ◌≢◌, ◌↔◌, find, option_map, not, None, Some, IsNone, MatchOption};
-ghost use Rattle.lot_base.specs.Filter.{TakesUntilStop, IsFiltered, park_tokens};
+ghost use Rattle.lot_base.specs.Filter.{IsFilterCallable, IsFiltered, park_tokens};
 ghost use Rattle.lot_base.specs.Node.{fields, option_nodes};
 ghost use Rattle.lot_base.specs.Place.{IsTableSize, place_of};
-ghost use Rattle.lot_base.specs.Requeue.{numbers, IsCallableAtEach, IsCalledAtEach, AreCallable, AreCalled, IsRequeueCallable, IsRequeue};
-ghost use Rattle.lot_base.specs.Spread.{has_number};
-ghost use Rattle.lot_base.specs.Waiting.{lists_of, replaced, split_first, answer_of, with_token, has_any, split_all, split_filter, count_of, with_new_key, split_by, requeued, without_first};
+ghost use Rattle.lot_base.specs.BucketState.{KeepsPlace};
+ghost use Rattle.lot_base.specs.Requeue.{numbers, IsCallableAtEach, IsCalledAtEach, AreCallable, AreCalled};
+ghost use Rattle.lot_base.specs.Waiting.{split_first, split_all, split_filter, split_by, lists_after_requeue, has_any, result_of, without_first};
+ghost use Rattle.lot_base.specs.NodeLists.{lists_of, ChangesOnly, saturated, with_saturated_counts, with_token, with_new_key, split_to, has_number};
 ghost use Rattle.lot_base.specs.declared.token.FilterOp.{FilterOp};
+ghost use Rattle.lot_base.specs.declared.token.RequeueOp.{RequeueOp};
 
 use crate::queue::{Node, Queue};
 use crate::token::{FilterOp, NoMemory, ParkToken, RequeueOp, UnparkResult, UnparkToken};
@@ -35,8 +37,8 @@ pub fn place(key: usize, size: usize) -> usize
 /// does the steps. No step but `list` allocates, and no other can be refused.
 ///
 /// A step that looks for waiters takes the nodes that it passes off the queue and puts them back,
-/// each by one `push_back`, in the order in which they stood, and those behind them by one
-/// `append`. The visits that the steps name do not count the walks of these calls.
+/// each by one `push_back`, and those behind them by one `append`. The visits that the steps name
+/// do not count the walks of these calls.
 #[derive(Drop)]
 pub struct Bucket {
     place: usize,
@@ -49,11 +51,13 @@ impl Model for Bucket {
 
     ghost Value = { BucketState };
 
-    ghost use Rattle.lot_base.specs.BucketFacts.{IsInPlace};
+    ghost use Rattle.lot_base.specs.BucketState.{IsInPlace};
 
-    ghost view = { λ bucket. record { place = bucket.place; size = bucket.size; nodes = bucket.queue } };
+    ghost view = { λ bucket.
+        record { place = bucket.place; size = bucket.size; nodes = bucket.queue } };
 
-    ghost invariant = { λ bucket. IsInPlace (record { place = bucket.place; size = bucket.size; nodes = bucket.queue }) };
+    ghost invariant = { λ bucket.
+        IsInPlace (record { place = bucket.place; size = bucket.size; nodes = bucket.queue }) };
 }
 
 impl Bucket {
@@ -89,8 +93,8 @@ impl Bucket {
         self.size
     }
 
-    /// Puts the node last, if `validate` answers true; its key has this bucket's place. `validate` is
-    /// called once.
+    /// Puts the node last, if `validate` answers true; its key has this bucket's place. `validate`
+    /// is called once.
     ///
     /// It is one `push_back`. Upstream's `park` queues a thread so.
     ///
@@ -106,7 +110,8 @@ impl Bucket {
         requires callable { V.pre validate }
 
         ensures asked { V.post validate (is_ok result) }
-        ensures entered { OnOk result (self.new ≡ record self.old { nodes = self.old.nodes ++ fields node.value ∷ [] }) }
+        ensures entered { OnOk result
+            (self.new ≡ record self.old { nodes = self.old.nodes ++ fields node.value ∷ [] }) }
         ensures refused { OnErr result (self.new ≡ self.old) }
         ensures returned { IfErr result (λ back. back.value ≡ node.value) }
     {
@@ -119,9 +124,9 @@ impl Bucket {
 
     /// Takes the first waiter of the key, and writes the token that `callback` answers into it.
     ///
-    /// `callback` is called once, with the result that is answered too: `(1, 0, more)`, where `more`
-    /// says whether the key has another waiter, or `(0, 0, false)` where nobody waits. What it
-    /// answers then is ignored.
+    /// `callback` is called once, with the result that is answered too: `(1, 0, more)`, where
+    /// `more` says whether the key has another waiter, or `(0, 0, false)` where nobody waits. What
+    /// it answers then is ignored.
     ///
     /// It visits the nodes before the first waiter of the key and those up to the next one, and no
     /// more. It moves boxes and allocates nothing.
@@ -132,15 +137,15 @@ impl Bucket {
         key: usize,
         callback: F,
     ) -> (UnparkResult, Queue)
-        requires { F.pre callback (answer_of (split_first (lists_of self.old.nodes key))) }
+        requires { F.pre callback (result_of (split_first (lists_of self.old.nodes key))) }
 
-        ensures place { self.new.place ≡ self.old.place }
-        ensures size { self.new.size ≡ self.old.size }
-        ensures lists { (k : ℕ) → lists_of self.new.nodes k
-            ≡ replaced (lists_of self.old.nodes) key (split_first (lists_of self.old.nodes key)).left k }
-        ensures answer { result.0 ≡ answer_of (split_first (lists_of self.old.nodes key)) }
+        ensures place { KeepsPlace self.old self.new }
+        ensures lists { ChangesOnly self.old.nodes self.new.nodes key
+            (split_first (lists_of self.old.nodes key)).left }
+        ensures answer { result.0 ≡ result_of (split_first (lists_of self.old.nodes key)) }
         ensures taken { (token : _) × F.post callback result.0 token
-            × (result.1 ≡ map (with_token token) (split_first (lists_of self.old.nodes key)).taken) }
+            × (result.1 ≡ map (with_token token)
+            (split_first (lists_of self.old.nodes key)).taken) }
     {
         let (first, have_more_threads) = take_first(&mut self.queue, key);
         let result = UnparkResult {
@@ -154,30 +159,32 @@ impl Bucket {
     }
 
     /// Takes every waiter of the key, in order, writes the token into each, and answers how many
-    /// there were. A count that no `usize` can hold is `usize::MAX`.
+    /// there were, or `usize::MAX` where no `usize` can hold the count.
     ///
     /// Each node of the bucket is visited once, and each one taken once more. It moves boxes and
     /// allocates nothing.
     ///
     /// Upstream calls it `unpark_all`.
     pub fn take_all(&mut self, key: usize, token: UnparkToken) -> (usize, Queue)
-        ensures place { self.new.place ≡ self.old.place }
-        ensures size { self.new.size ≡ self.old.size }
-        ensures lists { (k : ℕ) → lists_of self.new.nodes k
-            ≡ replaced (lists_of self.old.nodes) key (split_all (lists_of self.old.nodes key)).left k }
-        ensures answer { result.0 ≡ count_of (split_all (lists_of self.old.nodes key)).taken }
-        ensures taken { result.1 ≡ map (with_token token) (split_all (lists_of self.old.nodes key)).taken }
+        ensures place { KeepsPlace self.old self.new }
+        ensures lists { ChangesOnly self.old.nodes self.new.nodes key
+            (split_all (lists_of self.old.nodes key)).left }
+        ensures answer { result.0 ≡ saturated (length (lists_of self.old.nodes key)) }
+        ensures taken { result.1 ≡ map (with_token token)
+            (split_all (lists_of self.old.nodes key)).taken }
     {
         let taken = take_every(&mut self.queue, key);
         write_token(taken, token)
     }
 
-    /// Takes those waiters of the key that the filter unparks, and leaves the others, both in order.
+    /// Takes those waiters of the key that the filter unparks, and leaves the others of the key,
+    /// both in order.
     ///
     /// The filter is handed the park tokens of the key's waiters in order, up to and with the first
     /// at which it answers `Stop`: that waiter and all behind it are left. Then the callback is
-    /// handed the result, once, also if nobody waits. The token that it answers is written into
-    /// each node taken.
+    /// handed the result, once, also if nobody waits. The result is answered too. It counts those
+    /// that were taken, or has `usize::MAX` where no `usize` can hold the count. The token that the
+    /// callback answers is written into each node taken.
     ///
     /// The nodes of the bucket are visited once, up to and with the one at which the filter stops,
     /// and those taken once more. It moves boxes and allocates nothing.
@@ -189,18 +196,20 @@ impl Bucket {
         filter: F,
         callback: C,
     ) -> (UnparkResult, Queue)
-        requires filter { TakesUntilStop F.FnMut filter (park_tokens (lists_of self.old.nodes key)) }
-        requires callback { (decisions : _) → IsFiltered F.FnMut filter (park_tokens (lists_of self.old.nodes key)) decisions
-            → C.pre callback (answer_of (split_filter decisions (lists_of self.old.nodes key))) }
+        requires filter { IsFilterCallable F.FnMut filter
+            (park_tokens (lists_of self.old.nodes key)) }
+        requires callback { (decisions : _)
+            → IsFiltered F.FnMut filter (park_tokens (lists_of self.old.nodes key)) decisions
+            → C.pre callback (with_saturated_counts
+            (result_of (split_filter decisions (lists_of self.old.nodes key)))) }
 
-        ensures place { self.new.place ≡ self.old.place }
-        ensures size { self.new.size ≡ self.old.size }
+        ensures place { KeepsPlace self.old self.new }
         ensures filtered { let waiters = lists_of self.old.nodes key in record {
           decisions : List FilterOp;
           decided : IsFiltered F.FnMut filter (park_tokens waiters) decisions;
-          lists : (k : ℕ) → lists_of self.new.nodes k
-              ≡ replaced (lists_of self.old.nodes) key (split_filter decisions waiters).left k;
-          answer : result.0 ≡ answer_of (split_filter decisions waiters);
+          lists : ChangesOnly self.old.nodes self.new.nodes key
+              (split_filter decisions waiters).left;
+          answer : result.0 ≡ with_saturated_counts (result_of (split_filter decisions waiters));
           taken : (token : _) × C.post callback result.0 token
               × (result.1 ≡ map (with_token token) (split_filter decisions waiters).taken);
         } }
@@ -214,11 +223,13 @@ impl Bucket {
     /// Unparks or requeues waiters of the key `from` onto the key `to`, as `validate` chooses. Both
     /// keys have this bucket's place, and they may be equal.
     ///
-    /// `validate` is called first. If it aborts, then nothing changes, no other closure is called,
-    /// and the answer is the default result and no node. Otherwise `moved` is called with the number
-    /// of each thread that is requeued, in order, and then `callback` with the operation and the
-    /// result, also where no thread waited. Requeued nodes stand behind the waiters of `to`. The
-    /// queue in the answer holds the node that was taken, with the token from `callback`.
+    /// `validate` is called first, once. If it aborts, then no list changes, no other closure is
+    /// called, and the answer is the default result and no node. Otherwise `moved` is called with
+    /// the number of each thread that is requeued, in order, and then `callback`, once, with the
+    /// operation and the result, also where no thread waited. The result is answered too; a count
+    /// that no `usize` can hold is `usize::MAX` in it. Requeued nodes stand behind the waiters of
+    /// `to`, in order. The queue in the answer holds the node that was taken, with the token from
+    /// `callback`.
     ///
     /// An operation on one thread looks for waiters of `from` up to the second one, and any other
     /// looks at each node of the bucket once. Each node that was passed or moves is one `push_back`
@@ -241,15 +252,19 @@ impl Bucket {
         requires from { place_of from self.old.size ≡ self.old.place }
         requires to { place_of to self.old.size ≡ self.old.place }
         requires validate { V.pre validate }
-        requires callable { IsRequeueCallable V.FnOnce C.FnOnce M.FnMut validate callback moved.old (lists_of self.old.nodes from) }
+        requires callable { (op : _) → V.post validate op
+            → AreCallable C.FnOnce M.FnMut op (lists_of self.old.nodes from) callback moved.old }
 
-        ensures place { self.new.place ≡ self.old.place }
-        ensures size { self.new.size ≡ self.old.size }
-        ensures requeued { IsRequeue V.FnOnce C.FnOnce M.FnMut validate callback moved.old moved.new (lists_of self.old.nodes from)
-            (self.new ≡ self.old)
-            (λ split. (k : ℕ) → lists_of self.new.nodes k
-            ≡ requeued (lists_of self.old.nodes) from to split.left (map (with_new_key to) split.moved) k)
-            result.0 result.1 }
+        ensures place { KeepsPlace self.old self.new }
+        ensures requeued { let waiters = lists_of self.old.nodes from in record {
+          op : RequeueOp;
+          chosen : V.post validate op;
+          lists : (k : ℕ) → lists_of self.new.nodes k
+              ≡ lists_after_requeue (lists_of self.old.nodes) from to
+              (split_to to (split_by op waiters)) k;
+          called : AreCalled C.FnOnce M.FnMut op waiters callback moved.old moved.new
+              result.0 result.1;
+        } }
     {
         let op = validate();
         let Some(mut done) = requeue_from(&mut self.queue, from, to, op, callback, moved) else {
@@ -259,8 +274,9 @@ impl Bucket {
         (done.result, done.taken)
     }
 
-    /// Does what `requeue_one` does, where `to` has the place of another bucket of the same table:
-    /// requeued nodes stand last in `target`.
+    /// Does what `requeue_one` does, where `to` has the place of another bucket of the same table,
+    /// `target`: requeued nodes stand there, behind the waiters of `to`. At an abort no list of
+    /// either bucket changes.
     ///
     /// It costs what `requeue_one` costs, but that the last walk is one of `target`. It moves boxes
     /// and allocates nothing.
@@ -282,17 +298,19 @@ impl Bucket {
         requires from { place_of from self.old.size ≡ self.old.place }
         requires to { place_of to target.old.size ≡ target.old.place }
         requires validate { V.pre validate }
-        requires callable { IsRequeueCallable V.FnOnce C.FnOnce M.FnMut validate callback moved.old (lists_of self.old.nodes from) }
+        requires callable { (op : _) → V.post validate op
+            → AreCallable C.FnOnce M.FnMut op (lists_of self.old.nodes from) callback moved.old }
 
-        ensures place { (self.new.place ≡ self.old.place) × (target.new.place ≡ target.old.place) }
-        ensures size { (self.new.size ≡ self.old.size) × (target.new.size ≡ target.old.size) }
-        ensures requeued { IsRequeue V.FnOnce C.FnOnce M.FnMut validate callback moved.old moved.new (lists_of self.old.nodes from)
-            ((self.new ≡ self.old) × (target.new ≡ target.old))
-            (λ split.
-            ((k : ℕ) → lists_of self.new.nodes k ≡ replaced (lists_of self.old.nodes) from split.left k)
-            × ((k : ℕ) → lists_of target.new.nodes k
-            ≡ replaced (lists_of target.old.nodes) to (lists_of target.old.nodes to ++ map (with_new_key to) split.moved) k))
-            result.0 result.1 }
+        ensures place { KeepsPlace self.old self.new × KeepsPlace target.old target.new }
+        ensures requeued { let waiters = lists_of self.old.nodes from in record {
+          op : RequeueOp;
+          chosen : V.post validate op;
+          lists : ChangesOnly self.old.nodes self.new.nodes from (split_by op waiters).left;
+          targets : ChangesOnly target.old.nodes target.new.nodes to
+              (lists_of target.old.nodes to ++ (split_to to (split_by op waiters)).moved);
+          called : AreCalled C.FnOnce M.FnMut op waiters callback moved.old moved.new
+              result.0 result.1;
+        } }
     {
         let op = validate();
         let Some(mut done) = requeue_from(&mut self.queue, from, to, op, callback, moved) else {
@@ -303,12 +321,13 @@ impl Bucket {
     }
 
     /// Takes the first node of this number and key, unchanged, and calls `timed_out` once, with the
-    /// key and with whether the key has no node left. If there is none, nothing is called or changed.
+    /// key and with whether the key has no node left. If there is none, nothing is called or
+    /// changed.
     ///
     /// It visits the nodes up to the one that it takes, and from there on to the next node of the
-    /// key, unless an earlier one of the key was passed; each node that it passes is put back by one
-    /// `push_back`. It moves boxes and allocates nothing. Upstream's `park` takes a thread whose wait
-    /// timed out from its queue so.
+    /// key, unless an earlier one of the key was passed; each node that it passes is put back by
+    /// one `push_back`. It moves boxes and allocates nothing. Upstream's `park` takes a thread
+    /// whose wait timed out from its queue so.
     pub fn remove<R, T: FnOnce(usize, bool) -> R>(
         &mut self,
         number: usize,
@@ -316,17 +335,18 @@ impl Bucket {
         timed_out: T,
     ) -> Option<(Box<Node>, R)>
         requires { let waiters = lists_of self.old.nodes key in
-            IfSome (find (has_number number) waiters) (λ _. T.pre timed_out key (not (has_any (without_first (has_number number) waiters)))) }
+            IfSome (find (has_number number) waiters) (λ _.
+            T.pre timed_out key (not (has_any (without_first (has_number number) waiters)))) }
 
-        ensures place { self.new.place ≡ self.old.place }
-        ensures size { self.new.size ≡ self.old.size }
-        ensures lists { (k : ℕ) → lists_of self.new.nodes k
-            ≡ replaced (lists_of self.old.nodes) key (without_first (has_number number) (lists_of self.old.nodes key)) k }
+        ensures place { KeepsPlace self.old self.new }
+        ensures lists { ChangesOnly self.old.nodes self.new.nodes key
+            (without_first (has_number number) (lists_of self.old.nodes key)) }
         ensures removed { let waiters = lists_of self.old.nodes key in
             MatchOption result
             ((find (has_number number) waiters ≡ None) × (self.new ≡ self.old))
             (λ (node, answer). (find (has_number number) waiters ≡ Some (fields node.value))
-            × T.post timed_out key (not (has_any (without_first (has_number number) waiters))) answer) }
+            × T.post timed_out key
+            (not (has_any (without_first (has_number number) waiters))) answer) }
     {
         let (node, last) = take_numbered(&mut self.queue, number, key)?;
         let answer = timed_out(key, last);
@@ -339,11 +359,11 @@ impl Bucket {
     /// It visits one node, moves its box and allocates nothing. Upstream's `grow_hashtable` takes
     /// the nodes of each old bucket so, to put them into the new table.
     pub fn pop(&mut self) -> Option<Box<Node>>
-        ensures place { self.new.place ≡ self.old.place }
-        ensures size { self.new.size ≡ self.old.size }
+        ensures place { KeepsPlace self.old self.new }
         ensures nodes { self.old.nodes ≡ option_nodes result ++ self.new.nodes }
         ensures none { IsNone result ↔ (self.old.nodes ≡ []) }
-        ensures in_place { IfSome result (λ node. place_of (fields node.value).key self.old.size ≡ self.old.place) }
+        ensures in_place { IfSome result (λ node.
+            place_of (fields node.value).key self.old.size ≡ self.old.place) }
     {
         self.queue.pop_front()
     }
@@ -356,10 +376,11 @@ impl Bucket {
     /// `NoMemory` if memory for the list cannot be had. The empty list needs none.
     pub fn list(&self, alloc: Global, key: usize) -> Result<Vec<usize>, NoMemory>
         ensures refused { OnErr result (IsTrue (has_any (lists_of self.now.nodes key))) }
-        ensures numbers { IfOk result (λ numbers. numbers.items ≡ map (λ node. node.number) (lists_of self.now.nodes key)) }
+        ensures numbers { IfOk result (λ numbers.
+            numbers.items ≡ map (λ node. node.number) (lists_of self.now.nodes key)) }
     {
         self.queue.fold(Ok(Vec::new(alloc)), |numbers, node| {
-            with_waiter(numbers, node, key)
+            push_if_waiting(numbers, node, key)
         })
     }
 }
@@ -368,8 +389,7 @@ impl Bucket {
 fn take_first(queue: &mut Queue, key: usize) -> (Option<Box<Node>>, bool)
     ensures first { option_nodes result.0 ≡ take 1 (lists_of queue.old key) }
     ensures more { result.1 ≡ has_any (drop 1 (lists_of queue.old key)) }
-    ensures lists { (k : ℕ) → lists_of queue.new k
-        ≡ replaced (lists_of queue.old) key (drop 1 (lists_of queue.old key)) k }
+    ensures lists { ChangesOnly queue.old queue.new key (drop 1 (lists_of queue.old key)) }
 {
     let mut passed = Queue::new();
     let first = take_next(queue, &mut passed, key);
@@ -413,7 +433,7 @@ fn take_next(queue: &mut Queue, passed: &mut Queue, key: usize) -> Option<Box<No
 // Takes all nodes of the key from the queue.
 fn take_every(queue: &mut Queue, key: usize) -> Queue
     ensures taken { result ≡ lists_of queue.old key }
-    ensures lists { (k : ℕ) → lists_of queue.new k ≡ replaced (lists_of queue.old) key [] k }
+    ensures lists { ChangesOnly queue.old queue.new key [] }
 {
     let mut taken = Queue::new();
     let mut others = Queue::new();
@@ -428,19 +448,19 @@ fn take_every(queue: &mut Queue, key: usize) -> Queue
     taken
 }
 
-// Takes from the queue the nodes of the key that the filter unparks; the others stay in order.
+// Takes from the queue the nodes of the key that the filter unparks; the others of the key stay, in
+// order.
 fn take_chosen<F: FnMut(ParkToken) -> FilterOp>(
     queue: &mut Queue,
     key: usize,
     mut filter: F,
 ) -> (UnparkResult, Queue)
-    requires { TakesUntilStop F.FnMut filter (park_tokens (lists_of queue.old key)) }
+    requires { IsFilterCallable F.FnMut filter (park_tokens (lists_of queue.old key)) }
     ensures { let waiters = lists_of queue.old key in record {
       decisions : List FilterOp;
       decided : IsFiltered F.FnMut filter (park_tokens waiters) decisions;
-      lists : (k : ℕ) → lists_of queue.new k
-          ≡ replaced (lists_of queue.old) key (split_filter decisions waiters).left k;
-      answer : result.0 ≡ answer_of (split_filter decisions waiters);
+      lists : ChangesOnly queue.old queue.new key (split_filter decisions waiters).left;
+      answer : result.0 ≡ with_saturated_counts (result_of (split_filter decisions waiters));
       taken : result.1 ≡ (split_filter decisions waiters).taken;
     } }
 {
@@ -471,7 +491,7 @@ fn take_chosen<F: FnMut(ParkToken) -> FilterOp>(
 
 // The nodes with the token written into each, and how many they are.
 fn write_token(mut nodes: Queue, token: UnparkToken) -> (usize, Queue)
-    ensures count { result.0 ≡ count_of nodes }
+    ensures count { result.0 ≡ saturated (length nodes) }
     ensures nodes { result.1 ≡ map (with_token token) nodes }
 {
     let mut written = Queue::new();
@@ -501,23 +521,33 @@ fn requeue_from<C: FnOnce(RequeueOp, UnparkResult) -> UnparkToken, M: FnMut(usiz
     callback: C,
     moved: &mut M,
 ) -> Option<Requeued>
-    requires { op ≢ RequeueOp.Abort → AreCallable C.FnOnce M.FnMut op (split_by op (lists_of queue.old from)) callback moved.old }
-    ensures aborted { IfNone result ((op ≡ RequeueOp.Abort) × (queue.new ≡ queue.old) × (moved.new ≡ moved.old)) }
+    requires { AreCallable C.FnOnce M.FnMut op (lists_of queue.old from) callback moved.old }
+    ensures aborted { IfNone result
+        ((op ≡ RequeueOp.Abort) × (queue.new ≡ queue.old) × (moved.new ≡ moved.old)) }
     ensures chosen { IfSome result (λ _. op ≢ RequeueOp.Abort) }
     ensures called { IfSome result (λ done.
-        AreCalled C.FnOnce M.FnMut op (split_by op (lists_of queue.old from)) callback moved.old moved.new done.result done.taken) }
-    ensures moved { IfSome result (λ done. done.moved ≡ map (with_new_key to) (split_by op (lists_of queue.old from)).moved) }
-    ensures lists { IfSome result (λ _. (k : ℕ) → lists_of queue.new k
-        ≡ replaced (lists_of queue.old) from (split_by op (lists_of queue.old from)).left k) }
+        AreCalled C.FnOnce M.FnMut op (lists_of queue.old from) callback moved.old moved.new
+        done.result done.taken) }
+    ensures moved { IfSome result (λ done.
+        done.moved ≡ (split_to to (split_by op (lists_of queue.old from))).moved) }
+    ensures lists { IfSome result (λ _.
+        ChangesOnly queue.old queue.new from (split_by op (lists_of queue.old from)).left) }
 {
+    // Pick: what the operation asks for leaves the queue. An abort ends here.
     let picked = pick(queue, from, op)?;
     let unparked_threads = if picked.taken.is_some() { 1 } else { 0 };
-    let (moved_nodes, requeued_threads) = move_to(picked.moved, to, moved);
+
+    // Move: those to be requeued get the new key, and `moved` is told the number of each.
+    let (moved_nodes, requeued_threads) = rekey(picked.moved, to, moved);
+
+    // Count: what was taken, what was moved, and whether any waiter is left.
     let result = UnparkResult {
         unparked_threads,
         requeued_threads,
         have_more_threads: picked.have_more_threads,
     };
+
+    // Call back: the token is for the node that was taken, if any.
     let token = callback(op, result);
     Some(Requeued {
         result,
@@ -538,11 +568,14 @@ struct Picked {
 fn pick(queue: &mut Queue, key: usize, op: RequeueOp) -> Option<Picked>
     ensures aborted { IfNone result ((op ≡ RequeueOp.Abort) × (queue.new ≡ queue.old)) }
     ensures chosen { IfSome result (λ _. op ≢ RequeueOp.Abort) }
-    ensures taken { IfSome result (λ picked. option_nodes picked.taken ≡ (split_by op (lists_of queue.old key)).taken) }
-    ensures moved { IfSome result (λ picked. picked.moved ≡ (split_by op (lists_of queue.old key)).moved) }
-    ensures more { IfSome result (λ picked. picked.have_more_threads ≡ has_any (split_by op (lists_of queue.old key)).left) }
-    ensures lists { IfSome result (λ _. (k : ℕ) → lists_of queue.new k
-        ≡ replaced (lists_of queue.old) key (split_by op (lists_of queue.old key)).left k) }
+    ensures taken { IfSome result (λ picked.
+        option_nodes picked.taken ≡ (split_by op (lists_of queue.old key)).taken) }
+    ensures moved { IfSome result (λ picked.
+        picked.moved ≡ (split_by op (lists_of queue.old key)).moved) }
+    ensures more { IfSome result (λ picked.
+        picked.have_more_threads ≡ has_any (split_by op (lists_of queue.old key)).left) }
+    ensures lists { IfSome result (λ _.
+        ChangesOnly queue.old queue.new key (split_by op (lists_of queue.old key)).left) }
 {
     match op {
         RequeueOp::Abort => None,
@@ -582,10 +615,10 @@ fn pick(queue: &mut Queue, key: usize, op: RequeueOp) -> Option<Picked>
 }
 
 // The nodes with another key, and how many they are. `moved` is called with the number of each.
-fn move_to<M: FnMut(usize)>(mut nodes: Queue, key: usize, moved: &mut M) -> (Queue, usize)
+fn rekey<M: FnMut(usize)>(mut nodes: Queue, key: usize, moved: &mut M) -> (Queue, usize)
     requires { IsCallableAtEach M.FnMut moved.old (numbers nodes) }
     ensures nodes { result.0 ≡ map (with_new_key key) nodes }
-    ensures count { result.1 ≡ count_of nodes }
+    ensures count { result.1 ≡ saturated (length nodes) }
     ensures moved { IsCalledAtEach M.FnMut moved.old (numbers nodes) moved.new }
 {
     let mut changed = Queue::new();
@@ -598,10 +631,11 @@ fn move_to<M: FnMut(usize)>(mut nodes: Queue, key: usize, moved: &mut M) -> (Que
     (changed, count)
 }
 
-// Takes the key's first node of this number from the queue, and tells whether the key has none left.
+// Takes the key's first node of this number from the queue, and tells whether the key has none
+// left.
 fn take_numbered(queue: &mut Queue, number: usize, key: usize) -> Option<(Box<Node>, bool)>
-    ensures lists { (k : ℕ) → lists_of queue.new k
-        ≡ replaced (lists_of queue.old) key (without_first (has_number number) (lists_of queue.old key)) k }
+    ensures lists { ChangesOnly queue.old queue.new key
+        (without_first (has_number number) (lists_of queue.old key)) }
     ensures found { let waiters = lists_of queue.old key in
         MatchOption result
         ((find (has_number number) waiters ≡ None) × (queue.new ≡ queue.old))
@@ -623,11 +657,12 @@ fn take_numbered_and_look(
     number: usize,
     key: usize,
 ) -> Option<(Box<Node>, bool)>
-    ensures lists { (k : ℕ) → lists_of (passed.new ++ queue.new) k
-        ≡ replaced (lists_of (passed.old ++ queue.old)) key (lists_of passed.old key ++ without_first (has_number number) (lists_of queue.old key)) k }
+    ensures lists { ChangesOnly (passed.old ++ queue.old) (passed.new ++ queue.new) key
+        (lists_of passed.old key ++ without_first (has_number number) (lists_of queue.old key)) }
     ensures found { let waiters = lists_of queue.old key in
         MatchOption result
-        ((find (has_number number) waiters ≡ None) × (passed.new ++ queue.new ≡ passed.old ++ queue.old))
+        ((find (has_number number) waiters ≡ None)
+        × (passed.new ++ queue.new ≡ passed.old ++ queue.old))
         (λ (node, last). (find (has_number number) waiters ≡ Some (fields node.value))
         × (last ≡ not (has_any (without_first (has_number number) waiters)))) }
 {
@@ -652,7 +687,8 @@ fn take_next_numbered(
     ensures left { lists_of (passed.new ++ queue.new) key
         ≡ lists_of passed.old key ++ without_first (has_number number) (lists_of queue.old key) }
     ensures key { IfSome result (λ node. (fields node.value).key ≡ key) }
-    ensures found { find (has_number number) (lists_of queue.old key) ≡ option_map (λ node. fields node.value) result }
+    ensures found { find (has_number number) (lists_of queue.old key)
+        ≡ option_map (λ node. fields node.value) result }
 {
     while let Some(node) = queue.pop_front() {
         if node.key == key && node.number == number {
@@ -691,14 +727,15 @@ fn queue_of(node: Option<Box<Node>>) -> Queue
 }
 
 // The numbers, and behind them that of the node if it waits on the key.
-fn with_waiter(
+fn push_if_waiting(
     numbers: Result<Vec<usize>, NoMemory>,
     node: &Node,
     key: usize,
 ) -> Result<Vec<usize>, NoMemory>
     ensures refused { OnErr result (OnOk numbers ((fields node.now).key ≡ key)) }
     ensures numbers { IfOk result (λ new. IsOkAnd numbers (λ old.
-        new.items ≡ old.items ++ map (λ waiter. waiter.number) (lists_of (fields node.now ∷ []) key))) }
+        new.items ≡ old.items
+        ++ map (λ waiter. waiter.number) (lists_of (fields node.now ∷ []) key))) }
 {
     let mut numbers = numbers?;
     if node.key == key {

@@ -129,7 +129,8 @@ impl Queue {
 
     /// The first node, or `None` exactly if the queue is empty. It visits one node.
     pub fn front(&self) -> Option<&Node>
-        ensures { MatchOption result (self.now ≡ []) (λ node. self.now ≡ fields node.now ∷ drop 1 self.now) }
+        ensures { MatchOption result (self.now ≡ [])
+            (λ node. self.now ≡ fields node.now ∷ drop 1 self.now) }
     {
         self.head.as_deref()
     }

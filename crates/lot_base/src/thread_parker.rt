@@ -27,7 +27,8 @@ use std::sync::Wait;
 /// Upstream has the trait under this name, with unsafe calls. There a thread's data stays at its
 /// address and a flag says who may use it; here the node itself moves through the calls.
 pub trait ThreadParkerT: Sized + Drop {
-    /// What is left to do for a thread whose unpark was committed.
+    /// What is left to do for a thread whose unpark was committed. A closure that goes to another
+    /// thread may hold one, so it is `Send` and `Sync`.
     type UnparkHandle: UnparkHandleT<Self> + Send + Sync;
 
     /// Whether a parker costs little to make. Upstream makes one for each wait where this is true,
@@ -84,7 +85,7 @@ pub trait ThreadParkerT: Sized + Drop {
 /// dropped wakes nobody.
 ///
 /// Upstream has the trait under this name.
-pub trait UnparkHandleT<P>: Drop {
+pub trait UnparkHandleT<P: ThreadParkerT>: Drop {
     /// The number of the node that was committed.
     ghost number: { Self → ℕ };
 
@@ -94,14 +95,16 @@ pub trait UnparkHandleT<P>: Drop {
     fn number(&self) -> usize
         ensures { result ≡ number self.now };
 
-    /// Wakes the thread, if it sleeps on this parker. Whoever has the handle calls it with the
-    /// parker that gave it, best once the bucket's lock is let go. It changes no slot: a thread
-    /// that has gone on before, and one that is woken though its slot is empty, only looks again.
-    /// It takes no lock and does not wait.
+    /// Wakes the thread, if it sleeps on this parker. The contract asks that the parker's owner is
+    /// the thread of the handle's number: whoever has the handle calls it with the parker that gave
+    /// it, best once the bucket's lock is let go. It changes no slot: a thread that has gone on
+    /// before, and one that is woken though its slot is empty, only looks again. It takes no lock
+    /// and does not wait.
     ///
     /// Upstream's handle points to its parker and is handed none. In `unix.rs` the flag is cleared
     /// here and the parker's lock is let go.
-    fn unpark(self, parker: &P);
+    fn unpark(self, parker: &P)
+        requires { P.owner parker.now ≡ number self };
 }
 
 /// Where a thread finds its node when it was unparked. All nodes in it have the owner's number. No

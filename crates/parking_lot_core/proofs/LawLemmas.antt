@@ -1,10 +1,8 @@
 -- The laws of `specs/Laws`.
-use Rattle.std.proofs.Common.{◌≡◌, ◌≢◌, ℕ, ◌==◌, Bool, true, false, MatchBool, [], ◌∷◌, refl, sym, ap, ◌∙◌, subst, ⊎_elim, arith}
+use Rattle.std.proofs.Common.{◌≡◌, ◌≢◌, ℕ, ◌==◌, Bool, true, false, MatchBool, [], ◌∷◌, refl, sym, ap, ◌∙◌, subst}
+use Rattle.std.proofs.Common.{⊎_elim, arith}
 use Rattle.std.proofs.lemmas.Bool.{cases_eq, eqb-true, eqb-false, false≢true}
-use Rattle.lot_base.specs.Requeue.{MatchAbort}
-use Rattle.lot_base.specs.Waiting.{replaced, split_first, split_all, split_filter, split_by, Split}
-use Rattle.lot_base.specs.declared.token.RequeueOp.{RequeueOp}
-use Rattle.lot_base.specs.declared.token.RequeueOp.TheVariants.{Abort, UnparkOneRequeueRest, RequeueAll, UnparkOne, RequeueOne}
+use Rattle.lot_base.specs.Waiting.{with_value, split_first, split_all, split_filter, split_by, Split}
 use Rattle.lot_base.specs.declared.token.UnparkToken.{UnparkToken}
 use Rattle.parking_lot_core.specs.declared.lot.Status.{Status}
 use Rattle.parking_lot_core.specs.declared.lot.Status.TheVariants as status
@@ -13,27 +11,25 @@ use Rattle.parking_lot_core.specs.declared.schedule.Answer.TheVariants as answer
 use Rattle.parking_lot_core.specs.declared.schedule.Op.{Op}
 use Rattle.parking_lot_core.specs.declared.schedule.Op.TheVariants.{One, All, Filter, Requeue}
 use Rattle.parking_lot_core.specs.declared.schedule.Step.{Step}
-use Rattle.parking_lot_core.specs.declared.schedule.Step.TheVariants.{Register, Retire, Enter, Unpark, Deadline, Resolve, Return}
-use Rattle.parking_lot_core.specs.Machine.{Machine, Waiter, IsConsistent, is_queued, times_in, all_taken, timed_out}
-use Rattle.parking_lot_core.specs.Steps.{Gives, IsRegister, is_running, is_timed, IsUnpark, IsReturn, IsResolve, Steps, IsRun, is_parked, parks, ends_park, OutcomesAlternate}
+use Rattle.parking_lot_core.specs.declared.schedule.Step.TheVariants.{Register, Retire, Enter, Unpark, Deadline}
+use Rattle.parking_lot_core.specs.declared.schedule.Step.TheVariants.{Resolve, Return}
+use Rattle.parking_lot_core.specs.Status.{is_queued}
+use Rattle.parking_lot_core.specs.Machine.{Machine, Waiter, IsConsistent, times_in, statuses_with_taken, after_timeout}
+use Rattle.parking_lot_core.specs.Status.{is_running, awaits_deadline, is_parked}
+use Rattle.parking_lot_core.specs.Steps.{Gives, IsRegister, IsUnpark, IsReturn, IsResolve, IsStep, IsRun, parks}
+use Rattle.parking_lot_core.specs.Steps.{ends_park, OutcomesAlternate}
 use Rattle.parking_lot_core.specs.Laws.{StepAndAnswerFixTheState, AnswersFixTheRun, ParksAndOutcomesAlternate}
-use Rattle.parking_lot_core.proofs.LotLemmas.{AreParts, AreParts-first, AreParts-all, AreParts-filter}
-use Rattle.parking_lot_core.proofs.MachineLemmas.{replaced-same, replaced-other, all_taken-other, all_taken-among, is_queued-standing, MatchBool-from}
-use Rattle.parking_lot_core.proofs.RequeuedLemmas.{MatchAbort-either}
-use Rattle.parking_lot_core.proofs.RequeueLotLemmas.{AreParts-by}
+use Rattle.lot_base.proofs.ValueLemmas.{with_value-same, with_value-other}
+use Rattle.parking_lot_core.proofs.MachineLemmas.{is_queued-standing, MatchBool-from}
+use Rattle.parking_lot_core.proofs.WaiterLemmas.{statuses_with_taken-other, statuses_with_taken-among}
+use Rattle.parking_lot_core.proofs.SplitLemmas.{AreParts, AreParts-first, AreParts-all, AreParts-filter, AreParts-by}
 use Rattle.parking_lot_core.proofs.StepLemmas.{MatchBool-either, Running-from, Waiting-from, IsConsistent-step}
 
 -- of two facts that one test chooses, both are of one case
-MatchBool-both : (b : Bool) {P Q P' Q' R : Type 0} → (P → P' → R) → (Q → Q' → R) → MatchBool b P Q → MatchBool b P' Q' → R
+MatchBool-both : (b : Bool) {P Q P' Q' R : Type 0} → (P → P' → R) → (Q → Q' → R) → MatchBool b P Q → MatchBool b P' Q'
+    → R
 MatchBool-both true f g p p' = f p p'
 MatchBool-both false f g q q' = g q q'
-
-MatchAbort-both : (op : RequeueOp) {P Q P' Q' R : Type 0} → (P → P' → R) → (Q → Q' → R) → MatchAbort op P Q → MatchAbort op P' Q' → R
-MatchAbort-both Abort f g p p' = f p p'
-MatchAbort-both UnparkOneRequeueRest f g q q' = g q q'
-MatchAbort-both RequeueAll f g q q' = g q q'
-MatchAbort-both UnparkOne f g q q' = g q q'
-MatchAbort-both RequeueOne f g q q' = g q q'
 
 -- the key that a park which timed out waited on
 abbrev key_of : Answer → ℕ
@@ -41,10 +37,12 @@ key_of (answer.TimedOut key last) = key
 key_of _ = 0
 
 -- two machines that the same answer leaves
-Gives-fixes : {m new other : Machine} {expected given : Answer} → Gives m expected given new → Gives m expected given other → new ≡ other
+Gives-fixes : {m new other : Machine} {expected given : Answer} → Gives m expected given new
+    → Gives m expected given other → new ≡ other
 Gives-fixes (_, new_is) (_, other_is) = new_is ∙ sym other_is
 
-IsRegister-fixes : (m : Machine) (given : Answer) (new other : Machine) → IsRegister m given new → IsRegister m given other → new ≡ other
+IsRegister-fixes : (m : Machine) (given : Answer) (new other : Machine) → IsRegister m given new
+    → IsRegister m given other → new ≡ other
 IsRegister-fixes m (answer.Registered number) new other (_, new_is) (_, other_is) = new_is ∙ sym other_is
 IsRegister-fixes m answer.Full new other (_, new_is) (_, other_is) = new_is ∙ sym other_is
 IsRegister-fixes m answer.NoMemory new other (_, new_is) (_, other_is) = new_is ∙ sym other_is
@@ -55,54 +53,64 @@ module _ (m : Machine) (given : Answer) (new other : Machine) where
   IsUnpark-fixes (One key token) = Gives-fixes
   IsUnpark-fixes (All key token) = Gives-fixes
   IsUnpark-fixes (Filter key decisions token) = Gives-fixes
-  IsUnpark-fixes (Requeue from to op token) = MatchAbort-both op Gives-fixes Gives-fixes
+  IsUnpark-fixes (Requeue from to op token) = Gives-fixes
 
-  IsReturn-fixes : (thread : ℕ) (s : Status) → IsReturn m thread s given new → IsReturn m thread s given other → new ≡ other
+  IsReturn-fixes : (thread : ℕ) (s : Status) → IsReturn m thread s given new → IsReturn m thread s given other
+      → new ≡ other
   IsReturn-fixes thread (status.Taken token) = Gives-fixes
   IsReturn-fixes thread _ = Gives-fixes
 
   -- a late thread leaves the list of the key that the answer tells
-  IsResolve-fixes : (thread : ℕ) (s : Status) → IsResolve m thread s given new → IsResolve m thread s given other → new ≡ other
+  IsResolve-fixes : (thread : ℕ) (s : Status) → IsResolve m thread s given new → IsResolve m thread s given other
+      → new ≡ other
   IsResolve-fixes thread status.Late = λ (key, _, (answers, new_is)) (other_key, _, (other_answers, other_is)).
       let same : key ≡ other_key = ap key_of (sym answers ∙ other_answers) in
-      new_is ∙ ap (timed_out m thread) same ∙ sym other_is
+      new_is ∙ ap (after_timeout m thread) same ∙ sym other_is
   IsResolve-fixes thread s = IsReturn-fixes thread s
 
-  Steps-fix : (step : Step) → Steps m step given new → Steps m step given other → new ≡ other
-  Steps-fix Register = IsRegister-fixes m given new other
-  Steps-fix (Retire thread) = MatchBool-both (is_running (m.status thread)) Gives-fixes Gives-fixes
-  Steps-fix (Enter thread key valid park_token timed) =
+  IsStep-fix : (step : Step) → IsStep m step given new → IsStep m step given other → new ≡ other
+  IsStep-fix Register = IsRegister-fixes m given new other
+  IsStep-fix (Retire thread) = MatchBool-both (is_running (m.status thread)) Gives-fixes Gives-fixes
+  IsStep-fix (Enter thread key valid park_token timed) =
       MatchBool-both (is_running (m.status thread)) (MatchBool-both valid Gives-fixes Gives-fixes) Gives-fixes
-  Steps-fix (Unpark op) = IsUnpark-fixes op
-  Steps-fix (Deadline thread) = MatchBool-both (is_timed (m.status thread)) Gives-fixes Gives-fixes
-  Steps-fix (Resolve thread) = IsResolve-fixes thread (m.status thread)
-  Steps-fix (Return thread) = IsReturn-fixes thread (m.status thread)
+  IsStep-fix (Unpark op) = IsUnpark-fixes op
+  IsStep-fix (Deadline thread) = MatchBool-both (awaits_deadline (m.status thread)) Gives-fixes Gives-fixes
+  IsStep-fix (Resolve thread) = IsResolve-fixes thread (m.status thread)
+  IsStep-fix (Return thread) = IsReturn-fixes thread (m.status thread)
 
-pub Steps-fixes : StepAndAnswerFixTheState
-Steps-fixes m step given new other = Steps-fix m given new other step
+pub IsStep-fixes : StepAndAnswerFixTheState
+IsStep-fixes m step given new other = IsStep-fix m given new other step
 
 pub IsRun-fixes : AnswersFixTheRun
 IsRun-fixes m [] [] last other same other_same = sym same ∙ other_same
 IsRun-fixes m [] (_ ∷ _) last other none _ = absurd none
 IsRun-fixes m (_ ∷ _) [] last other none _ = absurd none
 IsRun-fixes m (step ∷ steps) (given ∷ answers) last other (next, does, ran) (other_next, other_does, other_ran) =
-    let same : next ≡ other_next = Steps-fixes m step given next other_next does other_does in
+    let same : next ≡ other_next = IsStep-fixes m step given next other_next does other_does in
     IsRun-fixes other_next steps answers last other (subst (λ n. IsRun n steps answers last) same ran) other_ran
 
 module _ (m : Machine) (number : ℕ) where
   -- a step turns a thread to a status that is parked as the one before
-  is_parked-turned : (thread : ℕ) (s : Status) → is_parked s ≡ is_parked (m.status thread) → is_parked (replaced m.status thread s number) ≡ is_parked (m.status number)
-  is_parked-turned thread s stays =
-      ⊎_elim (λ (same : number ≡ thread). ap is_parked (replaced-same m.status thread s number same) ∙ stays ∙ ap (λ n. is_parked (m.status n)) (sym same))
-      (λ (other : number ≢ thread). ap is_parked (replaced-other m.status thread s number other))
+  is_parked-with_status : (thread : ℕ) (s : Status) → is_parked s ≡ is_parked (m.status thread)
+      → is_parked (with_value m.status thread s number) ≡ is_parked (m.status number)
+  is_parked-with_status thread s stays =
+      ⊎_elim (λ (same : number ≡ thread). ap is_parked (with_value-same m.status thread s number same) ∙ stays
+      ∙ ap (λ n. is_parked (m.status n)) (sym same))
+      (λ (other : number ≢ thread). ap is_parked (with_value-other m.status thread s number other))
       (cases_eq number thread)
 
   -- a step turns a thread from a status that is parked or not to another that is or not
-  is_parked-changed : (thread : ℕ) (s : Status) (before after : Bool) → is_parked (m.status thread) ≡ before → is_parked s ≡ after → MatchBool (thread == number) ((is_parked (m.status number) ≡ before) × (is_parked (replaced m.status thread s number) ≡ after)) (is_parked (replaced m.status thread s number) ≡ is_parked (m.status number))
+  is_parked-changed : (thread : ℕ) (s : Status) (before after : Bool) → is_parked (m.status thread) ≡ before
+      → is_parked s ≡ after → MatchBool (thread == number)
+      ((is_parked (m.status number) ≡ before) × (is_parked (with_value m.status thread s number) ≡ after))
+      (is_parked (with_value m.status thread s number) ≡ is_parked (m.status number))
   is_parked-changed thread s before after was is =
       MatchBool-from (thread == number) _ _
-      (λ at. let same = eqb-true thread number at in (ap (λ n. is_parked (m.status n)) (sym same) ∙ was, ap is_parked (replaced-same m.status thread s number (sym same)) ∙ is))
-      (λ off. ap is_parked (replaced-other m.status thread s number (λ same. eqb-false thread number off (sym same))))
+      (λ at. let same = eqb-true thread number at in (
+        ap (λ n. is_parked (m.status n)) (sym same) ∙ was,
+        ap is_parked (with_value-same m.status thread s number (sym same)) ∙ is,
+      ))
+      (λ off. ap is_parked (with_value-other m.status thread s number (λ same. eqb-false thread number off (sym same))))
 
 -- who is queued is parked
 is_parked-queued : (s : Status) → is_queued s ≡ true → is_parked s ≡ true
@@ -113,10 +121,16 @@ is_parked-queued status.Free queued = absurd (false≢true queued)
 is_parked-queued status.Running queued = absurd (false≢true queued)
 
 -- who is taken out of a list was parked
-is_parked-taken : (m : Machine) (key : ℕ) (split : Split Waiter) (token : UnparkToken) → IsConsistent m → AreParts split (m.lists key) → (number : ℕ) → is_parked (all_taken token split.taken m.status number) ≡ is_parked (m.status number)
+is_parked-taken : (m : Machine) (key : ℕ) (split : Split Waiter) (token : UnparkToken) → IsConsistent m
+    → AreParts split (m.lists key) → (number : ℕ)
+    → is_parked (statuses_with_taken token split.taken m.status number) ≡ is_parked (m.status number)
 is_parked-taken m key split token (keys, right) parts number =
-    ⊎_elim (λ (none : times_in number split.taken ≡ 0). ap is_parked (all_taken-other token split.taken m.status number none))
-    (λ (some : times_in number split.taken ≢ 0). ap is_parked (all_taken-among token split.taken m.status number some) ∙ sym (is_parked-queued (m.status number) (is_queued-standing keys m number key right (omega (arith, parts number)))))
+    ⊎_elim (λ (none : times_in number split.taken ≡ 0). ap is_parked
+    (statuses_with_taken-other token split.taken m.status number none))
+    (λ (some : times_in number split.taken ≢ 0). ap is_parked
+    (statuses_with_taken-among token split.taken m.status number some)
+    ∙ sym (is_parked-queued (m.status number)
+    (is_queued-standing keys m number key right.standing (omega (arith, parts.counts number)))))
     (cases_eq (times_in number split.taken) 0)
 
 -- what the answer of a step says of a thread's park, before and after it
@@ -131,57 +145,79 @@ module _ (m : Machine) (number : ℕ) (given : Answer) (new : Machine) where
   Turns step left expected = InTurn (is_parked (m.status number)) (is_parked (left.status number)) number step expected
 
   -- a step's answer and the machine that it leaves
-  Turns-gives : (step : Step) {left : Machine} {expected : Answer} → Turns step left expected → Gives left expected given new → Turns step new given
+  Turns-gives : (step : Step) {left : Machine} {expected : Answer} → Turns step left expected
+      → Gives left expected given new → Turns step new given
   Turns-gives step {left} turns (answers, new_is) =
       subst (λ m. Turns step m given) (sym new_is) (subst (Turns step left) (sym answers) turns)
 
-  IsUnpark-turns : (op : Op) → IsConsistent m → IsUnpark m op given new → is_parked (new.status number) ≡ is_parked (m.status number)
-  IsUnpark-turns (One key token) consistent = Turns-gives (Unpark (One key token)) (is_parked-taken m key (split_first (m.lists key)) token consistent (AreParts-first (m.lists key)) number)
-  IsUnpark-turns (All key token) consistent = Turns-gives (Unpark (All key token)) (is_parked-taken m key (split_all (m.lists key)) token consistent (AreParts-all (m.lists key)) number)
-  IsUnpark-turns (Filter key decisions token) consistent = Turns-gives (Unpark (Filter key decisions token)) (is_parked-taken m key (split_filter decisions.items (m.lists key)) token consistent (AreParts-filter decisions.items (m.lists key)) number)
+  IsUnpark-turns : (op : Op) → IsConsistent m → IsUnpark m op given new
+      → is_parked (new.status number) ≡ is_parked (m.status number)
+  IsUnpark-turns (One key token) consistent =
+      Turns-gives (Unpark (One key token))
+      (is_parked-taken m key (split_first (m.lists key)) token consistent (AreParts-first (m.lists key)) number)
+  IsUnpark-turns (All key token) consistent =
+      Turns-gives (Unpark (All key token))
+      (is_parked-taken m key (split_all (m.lists key)) token consistent (AreParts-all (m.lists key)) number)
+  IsUnpark-turns (Filter key decisions token) consistent =
+      Turns-gives (Unpark (Filter key decisions token))
+      (is_parked-taken m key (split_filter decisions.items (m.lists key)) token consistent
+      (AreParts-filter decisions.items (m.lists key)) number)
   IsUnpark-turns (Requeue from to op token) consistent =
-      MatchAbort-either op (Turns-gives (Unpark (Requeue from to op token)) refl)
-      (Turns-gives (Unpark (Requeue from to op token)) (is_parked-taken m from (split_by op (m.lists from)) token consistent (AreParts-by op (m.lists from)) number))
+      Turns-gives (Unpark (Requeue from to op token))
+      (is_parked-taken m from (split_by op (m.lists from)) token consistent (AreParts-by op (m.lists from)) number)
 
-  IsReturn-turns : (thread : ℕ) (s : Status) → m.status thread ≡ s → IsReturn m thread s given new → Turns (Return thread) new given
+  IsReturn-turns : (thread : ℕ) (s : Status) → m.status thread ≡ s → IsReturn m thread s given new
+      → Turns (Return thread) new given
   IsReturn-turns thread (status.Taken token) is =
       Turns-gives (Return thread) (is_parked-changed m number thread status.Running true false (ap is_parked is) refl)
   IsReturn-turns thread _ is = Turns-gives (Return thread) refl
 
-  IsResolve-turns : (thread : ℕ) (s : Status) → m.status thread ≡ s → IsResolve m thread s given new → Turns (Resolve thread) new given
+  IsResolve-turns : (thread : ℕ) (s : Status) → m.status thread ≡ s → IsResolve m thread s given new
+      → Turns (Resolve thread) new given
   IsResolve-turns thread status.Late is = λ (key, _, gives).
-      Turns-gives (Resolve thread) (is_parked-changed m number thread status.Running true false (ap is_parked is) refl) gives
+      Turns-gives (Resolve thread) (is_parked-changed m number thread status.Running true false (ap is_parked is) refl)
+      gives
   IsResolve-turns thread s is = IsReturn-turns thread s is
 
-  IsRegister-turns : (given : Answer) → IsRegister m given new → is_parked (new.status number) ≡ is_parked (m.status number)
+  IsRegister-turns : (given : Answer) → IsRegister m given new
+      → is_parked (new.status number) ≡ is_parked (m.status number)
   IsRegister-turns (answer.Registered thread) (least, new_is) =
-      ap (λ (left : Machine). is_parked (left.status number)) new_is ∙ is_parked-turned m number thread status.Running (ap is_parked (sym least.free))
+      ap (λ (left : Machine). is_parked (left.status number)) new_is
+      ∙ is_parked-with_status m number thread status.Running (ap is_parked (sym least.free))
   IsRegister-turns answer.Full (_, new_is) = ap (λ (left : Machine). is_parked (left.status number)) new_is
   IsRegister-turns answer.NoMemory (_, new_is) = ap (λ (left : Machine). is_parked (left.status number)) new_is
   IsRegister-turns _ none = absurd none
 
   -- each step's answer says what became of each thread's park
-  Steps-turn : (step : Step) → IsConsistent m → Steps m step given new → Turns step new given
-  Steps-turn Register consistent = IsRegister-turns given
-  Steps-turn (Retire thread) consistent =
+  IsStep-turn : (step : Step) → IsConsistent m → IsStep m step given new → Turns step new given
+  IsStep-turn Register consistent = IsRegister-turns given
+  IsStep-turn (Retire thread) consistent =
       MatchBool-either (is_running (m.status thread))
-      (λ runs. Turns-gives (Retire thread) (is_parked-turned m number thread status.Free (ap is_parked (sym (Running-from (m.status thread) runs)))))
+      (λ runs. Turns-gives (Retire thread)
+      (is_parked-with_status m number thread status.Free (ap is_parked (sym (Running-from (m.status thread) runs)))))
       (λ _. Turns-gives (Retire thread) refl)
-  Steps-turn (Enter thread key valid park_token timed) consistent =
+  IsStep-turn (Enter thread key valid park_token timed) consistent =
       let step = Enter thread key valid park_token timed in
       MatchBool-either (is_running (m.status thread))
-      (λ runs. MatchBool-either valid (λ _. Turns-gives step (is_parked-changed m number thread (status.Waiting timed) false true (ap is_parked (Running-from (m.status thread) runs)) refl)) (λ _. Turns-gives step refl))
+      (λ runs. MatchBool-either valid
+      (λ _. Turns-gives step
+      (is_parked-changed m number thread (status.Waiting timed) false true
+      (ap is_parked (Running-from (m.status thread) runs)) refl)) (λ _. Turns-gives step refl))
       (λ _. Turns-gives step refl)
-  Steps-turn (Unpark op) consistent = IsUnpark-turns op consistent
-  Steps-turn (Deadline thread) consistent =
-      MatchBool-either (is_timed (m.status thread))
-      (λ timed. Turns-gives (Deadline thread) (is_parked-turned m number thread status.Late (ap is_parked (sym (Waiting-from (m.status thread) timed)))))
+  IsStep-turn (Unpark op) consistent = IsUnpark-turns op consistent
+  IsStep-turn (Deadline thread) consistent =
+      MatchBool-either (awaits_deadline (m.status thread))
+      (λ timed. Turns-gives (Deadline thread)
+      (is_parked-with_status m number thread status.Late (ap is_parked (sym (Waiting-from (m.status thread) timed)))))
       (λ _. Turns-gives (Deadline thread) refl)
-  Steps-turn (Resolve thread) consistent = IsResolve-turns thread (m.status thread) refl
-  Steps-turn (Return thread) consistent = IsReturn-turns thread (m.status thread) refl
+  IsStep-turn (Resolve thread) consistent = IsResolve-turns thread (m.status thread) refl
+  IsStep-turn (Return thread) consistent = IsReturn-turns thread (m.status thread) refl
 
 -- what holds from the state after a step, told from the one before
-from_before : (parks ends before after : Bool) (Next : Bool → Type 0) → MatchBool parks ((before ≡ false) × (after ≡ true)) (MatchBool ends ((before ≡ true) × (after ≡ false)) (after ≡ before)) → Next after → MatchBool parks ((before ≡ false) × Next true) (MatchBool ends ((before ≡ true) × Next false) (Next before))
+from_before : (parks ends before after : Bool) (Next : Bool → Type 0)
+    → MatchBool parks ((before ≡ false) × (after ≡ true))
+    (MatchBool ends ((before ≡ true) × (after ≡ false)) (after ≡ before)) → Next after
+    → MatchBool parks ((before ≡ false) × Next true) (MatchBool ends ((before ≡ true) × Next false) (Next before))
 from_before true ends before after Next (was, is) next = (was, subst Next is next)
 from_before false true before after Next (was, is) next = (was, subst Next is next)
 from_before false false before after Next same next = subst Next same next
@@ -191,7 +227,8 @@ OutcomesAlternate-run m [] [] last consistent ran number = tt
 OutcomesAlternate-run m [] (_ ∷ _) last consistent ran number = ran
 OutcomesAlternate-run m (_ ∷ _) [] last consistent ran number = ran
 OutcomesAlternate-run m (step ∷ steps) (given ∷ answers) last consistent (next, does, ran) number =
-    from_before (parks number step given) (ends_park number step given) (is_parked (m.status number)) (is_parked (next.status number))
+    from_before (parks number step given) (ends_park number step given) (is_parked (m.status number))
+    (is_parked (next.status number))
     (λ parked. OutcomesAlternate parked number steps answers)
-    (Steps-turn m number given next step consistent does)
+    (IsStep-turn m number given next step consistent does)
     (OutcomesAlternate-run next steps answers last (IsConsistent-step m step given next consistent does) ran number)

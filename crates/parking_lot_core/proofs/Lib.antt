@@ -1,8 +1,12 @@
 pub mod NodeLemmas
 pub mod ThreadLemmas
+pub mod CountLemmas
+pub mod WaiterLemmas
+pub mod SplitLemmas
 pub mod MachineLemmas
 pub mod RowLemmas
 pub mod CommitLemmas
+pub mod RemovalLemmas
 pub mod LotLemmas
 pub mod NumberLemmas
 pub mod TableLemmas
@@ -14,5 +18,6 @@ pub mod RequeueLotLemmas
 pub mod ScheduleLemmas
 pub mod StepLemmas
 pub mod LawLemmas
+pub mod AnswerLemmas
 pub mod GrowthLemmas
 pub mod ParkingLotLemmas

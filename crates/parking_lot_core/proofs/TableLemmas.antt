@@ -1,5 +1,7 @@
 -- Rows of buckets, and the cells that tell them.
-use Rattle.std.proofs.Common.{◌≡◌, ◌≢◌, ℕ, ◌-◌, ◌<◌, ◌≤◌, List, [], ◌∷◌, ◌++◌, Option, Some, None, IfSome, length, length-append, get_or, map, option_map, slice_get, slice_set, refl, sym, ap, ◌∙◌, ⊎_elim, arith}
+use Rattle.std.proofs.Common.{◌≡◌, ◌≢◌, ℕ, ◌-◌, ◌<◌, ◌≤◌, List, [], ◌∷◌, ◌++◌, Option, Some, None, IfSome, length}
+use Rattle.std.proofs.Common.{length-append, get_or, map, option_map, slice_get, slice_set, refl, sym, ap, ◌∙◌, ⊎_elim}
+use Rattle.std.proofs.Common.{arith}
 use Rattle.std.proofs.Math.ListN.{length-set}
 use Rattle.std.proofs.lemmas.Bool.{cases_eq, cases_lt}
 use Rattle.std.proofs.lemmas.List.{get_or_past, get_or_append_left, get_or-append_right}
@@ -10,11 +12,13 @@ use Rattle.parking_lot_core.specs.Table.{IsRowOf, AreEmpty}
 use Rattle.parking_lot_core.proofs.RowLemmas.{bucket_at-set_same, bucket_at-set_other}
 
 -- what follows from two facts about the value, if there is one
-pub IfSome-both : {A : Type 0} (o : Option A) {P Q R : A → Type 0} → IfSome o P → IfSome o Q → ((a : A) → P a → Q a → R a) → IfSome o R
+pub IfSome-both : {A : Type 0} (o : Option A) {P Q R : A → Type 0} → IfSome o P → IfSome o Q
+    → ((a : A) → P a → Q a → R a) → IfSome o R
 IfSome-both None p q f = tt
 IfSome-both (Some a) p q f = f a p q
 
-pub IfSome-three : {A : Type 0} (o : Option A) {P Q R S : A → Type 0} → IfSome o P → IfSome o Q → IfSome o R → ((a : A) → P a → Q a → R a → S a) → IfSome o S
+pub IfSome-three : {A : Type 0} (o : Option A) {P Q R S : A → Type 0} → IfSome o P → IfSome o Q → IfSome o R
+    → ((a : A) → P a → Q a → R a → S a) → IfSome o S
 IfSome-three None p q r f = tt
 IfSome-three (Some a) p q r f = f a p q r
 
@@ -23,14 +27,21 @@ IfSome-always None f = tt
 IfSome-always (Some a) f = f a
 
 -- what a cell tells stands at its place
-pub bucket_at-map : {C : Type 0} (tell : C → BucketState) (cells : List C) (i : ℕ) (cell : C) → slice_get cells i ≡ Some cell → bucket_at (map tell cells) i ≡ tell cell
+pub bucket_at-map : {C : Type 0} (tell : C → BucketState) (cells : List C) (i : ℕ) (cell : C)
+    → slice_get cells i ≡ Some cell → bucket_at (map tell cells) i ≡ tell cell
 bucket_at-map tell cells i cell here =
     get_or_from_slice_get (map tell cells) i (tell cell) _ (slice_get-map tell cells i ∙ ap (option_map tell) here)
 
 -- one empty bucket more
-pub AreEmpty-push : (size : ℕ) (row : List BucketState) (bucket : BucketState) → bucket ≡ record { place = length row; size = size; nodes = [] } → AreEmpty size row → AreEmpty size (row ++ bucket ∷ [])
+pub AreEmpty-push : (size : ℕ) (row : List BucketState) (bucket : BucketState)
+    → bucket ≡ record { place = length row; size = size; nodes = [] } → AreEmpty size row
+    → AreEmpty size (row ++ bucket ∷ [])
 AreEmpty-push size row bucket is empty i low =
-    ⊎_elim (λ (same : i ≡ length row). get_or-append_right row (bucket ∷ []) (length row) i _ refl (omega arith) ∙ (let first : i - length row ≡ 0 = omega arith in ap (λ k. get_or (bucket ∷ []) k (record { place = i; size = 0; nodes = [] })) first) ∙ is ∙ ap (λ k. record { place = k; size = size; nodes = [] }) (sym same))
+    ⊎_elim (λ (same : i ≡ length row). get_or-append_right row (bucket ∷ []) (length row) i _ refl (omega arith)
+    ∙
+    (let first : i - length row ≡ 0 = omega arith in
+    ap (λ k. get_or (bucket ∷ []) k (record { place = i; size = 0; nodes = [] })) first) ∙ is
+    ∙ ap (λ k. record { place = k; size = size; nodes = [] }) (sym same))
     (λ (other : i ≢ length row). get_or_append_left row (bucket ∷ []) _ i (within other) ∙ empty i (within other))
     (cases_eq i (length row))
   where
@@ -44,23 +55,34 @@ nodes-empty size row empty i =
     (cases_lt i (length row))
 
 -- a bucket of the same place and size in the place of another
-pub IsRowOf-set : (size : ℕ) (row : List BucketState) (place : ℕ) (bucket : BucketState) → place < size → bucket.place ≡ place → bucket.size ≡ size → IsRowOf size row → IsRowOf size (slice_set row place bucket)
+pub IsRowOf-set : (size : ℕ) (row : List BucketState) (place : ℕ) (bucket : BucketState) → place < size
+    → bucket.place ≡ place → bucket.size ≡ size → IsRowOf size row → IsRowOf size (slice_set row place bucket)
 IsRowOf-set size row place bucket below at sized is_row = record {
   count = length-set row place bucket ∙ is_row.count;
-  places = λ i low. ⊎_elim (λ (same : i ≡ place). ap (λ k. (bucket_at (slice_set row place bucket) k).place) same ∙ ap (λ b. b.place) here ∙ at ∙ sym same) (λ (other : i ≢ place). ap (λ b. b.place) (bucket_at-set_other row place bucket i other) ∙ is_row.places i low) (cases_eq i place);
-  sizes = λ i low. ⊎_elim (λ (same : i ≡ place). ap (λ k. (bucket_at (slice_set row place bucket) k).size) same ∙ ap (λ b. b.size) here ∙ sized) (λ (other : i ≢ place). ap (λ b. b.size) (bucket_at-set_other row place bucket i other) ∙ is_row.sizes i low) (cases_eq i place);
+  places = λ i low. ⊎_elim (λ (same : i ≡ place). ap (λ k. (bucket_at (slice_set row place bucket) k).place) same
+      ∙ ap (λ b. b.place) here ∙ at
+      ∙ sym same) (λ (other : i ≢ place). ap (λ b. b.place) (bucket_at-set_other row place bucket i other)
+      ∙ is_row.places i low) (cases_eq i place);
+  sizes = λ i low. ⊎_elim (λ (same : i ≡ place). ap (λ k. (bucket_at (slice_set row place bucket) k).size) same
+      ∙ ap (λ b. b.size) here
+      ∙ sized) (λ (other : i ≢ place). ap (λ b. b.size) (bucket_at-set_other row place bucket i other)
+      ∙ is_row.sizes i low) (cases_eq i place);
 }
   where
     here : bucket_at (slice_set row place bucket) place ≡ bucket
     here = bucket_at-set_same row place bucket (omega (arith, is_row.count))
 
 -- a cell that was read has its own place
-pub place_told : {C : Type 0} (tell : C → BucketState) (cells : List C) (i : ℕ) (cell : C) → i < length cells → cell ≡ get_or cells i cell → IsRowOf (length cells) (map tell cells) → ((tell cell).place ≡ i) × ((tell cell).size ≡ length cells)
+pub place_told : {C : Type 0} (tell : C → BucketState) (cells : List C) (i : ℕ) (cell : C) → i < length cells
+    → cell ≡ get_or cells i cell → IsRowOf (length cells) (map tell cells)
+    → ((tell cell).place ≡ i) × ((tell cell).size ≡ length cells)
 place_told tell cells i cell below read row =
-    let here : bucket_at (map tell cells) i ≡ tell cell = bucket_at-map tell cells i cell (slice_get_read cells (length cells) i cell refl below read) in
+    let here : bucket_at (map tell cells) i ≡ tell cell =
+    bucket_at-map tell cells i cell (slice_get_read cells (length cells) i cell refl below read) in
     (ap (λ b. b.place) (sym here) ∙ row.places i below, ap (λ b. b.size) (sym here) ∙ row.sizes i below)
 
 -- and what it tells stands there in the row
-pub told_at : {C : Type 0} (tell : C → BucketState) (cells : List C) (i : ℕ) (cell : C) → i < length cells → cell ≡ get_or cells i cell → tell cell ≡ bucket_at (map tell cells) i
+pub told_at : {C : Type 0} (tell : C → BucketState) (cells : List C) (i : ℕ) (cell : C) → i < length cells
+    → cell ≡ get_or cells i cell → tell cell ≡ bucket_at (map tell cells) i
 told_at tell cells i cell below read =
     sym (bucket_at-map tell cells i cell (slice_get_read cells (length cells) i cell refl below read))

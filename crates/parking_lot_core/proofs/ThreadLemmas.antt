@@ -4,14 +4,15 @@ use Rattle.std.proofs.lemmas.Bool.{false≢true}
 use Rattle.lot_base.specs.NodeFields.{NodeFields}
 use Rattle.lot_base.specs.SlotState.{SlotState}
 use Rattle.lot_base.specs.declared.token.UnparkToken.{UnparkToken}
-use Rattle.parking_lot_core.specs.declared.lot.State.{State}
-use Rattle.parking_lot_core.specs.declared.lot.State.TheVariants.{Free, Running, Waiting, Late, Taken}
+use Rattle.parking_lot_core.specs.declared.lot.thread.State.{State}
+use Rattle.parking_lot_core.specs.declared.lot.thread.State.TheVariants.{Free, Running, Waiting, Late, Taken}
 use Rattle.parking_lot_core.specs.LotState.{ThreadState}
-use Rattle.parking_lot_core.specs.Machine.{is_queued}
-use Rattle.parking_lot_core.specs.Thread.{status_of, HasItsNode}
+use Rattle.parking_lot_core.specs.Status.{is_queued}
+use Rattle.parking_lot_core.specs.Private.Thread.{status_of, HasItsNode}
 
 -- the slot of a waiting thread is empty
-pub nodes-queued : (state : State) (slot : SlotState) → HasItsNode state slot → IsTrue (is_queued (status_of state)) → slot.nodes ≡ []
+pub nodes-queued : (state : State) (slot : SlotState) → HasItsNode state slot → IsTrue (is_queued (status_of state))
+    → slot.nodes ≡ []
 nodes-queued Free slot has queued = absurd (false≢true queued)
 nodes-queued (Running _) slot has queued = has.1
 nodes-queued (Waiting _) slot has queued = has
@@ -19,9 +20,15 @@ nodes-queued Late slot has queued = has
 nodes-queued (Taken _) slot has queued = absurd (false≢true queued)
 
 -- an unpark puts the node of a waiting thread alone into its slot
-pub HasItsNode-taken : (state : State) (slot after : SlotState) (node : NodeFields) (before : ThreadState) (key : ℕ) (token : UnparkToken) → record { number = slot.owner; key = key; status = status_of state } ≡ before → HasItsNode state slot → node.number ≡ before.number → IsTrue (is_queued before.status) → after ≡ record slot { nodes = slot.nodes ++ node ∷ [] } → node.unpark_token ≡ token → HasItsNode (Taken token) after
+pub HasItsNode-taken : (state : State) (slot after : SlotState) (node : NodeFields) (before : ThreadState) (key : ℕ)
+    (token : UnparkToken) → record { number = slot.owner; key = key; status = status_of state } ≡ before
+    → HasItsNode state slot → node.number ≡ before.number → IsTrue (is_queued before.status)
+    → after ≡ record slot { nodes = slot.nodes ++ node ∷ [] } → node.unpark_token ≡ token
+    → HasItsNode (Taken token) after
 HasItsNode-taken state slot after node before key token view has number queued put handed =
     let waits : IsTrue (is_queued (status_of state)) = rw (← view) at queued in
-    let nodes : after.nodes ≡ node ∷ [] = ap (λ s. s.nodes) put ∙ ap (λ held. held ++ node ∷ []) (nodes-queued state slot has waits) in
-    let owner : node.number ≡ after.owner = number ∙ sym (ap (λ thread. thread.number) view) ∙ sym (ap (λ s. s.owner) put) in
+    let nodes : after.nodes ≡ node ∷ [] = ap (λ s. s.nodes) put
+    ∙ ap (λ held. held ++ node ∷ []) (nodes-queued state slot has waits) in
+    let owner : node.number ≡ after.owner = number ∙ sym (ap (λ thread. thread.number) view)
+    ∙ sym (ap (λ s. s.owner) put) in
     (node, nodes, owner, handed)

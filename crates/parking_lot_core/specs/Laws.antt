@@ -1,27 +1,66 @@
 -- What the definitions of `Steps` give for every machine and every run.
-use Rattle.std.specs.Prelude.{◌≡◌, ℕ, List}
+use Rattle.std.specs.Prelude.{◌≡◌, ◌≢◌, ◌↔◌, ℕ, ◌≤◌, List, length}
+use Rattle.lot_base.specs.declared.token.UnparkToken.{UnparkToken}
+use Rattle.lot_base.specs.declared.token.RequeueOp.TheVariants.{Abort}
+use Rattle.lot_base.specs.Waiting.{split_by}
 use Rattle.parking_lot_core.specs.declared.schedule.Answer.{Answer}
+use Rattle.parking_lot_core.specs.declared.schedule.Answer.TheVariants.{NoMemory}
 use Rattle.parking_lot_core.specs.declared.schedule.Step.{Step}
-use Rattle.parking_lot_core.specs.Machine.{Machine, IsConsistent, new_machine}
-use Rattle.parking_lot_core.specs.Steps.{Steps, IsRun, is_parked, OutcomesAlternate}
+use Rattle.parking_lot_core.specs.declared.schedule.Step.TheVariants.{Register}
+use Rattle.parking_lot_core.specs.Status.{is_parked}
+use Rattle.parking_lot_core.specs.Machine.{Machine, IsConsistent, IsFull, new_machine, threads_of, after_requeue}
+use Rattle.parking_lot_core.specs.Size.{threads_after}
+use Rattle.parking_lot_core.specs.Steps.{IsStep, IsRun, OutcomesAlternate}
 
 -- from one machine, one step with one answer leads to one machine
 abbrev pub StepAndAnswerFixTheState : Type 0
-StepAndAnswerFixTheState = (m : Machine) (step : Step) (given : Answer) (new other : Machine) → Steps m step given new → Steps m step given other → new ≡ other
+StepAndAnswerFixTheState = (m : Machine) (step : Step) (given : Answer) (new other : Machine) → IsStep m step given new
+    → IsStep m step given other → new ≡ other
 
 -- and so does one list of steps with one list of answers
 abbrev pub AnswersFixTheRun : Type 0
-AnswersFixTheRun = (m : Machine) (steps : List Step) (answers : List Answer) (last other : Machine) → IsRun m steps answers last → IsRun m steps answers other → last ≡ other
+AnswersFixTheRun = (m : Machine) (steps : List Step) (answers : List Answer) (last other : Machine)
+    → IsRun m steps answers last → IsRun m steps answers other → last ≡ other
 
--- where nobody waits, every thread stands where it should
+-- every step of a consistent machine has an answer for which no memory is wanting
+abbrev pub EachStepHasAnAnswer : Type 0
+EachStepHasAnAnswer = (m : Machine) (step : Step) → IsConsistent m
+    → (given : Answer) × (given ≢ NoMemory) × (new : Machine) × IsStep m step given new
+
+-- and no other such answer
+abbrev pub NoOtherAnswer : Type 0
+NoOtherAnswer = (m : Machine) (step : Step) (given other : Answer) (new left : Machine) → IsConsistent m
+    → IsStep m step given new → IsStep m step other left → given ≢ NoMemory → other ≢ NoMemory → given ≡ other
+
+-- memory may be wanting at a registration where a number is free, and nowhere else
+abbrev pub OnlyMemoryIsOpen : Type 0
+OnlyMemoryIsOpen = (m : Machine) (step : Step) (new : Machine)
+    → IsStep m step NoMemory new ↔ ((step ≡ Register) × (IsFull m → ⊥) × (new ≡ m))
+
+-- a requeue that aborts changes nothing
+abbrev pub AbortChangesNothing : Type 0
+AbortChangesNothing = (m : Machine) (from to : ℕ) (token : UnparkToken)
+    → after_requeue m from to (split_by Abort (m.lists from)) token ≡ m
+
+-- new machines are consistent, and each step keeps that
 abbrev pub NewMachinesAreConsistent : Type 0
 NewMachinesAreConsistent = (max_threads : ℕ) → IsConsistent (new_machine max_threads)
 
--- a step keeps that each thread that waits or is late stands in one list, once, and any other in none
 abbrev pub StepsKeepConsistency : Type 0
-StepsKeepConsistency = (m : Machine) (step : Step) (given : Answer) (new : Machine) → IsConsistent m → Steps m step given new → IsConsistent new
+StepsKeepConsistency = (m : Machine) (step : Step) (given : Answer) (new : Machine) → IsConsistent m
+    → IsStep m step given new → IsConsistent new
+
+-- in a consistent machine no list is longer than the greatest number of threads
+abbrev pub ListsAreShort : Type 0
+ListsAreShort = (m : Machine) (key : ℕ) → IsConsistent m → length (m.lists key) ≤ m.max_threads
+
+-- the answer to a step tells how many threads are registered after it
+abbrev pub AnswersCountThreads : Type 0
+AnswersCountThreads = (m : Machine) (step : Step) (given : Answer) (new : Machine) → IsConsistent m
+    → IsStep m step given new → threads_of new ≡ threads_after (threads_of m) given
 
 -- in every run each thread's parks and their outcomes take turns, from what its status says at first
 abbrev pub ParksAndOutcomesAlternate : Type 0
-ParksAndOutcomesAlternate = (m : Machine) (steps : List Step) (answers : List Answer) (last : Machine) → IsConsistent m → IsRun m steps answers last →
+ParksAndOutcomesAlternate = (m : Machine) (steps : List Step) (answers : List Answer) (last : Machine) → IsConsistent m
+    → IsRun m steps answers last →
     (number : ℕ) → OutcomesAlternate (is_parked (m.status number)) number steps answers

@@ -1,11 +1,13 @@
 -- What a lot means, and what every lot keeps.
-use Rattle.std.specs.Prelude.{◌≡◌, ℕ, List, length, map, slice_index_or}
+use Rattle.std.specs.Prelude.{◌≡◌, ℕ, ◌≤◌, List, length, map, slice_index_or}
+use Rattle.lot_base.specs.declared.token.ParkToken.{ParkToken}
 use Rattle.parking_lot_core.specs.declared.lot.Status.{Status}
 use Rattle.parking_lot_core.specs.declared.lot.Status.TheVariants as status
 use Rattle.parking_lot_core.specs.declared.table.Use.{Use}
 use Rattle.parking_lot_core.specs.declared.table.Use.TheVariants.{Free, Registered}
 use Rattle.parking_lot_core.specs.LotState.{LotState, ThreadState}
-use Rattle.parking_lot_core.specs.Machine.{Machine, StandRight}
+use Rattle.parking_lot_core.specs.Machine.{Machine, Waiter, QueuesMatchStatus}
+use Rattle.parking_lot_core.specs.declared.table.TheConstants.{MAX_THREADS}
 use Rattle.parking_lot_core.specs.Represents.{waiters_in, Represents}
 
 -- a number that nobody has
@@ -21,12 +23,16 @@ abbrev pub statuses : List ThreadState → ℕ → Status
 statuses threads number = (thread_at threads number).status
 
 -- the key of each number
-abbrev pub keys : List ThreadState → ℕ → ℕ
-keys threads number = (thread_at threads number).key
+abbrev pub thread_keys : List ThreadState → ℕ → ℕ
+thread_keys threads number = (thread_at threads number).key
 
 -- the machine that a lot means
 abbrev pub machine : LotState → Machine
 machine lot = record { lists = waiters_in lot.buckets; status = statuses lot.threads; max_threads = length lot.threads }
+
+-- what a filter is shown of waiters: their park tokens, in order
+abbrev pub waiter_park_tokens : List Waiter → List ParkToken
+waiter_park_tokens waiters = map (λ waiter. waiter.park_token) waiters
 
 -- what a table knows of a status
 abbrev pub use_of : Status → Use
@@ -41,4 +47,5 @@ uses threads = map (λ thread. use_of thread.status) threads
 pub record IsLot (lot : LotState) : Type 0 where
   pub represents : Represents lot.buckets (machine lot).lists
   pub numbers : (number : ℕ) → (thread_at lot.threads number).number ≡ number
-  pub standing : StandRight (keys lot.threads) (machine lot)
+  pub consistent : QueuesMatchStatus (thread_keys lot.threads) (machine lot)
+  pub count : length lot.threads ≤ MAX_THREADS

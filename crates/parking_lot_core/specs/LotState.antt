@@ -1,5 +1,5 @@
 -- A lot as contracts see it.
-use Rattle.std.specs.Prelude.{ℕ, List}
+use Rattle.std.specs.Prelude.{◌≡◌, ℕ, List, length}
 use Rattle.lot_base.specs.BucketState.{BucketState}
 use Rattle.parking_lot_core.specs.declared.lot.Status.{Status}
 
@@ -13,3 +13,7 @@ pub record ThreadState : Type 0 where
 pub record LotState : Type 0 where
   pub buckets : List BucketState
   pub threads : List ThreadState
+
+-- a step that leaves the number of buckets
+abbrev pub KeepsSize : LotState → LotState → Type 0
+KeepsSize old new = length new.buckets ≡ length old.buckets

@@ -1,9 +1,9 @@
 -- How a row of buckets represents the lists of waiters.
-use Rattle.std.specs.Prelude.{◌≡◌, ℕ, ◌<◌, List, map, length, slice_index_or, slice_set, All, [], ◌∷◌, ◌++◌}
+use Rattle.std.specs.Prelude.{◌≡◌, ℕ, ◌<◌, List, map, length, slice_index_or, slice_set, All, ◌∷◌, ◌++◌, []}
 use Rattle.lot_base.specs.BucketState.{BucketState}
 use Rattle.lot_base.specs.NodeFields.{NodeFields}
 use Rattle.lot_base.specs.Place.{place_of}
-use Rattle.lot_base.specs.Waiting.{lists_of}
+use Rattle.lot_base.specs.NodeLists.{lists_of}
 use Rattle.parking_lot_core.specs.Machine.{Waiter}
 
 -- the waiter of a node
@@ -20,9 +20,13 @@ with_node row node =
     let place = place_of node.key (length row) in
     slice_set row place (record (bucket_at row place) { nodes = (bucket_at row place).nodes ++ node ∷ [] })
 
--- the waiters of a key: its nodes in the bucket of its place, in order
+-- the nodes of a key: those in the bucket of its place, in order
+abbrev pub nodes_in : List BucketState → ℕ → List NodeFields
+nodes_in row key = lists_of (bucket_at row (place_of key (length row))).nodes key
+
+-- and its waiters
 abbrev pub waiters_in : List BucketState → ℕ → List Waiter
-waiters_in row key = map waiter_of (lists_of (bucket_at row (place_of key (length row))).nodes key)
+waiters_in row key = map waiter_of (nodes_in row key)
 
 -- bucket i holds only nodes whose key has place i, and the nodes of each key are its list
 pub record Represents (row : List BucketState) (lists : ℕ → List Waiter) : Type 0 where

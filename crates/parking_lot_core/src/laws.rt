@@ -1,8 +1,16 @@
-//! Laws of the machine with one list of waiters for each key, for every machine and every run. Each
-//! function does nothing: its contract is the law, over the definitions that the contracts of the lot
-//! and of `run` cite.
+//! Laws of the machine with one list of waiters for each key, for every machine and every run, and
+//! calls that stand on them. The functions without an argument do nothing: their contract is the
+//! law, over the definitions that the contracts of the lot and of `run` cite.
 
-ghost use Rattle.parking_lot_core.specs.Laws.{StepAndAnswerFixTheState, AnswersFixTheRun, NewMachinesAreConsistent, StepsKeepConsistency, ParksAndOutcomesAlternate};
+ghost use Rattle.std.specs.Prelude.{◌≡◌, false, length};
+ghost use Rattle.lot_base.specs.Waiting.{split_all, result_of};
+ghost use Rattle.parking_lot_core.specs.LotState.{KeepsSize};
+ghost use Rattle.parking_lot_core.specs.Lot.{machine};
+ghost use Rattle.parking_lot_core.specs.Machine.{after_unpark};
+ghost use Rattle.parking_lot_core.specs.Laws.{StepAndAnswerFixTheState, AnswersFixTheRun, EachStepHasAnAnswer, NoOtherAnswer, OnlyMemoryIsOpen, AbortChangesNothing, NewMachinesAreConsistent, StepsKeepConsistency, ListsAreShort, AnswersCountThreads, ParksAndOutcomesAlternate};
+
+use crate::lot::Lot;
+use lot_base::token::{DEFAULT_UNPARK_TOKEN, FilterOp, RequeueOp, UnparkResult, UnparkToken};
 
 /// A step and its answer leave nothing open about the state after it: two lots that mean the same
 /// machine, take the same steps and give the same answers mean the same machine afterwards.
@@ -12,14 +20,64 @@ pub fn answers_fix_the_run()
     ensures run { AnswersFixTheRun }
 {}
 
-/// For each thread, `Entered` and the outcomes `TimedOut` and `Unparked` take turns in the answers of
-/// every run that begins with a consistent machine, such as the runs of `schedule::run`. An outcome comes
-/// first only if the thread waited, was late or was taken before the run. So a park has at most one
-/// outcome, and no outcome comes without a park.
-///
-/// The machine of a new lot is consistent, and each step keeps it so.
-pub fn parks_and_outcomes_alternate()
+/// In a consistent machine, such as that of every lot, each step has an answer, and just one: but
+/// that a registration, where a number is free, may be answered by `NoMemory` too.
+pub fn each_step_has_one_answer()
+    ensures some { EachStepHasAnAnswer }
+    ensures one { NoOtherAnswer }
+    ensures memory { OnlyMemoryIsOpen }
+{}
+
+/// A requeue that aborts changes nothing.
+pub fn abort_changes_nothing()
+    ensures { AbortChangesNothing }
+{}
+
+/// The machine of a new lot is consistent, and each step keeps it so. In a consistent machine no
+/// list is longer than the greatest number of threads, and how many threads are registered follows
+/// the answers.
+pub fn steps_keep_consistency()
     ensures new { NewMachinesAreConsistent }
     ensures consistent { StepsKeepConsistency }
-    ensures alternate { ParksAndOutcomesAlternate }
+    ensures lists { ListsAreShort }
+    ensures threads { AnswersCountThreads }
 {}
+
+/// For each thread, `Entered` and the outcomes `TimedOut` and `Unparked` take turns in the answers
+/// of every run that begins with a consistent machine, such as the runs of `schedule::run`. An
+/// outcome comes first only if the thread waited, was late or was taken before the run. So a park
+/// has at most one outcome, and no outcome comes without a park.
+pub fn parks_and_outcomes_alternate()
+    ensures { ParksAndOutcomesAlternate }
+{}
+
+/// Unparks every waiter of the key by a filter that always answers `Unpark`: it does what
+/// `Lot::unpark_all` does. It costs what `Lot::unpark_filter` costs.
+pub fn unpark_all_by_filter(lot: &mut Lot, key: usize, unpark_token: UnparkToken) -> UnparkResult
+    ensures result { result ≡ result_of (split_all ((machine lot.old).lists key)) }
+    ensures taken { machine lot.new
+        ≡ after_unpark (machine lot.old) key
+        (split_all ((machine lot.old).lists key)) unpark_token }
+    ensures size { KeepsSize lot.old lot.new }
+{
+    lot.unpark_filter(key, |_| FilterOp::Unpark, |_| unpark_token)
+}
+
+/// Requeues every waiter of the key onto the same key: it changes nothing, and counts them. It
+/// costs what `Lot::unpark_requeue` costs.
+pub fn requeue_all_to_itself(lot: &mut Lot, key: usize) -> UnparkResult
+    ensures result { result ≡ record {
+      unparked_threads = 0;
+      requeued_threads = length ((machine lot.old).lists key);
+      have_more_threads = false;
+    } }
+    ensures unchanged { machine lot.new ≡ machine lot.old }
+    ensures size { KeepsSize lot.old lot.new }
+{
+    lot.unpark_requeue(
+        key,
+        key,
+        || RequeueOp::RequeueAll,
+        |_, _| DEFAULT_UNPARK_TOKEN,
+    )
+}

@@ -6,12 +6,12 @@ ghost use Rattle.std.specs.Sync.Mutex.{mutex_guard_value};
 ghost use Rattle.lot_base.specs.Node.{fields};
 ghost use Rattle.lot_base.specs.NodeFields.{NodeFields};
 ghost use Rattle.lot_base.specs.Place.{place_of};
-ghost use Rattle.lot_base.specs.Waiting.{split_first, answer_of};
-ghost use Rattle.parking_lot_core.specs.Table.{count_registered, IsLeastFree};
+ghost use Rattle.lot_base.specs.Waiting.{split_first, result_of};
+ghost use Rattle.parking_lot_core.specs.Table.{count_registered, IsLeastUnregistered};
 
 use crate::table::{MAX_THREADS, Table, Use};
 use lot_base::bucket::{Bucket, place};
-use lot_base::queue::Node;
+use lot_base::queue::{Node, Queue};
 use lot_base::thread_parker::{ThreadParkerT, UnparkHandleT};
 use lot_base::token::{LotError, NoMemory, ParkResult, ParkToken, UnparkResult, UnparkToken};
 use std::alloc::Global;
@@ -41,7 +41,8 @@ impl Model for ThreadData {
 
     ghost view = { λ thread. record { number = thread.number } };
 
-    ghost invariant = { λ thread. IsSomeAnd thread.node (λ node. (fields node.value).number ≡ thread.number) };
+    ghost invariant = { λ thread. IsSomeAnd thread.node
+        (λ node. (fields node.value).number ≡ thread.number) };
 }
 
 impl ThreadData {
@@ -55,8 +56,8 @@ impl ThreadData {
     }
 }
 
-// What the lot keeps for one thread number from the first: its parker, and the key of the queue that
-// its thread entered last.
+// What the lot keeps for one thread number from the first: its parker, and the key of the queue
+// that its thread entered last.
 #[derive(Drop)]
 struct PerThread<P: ThreadParkerT> {
     parker: P,
@@ -87,7 +88,8 @@ impl<P: ThreadParkerT> Model for ParkingLot<P> {
 
     ghost view = { λ lot. record { max_threads = length lot.threads.items } };
 
-    ghost invariant = { λ lot. map (λ thread. P.owner thread.parker) lot.threads.items ≡ range_with_len 0 (length lot.threads.items) };
+    ghost invariant = { λ lot. map (λ thread. P.owner thread.parker) lot.threads.items
+        ≡ range_with_len 0 (length lot.threads.items) };
 }
 
 impl<P: ThreadParkerT> ParkingLot<P> {
@@ -143,6 +145,7 @@ impl<P: ThreadParkerT> ParkingLot<P> {
     }
 
     /// Frees the thread's number. It takes the table's lock for writing, and allocates nothing.
+    /// With another lot's data it frees whoever has that number here.
     pub fn retire<R: Wait>(&self, rt: &R, data: ThreadData) {
         self.table.write(rt).release(data.number);
     }
@@ -156,7 +159,7 @@ impl<P: ThreadParkerT> ParkingLot<P> {
     /// `NoMemory` if memory for the list cannot be had. The empty list needs none.
     pub fn list<R: Wait>(&self, rt: &R, alloc: Global, key: usize) -> Result<Vec<usize>, NoMemory> {
         let table = self.table.read(rt);
-        locked_bucket(rt, &table, key).list(alloc, key)
+        list_of(&locked_bucket(rt, &table, key), alloc, key)
     }
 
     // Puts the node last in the queue of its key, in a section, or gives it back if `validate`
@@ -215,7 +218,8 @@ fn for_each_number<P: ThreadParkerT>(
     alloc: Global,
     max_threads: usize,
 ) -> Result<Vec<PerThread<P>>, NoMemory>
-    ensures { IfOk result (λ threads. map (λ thread. P.owner thread.parker) threads.items ≡ range_with_len 0 max_threads) }
+    ensures { IfOk result (λ threads. map (λ thread. P.owner thread.parker) threads.items
+        ≡ range_with_len 0 max_threads) }
 {
     let mut threads = Vec::with_capacity(alloc, max_threads)?;
     for number in 0..max_threads {
@@ -227,8 +231,8 @@ fn for_each_number<P: ThreadParkerT>(
     Ok(threads)
 }
 
-// Registers the least free number, which is to be below `max_threads`. A lock does not tell that its
-// table has no more numbers than that.
+// Registers the least free number, which is to be below `max_threads`. A lock does not tell that
+// its table has no more numbers than that.
 fn register_below<R: Wait>(
     rt: &R,
     table: &mut Table<Mutex<Bucket>>,
@@ -237,7 +241,8 @@ fn register_below<R: Wait>(
     ensures full { length table.old.numbers ≡ max_threads
         → (IsErrOf result LotError.Full ↔ (count_registered table.old.numbers ≡ max_threads)) }
     ensures not_too_many { result ≢ Err LotError.TooManyThreads }
-    ensures number { IfOk result (λ number. (number < max_threads) × IsLeastFree table.old.numbers number
+    ensures number { IfOk result (λ number. (number < max_threads)
+        × IsLeastUnregistered table.old.numbers number
         × (table.new.numbers ≡ slice_set table.old.numbers number Use.Registered)) }
     ensures err { OnErr result (table.new.numbers ≡ table.old.numbers) }
 {
@@ -269,23 +274,46 @@ fn locked_bucket<'t, R: Wait>(
     unreachable!()
 }
 
-/// Parks the thread of this data in the queue of the key, until another thread unparks it. The data's
-/// number is below the lot's greatest number of threads.
+// The list of the key, of the bucket that is the key's.
+fn list_of(bucket: &Bucket, alloc: Global, key: usize) -> Result<Vec<usize>, NoMemory>
+    requires { place_of key bucket.now.size ≡ bucket.now.place }
+{
+    bucket.list(alloc, key)
+}
+
+// Takes the first waiter of the key out of the bucket that is the key's.
+fn take_one<C: FnOnce(UnparkResult) -> UnparkToken>(
+    bucket: &mut Bucket,
+    key: usize,
+    callback: C,
+) -> (UnparkResult, Queue)
+    requires place { place_of key bucket.old.size ≡ bucket.old.place }
+    requires callback { (waiters : List NodeFields)
+        → C.pre callback (result_of (split_first waiters)) }
+    ensures { (waiters : List NodeFields) × (result.0 ≡ result_of (split_first waiters))
+        × (token : _) × C.post callback result.0 token }
+{
+    bucket.take_one(key, callback)
+}
+
+/// Parks the thread of this data in the queue of the key, until another thread unparks it. The
+/// data's number is below the lot's greatest number of threads.
 ///
-/// `validate` is called once, in the section of the key's bucket. If it answers false, the answer is
-/// `Invalid` and nothing else is called. If it answers true, the thread stands last in the queue, the
-/// section ends, `before_sleep` is called once with no lock held, and the thread sleeps until its
-/// unpark was committed. The answer is `Unparked` with the token that the other thread gave.
+/// `validate` is called once, in the section of the key's bucket. If it answers false, the answer
+/// is `Invalid` and nothing else is called. If it answers true, the thread stands last in the
+/// queue, the section ends, `before_sleep` is called once with no lock held, and the thread sleeps
+/// until its unpark was committed. The answer is `Unparked` with the token that the other thread
+/// gave.
 ///
-/// There are no timeouts yet: `timeout` must be `None`, and `timed_out` is not called. The park token
-/// is what a filter sees of the thread.
+/// There are no timeouts yet: `timeout` must be `None`, and `timed_out` is not called. The park
+/// token is what a filter sees of the thread.
 ///
 /// It takes the table's lock for reading and then the bucket's, for one `Bucket::enter`; after that
 /// the parker's alone. It is never refused and allocates nothing. `validate` must not call the lot.
 /// `before_sleep` may unpark, but not park.
 ///
-/// Upstream has it under this name. There the lot and the thread's data are found, not handed in, and
-/// any number that the caller has no right to is unsafe as a key; here it is only unwise.
+/// Upstream has it under this name. There the lot and the thread's data are found, not handed in,
+/// and any number that the caller has no right to is unsafe as a key; here it is only unwise.
 pub fn park<P: ThreadParkerT, R: Wait, V: FnOnce() -> bool, B: FnOnce(), T: FnOnce(usize, bool)>(
     rt: &R,
     lot: &ParkingLot<P>,
@@ -303,7 +331,8 @@ pub fn park<P: ThreadParkerT, R: Wait, V: FnOnce() -> bool, B: FnOnce(), T: FnOn
     requires before_sleep { V.post validate true → B.pre before_sleep }
 
     ensures asked { (valid : Bool) × V.post validate valid
-        × MatchBool valid ((result ≢ ParkResult.Invalid) × B.post before_sleep tt) (result ≡ ParkResult.Invalid) }
+        × MatchBool valid ((result ≢ ParkResult.Invalid) × B.post before_sleep tt)
+        (result ≡ ParkResult.Invalid) }
     ensures not_timed_out { result ≢ ParkResult.TimedOut }
     ensures number { thread_data.new ≡ thread_data.old }
 {
@@ -340,14 +369,14 @@ pub fn unpark_one<P: ThreadParkerT, R: Wait, C: FnOnce(UnparkResult) -> UnparkTo
     key: usize,
     callback: C,
 ) -> UnparkResult
-    requires { (waiters : List NodeFields) → C.pre callback (answer_of (split_first waiters)) }
+    requires { (waiters : List NodeFields) → C.pre callback (result_of (split_first waiters)) }
 
-    ensures { (waiters : List NodeFields) × (result ≡ answer_of (split_first waiters))
+    ensures { (waiters : List NodeFields) × (result ≡ result_of (split_first waiters))
         × (token : _) × C.post callback result token }
 {
     let table = lot.table.read(rt);
     let mut bucket = locked_bucket(rt, &table, key);
-    let (result, mut taken) = bucket.take_one(key, callback);
+    let (result, mut taken) = take_one(&mut bucket, key, callback);
     let handle = taken.pop_front().and_then(|node| lot.commit(rt, node));
     drop(bucket);
     drop(table);

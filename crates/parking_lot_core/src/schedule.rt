@@ -1,12 +1,15 @@
 //! Schedules: lists of steps of any threads, done one after another on an exclusive lot.
 
-ghost use Rattle.std.specs.Prelude.{◌≡◌, ℕ, ◌++◌, List, OnOk, OnErr};
+ghost use Rattle.std.specs.Prelude.{◌≡◌, ℕ, ◌+◌, ◌<◌, ◌++◌, List, length, vec_len, vec_capacity, OnOk, OnErr};
 ghost use Rattle.parking_lot_core.specs.declared.schedule.Answer.{Answer};
-ghost use Rattle.lot_base.specs.Waiting.{answer_of, split_filter};
-ghost use Rattle.parking_lot_core.specs.Decides.{Decides};
+ghost use Rattle.lot_base.specs.Waiting.{result_of, split_filter};
+ghost use Rattle.parking_lot_core.specs.Private.Decisions.{AnswersNext};
 ghost use Rattle.parking_lot_core.specs.Lot.{machine};
-ghost use Rattle.parking_lot_core.specs.Machine.{unparked};
-ghost use Rattle.parking_lot_core.specs.Steps.{IsRegister, IsReturn, IsUnpark, Steps, IsRun, OutcomesAlternate, is_parked};
+ghost use Rattle.parking_lot_core.specs.Machine.{after_unpark, threads_of};
+ghost use Rattle.parking_lot_core.specs.LotState.{KeepsSize};
+ghost use Rattle.parking_lot_core.specs.Size.{IsSizeAfter, IsSizeAfterRun};
+ghost use Rattle.parking_lot_core.specs.Status.{is_parked};
+ghost use Rattle.parking_lot_core.specs.Steps.{IsRegister, IsUnpark, IsStep, IsRun, OutcomesAlternate};
 
 use crate::lot::{Lot, Status};
 use lot_base::token::{
@@ -32,7 +35,7 @@ pub enum Op {
         token: UnparkToken,
     },
 
-    /// `Lot::unpark_filter`.
+    /// `Lot::unpark_filter`, with a filter that does not look at the park tokens.
     Filter {
         /// The key whose waiters the filter sees.
         key: usize,
@@ -90,13 +93,13 @@ pub enum Step {
         thread: usize,
     },
 
-    /// `Lot::resolve`.
+    /// `Lot::resolve`, which a thread calls whose deadline has passed.
     Resolve {
         /// The number of the thread.
         thread: usize,
     },
 
-    /// `Lot::give_back`.
+    /// `Lot::give_back`, which a thread calls that was unparked.
     Return {
         /// The number of the thread.
         thread: usize,
@@ -153,7 +156,9 @@ impl Lot {
     ///
     /// It costs what the call costs that the step names.
     pub fn apply(&mut self, step: &Step) -> Answer
-        ensures { Steps (machine self.old) step.now result (machine self.new) }
+        ensures step { IsStep (machine self.old) step.now result (machine self.new) }
+        ensures size { IsSizeAfter result (threads_of (machine self.new)) (length self.old.buckets)
+            (length self.new.buckets) }
     {
         match step {
             Step::Register => apply_register(self),
@@ -174,7 +179,9 @@ impl Lot {
 }
 
 fn apply_register(lot: &mut Lot) -> Answer
-    ensures { IsRegister (machine lot.old) result (machine lot.new) }
+    ensures step { IsRegister (machine lot.old) result (machine lot.new) }
+    ensures size { IsSizeAfter result (threads_of (machine lot.new)) (length lot.old.buckets)
+        (length lot.new.buckets) }
 {
     match lot.register() {
         Ok(number) => Answer::Registered(number),
@@ -184,7 +191,8 @@ fn apply_register(lot: &mut Lot) -> Answer
 }
 
 fn apply_retire(lot: &mut Lot, thread: usize) -> Answer
-    ensures { Steps (machine lot.old) (Step.Retire thread) result (machine lot.new) }
+    ensures step { IsStep (machine lot.old) (Step.Retire thread) result (machine lot.new) }
+    ensures size { KeepsSize lot.old lot.new }
 {
     match lot.retire(thread) {
         Ok(()) => Answer::Retired,
@@ -200,7 +208,9 @@ fn apply_enter(
     park_token: ParkToken,
     timed: bool,
 ) -> Answer
-    ensures { Steps (machine lot.old) (Step.Enter thread key valid park_token timed) result (machine lot.new) }
+    ensures step { IsStep (machine lot.old) (Step.Enter thread key valid park_token timed) result
+        (machine lot.new) }
+    ensures size { KeepsSize lot.old lot.new }
 {
     match lot.enter(thread, key, || valid, park_token, timed) {
         Ok(true) => Answer::Entered,
@@ -210,7 +220,8 @@ fn apply_enter(
 }
 
 fn apply_deadline(lot: &mut Lot, thread: usize) -> Answer
-    ensures { Steps (machine lot.old) (Step.Deadline thread) result (machine lot.new) }
+    ensures step { IsStep (machine lot.old) (Step.Deadline thread) result (machine lot.new) }
+    ensures size { KeepsSize lot.old lot.new }
 {
     match lot.deadline(thread) {
         Ok(()) => Answer::Late,
@@ -219,7 +230,8 @@ fn apply_deadline(lot: &mut Lot, thread: usize) -> Answer
 }
 
 fn apply_resolve(lot: &mut Lot, thread: usize) -> Answer
-    ensures { Steps (machine lot.old) (Step.Resolve thread) result (machine lot.new) }
+    ensures step { IsStep (machine lot.old) (Step.Resolve thread) result (machine lot.new) }
+    ensures size { KeepsSize lot.old lot.new }
 {
     if let Status::Late = lot.status(thread) {
         let (key, last) = lot.time_out(thread, |key, last| (key, last));
@@ -229,7 +241,8 @@ fn apply_resolve(lot: &mut Lot, thread: usize) -> Answer
 }
 
 fn apply_return(lot: &mut Lot, thread: usize) -> Answer
-    ensures { Steps (machine lot.old) (Step.Return thread) result (machine lot.new) }
+    ensures step { IsStep (machine lot.old) (Step.Return thread) result (machine lot.new) }
+    ensures size { KeepsSize lot.old lot.new }
 {
     match lot.give_back(thread) {
         Ok(token) => Answer::Unparked(token),
@@ -238,7 +251,8 @@ fn apply_return(lot: &mut Lot, thread: usize) -> Answer
 }
 
 fn apply_unpark(lot: &mut Lot, op: &Op) -> Answer
-    ensures { IsUnpark (machine lot.old) op.now result (machine lot.new) }
+    ensures step { IsUnpark (machine lot.old) op.now result (machine lot.new) }
+    ensures size { KeepsSize lot.old lot.new }
 {
     match op {
         Op::One { key, token } => Answer::Unpark(lot.unpark_one(*key, |_| *token)),
@@ -264,7 +278,9 @@ fn apply_requeue(
     op: RequeueOp,
     token: UnparkToken,
 ) -> UnparkResult
-    ensures { IsUnpark (machine lot.old) (Op.Requeue from to op token) (Answer.Unpark result) (machine lot.new) }
+    ensures step { IsUnpark (machine lot.old) (Op.Requeue from to op token) (Answer.Unpark result)
+        (machine lot.new) }
+    ensures size { KeepsSize lot.old lot.new }
 {
     lot.unpark_requeue(from, to, || op, |_, _| token)
 }
@@ -276,13 +292,15 @@ fn apply_filter(
     decisions: &[FilterOp],
     token: UnparkToken,
 ) -> UnparkResult
-    ensures answer { result ≡ answer_of (split_filter decisions.now ((machine lot.old).lists key)) }
+    ensures answer { result ≡ result_of (split_filter decisions.now ((machine lot.old).lists key)) }
     ensures taken { machine lot.new
-        ≡ unparked (machine lot.old) key (split_filter decisions.now ((machine lot.old).lists key)) token }
+        ≡ after_unpark (machine lot.old) key
+        (split_filter decisions.now ((machine lot.old).lists key)) token }
+    ensures size { KeepsSize lot.old lot.new }
 {
     let mut rest = decisions;
     let filter = move |_: ParkToken| -> FilterOp
-        ensures { Decides rest.entry.now result rest.exit.now }
+        ensures { AnswersNext rest.entry.now result rest.exit.now }
     {
         match rest.split_first() {
             Some((decision, behind)) => {
@@ -297,24 +315,37 @@ fn apply_filter(
 
 /// Does the steps one after another, and appends one answer for each.
 ///
-/// The answers are those of a run of the machine with one list of waiters for each key: from what the
-/// lot meant before, by these steps, to what it means after. Steps of numbers that are free and
-/// steps that do not fit are answered by `Misfit`. A registration that finds no memory is
-/// answered by `NoMemory`.
+/// The answers are those of a run of the machine with one list of waiters for each key: from what
+/// the lot meant before, by these steps, to what it means after. `Lot::new` says what a new lot
+/// means. A step that does not fit, as every step of a number that is free, is answered by
+/// `Misfit`. A registration that finds no memory is answered by `NoMemory`.
 ///
-/// Each thread's parks and outcomes take turns in these answers, so no park has two outcomes; an outcome
-/// comes first only for a thread that was parked before. Steps and answers leave nothing open about
-/// what the lot means after, by `laws::answers_fix_the_run`.
+/// Each thread's parks and outcomes take turns in these answers, so no park has two outcomes; an
+/// outcome comes first only for a thread that was parked before. This follows from the run, by
+/// `laws::parks_and_outcomes_alternate`. Steps and answers leave nothing open about what the lot
+/// means after, by `laws::answers_fix_the_run`.
+///
+/// The number of buckets follows the answers: it changes at registrations alone, and keeps three
+/// buckets for each registered thread.
 ///
 /// It asks for room for all answers first, and costs what the steps cost.
 ///
 /// # Errors
 ///
-/// `NoMemory` if room for the answers cannot be had. Nothing changed then.
+/// `NoMemory` if room for the answers cannot be had, and never where `answers` has it. Nothing
+/// changed then.
 pub fn run(lot: &mut Lot, steps: &[Step], answers: &mut Vec<Answer>) -> Result<(), NoMemory>
-    ensures ran { OnOk result ((given : List Answer) × (answers.new.items ≡ answers.old.items ++ given)
-        × IsRun (machine lot.old) steps.now given (machine lot.new)
-        × ((number : ℕ) → OutcomesAlternate (is_parked ((machine lot.old).status number)) number steps.now given)) }
+    ensures ran { OnOk result (record {
+      given : List Answer;
+      appended : answers.new.items ≡ answers.old.items ++ given;
+      run : IsRun (machine lot.old) steps.now given (machine lot.new);
+      outcomes : (number : ℕ) → OutcomesAlternate
+          (is_parked ((machine lot.old).status number)) number steps.now given;
+      size : IsSizeAfterRun (threads_of (machine lot.old)) given (length lot.old.buckets)
+          (length lot.new.buckets);
+    }) }
+    ensures refused { OnErr result
+        (vec_capacity answers.old < vec_len answers.old + length steps.now) }
     ensures err { OnErr result ((lot.new ≡ lot.old) × (answers.new.items ≡ answers.old.items)) }
 {
     lot.consistency();

@@ -4,10 +4,12 @@
 ghost use Rattle.std.specs.Prelude.{◌≡◌, ◌≢◌, ◌↔◌, ℕ, ◌+◌, ◌*◌, ◌<◌, ◌≤◌, ◌++◌, [], ◌∷◌, Option, None, Some, IfSome, IfNone, IsOk, IsErrOf, IfOk, OnOk, OnErr, All, length, map, replicate, slice_set, slice_get};
 ghost use Rattle.lot_base.specs.BucketState.{BucketState};
 ghost use Rattle.lot_base.specs.Node.{fields};
-ghost use Rattle.lot_base.specs.Waiting.{lists_of};
+ghost use Rattle.lot_base.specs.NodeLists.{lists_of};
 ghost use Rattle.lot_base.specs.Place.{IsTableSize, place_of};
 ghost use Rattle.parking_lot_core.specs.Represents.{bucket_at, waiters_in, Represents};
-ghost use Rattle.parking_lot_core.specs.Table.{count_registered, IsLeastFree, IsSizeFor, IsRowOf, AreEmpty, nodes_in, KeepsLists};
+ghost use Rattle.parking_lot_core.specs.Size.{IsSizeFor};
+ghost use Rattle.parking_lot_core.specs.Table.{count_registered, IsLeastUnregistered, IsRowOf, AreEmpty, KeepsLists};
+ghost use Rattle.parking_lot_core.specs.Represents.{nodes_in};
 
 use lot_base::bucket::{Bucket, place};
 use lot_base::queue::Node;
@@ -50,7 +52,8 @@ pub trait EmptyCell: Sized + Drop {
     fn empty(alloc: Global, place: usize, size: usize) -> Result<Self, NoMemory>
         requires size { IsTableSize size }
         requires place { place < size }
-        ensures { IfOk result (λ cell. IfSome contents (λ tell. tell cell ≡ record { place = place; size = size; nodes = [] })) };
+        ensures { IfOk result (λ cell. IfSome contents
+            (λ tell. tell cell ≡ record { place = place; size = size; nodes = [] })) };
 }
 
 /// What holds a bucket of a table: the bucket itself, or a lock round it. `H` is the handle that it
@@ -89,10 +92,44 @@ impl<C: EmptyCell> Model for Table<C> {
     ghost view = { λ table. record { cells = table.cells.items; numbers = table.numbers.items } };
 
     ghost invariant = { λ table. (table.registered ≡ count_registered table.numbers.items)
-        × IsTable C.contents (record { cells = table.cells.items; numbers = table.numbers.items }) };
+        × IsTable C.contents (record {
+          cells = table.cells.items;
+          numbers = table.numbers.items;
+        }) };
 }
 
 impl<C: EmptyCell> Table<C> {
+    /// Makes a table of 16 cells with empty buckets, for at most `max` threads. No number is
+    /// registered.
+    ///
+    /// It allocates the room for all numbers and for the cells.
+    ///
+    /// # Errors
+    ///
+    /// `TooManyThreads` exactly if `max` is above `MAX_THREADS`, and `NoMemory` if memory cannot be
+    /// had. Nothing was made.
+    ///
+    /// Upstream's first table has 16 buckets too, and its number of threads has no limit.
+    pub fn new(alloc: Global, max: usize) -> Result<Table<C>, LotError>
+        ensures too_many { IsErrOf result LotError.TooManyThreads ↔ (MAX_THREADS < max) }
+        ensures not_full { result ≢ Err LotError.Full }
+        ensures numbers { IfOk result (λ table. table.numbers ≡ replicate max Use.Free) }
+        ensures size { IfOk result (λ table. length table.cells ≡ 16) }
+        ensures empty { IfOk result (λ table. IfSome C.contents
+            (λ tell. AreEmpty 16 (map tell table.cells))) }
+    {
+        if max > MAX_THREADS {
+            return Err(LotError::TooManyThreads);
+        }
+        let numbers = free_numbers(alloc, max)?;
+        let cells = empty_cells(alloc, INITIAL_BUCKETS)?;
+        Ok(Table {
+            cells,
+            numbers,
+            registered: 0,
+        })
+    }
+
     /// How many numbers are registered.
     pub fn registered(&self) -> usize
         ensures { result ≡ count_registered self.now.numbers }
@@ -111,46 +148,18 @@ impl<C: EmptyCell> Table<C> {
 
     /// The cell at the key's place.
     pub fn cell(&self, key: usize) -> &C
-        ensures cell { slice_get self.now.cells (place_of key (length self.now.cells)) ≡ Some result.now }
-        ensures place { IfSome C.contents (λ tell. (tell result.now).place ≡ place_of key (length self.now.cells)) }
+        ensures cell { slice_get self.now.cells (place_of key (length self.now.cells))
+            ≡ Some result.now }
+        ensures place { IfSome C.contents
+            (λ tell. (tell result.now).place ≡ place_of key (length self.now.cells)) }
         ensures size { IfSome C.contents (λ tell. (tell result.now).size ≡ length self.now.cells) }
     {
         &self.cells[place(key, self.cells.len())]
     }
 
-    /// Makes a table of 16 cells with empty buckets, for at most `max` threads. No number is
-    /// registered.
-    ///
-    /// It allocates the room for all numbers and for the cells.
-    ///
-    /// # Errors
-    ///
-    /// `TooManyThreads` exactly if `max` is above `MAX_THREADS`, and `NoMemory` if memory cannot be
-    /// had. Nothing was made.
-    ///
-    /// Upstream's first table has 16 buckets too, and its number of threads has no limit.
-    pub fn new(alloc: Global, max: usize) -> Result<Table<C>, LotError>
-        ensures too_many { IsErrOf result LotError.TooManyThreads ↔ (MAX_THREADS < max) }
-        ensures not_full { result ≢ Err LotError.Full }
-        ensures numbers { IfOk result (λ table. table.numbers ≡ replicate max Use.Free) }
-        ensures size { IfOk result (λ table. length table.cells ≡ 16) }
-        ensures empty { IfOk result (λ table. IfSome C.contents (λ tell. AreEmpty 16 (map tell table.cells))) }
-    {
-        if max > MAX_THREADS {
-            return Err(LotError::TooManyThreads);
-        }
-        let numbers = free_numbers(alloc, max)?;
-        let cells = empty_cells(alloc, INITIAL_BUCKETS)?;
-        Ok(Table {
-            cells,
-            numbers,
-            registered: 0,
-        })
-    }
-
-    /// Registers the least free number and answers it. A table that would have less than 3 cells for
-    /// each thread grows to the next power of two of 3 cells for each; the list of every key stays
-    /// as it was.
+    /// Registers the least free number and answers it. A table that would have less than 3 cells
+    /// for each thread grows to the next power of two of 3 cells for each; the list of every key
+    /// stays as it was.
     ///
     /// It passes over the numbers once, up to the one that it answers, and allocates nothing unless
     /// the table grows. Growth allocates the cells and buckets of the new table before it changes
@@ -168,13 +177,17 @@ impl<C: EmptyCell> Table<C> {
     pub fn register<H>(&mut self, handle: &H) -> Result<usize, LotError>
     where
         C: BucketCell<H>,
-        ensures full { IsErrOf result LotError.Full ↔ (count_registered self.old.numbers ≡ length self.old.numbers) }
+        ensures full { IsErrOf result LotError.Full
+            ↔ (count_registered self.old.numbers ≡ length self.old.numbers) }
         ensures not_too_many { result ≢ Err LotError.TooManyThreads }
-        ensures number { IfOk result (λ number. IsLeastFree self.old.numbers number
+        ensures number { IfOk result (λ number. IsLeastUnregistered self.old.numbers number
             × (self.new.numbers ≡ slice_set self.old.numbers number Use.Registered)) }
-        ensures threads { OnOk result (count_registered self.new.numbers ≡ count_registered self.old.numbers + 1) }
-        ensures size { OnOk result (IsSizeFor (count_registered self.new.numbers) (length self.old.cells) (length self.new.cells)) }
-        ensures lists { IfSome C.contents (λ tell. KeepsLists (map tell self.old.cells) (map tell self.new.cells)) }
+        ensures threads { OnOk result (count_registered self.new.numbers
+            ≡ count_registered self.old.numbers + 1) }
+        ensures size { OnOk result (IsSizeFor (count_registered self.new.numbers)
+            (length self.old.cells) (length self.new.cells)) }
+        ensures lists { IfSome C.contents
+            (λ tell. KeepsLists (map tell self.old.cells) (map tell self.new.cells)) }
         ensures err { OnErr result (self.new ≡ self.old) }
     {
         let Some(number) = least_free(&self.numbers) else {
@@ -192,7 +205,8 @@ impl<C: EmptyCell> Table<C> {
     /// It allocates nothing and passes over nothing. Upstream only counts one thread less.
     pub fn release(&mut self, number: usize)
         ensures cells { self.new.cells ≡ self.old.cells }
-        ensures not_registered { slice_get self.old.numbers number ≢ Some Use.Registered → self.new ≡ self.old }
+        ensures not_registered { slice_get self.old.numbers number ≢ Some Use.Registered → self.new
+            ≡ self.old }
         ensures numbers { self.new.numbers ≡ slice_set self.old.numbers number Use.Free }
     {
         let Some(released) = self.numbers.get_mut(number) else {
@@ -211,7 +225,10 @@ impl Table<Bucket> {
         ensures place { result.place ≡ place_of key (length self.old.cells) }
         ensures size { result.size ≡ length self.old.cells }
         ensures table { IsTableSize result.size }
-        ensures left { self.new ≡ record self.old { cells = slice_set self.old.cells result.place (record result { nodes = [] }) } }
+        ensures left { self.new ≡ record self.old {
+          cells = slice_set self.old.cells result.place
+              (record result { nodes = [] });
+        } }
     {
         let size = self.cells.len();
         let place = place(key, size);
@@ -222,7 +239,8 @@ impl Table<Bucket> {
     /// is dropped with its nodes. It allocates nothing.
     pub fn put(&mut self, bucket: Bucket)
         requires { bucket.size ≡ length self.old.cells }
-        ensures { self.new ≡ record self.old { cells = slice_set self.old.cells bucket.place bucket } }
+        ensures { self.new
+            ≡ record self.old { cells = slice_set self.old.cells bucket.place bucket } }
     {
         if let Some(cell) = self.cells.get_mut(bucket.place()) {
             *cell = bucket;
@@ -238,7 +256,8 @@ impl EmptyCell for Bucket {
         requires size { IsTableSize size }
         requires place { place < size }
         ensures made { IsOk result }
-        ensures empty { IfOk result (λ bucket. bucket ≡ record { place = place; size = size; nodes = [] }) }
+        ensures empty { IfOk result (λ bucket. bucket
+            ≡ record { place = place; size = size; nodes = [] }) }
     {
         Ok(Bucket::new(place, size))
     }
@@ -282,7 +301,7 @@ fn free_numbers(alloc: Global, max: usize) -> Result<Vec<Use>, NoMemory>
 
 // The least number that is not registered, if there is one.
 fn least_free(numbers: &Vec<Use>) -> Option<usize>
-    ensures some { IfSome result (IsLeastFree numbers.now.items) }
+    ensures some { IfSome result (IsLeastUnregistered numbers.now.items) }
     ensures none { IfNone result (count_registered numbers.now.items ≡ length numbers.now.items) }
 {
     for number in 0..numbers.len() {
@@ -297,7 +316,8 @@ fn least_free(numbers: &Vec<Use>) -> Option<usize>
 fn empty_cells<C: EmptyCell>(alloc: Global, size: usize) -> Result<Vec<C>, NoMemory>
     requires { IsTableSize size }
     ensures count { IfOk result (λ cells. length cells.items ≡ size) }
-    ensures empty { IfOk result (λ cells. IfSome C.contents (λ tell. AreEmpty size (map tell cells.items))) }
+    ensures empty { IfOk result (λ cells. IfSome C.contents
+        (λ tell. AreEmpty size (map tell cells.items))) }
 {
     let mut cells = Vec::with_capacity(alloc, size)?;
     for place in 0..size {
@@ -327,12 +347,16 @@ fn make_room<C: BucketCell<H>, H>(
 ) -> Result<(), NoMemory>
     requires size { IsTableSize (length cells.old.items) }
     requires threads { threads ≤ MAX_THREADS }
-    requires row { IfSome C.contents (λ tell. IsRowOf (length cells.old.items) (map tell cells.old.items)) }
-    ensures size { OnOk result (IsSizeFor threads (length cells.old.items) (length cells.new.items)) }
+    requires row { IfSome C.contents
+        (λ tell. IsRowOf (length cells.old.items) (map tell cells.old.items)) }
+    ensures size { OnOk result (IsSizeFor threads (length cells.old.items)
+        (length cells.new.items)) }
     ensures table { OnOk result (IsTableSize (length cells.new.items)) }
     ensures room { OnOk result (3 * threads ≤ length cells.new.items) }
-    ensures row { OnOk result (IfSome C.contents (λ tell. IsRowOf (length cells.new.items) (map tell cells.new.items))) }
-    ensures lists { OnOk result (IfSome C.contents (λ tell. KeepsLists (map tell cells.old.items) (map tell cells.new.items))) }
+    ensures row { OnOk result (IfSome C.contents
+        (λ tell. IsRowOf (length cells.new.items) (map tell cells.new.items))) }
+    ensures lists { OnOk result (IfSome C.contents
+        (λ tell. KeepsLists (map tell cells.old.items) (map tell cells.new.items))) }
     ensures err { OnErr result (cells.new.items ≡ cells.old.items) }
 {
     let wanted = BUCKETS_PER_THREAD * threads;
@@ -346,25 +370,29 @@ fn make_room<C: BucketCell<H>, H>(
 fn grow<C: BucketCell<H>, H>(cells: &mut Vec<C>, handle: &H, size: usize) -> Result<(), NoMemory>
     requires old_size { IsTableSize (length cells.old.items) }
     requires new_size { IsTableSize size }
-    requires row { IfSome C.contents (λ tell. IsRowOf (length cells.old.items) (map tell cells.old.items)) }
+    requires row { IfSome C.contents
+        (λ tell. IsRowOf (length cells.old.items) (map tell cells.old.items)) }
     ensures size { OnOk result (length cells.new.items ≡ size) }
-    ensures row { OnOk result (IfSome C.contents (λ tell. IsRowOf size (map tell cells.new.items))) }
-    ensures lists { OnOk result (IfSome C.contents (λ tell. KeepsLists (map tell cells.old.items) (map tell cells.new.items))) }
+    ensures row { OnOk result (IfSome C.contents
+        (λ tell. IsRowOf size (map tell cells.new.items))) }
+    ensures lists { OnOk result (IfSome C.contents
+        (λ tell. KeepsLists (map tell cells.old.items) (map tell cells.new.items))) }
     ensures err { OnErr result (cells.new.items ≡ cells.old.items) }
 {
     let alloc = *cells.allocator();
     let mut row = empty_buckets(alloc, size)?;
     let mut grown = empty_cells(alloc, size)?;
-    spread_all(cells, handle, &mut row);
+    rehash(cells, handle, &mut row);
     fill(&mut grown, handle, row);
     *cells = grown;
     Ok(())
 }
 
 // Moves the nodes of all cells into the buckets of their keys, cell by cell.
-fn spread_all<C: BucketCell<H>, H>(cells: &mut Vec<C>, handle: &H, row: &mut Vec<Bucket>)
+fn rehash<C: BucketCell<H>, H>(cells: &mut Vec<C>, handle: &H, row: &mut Vec<Bucket>)
     requires old_size { IsTableSize (length cells.old.items) }
-    requires told { IfSome C.contents (λ tell. IsRowOf (length cells.old.items) (map tell cells.old.items)) }
+    requires told { IfSome C.contents
+        (λ tell. IsRowOf (length cells.old.items) (map tell cells.old.items)) }
     requires new_size { IsTableSize (length row.old.items) }
     requires row { IsRowOf (length row.old.items) row.old.items }
     requires represents { Represents row.old.items (waiters_in row.old.items) }
@@ -376,16 +404,17 @@ fn spread_all<C: BucketCell<H>, H>(cells: &mut Vec<C>, handle: &H, row: &mut Vec
     let size = cells.len();
     for place in 0..size {
         let mut bucket = cells[place].swap(handle, Bucket::new(place, size));
-        spread(&mut bucket, row);
+        rehash_bucket(&mut bucket, row);
     }
 }
 
 // Moves the nodes of the bucket into the buckets of their keys, in order.
-fn spread(bucket: &mut Bucket, row: &mut Vec<Bucket>)
+fn rehash_bucket(bucket: &mut Bucket, row: &mut Vec<Bucket>)
     requires size { IsTableSize (length row.old.items) }
     requires row { IsRowOf (length row.old.items) row.old.items }
     requires represents { Represents row.old.items (waiters_in row.old.items) }
-    ensures in_place { All (λ node. place_of node.key bucket.old.size ≡ bucket.old.place) bucket.old.nodes }
+    ensures in_place { All (λ node. place_of node.key bucket.old.size
+        ≡ bucket.old.place) bucket.old.nodes }
     ensures row { IsRowOf (length row.old.items) row.new.items }
     ensures represents { Represents row.new.items (waiters_in row.new.items) }
     ensures nodes { (key : ℕ) → nodes_in row.new.items key
@@ -400,7 +429,8 @@ fn spread(bucket: &mut Bucket, row: &mut Vec<Bucket>)
 // Puts the node last into the bucket, which is that of its key.
 fn put_last(bucket: &mut Bucket, node: Box<Node>)
     requires { place_of (fields node.value).key bucket.old.size ≡ bucket.old.place }
-    ensures { bucket.new ≡ record bucket.old { nodes = bucket.old.nodes ++ fields node.value ∷ [] } }
+    ensures { bucket.new
+        ≡ record bucket.old { nodes = bucket.old.nodes ++ fields node.value ∷ [] } }
 {
     let _ = bucket.enter(node, || true);
 }

@@ -7,6 +7,7 @@ mod steps;
 mod walk;
 
 use super::*;
+use std::process::Abort;
 use std::test::Fail;
 use steps::{answer, bucket_of, enter, filter, list, refused, remove, requeue, take_all, take_one};
 
@@ -182,169 +183,155 @@ fn a_filter_of_an_empty_key_is_not_called_and_its_callback_is(rt: HostRuntime) -
     Ok(())
 }
 
-#[test]
-fn a_requeue_of_all_puts_them_behind_the_other_key(rt: HostRuntime) -> Result<(), Fail> {
-    let mut bucket = bucket_of(&rt, rt.alloc(), 0, &[(0, 0), (1, 13), (2, 0)])?;
-    let done = requeue(
-        &rt,
-        rt.alloc(),
-        &mut bucket,
-        None,
-        (0, 13),
-        RequeueOp::RequeueAll,
-        9,
-    )?;
-    assert_eq!(rt; done.result, answer(0, 2, false));
-    assert_eq!(rt;
-        done.told,
-        Some((RequeueOp::RequeueAll, answer(0, 2, false)))
-    );
+// A requeue from the first key to the second: the numbers and keys of the nodes in the bucket of
+// the first key, those in the bucket of the second where it is another one, what the requeue
+// answers and takes, whom it moves, and the lists of both keys afterwards.
+#[derive(Drop)]
+struct Row<'a> {
+    op: RequeueOp,
+    keys: (usize, usize),
+    nodes: &'a [(usize, usize)],
+    beyond: &'a [(usize, usize)],
+    result: UnparkResult,
+    threads: &'a [(usize, usize)],
+    moved: &'a [usize],
+    on_first: &'a [usize],
+    on_second: &'a [usize],
+}
+
+fn check_row(rt: &impl Abort, alloc: Global, row: &Row<'_>, name: &str) -> Result<(), NoMemory> {
+    let (from, to) = row.keys;
+    let mut bucket = bucket_of(rt, alloc, place(from, 16), row.nodes)?;
+    let mut target = bucket_of(rt, alloc, place(to, 16), row.beyond)?;
+    let is_one = bucket.place() == target.place();
+    let other = if is_one { None } else { Some(&mut target) };
+    let done = requeue(rt, alloc, &mut bucket, other, row.keys, row.op, 9)?;
+    let told = match row.op {
+        RequeueOp::Abort => None,
+        op => Some((op, row.result)),
+    };
+    assert_eq!(rt; (done.result, done.told), (row.result, told), "{name}");
+    assert_eq!(rt; done.threads.as_slice(), row.threads, "{name}");
     assert_eq!(rt;
         (done.moved.as_slice(), done.moved_before),
-        ([0, 2].as_slice(), 2)
+        (row.moved, row.moved.len()),
+        "{name}"
     );
-    assert!(rt; done.threads.is_empty());
-    assert!(rt; list(rt.alloc(), &bucket, 0)?.is_empty());
+    let on_second = list(alloc, if is_one { &bucket } else { &target }, to)?;
     assert_eq!(rt;
-        list(rt.alloc(), &bucket, 13)?.as_slice(),
-        [1, 0, 2].as_slice()
+        list(alloc, &bucket, from)?.as_slice(),
+        row.on_first,
+        "{name}"
     );
+    assert_eq!(rt; on_second.as_slice(), row.on_second, "{name}");
     Ok(())
 }
 
 #[test]
-fn a_requeue_to_another_bucket_unparks_one_and_moves_the_rest(rt: HostRuntime) -> Result<(), Fail> {
-    let mut bucket = bucket_of(&rt, rt.alloc(), 9, &[(0, 1), (1, 1), (2, 1)])?;
-    let mut target = bucket_of(&rt, rt.alloc(), 3, &[(3, 2)])?;
-    let op = RequeueOp::UnparkOneRequeueRest;
-    let done = requeue(
-        &rt,
-        rt.alloc(),
-        &mut bucket,
-        Some(&mut target),
-        (1, 2),
-        op,
-        9,
-    )?;
-    assert_eq!(rt;
-        (done.result, done.told),
-        (answer(1, 2, false), Some((op, answer(1, 2, false))))
-    );
-    assert_eq!(rt;
-        (done.moved.as_slice(), done.moved_before),
-        ([1, 2].as_slice(), 2)
-    );
-    assert_eq!(rt; done.threads.as_slice(), [(0, 9)].as_slice());
-    assert!(rt; list(rt.alloc(), &bucket, 1)?.is_empty());
-    assert_eq!(rt;
-        list(rt.alloc(), &target, 2)?.as_slice(),
-        [3, 1, 2].as_slice()
-    );
-    Ok(())
-}
-
-#[test]
-fn a_requeue_of_one_to_its_own_key_puts_it_last(rt: HostRuntime) -> Result<(), Fail> {
-    let mut bucket = bucket_of(&rt, rt.alloc(), 9, &[(0, 1), (1, 1), (2, 1)])?;
-    let done = requeue(
-        &rt,
-        rt.alloc(),
-        &mut bucket,
-        None,
-        (1, 1),
-        RequeueOp::RequeueOne,
-        9,
-    )?;
-    assert_eq!(rt; done.result, answer(0, 1, true));
-    assert_eq!(rt;
-        list(rt.alloc(), &bucket, 1)?.as_slice(),
-        [1, 2, 0].as_slice()
-    );
-    Ok(())
-}
-
-#[test]
-fn a_requeue_of_the_only_waiter_to_its_own_key_leaves_no_other(
-    rt: HostRuntime,
-) -> Result<(), Fail> {
-    let mut bucket = bucket_of(&rt, rt.alloc(), 9, &[(0, 1)])?;
-    let done = requeue(
-        &rt,
-        rt.alloc(),
-        &mut bucket,
-        None,
-        (1, 1),
-        RequeueOp::RequeueOne,
-        9,
-    )?;
-    assert_eq!(rt; done.result, answer(0, 1, false));
-    assert_eq!(rt; list(rt.alloc(), &bucket, 1)?.as_slice(), [0].as_slice());
-    Ok(())
-}
-
-#[test]
-fn a_requeue_of_all_to_their_own_key_counts_them_and_keeps_the_order(
-    rt: HostRuntime,
-) -> Result<(), Fail> {
-    let mut bucket = bucket_of(&rt, rt.alloc(), 9, &[(0, 1), (1, 1), (2, 1)])?;
-    let done = requeue(
-        &rt,
-        rt.alloc(),
-        &mut bucket,
-        None,
-        (1, 1),
-        RequeueOp::RequeueAll,
-        9,
-    )?;
-    assert_eq!(rt; done.result, answer(0, 3, false));
-    assert_eq!(rt;
-        list(rt.alloc(), &bucket, 1)?.as_slice(),
-        [0, 1, 2].as_slice()
-    );
-    Ok(())
-}
-
-#[test]
-fn an_aborted_requeue_changes_and_calls_nothing(rt: HostRuntime) -> Result<(), Fail> {
-    let mut bucket = bucket_of(&rt, rt.alloc(), 9, &[(0, 1), (1, 1)])?;
-    let mut target = bucket_of(&rt, rt.alloc(), 3, &[(3, 2)])?;
-    let op = RequeueOp::Abort;
-    let done = requeue(
-        &rt,
-        rt.alloc(),
-        &mut bucket,
-        Some(&mut target),
-        (1, 2),
-        op,
-        9,
-    )?;
-    assert_eq!(rt; (done.result, done.told), (answer(0, 0, false), None));
-    assert!(rt; done.moved.is_empty());
-    assert!(rt; done.threads.is_empty());
-    assert_eq!(rt; list(rt.alloc(), &bucket, 1)?.as_slice(), [0, 1].as_slice());
-    assert_eq!(rt; list(rt.alloc(), &target, 2)?.as_slice(), [3].as_slice());
-    Ok(())
-}
-
-#[test]
-fn a_requeue_of_nobody_calls_back(rt: HostRuntime) -> Result<(), Fail> {
-    let mut bucket = bucket_of(&rt, rt.alloc(), 9, &[])?;
-    let mut target = bucket_of(&rt, rt.alloc(), 3, &[(3, 2)])?;
-    let op = RequeueOp::RequeueAll;
-    let done = requeue(
-        &rt,
-        rt.alloc(),
-        &mut bucket,
-        Some(&mut target),
-        (1, 2),
-        op,
-        9,
-    )?;
-    assert_eq!(rt;
-        (done.result, done.told),
-        (answer(0, 0, false), Some((op, answer(0, 0, false))))
-    );
-    assert_eq!(rt; list(rt.alloc(), &target, 2)?.as_slice(), [3].as_slice());
+fn requeues_are_those_of_the_table(rt: HostRuntime) -> Result<(), Fail> {
+    let three = [(0, 1), (1, 1), (2, 1)];
+    for (name, row) in [
+        (
+            "all, behind the other key",
+            Row {
+                op: RequeueOp::RequeueAll,
+                keys: (0, 13),
+                nodes: &[(0, 0), (1, 13), (2, 0)],
+                beyond: &[],
+                result: answer(0, 2, false),
+                threads: &[],
+                moved: &[0, 2],
+                on_first: &[],
+                on_second: &[1, 0, 2],
+            },
+        ),
+        (
+            "one unparked and the rest to another bucket",
+            Row {
+                op: RequeueOp::UnparkOneRequeueRest,
+                keys: (1, 2),
+                nodes: &three,
+                beyond: &[(3, 2)],
+                result: answer(1, 2, false),
+                threads: &[(0, 9)],
+                moved: &[1, 2],
+                on_first: &[],
+                on_second: &[3, 1, 2],
+            },
+        ),
+        (
+            "one to its own key, where it stands last",
+            Row {
+                op: RequeueOp::RequeueOne,
+                keys: (1, 1),
+                nodes: &three,
+                beyond: &[],
+                result: answer(0, 1, true),
+                threads: &[],
+                moved: &[0],
+                on_first: &[1, 2, 0],
+                on_second: &[1, 2, 0],
+            },
+        ),
+        (
+            "the only waiter to its own key, which has no other",
+            Row {
+                op: RequeueOp::RequeueOne,
+                keys: (1, 1),
+                nodes: &[(0, 1)],
+                beyond: &[],
+                result: answer(0, 1, false),
+                threads: &[],
+                moved: &[0],
+                on_first: &[0],
+                on_second: &[0],
+            },
+        ),
+        (
+            "all to their own key, in the same order",
+            Row {
+                op: RequeueOp::RequeueAll,
+                keys: (1, 1),
+                nodes: &three,
+                beyond: &[],
+                result: answer(0, 3, false),
+                threads: &[],
+                moved: &[0, 1, 2],
+                on_first: &[0, 1, 2],
+                on_second: &[0, 1, 2],
+            },
+        ),
+        (
+            "an abort, which changes and calls nothing",
+            Row {
+                op: RequeueOp::Abort,
+                keys: (1, 2),
+                nodes: &[(0, 1), (1, 1)],
+                beyond: &[(3, 2)],
+                result: answer(0, 0, false),
+                threads: &[],
+                moved: &[],
+                on_first: &[0, 1],
+                on_second: &[3],
+            },
+        ),
+        (
+            "nobody, which calls back",
+            Row {
+                op: RequeueOp::RequeueAll,
+                keys: (1, 2),
+                nodes: &[],
+                beyond: &[(3, 2)],
+                result: answer(0, 0, false),
+                threads: &[],
+                moved: &[],
+                on_first: &[],
+                on_second: &[3],
+            },
+        ),
+    ] {
+        check_row(&rt, rt.alloc(), &row, name)?;
+    }
     Ok(())
 }
 
@@ -383,6 +370,7 @@ fn pop_takes_the_first_node_whatever_its_key(rt: HostRuntime) -> Result<(), Fail
     Ok(())
 }
 
+// No clause refuses a `list` that answers `NoMemory` wherever somebody waits.
 #[test]
 fn a_list_has_the_numbers_of_one_key_in_order(rt: HostRuntime) -> Result<(), Fail> {
     let bucket = bucket_of(&rt, rt.alloc(), 0, &[(2, 0), (1, 13), (0, 0)])?;

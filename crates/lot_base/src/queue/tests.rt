@@ -2,7 +2,8 @@ use super::*;
 use std::process::Abort;
 use std::test::Fail;
 
-// A queue of nodes with these numbers, first to last.
+// A queue of nodes with these numbers, first to last. No clause refuses a `Node::new` that always
+// answers `NoMemory`; each test that fills a queue does.
 fn queue_of(alloc: Global, numbers: &[usize]) -> Result<Queue, NoMemory> {
     let mut queue = Queue::new();
     for number in numbers {
@@ -98,7 +99,7 @@ fn long_queue(alloc: Global, count: usize) -> Result<Queue, NoMemory> {
     Ok(queue)
 }
 
-// A derived end would call itself once for each node and run out of stack.
+// No clause refuses a derived end, which would call itself once for each node and run out of stack.
 #[test]
 fn a_long_queue_is_freed_by_a_loop(rt: HostRuntime) -> Result<(), Fail> {
     let queue = long_queue(rt.alloc(), 100_000)?;

@@ -10,8 +10,9 @@ use std::sync::{Condvar, Mutex, MutexGuard, Wait};
 
 /// A parker over a `Mutex` round the slot and a `Condvar`. No call of it allocates.
 ///
-/// A lock does not tell whose slot it holds, so each call that locks the slot compares the slot's
-/// owner with the parker's, and looks again where they differ.
+/// The parker makes its slot with its own number, and its lock holds that slot always. No contract
+/// tells what a lock holds, so each call that locks it compares the slot's owner with the parker's:
+/// they are equal whenever the program runs, and no look is ever repeated.
 ///
 /// Upstream's `unix.rs` has it under this name, over the system's own calls and with a flag in
 /// place of the slot.
@@ -23,7 +24,9 @@ pub struct ThreadParker {
 }
 
 impl ThreadParker {
-    // The locked slot, which it lets go and locks again until it is the owner's.
+    // The locked slot, once its owner was compared with the parker's. The loop never repeats when
+    // the program runs, since the parker's lock holds the parker's own slot always. No contract
+    // tells what a lock holds, and the comparison is what the contract below is proved from.
     fn owners_slot<'p, R: Wait>(
         &'p self,
         rt: &R,
@@ -55,7 +58,8 @@ impl ThreadParkerT for ThreadParker {
     /// Upstream makes the system's mutex and condition variable ready in `prepare_park`.
     fn new(number: usize) -> Result<ThreadParker, NoMemory>
         ensures made { IsOk result }
-        ensures owner { IfOk result (λ parker. ⟦<ThreadParker as ThreadParkerT>⟧.owner parker ≡ number) }
+        ensures owner { IfOk result (λ parker.
+            ⟦<ThreadParker as ThreadParkerT>⟧.owner parker ≡ number) }
     {
         Ok(ThreadParker {
             owner: number,

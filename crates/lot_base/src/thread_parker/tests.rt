@@ -26,6 +26,8 @@ fn owners_node(alloc: Global, token: UnparkToken) -> Result<Box<Node>, NoMemory>
     Ok(node)
 }
 
+// No clause says when a slot is full. This refuses a parker whose `timed_out` has one answer
+// always, or whose `unpark_lock` drops the node, so that the first `park` does not end.
 fn commits_take_turns<P: ThreadParkerT, R: Wait + Abort>(
     rt: &R,
     alloc: Global,
@@ -55,6 +57,8 @@ fn wait_until(started: &AtomicBool) {
     }
 }
 
+// No clause says that a wake reaches anybody. With an `unpark` that notifies nobody, this does not
+// end where the owner slept before the commit.
 fn token_between_threads<P: ThreadParkerT + Sync, R: Threads + Wait + Sync>(
     rt: &R,
     alloc: Global,

@@ -4,6 +4,7 @@ use crate::token::{
 };
 use std::test::Fail;
 
+// No clause says what a refusal prints: an empty text, or that of another one, would be proved.
 #[test]
 fn each_refusal_has_its_text(rt: HostRuntime) -> Result<(), Fail> {
     let too_many = LotError::TooManyThreads.to_string(rt.alloc())?;

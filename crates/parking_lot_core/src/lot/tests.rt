@@ -49,11 +49,27 @@ fn resolve(lot: &mut Lot, number: usize) -> (Result<ParkResult, Misfit>, Option<
     (result, told)
 }
 
+// What a requeue from the key 1 to the key 2 answers, and what its callback was handed.
+fn requeue(lot: &mut Lot, op: RequeueOp) -> (UnparkResult, Option<(RequeueOp, UnparkResult)>) {
+    let mut told = None;
+    let result = lot.unpark_requeue(
+        1,
+        2,
+        || op,
+        |op, handed| {
+            told = Some((op, handed));
+            TOKEN
+        },
+    );
+    (result, told)
+}
+
 fn expect_list(rt: &impl Abort, lot: &Lot, key: usize, numbers: &[usize]) -> Result<(), NoMemory> {
     assert_eq!(rt; lot.list(key)?.as_slice(), numbers, "key {key}");
     Ok(())
 }
 
+// It refuses a `new` or a `register` that answers `NoMemory` at each call.
 #[test]
 fn six_threads_register_by_number_and_the_seventh_is_refused(rt: HostRuntime) -> Result<(), Fail> {
     let mut lot = Lot::new(rt.alloc(), 6)?;
@@ -83,6 +99,7 @@ fn a_retired_number_is_given_again(rt: HostRuntime) -> Result<(), Fail> {
     Ok(())
 }
 
+// It refuses a `new` that answers `NoMemory` for 1,024 threads.
 #[test]
 fn a_lot_is_for_at_most_1024_threads(rt: HostRuntime) -> Result<(), Fail> {
     let refused = Lot::new(rt.alloc(), 1_025);
@@ -182,6 +199,7 @@ fn a_bucket_that_is_not_empty_may_have_no_waiter_of_the_key(rt: HostRuntime) -> 
     Ok(())
 }
 
+// It refuses a `list` that answers `NoMemory` where anybody waits.
 #[test]
 fn waiters_of_a_key_are_taken_in_order(rt: HostRuntime) -> Result<(), Fail> {
     let mut lot = lot_with(rt.alloc(), 3)?;
@@ -335,8 +353,8 @@ fn a_step_that_does_not_fit_calls_no_closure(rt: HostRuntime) -> Result<(), Fail
     Ok(())
 }
 
-// It ends well whichever one of its requests for memory is refused, as `rt try --test --fail-alloc N`
-// refuses the Nth: a registration or a list that is refused leaves all as it was.
+// It ends well whichever one of its requests for memory is refused, as `rt try --test --fail-alloc
+// N` refuses the Nth: a registration or a list that is refused leaves all as it was.
 #[test]
 fn a_refused_request_for_memory_changes_nothing(rt: HostRuntime) {
     let Ok(mut lot) = Lot::new(rt.alloc(), 2) else {
@@ -356,46 +374,83 @@ fn a_refused_request_for_memory_changes_nothing(rt: HostRuntime) {
 
 // The keys 1 and 2 have places of their own in a table of 16.
 #[test]
-fn an_abort_leaves_the_lists_and_calls_nothing_back(rt: HostRuntime) -> Result<(), Fail> {
-    let mut lot = lot_with(rt.alloc(), 2)?;
-    enter(&rt, &mut lot, 0, 1);
-    enter(&rt, &mut lot, 1, 1);
-    let mut called = false;
-    let answer = lot.unpark_requeue(
-        1,
-        2,
-        || RequeueOp::Abort,
-        |_, _| {
-            called = true;
-            TOKEN
-        },
-    );
-    assert_eq!(rt; answer, UnparkResult::default());
-    assert!(rt; !called);
-    expect_list(&rt, &lot, 1, &[0, 1])?;
-    expect_list(&rt, &lot, 2, &[])?;
+fn a_requeue_calls_back_with_its_answer_unless_it_aborts(rt: HostRuntime) -> Result<(), Fail> {
+    let nobody = UnparkResult::default();
+    let both = UnparkResult {
+        unparked_threads: 0,
+        requeued_threads: 2,
+        have_more_threads: false,
+    };
+    for (waiters, op, expected, on_1, on_2) in [
+        (
+            [(0, 1), (1, 1)].as_slice(),
+            RequeueOp::Abort,
+            (nobody, None),
+            [0, 1].as_slice(),
+            [].as_slice(),
+        ),
+        (
+            [(0, 2)].as_slice(),
+            RequeueOp::RequeueAll,
+            (nobody, Some((RequeueOp::RequeueAll, nobody))),
+            [].as_slice(),
+            [0].as_slice(),
+        ),
+        (
+            [(0, 1), (1, 1)].as_slice(),
+            RequeueOp::RequeueAll,
+            (both, Some((RequeueOp::RequeueAll, both))),
+            [].as_slice(),
+            [0, 1].as_slice(),
+        ),
+    ] {
+        let mut lot = lot_with(rt.alloc(), 2)?;
+        for (number, key) in waiters {
+            enter(&rt, &mut lot, *number, *key);
+        }
+        assert_eq!(rt; requeue(&mut lot, op), expected, "{op:?}");
+        expect_list(&rt, &lot, 1, on_1)?;
+        expect_list(&rt, &lot, 2, on_2)?;
+    }
     Ok(())
 }
 
 #[test]
-fn a_requeue_of_nobody_calls_back_with_the_default_result(rt: HostRuntime) -> Result<(), Fail> {
-    let mut lot = lot_with(rt.alloc(), 1)?;
-    enter(&rt, &mut lot, 0, 2);
-    let mut told = None;
-    let answer = lot.unpark_requeue(
-        1,
-        2,
-        || RequeueOp::RequeueAll,
-        |op, answer| {
-            told = Some((op, answer));
-            TOKEN
-        },
-    );
-    assert_eq!(rt; answer, UnparkResult::default());
+fn a_requeued_thread_times_out_on_its_new_key(rt: HostRuntime) -> Result<(), Fail> {
+    let mut lot = lot_with(rt.alloc(), 2)?;
+    for number in 0..2 {
+        enter_timed(&rt, &mut lot, number, 1);
+    }
+    let (answer, _) = requeue(&mut lot, RequeueOp::RequeueAll);
     assert_eq!(rt;
-        told,
-        Some((RequeueOp::RequeueAll, UnparkResult::default()))
+        answer,
+        UnparkResult {
+            unparked_threads: 0,
+            requeued_threads: 2,
+            have_more_threads: false
+        }
     );
-    expect_list(&rt, &lot, 2, &[0])?;
+    assert_eq!(rt; lot.deadline(0), Ok(()));
+    let resolved = resolve(&mut lot, 0);
+    assert_eq!(rt; resolved, (Ok(ParkResult::TimedOut), Some((2, false))));
+    expect_list(&rt, &lot, 2, &[1])?;
+    Ok(())
+}
+
+// The sixth registration makes the table grow, and `rt try --test --fail-alloc N` refuses it for
+// want of memory; the seventh is refused for want of a number.
+#[test]
+fn a_refused_registration_leaves_the_list_of_each_key(rt: HostRuntime) -> Result<(), Fail> {
+    let mut lot = lot_with(rt.alloc(), 5)?;
+    enter(&rt, &mut lot, 0, 1);
+    if let Err(refused) = lot.register() {
+        assert_eq!(rt; refused, LotError::NoMemory);
+        assert_eq!(rt; (lot.registered(), lot.size()), (5, 16));
+        expect_list(&rt, &lot, 1, &[0])?;
+        assert_eq!(rt; lot.register(), Ok(5));
+    }
+    assert_eq!(rt; lot.register(), Err(LotError::Full));
+    assert_eq!(rt; (lot.registered(), lot.size()), (6, 32));
+    expect_list(&rt, &lot, 1, &[0])?;
     Ok(())
 }

@@ -101,6 +101,8 @@ where
     thread::spawn(rt, move || wait(&runtime, &lot, data, key)).ok()
 }
 
+// It refuses an `unpark_one` that answers as where nobody waits, and one that hands no node to the
+// parker.
 #[test]
 fn an_unpark_before_the_sleep_is_not_lost(rt: HostRuntime) -> Result<(), Fail> {
     let lot = Lot::new(rt.alloc(), 1)?;
@@ -123,6 +125,7 @@ fn an_unpark_before_the_sleep_is_not_lost(rt: HostRuntime) -> Result<(), Fail> {
     Ok(())
 }
 
+// It refuses an `unpark_one` that wakes nobody.
 #[test]
 fn two_threads_park_and_unpark(rt: HostRuntime) -> Result<(), Fail> {
     let lot = Arc::new(rt.alloc(), Lot::new(rt.alloc(), 1)?)?;
@@ -178,6 +181,8 @@ fn an_unpark_of_nobody_calls_back_with_the_default_result(rt: HostRuntime) -> Re
     Ok(())
 }
 
+// It refuses a `retire` that does nothing, and a `thread_data` that answers `NoMemory` at each call
+// or gives a number twice.
 #[test]
 fn dropped_data_keeps_its_number_and_retired_data_frees_it(rt: HostRuntime) -> Result<(), Fail> {
     let lot = Lot::new(rt.alloc(), 2)?;
@@ -208,6 +213,8 @@ fn a_lot_is_for_at_most_1024_threads(rt: HostRuntime) -> Result<(), Fail> {
 }
 
 // The keys 0 and 13 have place 0 in a table of 16, and the places 0 and 1 in one of 32.
+//
+// It refuses a `list` that is always empty, and a growth that drops the nodes in the locks.
 #[test]
 fn waiters_stay_where_the_table_grows_under_them(rt: HostRuntime) -> Result<(), Fail> {
     let lot = Arc::new(rt.alloc(), Lot::new(rt.alloc(), 6)?)?;
@@ -236,8 +243,8 @@ fn waiters_stay_where_the_table_grows_under_them(rt: HostRuntime) -> Result<(), 
     Ok(())
 }
 
-// It ends well whichever one of its requests for memory is refused, as `rt try --test --fail-alloc N`
-// refuses the Nth: the call that was refused does what it should when it is made again.
+// It ends well whichever one of its requests for memory is refused, as `rt try --test --fail-alloc
+// N` refuses the Nth: the call that was refused does what it should when it is made again.
 #[test]
 fn a_refused_request_for_memory_leaves_the_lot_as_it_was(rt: HostRuntime) -> Result<(), Fail> {
     let Ok(lot) = Lot::new(rt.alloc(), 6) else {

@@ -61,6 +61,7 @@ fn expect_lists(
     Ok(())
 }
 
+// It refuses an `apply` that answers `NoMemory` to each registration.
 #[test]
 fn six_threads_are_registered_and_the_seventh_is_refused(rt: HostRuntime) -> Result<(), Fail> {
     let mut lot = Lot::new(rt.alloc(), 6)?;
@@ -87,76 +88,136 @@ fn six_threads_are_registered_and_the_seventh_is_refused(rt: HostRuntime) -> Res
     Ok(())
 }
 
+// Requeues from the key 1 to this one, and compares the answer, who was taken, and the lists.
+fn expect_requeue(
+    rt: &impl Abort,
+    alloc: Global,
+    waiters: &[(usize, usize)],
+    (to, op): (usize, RequeueOp),
+    answer: Answer,
+    taken: &[usize],
+    (on_1, on_2): (&[usize], &[usize]),
+) -> Result<Lot, LotError> {
+    let mut lot = lot_of(alloc, waiters)?;
+    let steps = [requeue((1, to), op, 9)];
+    expect(rt, alloc, &mut lot, &steps, &[answer])?;
+    for number in taken {
+        assert_eq!(rt; lot.status(*number), Status::Taken(UnparkToken(9)));
+    }
+    expect_lists(rt, &lot, on_1, on_2)?;
+    Ok(lot)
+}
+
 #[test]
 fn the_first_is_unparked_and_the_rest_stand_behind_the_second_key(
     rt: HostRuntime,
 ) -> Result<(), Fail> {
-    let mut lot = lot_of(rt.alloc(), &[(A, 1), (B, 1), (C, 1), (D, 2)])?;
-    let steps = [requeue((1, 2), RequeueOp::UnparkOneRequeueRest, 9)];
-    expect(&rt, rt.alloc(), &mut lot, &steps, &[unparked(1, 2, false)])?;
-    assert_eq!(rt; lot.status(A), Status::Taken(UnparkToken(9)));
+    let waiters = [(A, 1), (B, 1), (C, 1), (D, 2)];
+    let moves = (2, RequeueOp::UnparkOneRequeueRest);
+    let lists = ([].as_slice(), [D, B, C].as_slice());
+    let answer = unparked(1, 2, false);
+    let lot = expect_requeue(&rt, rt.alloc(), &waiters, moves, answer, &[A], lists)?;
     assert_eq!(rt; lot.status(B), WAITS);
-    expect_lists(&rt, &lot, &[], &[D, B, C])?;
     Ok(())
 }
 
 #[test]
 fn a_requeue_to_the_same_key_puts_the_moved_behind_the_left(rt: HostRuntime) -> Result<(), Fail> {
-    let one = RequeueOp::RequeueOne;
-    let mut lot = lot_of(rt.alloc(), &[(A, 1), (B, 1), (C, 1)])?;
-    let steps = [requeue((1, 1), one, 9)];
-    expect(&rt, rt.alloc(), &mut lot, &steps, &[unparked(0, 1, true)])?;
-    expect_lists(&rt, &lot, &[B, C, A], &[])?;
-
-    let mut lot = lot_of(rt.alloc(), &[(A, 1)])?;
-    expect(&rt, rt.alloc(), &mut lot, &steps, &[unparked(0, 1, false)])?;
-    expect_lists(&rt, &lot, &[A], &[])?;
-
-    let mut lot = lot_of(rt.alloc(), &[(A, 1), (B, 1), (C, 1)])?;
-    let steps = [requeue((1, 1), RequeueOp::RequeueAll, 9)];
-    expect(&rt, rt.alloc(), &mut lot, &steps, &[unparked(0, 3, false)])?;
-    expect_lists(&rt, &lot, &[A, B, C], &[])?;
+    for (waiters, op, answer, left) in [
+        (
+            [(A, 1), (B, 1), (C, 1)].as_slice(),
+            RequeueOp::RequeueOne,
+            unparked(0, 1, true),
+            [B, C, A].as_slice(),
+        ),
+        (
+            [(A, 1)].as_slice(),
+            RequeueOp::RequeueOne,
+            unparked(0, 1, false),
+            [A].as_slice(),
+        ),
+        (
+            [(A, 1), (B, 1), (C, 1)].as_slice(),
+            RequeueOp::RequeueAll,
+            unparked(0, 3, false),
+            [A, B, C].as_slice(),
+        ),
+    ] {
+        let lists = (left, [].as_slice());
+        expect_requeue(&rt, rt.alloc(), waiters, (1, op), answer, &[], lists)?;
+    }
     Ok(())
 }
 
 #[test]
 fn an_abort_and_a_requeue_of_nobody_change_nothing(rt: HostRuntime) -> Result<(), Fail> {
-    let mut lot = lot_of(rt.alloc(), &[(A, 1), (B, 1), (D, 2)])?;
-    let steps = [requeue((1, 2), RequeueOp::Abort, 9)];
-    expect(&rt, rt.alloc(), &mut lot, &steps, &[unparked(0, 0, false)])?;
-    expect_lists(&rt, &lot, &[A, B], &[D])?;
+    for (waiters, op, on_1) in [
+        (
+            [(A, 1), (B, 1), (D, 2)].as_slice(),
+            RequeueOp::Abort,
+            [A, B].as_slice(),
+        ),
+        ([(D, 2)].as_slice(), RequeueOp::RequeueAll, [].as_slice()),
+    ] {
+        let lists = (on_1, [D].as_slice());
+        let answer = unparked(0, 0, false);
+        expect_requeue(&rt, rt.alloc(), waiters, (2, op), answer, &[], lists)?;
+    }
+    Ok(())
+}
 
-    let mut lot = lot_of(rt.alloc(), &[(D, 2)])?;
-    let steps = [requeue((1, 2), RequeueOp::RequeueAll, 9)];
-    expect(&rt, rt.alloc(), &mut lot, &steps, &[unparked(0, 0, false)])?;
-    expect_lists(&rt, &lot, &[], &[D])?;
+// Unparks by a filter with these decisions, and compares the answer, who was taken, and who is left.
+fn expect_filter(
+    rt: &impl Abort,
+    alloc: Global,
+    waiters: &[(usize, usize)],
+    decisions: &[FilterOp],
+    answer: Answer,
+    taken: &[usize],
+    left: &[usize],
+) -> Result<(), LotError> {
+    let mut lot = lot_of(alloc, waiters)?;
+    let steps = [filter(alloc, 1, decisions, 9)?];
+    expect(rt, alloc, &mut lot, &steps, &[answer])?;
+    for number in taken {
+        assert_eq!(rt; lot.status(*number), Status::Taken(UnparkToken(9)));
+    }
+    expect_lists(rt, &lot, left, &[])?;
     Ok(())
 }
 
 #[test]
 fn a_filter_leaves_whom_it_skips_and_whom_it_does_not_see(rt: HostRuntime) -> Result<(), Fail> {
-    let mut lot = lot_of(rt.alloc(), &[(A, 1), (B, 1), (C, 1)])?;
-    let decisions = [FilterOp::Skip, FilterOp::Unpark, FilterOp::Stop];
-    let steps = [filter(rt.alloc(), 1, &decisions, 9)?];
-    expect(&rt, rt.alloc(), &mut lot, &steps, &[unparked(1, 0, true)])?;
-    assert_eq!(rt; lot.status(B), Status::Taken(UnparkToken(9)));
-    expect_lists(&rt, &lot, &[A, C], &[])?;
-
-    let mut lot = lot_of(rt.alloc(), &[(A, 1), (B, 1)])?;
-    let steps = [filter(rt.alloc(), 1, &[FilterOp::Stop], 9)?];
-    expect(&rt, rt.alloc(), &mut lot, &steps, &[unparked(0, 0, true)])?;
-    expect_lists(&rt, &lot, &[A, B], &[])?;
-
-    let mut lot = lot_of(rt.alloc(), &[(A, 1), (B, 1), (C, 1)])?;
-    let steps = [filter(rt.alloc(), 1, &[FilterOp::Unpark], 9)?];
-    expect(&rt, rt.alloc(), &mut lot, &steps, &[unparked(1, 0, true)])?;
-    assert_eq!(rt; lot.status(A), Status::Taken(UnparkToken(9)));
-    expect_lists(&rt, &lot, &[B, C], &[])?;
+    for (waiters, decisions, answer, taken, left) in [
+        (
+            [(A, 1), (B, 1), (C, 1)].as_slice(),
+            [FilterOp::Skip, FilterOp::Unpark, FilterOp::Stop].as_slice(),
+            unparked(1, 0, true),
+            [B].as_slice(),
+            [A, C].as_slice(),
+        ),
+        (
+            [(A, 1), (B, 1)].as_slice(),
+            [FilterOp::Stop].as_slice(),
+            unparked(0, 0, true),
+            [].as_slice(),
+            [A, B].as_slice(),
+        ),
+        (
+            [(A, 1), (B, 1), (C, 1)].as_slice(),
+            [FilterOp::Unpark].as_slice(),
+            unparked(1, 0, true),
+            [A].as_slice(),
+            [B, C].as_slice(),
+        ),
+    ] {
+        expect_filter(&rt, rt.alloc(), waiters, decisions, answer, taken, left)?;
+    }
     Ok(())
 }
 
 #[test]
-fn a_late_thread_times_out_or_gets_the_token_that_overtook_it(rt: HostRuntime) -> Result<(), Fail> {
+fn a_late_thread_times_out(rt: HostRuntime) -> Result<(), Fail> {
     let mut lot = lot_of(rt.alloc(), &[])?;
     let steps = [
         enter(A, 1, true),
@@ -171,7 +232,11 @@ fn a_late_thread_times_out_or_gets_the_token_that_overtook_it(rt: HostRuntime) -
         Answer::Count(0),
     ];
     expect(&rt, rt.alloc(), &mut lot, &steps, &answers)?;
+    Ok(())
+}
 
+#[test]
+fn a_late_thread_gets_the_token_that_overtook_it(rt: HostRuntime) -> Result<(), Fail> {
     let mut lot = lot_of(rt.alloc(), &[])?;
     let steps = [
         enter(A, 1, true),
@@ -258,6 +323,7 @@ fn no_step_fits_a_free_number(rt: HostRuntime) -> Result<(), Fail> {
     Ok(())
 }
 
+// It refuses a `run` that does nothing and answers `NoMemory`.
 #[test]
 fn answers_stand_behind_those_that_are_there(rt: HostRuntime) -> Result<(), Fail> {
     let mut lot = lot_of(rt.alloc(), &[])?;

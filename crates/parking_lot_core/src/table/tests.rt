@@ -133,6 +133,8 @@ fn the_size_goes_by_the_number_of_threads(rt: HostRuntime) -> Result<(), Fail> {
     Ok(())
 }
 
+// It refuses a growth that drops the nodes in the locks: a lock does not tell its bucket, so no
+// clause does.
 #[test]
 fn a_table_of_locks_keeps_the_nodes_in_them(rt: HostRuntime) -> Result<(), Fail> {
     let alloc = rt.alloc();

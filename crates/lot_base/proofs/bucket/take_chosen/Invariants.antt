@@ -1,5 +1,5 @@
 use Rattle.std.proofs.Common.{length}
-use Rattle.lot_base.specs.Waiting.{lists_of}
+use Rattle.lot_base.specs.NodeLists.{lists_of}
 use Rattle.lot_base.proofs.FilterLemmas.{Deciding}
 use Rattle.lot_base.proofs.bucket.take_chosen.Given as goal
 

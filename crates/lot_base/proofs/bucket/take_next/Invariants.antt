@@ -1,5 +1,5 @@
 use Rattle.std.proofs.Common.{◌≡◌, ◌++◌, length}
-use Rattle.lot_base.specs.Waiting.{lists_of}
+use Rattle.lot_base.specs.NodeLists.{lists_of}
 use Rattle.lot_base.proofs.bucket.take_next.Given as goal
 
 abbrev pub invariant-loop-node : goal.invariant-loop-node

@@ -1,6 +1,6 @@
 use Rattle.std.proofs.Common.{◌≡◌, ◌++◌, length, find}
-use Rattle.lot_base.specs.Spread.{has_number}
-use Rattle.lot_base.specs.Waiting.{lists_of, without_first}
+use Rattle.lot_base.specs.Waiting.{without_first}
+use Rattle.lot_base.specs.NodeLists.{lists_of, has_number}
 use Rattle.lot_base.proofs.bucket.take_next_numbered.Given as goal
 
 abbrev pub invariant-loop-node : goal.invariant-loop-node

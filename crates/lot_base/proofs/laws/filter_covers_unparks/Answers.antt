@@ -2,4 +2,4 @@ use Rattle.lot_base.proofs.LawLemmas.{split_filter-unpark_each, split_filter-unp
 use Rattle.lot_base.proofs.laws.filter_covers_unparks.Goals as goal
 
 pub returns : goal.returns
-returns c = record { all = split_filter-unpark_each; first = split_filter-unpark_stop }
+returns g c = record { all = split_filter-unpark_each _; first = split_filter-unpark_stop _ }

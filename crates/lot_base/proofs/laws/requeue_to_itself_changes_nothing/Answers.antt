@@ -1,6 +1,6 @@
-use Rattle.lot_base.proofs.LawLemmas.{requeued-nodes_to_itself, requeued-to_itself, answer_of-requeue_all}
+use Rattle.lot_base.proofs.LawLemmas.{lists_after_requeue-to_itself, map-with_new_key, result_of-requeue_all}
 use Rattle.lot_base.proofs.laws.requeue_to_itself_changes_nothing.Goals as goal
 
 pub returns : goal.returns
-returns c =
-    record { lists = requeued-nodes_to_itself; any_lists = requeued-to_itself; answer = answer_of-requeue_all }
+returns g c =
+    record { lists = lists_after_requeue-to_itself _; nodes = map-with_new_key; answer = result_of-requeue_all _ }

@@ -1,6 +1,5 @@
 use Rattle.parking_lot_core.proofs.LawLemmas.{OutcomesAlternate-run}
-use Rattle.parking_lot_core.proofs.StepLemmas.{IsConsistent-new, IsConsistent-step}
 use Rattle.parking_lot_core.proofs.laws.parks_and_outcomes_alternate.Goals as goal
 
 pub returns : goal.returns
-returns c = record { new = IsConsistent-new; consistent = IsConsistent-step; alternate = OutcomesAlternate-run }
+returns c = OutcomesAlternate-run

@@ -7,5 +7,7 @@ loop-place-preserved c =
     rw c.in_ok-push.ensures.items
     (record {
       count = omega (arith, c.loop-place.invariant.count, length-append c.loop-place.row.items (c.new.result ∷ []));
-      empty = AreEmpty-push c.args.size c.loop-place.row.items c.new.result (c.new.ensures ∙ ap (λ place. record { place = place; size = c.args.size; nodes = [] }) (sym c.loop-place.invariant.count)) c.loop-place.invariant.empty;
+      empty = AreEmpty-push c.args.size c.loop-place.row.items c.new.result
+          (c.new.ensures ∙ ap (λ place. record { place = place; size = c.args.size; nodes = [] })
+          (sym c.loop-place.invariant.count)) c.loop-place.invariant.empty;
     })

@@ -17,5 +17,7 @@ loop-bucket-preserved g c =
     (record {
       count = length-set c.loop-bucket.cells.items (length left) c.swap.new.self ∙ c.loop-bucket.invariant.count;
       shorter = omega (arith, below, length-set c.loop-bucket.cells.items (length left) c.swap.new.self);
-      filled = IfSome-both g.C.EmptyCell.contents c.swap.ensures.after filled (λ tell after filled. filled-step tell c.args.row.items left c.loop-bucket.cells.items c.swap.new.self c.in-Some.bucket below after filled);
+      filled = IfSome-both g.C.EmptyCell.contents c.swap.ensures.after filled
+          (λ tell after filled. filled-step tell c.args.row.items left c.loop-bucket.cells.items c.swap.new.self
+          c.in-Some.bucket below after filled);
     })

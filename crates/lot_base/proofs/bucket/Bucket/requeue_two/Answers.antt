@@ -1,17 +1,23 @@
-use Rattle.std.proofs.Common.{rules}
-use Rattle.lot_base.specs.Waiting.{lists_of, split_by}
-use Rattle.lot_base.specs.BucketState.{BucketState}
-use Rattle.lot_base.proofs.RequeueLemmas.{IsInPlace-left, IsInPlace-moved, lists_of-moved, IsRequeue-chosen}
+use Rattle.std.proofs.Common.{rules, ◌≡◌, sym, append-nil, refl}
+use Rattle.lot_base.specs.Waiting.{split_by}
+use Rattle.lot_base.specs.NodeLists.{lists_of}
+use Rattle.lot_base.specs.contracts.bucket.Bucket.{the_view}
+use Rattle.lot_base.proofs.WaitingLemmas.{IsInPlace-left}
+use Rattle.lot_base.proofs.RequeueLemmas.{All-left, IsInPlace-moved, lists_of-moved, no_answer, AreCalled-aborted}
+use Rattle.lot_base.proofs.ValueLemmas.{with_value-same_value}
 use Rattle.lot_base.proofs.bucket.Bucket.requeue_two.Goals as goal
 
 pub invariant_of-self-2 : goal.invariant_of-self-2
 invariant_of-self-2 g c =
-    let bucket : BucketState = record { place = c.self.inside.place; size = c.self.inside.size; nodes = c.self.inside.queue } in
-    IsInPlace-left bucket c.validate-op.result c.args.from c.requeue_from.new.queue c.in-Some.ensures.lists c.self.invariant
+    let bucket = the_view c.self.inside in
+    let op = c.validate-op.result in
+    let waiters = lists_of bucket.nodes c.args.from in
+    IsInPlace-left bucket c.args.from c.requeue_from.new.queue (split_by op waiters).left
+    (λ P. All-left P op waiters) c.in-Some.ensures.lists c.self.invariant
 
 pub invariant_of-target : goal.invariant_of-target
 invariant_of-target g c =
-    let bucket : BucketState = record { place = c.target.inside.place; size = c.target.inside.size; nodes = c.target.inside.queue } in
+    let bucket = the_view c.target.inside in
     let split = split_by c.validate-op.result (lists_of c.self.inside.queue c.args.from) in
     IsInPlace-moved bucket c.args.to split.moved c.append.new.self (search rules) (search rules) c.target.invariant
 
@@ -19,6 +25,29 @@ pub returns-clause-requeued : goal.returns-clause-requeued
 returns-clause-requeued g c =
     let split = split_by c.validate-op.result (lists_of c.self.inside.queue c.args.from) in
     rw (← c.self.view_is, ← c.target.view_is)
-    (IsRequeue-chosen c.validate-op.result c.validate-op.ensures c.in-Some.ensures.chosen
-    (c.in-Some.ensures.lists, rw (c.append.ensures.nodes, c.in-Some.ensures.moved) (lists_of-moved c.args.to c.target.inside.queue split.moved))
-    c.in-Some.ensures.called)
+    (record {
+      op = c.validate-op.result;
+      chosen = c.validate-op.ensures;
+      lists = c.in-Some.ensures.lists;
+      targets = rw (c.append.ensures.nodes, c.in-Some.ensures.moved)
+          (lists_of-moved c.args.to c.target.inside.queue split.moved);
+      called = c.in-Some.ensures.called;
+    })
+
+pub returns-in_default-clause-requeued : goal.returns-in_default-clause-requeued
+returns-in_default-clause-requeued g c =
+    let (aborts, unchanged, last) = c.in_default.ensures.aborted in
+    let nothing : c.default.result ≡ no_answer = search rules in
+    rw (← c.self.view_is)
+    (record {
+      op = c.validate-op.result;
+      chosen = c.validate-op.ensures;
+      lists = rw (unchanged, aborts)
+          (λ k. sym (with_value-same_value (lists_of c.self.inside.queue) c.args.from _ refl k));
+      targets = rw aborts
+          (λ k. sym (with_value-same_value (lists_of c.args.target.now.nodes) c.args.to _ (append-nil _) k));
+      called = rw nothing
+          (AreCalled-aborted g.C.FnOnce g.M.FnMut c.validate-op.result
+          (lists_of c.self.inside.queue c.args.from) c.args.callback c.args.moved.now c.requeue_from.new.moved
+          c.new.result aborts last c.new.ensures);
+    })

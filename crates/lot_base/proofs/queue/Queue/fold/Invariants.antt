@@ -6,5 +6,6 @@ use Rattle.lot_base.proofs.queue.Queue.fold.Given as goal
 abbrev pub invariant-loop-rest : goal.invariant-loop-rest
 invariant-loop-rest g l = record {
   callable : CanFold g.F.FnMut l.f l.answer (chain l.rest);
-  calls : (last : _) (result : _) → Folds g.F.FnMut l.f l.answer (chain l.rest) last result → Folds g.F.FnMut l.fn.f l.fn.start l.fn.self last result;
+  calls : (last : _) (result : _) → Folds g.F.FnMut l.f l.answer (chain l.rest) last result
+      → Folds g.F.FnMut l.fn.f l.fn.start l.fn.self last result;
 }

@@ -5,4 +5,5 @@ use Rattle.lot_base.proofs.thread_parker.Slot.take.Goals as goal
 
 pub invariant_of-self : goal.invariant_of-self
 invariant_of-self c =
-    All-append_right (λ node. node.number ≡ c.self.inside.owner) (option_nodes c.pop_front.result) c.pop_front.new.self (rw (← c.pop_front.ensures.nodes) c.self.invariant)
+    All-append_right (λ node. node.number ≡ c.self.inside.owner) (option_nodes c.pop_front.result) c.pop_front.new.self
+    (rw (← c.pop_front.ensures.nodes) c.self.invariant)

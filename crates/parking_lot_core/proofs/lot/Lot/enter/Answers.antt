@@ -3,37 +3,61 @@ use Rattle.std.proofs.lemmas.List.{get_or-set_same}
 use Rattle.lot_base.specs.Node.{fields}
 use Rattle.parking_lot_core.specs.Lot.{machine, use_of}
 use Rattle.parking_lot_core.specs.LotState.{ThreadState}
-use Rattle.parking_lot_core.specs.Machine.{entered}
+use Rattle.parking_lot_core.specs.Machine.{after_enter}
 use Rattle.parking_lot_core.specs.declared.lot.Status.TheVariants.{Running, Waiting}
 use Rattle.parking_lot_core.proofs.CommitLemmas.{ne-free-running, below_from_status, uses-same}
-use Rattle.parking_lot_core.proofs.LotLemmas.{lot_of, IsStep, IsStep-entered, IsStep-stayed}
+use Rattle.parking_lot_core.proofs.LotLemmas.{lot_of, IsLotStep, IsLotStep-after_enter, IsLotStep-stayed}
 use Rattle.parking_lot_core.proofs.lot.Lot.enter.Given as given
 use Rattle.parking_lot_core.proofs.lot.Lot.enter.Goals as goal
 use Rattle.parking_lot_core.proofs.lot.Lot.enter.Goals.{In-Ok, After-stop_waiting}
 
 -- the node as it enters
-prepared : (g : given.Over) (c : In-Ok g) → fields c.prepare.new.self ≡ record { number = c.args.number; key = c.args.key; park_token = c.args.park_token; unpark_token = (fields c.deref_mut.result.now).unpark_token; timed = c.args.timed }
+prepared : (g : given.Over) (c : In-Ok g) → fields c.prepare.new.self
+    ≡ record {
+      number = c.args.number;
+      key = c.args.key;
+      park_token = c.args.park_token;
+      unpark_token = (fields c.deref_mut.result.now).unpark_token;
+      timed = c.args.timed;
+    }
 prepared g c =
     c.prepare.ensures
-    ∙ ap (λ number. record { number = number; key = c.args.key; park_token = c.args.park_token; unpark_token = (fields c.deref_mut.result.now).unpark_token; timed = c.args.timed })
+    ∙
+    ap
+    (λ number.
+    record {
+      number = number;
+      key = c.args.key;
+      park_token = c.args.park_token;
+      unpark_token = (fields c.deref_mut.result.now).unpark_token;
+      timed = c.args.timed;
+    })
     (ap (λ node. (fields node).number) c.deref_mut.ensures.value ∙ c.in_ok-node.ensures.node)
 
-step : (g : given.Over) (c : In-Ok g) → IsStep (record { buckets = c.enter_bucket.new.table.cells; threads = c.start_waiting.new.threads.items }) (entered (machine (lot_of c.self.inside)) c.args.number c.args.key c.args.park_token c.args.timed)
+step : (g : given.Over) (c : In-Ok g)
+    → IsLotStep (record { buckets = c.enter_bucket.new.table.cells; threads = c.start_waiting.new.threads.items })
+    (after_enter (machine (lot_of c.self.inside)) c.args.number c.args.key c.args.park_token c.args.timed)
 step g c =
     rw (c.in-Ok.ensures.entered, c.in_ok-node.ensures.ok, prepared g c)
-    (IsStep-entered (lot_of c.self.inside) c.args.number c.args.key c.args.park_token (fields c.deref_mut.result.now).unpark_token c.args.timed c.self.invariant.0 c.in-Ok.ensures.table (c.in_ok-node.ensures.fits.0 refl))
+    (IsLotStep-after_enter (lot_of c.self.inside) c.args.number c.args.key c.args.park_token
+    (fields c.deref_mut.result.now).unpark_token c.args.timed c.self.invariant.0 c.in-Ok.ensures.table
+    (c.in_ok-node.ensures.fits.0 refl))
 
 pub invariant_of-self-in-Ok : goal.invariant_of-self-in-Ok
 invariant_of-self-in-Ok g c = (
   (step g c).is_lot,
-  rw (c.in-Ok.ensures.numbers, c.in_ok-node.ensures.ok) (c.self.invariant.1 ∙ sym (uses-same c.self.inside.threads.items c.args.number _ (ap use_of (sym (c.in_ok-node.ensures.fits.0 refl))))),
+  rw (c.in-Ok.ensures.numbers, c.in_ok-node.ensures.ok)
+      (c.self.invariant.1
+      ∙ sym (uses-same c.self.inside.threads.items c.args.number _
+      (ap use_of (sym (c.in_ok-node.ensures.fits.0 refl))))),
 )
 
 pub returns-in-Ok-clause-entered : goal.returns-in-Ok-clause-entered
 returns-in-Ok-clause-entered g c = rw (← c.self.view_is) (step g c).means
 
 -- the thread as it stops waiting
-stopped : (g : given.Over) (c : After-stop_waiting g) → c.stop_waiting.new.self ≡ record { number = c.args.number; key = c.args.key; status = Running }
+stopped : (g : given.Over) (c : After-stop_waiting g)
+    → c.stop_waiting.new.self ≡ record { number = c.args.number; key = c.args.key; status = Running }
 stopped g c =
     let threads = c.self.inside.threads.items in
     let waiting : ThreadState = record { number = c.args.number; key = c.args.key; status = Waiting c.args.timed } in
@@ -42,25 +66,40 @@ stopped g c =
     ∙ ap (λ (thread : ThreadState). record thread { status = Running })
     (c.index_mut.ensures.value
     ∙ ap (λ items. get_or items c.args.number c.index_mut.result.now) c.in_ok-node.ensures.ok
-    ∙ get_or-set_same threads c.args.number waiting _ (below_from_status threads c.args.number (λ free. ne-free-running (sym running ∙ free))))
+    ∙ get_or-set_same threads c.args.number waiting _
+    (below_from_status threads c.args.number (λ free. ne-free-running (sym running ∙ free))))
 
 -- the threads as they are then
-threads_after : (g : given.Over) (c : After-stop_waiting g) → slice_set c.start_waiting.new.threads.items c.args.number c.stop_waiting.new.self ≡ slice_set c.self.inside.threads.items c.args.number (record { number = c.args.number; key = c.args.key; status = Running })
+threads_after : (g : given.Over) (c : After-stop_waiting g)
+    → slice_set c.start_waiting.new.threads.items c.args.number c.stop_waiting.new.self
+    ≡ slice_set c.self.inside.threads.items c.args.number
+    (record { number = c.args.number; key = c.args.key; status = Running })
 threads_after g c =
     ap (λ items. slice_set items c.args.number c.stop_waiting.new.self) c.in_ok-node.ensures.ok
     ∙ set-set c.self.inside.threads.items c.args.number _ c.stop_waiting.new.self
     ∙ ap (slice_set c.self.inside.threads.items c.args.number) (stopped g c)
 
-stayed : (g : given.Over) (c : After-stop_waiting g) → IsStep (record { buckets = c.enter_bucket.new.table.cells; threads = slice_set c.start_waiting.new.threads.items c.args.number c.stop_waiting.new.self }) (machine (lot_of c.self.inside))
+stayed : (g : given.Over) (c : After-stop_waiting g)
+    →
+    IsLotStep
+    (record {
+      buckets = c.enter_bucket.new.table.cells;
+      threads = slice_set c.start_waiting.new.threads.items c.args.number c.stop_waiting.new.self;
+    }) (machine (lot_of c.self.inside))
 stayed g c =
     rw (c.in-Err.ensures.refused, threads_after g c)
-    (IsStep-stayed (lot_of c.self.inside) c.args.number (record { number = c.args.number; key = c.args.key; status = Running }) c.self.invariant.0 refl (c.in_ok-node.ensures.fits.0 refl) refl)
+    (IsLotStep-stayed (lot_of c.self.inside) c.args.number
+    (record { number = c.args.number; key = c.args.key; status = Running }) c.self.invariant.0 refl
+    (c.in_ok-node.ensures.fits.0 refl) refl)
 
 pub invariant_of-self-in-Err : goal.invariant_of-self-in-Err
 invariant_of-self-in-Err g c =
     let at = (goal.at.invariant_of-self-in-Err g c).After-stop_waiting in (
       (stayed g at).is_lot,
-      rw (at.in-Err.ensures.numbers, threads_after g at) (at.self.invariant.1 ∙ sym (uses-same at.self.inside.threads.items at.args.number _ (ap use_of (sym (at.in_ok-node.ensures.fits.0 refl))))),
+      rw (at.in-Err.ensures.numbers, threads_after g at)
+          (at.self.invariant.1
+          ∙ sym (uses-same at.self.inside.threads.items at.args.number _
+          (ap use_of (sym (at.in_ok-node.ensures.fits.0 refl))))),
     )
 
 pub returns-in-Err-clause-entered : goal.returns-in-Err-clause-entered

@@ -6,4 +6,5 @@ use Rattle.parking_lot_core.proofs.lot.Lot.registered.Goals as goal
 
 pub returns : goal.returns
 returns c =
-    rw (← c.self.view_is) (c.registered.ensures ∙ ap count_registered c.self.invariant.1 ∙ threads_of-uses (lot_of c.self.inside))
+    rw (← c.self.view_is) (c.registered.ensures ∙ ap count_registered c.self.invariant.1
+    ∙ threads_of-uses (lot_of c.self.inside))

@@ -1,36 +1,39 @@
-use Rattle.std.proofs.Common.{◌≡◌, ◌∙◌, sym, ap, refl, slice_set, inr}
-use Rattle.parking_lot_core.specs.Lot.{thread_at, machine}
-use Rattle.parking_lot_core.specs.LotState.{ThreadState}
-use Rattle.parking_lot_core.specs.Machine.{is_queued, turned}
+use Rattle.std.proofs.Common.{◌≡◌, ◌∙◌, sym, ap, refl, slice_set}
 use Rattle.parking_lot_core.specs.declared.lot.Status.TheVariants.{Running, Free}
 use Rattle.parking_lot_core.specs.declared.table.Use.TheVariants as use_is
+use Rattle.parking_lot_core.specs.Status.{is_queued, is_timed}
+use Rattle.parking_lot_core.specs.Machine.{with_status}
+use Rattle.parking_lot_core.specs.LotState.{ThreadState}
+use Rattle.parking_lot_core.specs.Lot.{machine, use_of, uses}
 use Rattle.parking_lot_core.proofs.CommitLemmas.{uses-set}
-use Rattle.parking_lot_core.proofs.LotLemmas.{lot_of, IsStep, IsStep-turned}
+use Rattle.parking_lot_core.proofs.LotLemmas.{lot_of, IsLotStep, IsLotStep-status}
 use Rattle.parking_lot_core.proofs.lot.Lot.retire.Goals as goal
 use Rattle.parking_lot_core.proofs.lot.Lot.retire.Goals.{After-release}
 
-read : (c : After-release) → c.in-Some.thread.now ≡ thread_at c.self.inside.threads.items c.args.number
-read c = c.in-Some.ensures.item.3.1 _
+ran : (c : After-release) → Running ≡ c.in-Some.thread.now.status
+ran c = sym (c.in_ok-retire.ensures.fits.0 refl)
 
-after : (c : After-release) → c.retire.new.self ≡ record (thread_at c.self.inside.threads.items c.args.number) { status = Free }
-after c =
-    c.in_ok-retire.ensures.ok ∙ ap (λ (thread : ThreadState). record thread { status = Free }) (read c)
-
-ran : (c : After-release) → (thread_at c.self.inside.threads.items c.args.number).status ≡ Running
-ran c = ap (λ thread. thread.status) (sym (read c)) ∙ c.in_ok-retire.ensures.fits.0 refl
-
-step : (c : After-release) → IsStep (record { buckets = c.release.new.self.cells; threads = slice_set c.self.inside.threads.items c.args.number c.retire.new.self }) (turned (machine (lot_of c.self.inside)) c.args.number Free)
+step : (c : After-release)
+    →
+    IsLotStep
+    (record {
+      buckets = c.release.new.self.cells;
+      threads = slice_set c.self.inside.threads.items c.args.number c.retire.new.self;
+    }) (with_status (machine (lot_of c.self.inside)) c.args.number Free)
 step c =
-    let now = after c in
-    rw (c.release.ensures.cells, now)
-    (IsStep-turned (lot_of c.self.inside) c.args.number (record (thread_at c.self.inside.threads.items c.args.number) { status = Free }) c.self.invariant.0 c.in-Some.ensures.item.3.0 (c.self.invariant.0.numbers c.args.number) (ap is_queued (sym (ran c))) (inr refl))
+    rw c.release.ensures.cells
+    (IsLotStep-status (lot_of c.self.inside) c.args.number c.in-Some.thread.now c.retire.new.self Free
+    c.self.invariant.0 c.in-Some.ensures.item.3.0 (c.in-Some.ensures.item.3.1 _) c.in_ok-retire.ensures.ok
+    (ap is_queued (ran c)) (ap is_timed (ran c)))
 
 pub invariant_of-self-2 : goal.invariant_of-self-2
-invariant_of-self-2 c =
-    let now = after c in (
-      (step c).is_lot,
-      rw now (c.release.ensures.numbers ∙ ap (λ numbers. slice_set numbers c.args.number use_is.Free) c.self.invariant.1 ∙ sym (uses-set c.self.inside.threads.items c.args.number _)),
-    )
+invariant_of-self-2 c = (
+  (step c).is_lot,
+  c.release.ensures.numbers ∙ ap (λ numbers. slice_set numbers c.args.number use_is.Free) c.self.invariant.1
+      ∙ sym (uses-set c.self.inside.threads.items c.args.number c.retire.new.self
+      ∙ ap (λ (thread : ThreadState). slice_set (uses c.self.inside.threads.items) c.args.number (use_of thread.status))
+      c.in_ok-retire.ensures.ok),
+)
 
 pub returns-clause-ok : goal.returns-clause-ok
 returns-clause-ok c = rw (← c.self.view_is) (step c).means

@@ -1,38 +1,49 @@
-use Rattle.std.proofs.Common.{◌≡◌, ◌∙◌, ap, refl, sym, subst, IsTrue, IsSomeAnd, IsSome, IfSome, MatchOption, ◌<◌, length, Option, Some, None, find, map, slice_set}
+use Rattle.std.proofs.Common.{◌≡◌, ◌∙◌, ap, refl, sym, subst, IsTrue, IsSomeAnd, IsSome, IfSome, MatchOption, ◌<◌}
+use Rattle.std.proofs.Common.{length, Option, Some, None, find, map, slice_set}
 use Rattle.std.proofs.lemmas.List.{get_or_read}
 use Rattle.lot_base.specs.Node.{fields}
 use Rattle.lot_base.specs.NodeFields.{NodeFields}
-use Rattle.lot_base.specs.Spread.{has_number}
-use Rattle.lot_base.specs.Waiting.{lists_of}
+use Rattle.lot_base.specs.NodeLists.{lists_of, has_number}
 use Rattle.parking_lot_core.specs.Lot.{machine, statuses}
 use Rattle.parking_lot_core.specs.LotState.{ThreadState}
-use Rattle.parking_lot_core.specs.Machine.{is_queued, times_in, timed_out, StandsAt}
+use Rattle.parking_lot_core.specs.Status.{is_queued}
+use Rattle.parking_lot_core.specs.Machine.{times_in, after_timeout, StandsAt}
 use Rattle.parking_lot_core.specs.Represents.{waiter_of}
 use Rattle.parking_lot_core.specs.declared.lot.Status.TheVariants.{Running}
 use Rattle.parking_lot_core.proofs.CommitLemmas.{below_from_status, ne-free-queued}
-use Rattle.parking_lot_core.proofs.LotLemmas.{lot_of, read_thread, StandsAt-queued, find-standing, is_last-map, IsStepOfUse, IsTaking-from, IsStepOfUse-timed_out}
+use Rattle.parking_lot_core.proofs.LotLemmas.{lot_of, read_thread, StandsAt-queued, IsLotStepOfUse, IsTaking-from}
+use Rattle.parking_lot_core.proofs.LotLemmas.{IsLotStepOfUse-after_timeout}
+use Rattle.parking_lot_core.proofs.RemovalLemmas.{find-standing, is_last-map}
 use Rattle.parking_lot_core.proofs.lot.Lot.time_out.Given as given
 use Rattle.parking_lot_core.proofs.lot.Lot.time_out.Goals as goal
 use Rattle.parking_lot_core.proofs.lot.Lot.time_out.Goals.{After-take-bucket}
 
 -- a late thread is one of the lot's, and stands in the list of its key
-queued : (g : given.Over) (c : After-take-bucket g) → IsTrue (is_queued (statuses c.self.inside.threads.items c.args.number))
+queued : (g : given.Over) (c : After-take-bucket g)
+    → IsTrue (is_queued (statuses c.self.inside.threads.items c.args.number))
 queued g c = ap is_queued (rw (← c.self.view_is) at c.requires.late)
 
 below : (g : given.Over) (c : After-take-bucket g) → c.args.number < length c.self.inside.threads.items
 below g c =
-    below_from_status c.self.inside.threads.items c.args.number (ne-free-queued (statuses c.self.inside.threads.items c.args.number) (queued g c))
+    below_from_status c.self.inside.threads.items c.args.number
+    (ne-free-queued (statuses c.self.inside.threads.items c.args.number) (queued g c))
 
-stands : (g : given.Over) (c : After-take-bucket g) → StandsAt (machine (lot_of c.self.inside)) c.args.number c.key-key.result
+stands : (g : given.Over) (c : After-take-bucket g)
+    → StandsAt (machine (lot_of c.self.inside)) c.args.number c.key-key.result
 stands g c =
-    let key = c.key-key.ensures ∙ ap (λ (thread : ThreadState). thread.key) (get_or_read c.self.inside.threads.items c.args.number c.index.result.now (below g c) c.index.ensures _) in
-    subst (StandsAt (machine (lot_of c.self.inside)) c.args.number) (sym key) (StandsAt-queued (lot_of c.self.inside) c.args.number c.self.invariant.0 (queued g c))
+    let key = c.key-key.ensures ∙ ap (λ (thread : ThreadState). thread.key)
+    (get_or_read c.self.inside.threads.items c.args.number c.index.result.now (below g c) c.index.ensures _) in
+    subst (StandsAt (machine (lot_of c.self.inside)) c.args.number) (sym key)
+    (StandsAt-queued (lot_of c.self.inside) c.args.number c.self.invariant.0 (queued g c))
 
 -- the node of the thread is found
-found : (g : given.Over) (c : After-take-bucket g) → IsSomeAnd (find (has_number c.args.number) (lists_of c.take-bucket.result.nodes c.key-key.result)) (λ node. node.number ≡ c.args.number)
+found : (g : given.Over) (c : After-take-bucket g)
+    → IsSomeAnd (find (has_number c.args.number) (lists_of c.take-bucket.result.nodes c.key-key.result))
+    (λ node. node.number ≡ c.args.number)
 found g c =
     find-standing c.args.number (lists_of c.take-bucket.result.nodes c.key-key.result)
-    (subst (λ bucket. times_in c.args.number (map waiter_of (lists_of bucket.nodes c.key-key.result)) ≡ 1) (sym c.take-bucket.ensures.taken) (stands g c).once)
+    (subst (λ bucket. times_in c.args.number (map waiter_of (lists_of bucket.nodes c.key-key.result)) ≡ 1)
+    (sym c.take-bucket.ensures.taken) (stands g c).once)
 
 -- what holds anyway holds where something is found
 always : {A : Type 0} (P : Type 0) (option : Option A) → P → IfSome option (λ _. P)
@@ -43,11 +54,16 @@ pub remove-requires : goal.remove-requires
 remove-requires g c =
     let at = (goal.at.remove-requires g c).After-take-bucket in
     let callable = rw (← at.self.view_is) at at.requires.callable in
-    always {A = NodeFields} _ (find (has_number at.args.number) (lists_of at.take-bucket.result.nodes at.key-key.result))
-    (rw (is_last-map at.args.number (lists_of at.take-bucket.result.nodes at.key-key.result), at.take-bucket.ensures.taken) (callable at.key-key.result (stands g at)))
+    always {A = NodeFields} _
+    (find (has_number at.args.number) (lists_of at.take-bucket.result.nodes at.key-key.result))
+    (rw (
+      is_last-map at.args.number (lists_of at.take-bucket.result.nodes at.key-key.result),
+      at.take-bucket.ensures.taken,
+    ) (callable at.key-key.result (stands g at)))
 
 -- a node that is there was taken out
-is_some-removed : {A : Type 0} (P : NodeFields → Type 0) (B : Type 0) (Q : A → Type 0) (at : Option NodeFields) (removed : Option A) → IsSomeAnd at P → MatchOption removed ((at ≡ None) × B) Q → IsSome removed
+is_some-removed : {A : Type 0} (P : NodeFields → Type 0) (B : Type 0) (Q : A → Type 0) (at : Option NodeFields)
+    (removed : Option A) → IsSomeAnd at P → MatchOption removed ((at ≡ None) × B) Q → IsSome removed
 is_some-removed P B Q at None holds none = absurd (subst (λ o. IsSomeAnd o P) none.0 holds)
 is_some-removed P B Q at (Some _) holds some = refl
 
@@ -60,17 +76,29 @@ pub stop_waiting-requires-clause-number : goal.stop_waiting-requires-clause-numb
 stop_waiting-requires-clause-number g c =
     let at = (goal.at.stop_waiting-requires-clause-number g c).After-take-bucket in
     let removed = rw c.unwrap-node.ensures at c.remove.ensures.removed in
-    let own : (fields c.unwrap-node.result.0.value).number ≡ c.args.number = subst (λ node. IsSomeAnd node (λ node. node.number ≡ c.args.number)) removed.0 (found g at) in
-    own ∙ sym (read_thread (lot_of c.self.inside) c.args.number c.index_mut.result.now c.self.invariant.0 (get_or_read c.self.inside.threads.items c.args.number c.index_mut.result.now (below g at) c.index_mut.ensures.value _))
+    let own : (fields c.unwrap-node.result.0.value).number ≡ c.args.number =
+    subst (λ node. IsSomeAnd node (λ node. node.number ≡ c.args.number)) removed.0 (found g at) in
+    own ∙ sym (read_thread (lot_of c.self.inside) c.args.number c.index_mut.result.now c.self.invariant.0
+    (get_or_read c.self.inside.threads.items c.args.number c.index_mut.result.now
+    (below g at) c.index_mut.ensures.value _))
 
-step : (g : given.Over) (c : goal.After-self-1 g) → IsStepOfUse (lot_of c.self.inside) (record { buckets = c.put.new.self.cells; threads = slice_set c.self.inside.threads.items c.args.number c.stop_waiting.new.self }) (timed_out (machine (lot_of c.self.inside)) c.args.number c.key-key.result)
+step : (g : given.Over) (c : goal.After-self-1 g)
+    → IsLotStepOfUse (lot_of c.self.inside)
+    (record {
+      buckets = c.put.new.self.cells;
+      threads = slice_set c.self.inside.threads.items c.args.number c.stop_waiting.new.self;
+    }) (after_timeout (machine (lot_of c.self.inside)) c.args.number c.key-key.result)
 step g c =
     let at = (goal.at.invariant_of-self g c).After-take-bucket in
     let take = c.take-bucket.ensures in
     let remove = c.remove.ensures in
-    let after = c.stop_waiting.ensures ∙ ap (λ (thread : ThreadState). record thread { status = Running }) (get_or_read c.self.inside.threads.items c.args.number c.index_mut.result.now (below g at) c.index_mut.ensures.value _) in
+    let after = c.stop_waiting.ensures ∙ ap (λ (thread : ThreadState). record thread { status = Running })
+    (get_or_read c.self.inside.threads.items c.args.number c.index_mut.result.now
+    (below g at) c.index_mut.ensures.value _) in
     rw (c.put.ensures, take.left, after)
-    (IsStepOfUse-timed_out (lot_of c.self.inside) c.args.number c.key-key.result c.take-bucket.result _ c.remove.new.self c.self.invariant.0 (queued g at) (stands g at) (IsTaking-from _ _ _ _ _ take.table take.size take.taken take.place remove.place remove.lists))
+    (IsLotStepOfUse-after_timeout (lot_of c.self.inside) c.args.number c.key-key.result c.take-bucket.result _
+    c.remove.new.self c.self.invariant.0 (queued g at) (stands g at)
+    (IsTaking-from _ _ _ _ _ take.table take.size take.taken take.place remove.place remove.lists))
 
 pub invariant_of-self : goal.invariant_of-self
 invariant_of-self g c =
@@ -83,6 +111,7 @@ returns-clause-timed_out g c =
     rw (← c.self.view_is) (
       c.key-key.result,
       stands g at,
-      rw (is_last-map c.args.number (lists_of c.take-bucket.result.nodes c.key-key.result), c.take-bucket.ensures.taken) at removed.1,
+      rw (is_last-map c.args.number (lists_of c.take-bucket.result.nodes c.key-key.result), c.take-bucket.ensures.taken)
+          at removed.1,
       (step g c).step.means,
     )

@@ -1,9 +1,11 @@
 use Rattle.std.proofs.Common.{◌∙◌, sym, map}
-use Rattle.lot_base.specs.Waiting.{lists_of, split_all}
+use Rattle.lot_base.specs.Waiting.{split_all}
+use Rattle.lot_base.specs.NodeLists.{lists_of}
 use Rattle.parking_lot_core.specs.Lot.{machine}
-use Rattle.parking_lot_core.specs.Machine.{unparked}
+use Rattle.parking_lot_core.specs.Machine.{after_unpark}
 use Rattle.parking_lot_core.specs.Represents.{waiter_of}
-use Rattle.parking_lot_core.proofs.LotLemmas.{lot_of, IsStepOfUse, IsTaking-from, IsStepOfUse-taking, CanCommit-taking, IsUnpark-all}
+use Rattle.parking_lot_core.proofs.LotLemmas.{lot_of, IsLotStepOfUse, IsTaking-from, IsLotStepOfUse-taking}
+use Rattle.parking_lot_core.proofs.LotLemmas.{CanCommit-taking, IsUnparkSplit-all, saturated-all}
 use Rattle.parking_lot_core.proofs.lot.Lot.unpark_all.Goals as goal
 use Rattle.parking_lot_core.proofs.lot.Lot.unpark_all.Goals.{After-commit}
 
@@ -12,14 +14,23 @@ commit-requires c =
     let take = c.take-bucket.ensures in
     let all = c.take_all-count.ensures in
     rw all.taken
-    (CanCommit-taking (lot_of c.self.inside) c.args.key c.take-bucket.result c.take_all-count.new.self (split_all (lists_of c.take-bucket.result.nodes c.args.key)) c.args.unpark_token c.self.invariant.0 (IsTaking-from _ _ _ _ _ take.table take.size take.taken take.place all.place all.lists) (IsUnpark-all (lists_of c.take-bucket.result.nodes c.args.key)))
+    (CanCommit-taking (lot_of c.self.inside) c.args.key c.take-bucket.result c.take_all-count.new.self
+    (split_all (lists_of c.take-bucket.result.nodes c.args.key)) c.args.unpark_token c.self.invariant.0
+    (IsTaking-from _ _ _ _ _ take.table take.size take.taken take.place all.place all.lists)
+    (IsUnparkSplit-all (lists_of c.take-bucket.result.nodes c.args.key)))
 
-step : (c : After-commit) → IsStepOfUse (lot_of c.self.inside) (record { buckets = c.put.new.self.cells; threads = c.commit.new.threads.items }) (unparked (machine (lot_of c.self.inside)) c.args.key (split_all (map waiter_of (lists_of c.take-bucket.result.nodes c.args.key))) c.args.unpark_token)
+step : (c : After-commit) → IsLotStepOfUse (lot_of c.self.inside)
+    (record { buckets = c.put.new.self.cells; threads = c.commit.new.threads.items })
+    (after_unpark (machine (lot_of c.self.inside)) c.args.key
+    (split_all (map waiter_of (lists_of c.take-bucket.result.nodes c.args.key))) c.args.unpark_token)
 step c =
     let take = c.take-bucket.ensures in
     let all = c.take_all-count.ensures in
     rw (c.put.ensures, take.left, c.commit.ensures, all.taken)
-    (IsStepOfUse-taking (lot_of c.self.inside) c.args.key c.take-bucket.result _ c.take_all-count.new.self (split_all (lists_of c.take-bucket.result.nodes c.args.key)) c.args.unpark_token c.self.invariant.0 (IsTaking-from _ _ _ _ _ take.table take.size take.taken take.place all.place all.lists) (IsUnpark-all (lists_of c.take-bucket.result.nodes c.args.key)))
+    (IsLotStepOfUse-taking (lot_of c.self.inside) c.args.key c.take-bucket.result c.take_all-count.new.self
+    (split_all (lists_of c.take-bucket.result.nodes c.args.key)) c.args.unpark_token c.self.invariant.0
+    (IsTaking-from _ _ _ _ _ take.table take.size take.taken take.place all.place all.lists)
+    (IsUnparkSplit-all (lists_of c.take-bucket.result.nodes c.args.key)) _)
 
 pub invariant_of-self : goal.invariant_of-self
 invariant_of-self c =
@@ -28,3 +39,8 @@ invariant_of-self c =
 pub returns-clause-taken : goal.returns-clause-taken
 returns-clause-taken c =
     rw (← c.self.view_is) (rw c.take-bucket.ensures.taken at (step c).step.means)
+
+pub returns-clause-answer : goal.returns-clause-answer
+returns-clause-answer c =
+    rw (← c.self.view_is) ((rw c.take-bucket.ensures.taken at c.take_all-count.ensures.answer)
+    ∙ saturated-all (lot_of c.self.inside) c.self.invariant.0 c.args.key)

@@ -1,8 +1,9 @@
-use Rattle.lot_base.proofs.FilterLemmas.{TakesUntilStop-always}
+use Rattle.lot_base.proofs.FilterLemmas.{IsFilterCallable-always}
 use Rattle.parking_lot_core.specs.Lot.{machine}
-use Rattle.parking_lot_core.specs.Machine.{tokens_of}
+use Rattle.parking_lot_core.specs.Lot.{waiter_park_tokens}
 use Rattle.parking_lot_core.proofs.lot.tests.unpark_by.Goals as goal
 
 pub unpark_filter-result-requires-clause-filter : goal.unpark_filter-result-requires-clause-filter
 unpark_filter-result-requires-clause-filter g c =
-    TakesUntilStop-always g.F.FnMut (λ filter token. c.requires filter token) c.args.filter (tokens_of ((machine c.args.lot.now).lists c.args.key))
+    IsFilterCallable-always g.F.FnMut (λ filter token. c.requires filter token) c.args.filter
+    (waiter_park_tokens ((machine c.args.lot.now).lists c.args.key))

@@ -4,10 +4,12 @@ use Rattle.parking_lot_core.proofs.TableLemmas.{place_told}
 use Rattle.parking_lot_core.proofs.table.Table+Bucket.take.Goals as goal
 use Rattle.parking_lot_core.proofs.table.Table+Bucket.take.Goals.{After-self-1}
 
-own : (c : After-self-1) → (c.replace.result.place ≡ c.place-place.result) × (c.replace.result.size ≡ length c.self.inside.cells.items)
+own : (c : After-self-1) → (c.replace.result.place ≡ c.place-place.result)
+    × (c.replace.result.size ≡ length c.self.inside.cells.items)
 own c =
     rw c.replace.ensures.value
-    (place_told (λ bucket. bucket) c.self.inside.cells.items c.place-place.result c.index_mut.result.now (omega arith) c.index_mut.ensures.value c.self.invariant.1.row)
+    (place_told (λ bucket. bucket) c.self.inside.cells.items c.place-place.result c.index_mut.result.now
+    (omega arith) c.index_mut.ensures.value c.self.invariant.1.row)
 
 pub returns-clause-place : goal.returns-clause-place
 returns-clause-place c =

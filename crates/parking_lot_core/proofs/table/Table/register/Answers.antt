@@ -18,13 +18,15 @@ index_mut-requires g c =
 pub returns-in_err-make_room-clause-full : goal.returns-in_err-make_room-clause-full
 returns-in_err-make_room-clause-full g c = (
   λ refused. let other = rw refused at c.from_residual.ensures.1 in absurd cc,
-  λ full. let free = count_registered-free c.self.inside.numbers.items c.in-Some.number c.in-Some.ensures.some.free in absurd (let full_inside = rw (← c.self.view_is) at full in omega (arith, free)),
+  λ full. let free = count_registered-free c.self.inside.numbers.items c.in-Some.number c.in-Some.ensures.some.free in
+      absurd (let full_inside = rw (← c.self.view_is) at full in omega (arith, free)),
 )
 
 pub returns-clause-full : goal.returns-clause-full
 returns-clause-full g c = (
   λ refused. absurd cc,
-  λ full. let free = count_registered-free c.self.inside.numbers.items c.in-Some.number c.in-Some.ensures.some.free in absurd (let full_inside = rw (← c.self.view_is) at full in omega (arith, free)),
+  λ full. let free = count_registered-free c.self.inside.numbers.items c.in-Some.number c.in-Some.ensures.some.free in
+      absurd (let full_inside = rw (← c.self.view_is) at full in omega (arith, free)),
 )
 
 pub invariant_of-self-2 : goal.invariant_of-self-2
@@ -43,7 +45,8 @@ invariant_of-self-2 g c =
 
 pub returns-clause-threads : goal.returns-clause-threads
 returns-clause-threads g c =
-    rw (← c.self.view_is) (count_registered-set c.self.inside.numbers.items c.in-Some.number c.in-Some.ensures.some.free)
+    rw (← c.self.view_is)
+    (count_registered-set c.self.inside.numbers.items c.in-Some.number c.in-Some.ensures.some.free)
 
 pub returns-clause-size : goal.returns-clause-size
 returns-clause-size g c =

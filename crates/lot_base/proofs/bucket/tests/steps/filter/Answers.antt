@@ -1,8 +1,9 @@
 use Rattle.lot_base.specs.Filter.{park_tokens}
-use Rattle.lot_base.specs.Waiting.{lists_of}
-use Rattle.lot_base.proofs.TestLemmas.{takes_until_stop}
+use Rattle.lot_base.specs.NodeLists.{lists_of}
+use Rattle.lot_base.proofs.FilterLemmas.{IsFilterCallable-always}
 use Rattle.lot_base.proofs.bucket.tests.steps.filter.Goals as goal
 
 pub take_filter-taken-requires-clause-filter : goal.take_filter-taken-requires-clause-filter
 take_filter-taken-requires-clause-filter g c =
-    takes_until_stop g.F.FnMut (λ filter token. c.requires filter token) c.args.filter (park_tokens (lists_of c.args.bucket.now.nodes c.args.key))
+    IsFilterCallable-always g.F.FnMut (λ filter token. c.requires filter token) c.args.filter
+    (park_tokens (lists_of c.args.bucket.now.nodes c.args.key))

@@ -1,0 +1,425 @@
+-- Each step of a consistent machine has just one answer, but for want of memory, and the answers count the threads.
+use Rattle.std.proofs.Common.{◌≡◌, ◌≢◌, ℕ, zero, suc, ◌+◌, ◌-◌, ◌<◌, ◌≤◌, Bool, true, false, MatchBool, List}
+use Rattle.std.proofs.Common.{refl, sym, ap, ◌∙◌, subst, ⊎_elim, ◌⊎◌, inl, inr, arith}
+use Rattle.std.specs.List.{count_by, range_with_len}
+use Rattle.std.proofs.lemmas.Bool.{cases_eq, cases_lt, false≢true, MatchBool-at_true}
+use Rattle.lot_base.specs.Waiting.{with_value, split_first, split_all, split_filter, split_by, Split}
+use Rattle.lot_base.specs.declared.token.RequeueOp.{RequeueOp}
+use Rattle.lot_base.specs.declared.token.RequeueOp.TheVariants.{Abort, UnparkOneRequeueRest, RequeueAll, UnparkOne}
+use Rattle.lot_base.specs.declared.token.RequeueOp.TheVariants.{RequeueOne}
+use Rattle.lot_base.specs.declared.token.UnparkToken.{UnparkToken}
+use Rattle.lot_base.proofs.LawLemmas.{lists_after_requeue-to_itself}
+use Rattle.lot_base.proofs.RequeueLemmas.{lists-aborted}
+use Rattle.lot_base.proofs.ValueLemmas.{with_value-same, with_value-other}
+use Rattle.parking_lot_core.specs.declared.lot.Status.{Status}
+use Rattle.parking_lot_core.specs.declared.lot.Status.TheVariants as status
+use Rattle.parking_lot_core.specs.declared.schedule.Answer.{Answer}
+use Rattle.parking_lot_core.specs.declared.schedule.Answer.TheVariants as answer
+use Rattle.parking_lot_core.specs.declared.schedule.Op.{Op}
+use Rattle.parking_lot_core.specs.declared.schedule.Op.TheVariants.{One, All, Filter, Requeue}
+use Rattle.parking_lot_core.specs.declared.schedule.Step.{Step}
+use Rattle.parking_lot_core.specs.declared.schedule.Step.TheVariants.{Register, Retire, Enter, Unpark, Deadline}
+use Rattle.parking_lot_core.specs.declared.schedule.Step.TheVariants.{Resolve, Return}
+use Rattle.parking_lot_core.specs.Status.{is_registered, is_running, is_queued, awaits_deadline}
+use Rattle.parking_lot_core.specs.Machine.{Machine, Waiter, IsConsistent, IsFull, IsLeastFree}
+use Rattle.parking_lot_core.specs.Machine.{StandsAt, times_in, threads_of, statuses_with_taken, with_status}
+use Rattle.parking_lot_core.specs.Machine.{after_enter, after_unpark, after_requeue, after_timeout, is_last}
+use Rattle.parking_lot_core.specs.Size.{threads_after}
+use Rattle.parking_lot_core.specs.Steps.{Gives, IsRegister, IsUnpark, IsReturn, IsResolve, IsStep}
+use Rattle.parking_lot_core.specs.Laws.{EachStepHasAnAnswer, NoOtherAnswer, OnlyMemoryIsOpen, AbortChangesNothing}
+use Rattle.parking_lot_core.specs.Laws.{ListsAreShort, AnswersCountThreads}
+use Rattle.parking_lot_core.proofs.CountLemmas.{count_by-alike, count_by-one_more}
+use Rattle.parking_lot_core.proofs.MachineLemmas.{same_machine, is_queued-standing, below_max_threads}
+use Rattle.parking_lot_core.proofs.MachineLemmas.{length-le_from_QueuesMatchStatus}
+use Rattle.parking_lot_core.proofs.SplitLemmas.{AreParts, AreParts-first, AreParts-all, AreParts-filter, AreParts-by}
+use Rattle.parking_lot_core.proofs.StepLemmas.{MatchBool-either, Running-from, Waiting-from}
+use Rattle.parking_lot_core.proofs.WaiterLemmas.{statuses_with_taken-other, statuses_with_taken-among}
+
+pub length-le-lists : ListsAreShort
+length-le-lists m key (keys, right) = length-le_from_QueuesMatchStatus keys m key right
+
+pub after_requeue-aborted : AbortChangesNothing
+after_requeue-aborted m from to token = same_machine _ _ (lists-aborted m.lists from to) (λ j. refl) refl
+
+pub after_requeue-to_itself : (m : Machine) (key : ℕ) (token : UnparkToken)
+    → after_requeue m key key (split_by RequeueAll (m.lists key)) token ≡ m
+after_requeue-to_itself m key token =
+    same_machine _ _ (lists_after_requeue-to_itself Waiter m.lists key) (λ j. refl) refl
+
+-- so at an abort the token does not matter
+pub after_requeue-token : (m : Machine) (from to : ℕ) (op : RequeueOp) (waiters : List Waiter)
+    (given token : UnparkToken) → (op ≢ Abort → given ≡ token)
+    → after_requeue m from to (split_by op waiters) given ≡ after_requeue m from to (split_by op waiters) token
+after_requeue-token m from to Abort waiters given token same = refl
+after_requeue-token m from to UnparkOneRequeueRest waiters given token same =
+    ap (after_requeue m from to (split_by UnparkOneRequeueRest waiters)) (same (λ aborts. cc))
+after_requeue-token m from to RequeueAll waiters given token same =
+    ap (after_requeue m from to (split_by RequeueAll waiters)) (same (λ aborts. cc))
+after_requeue-token m from to UnparkOne waiters given token same =
+    ap (after_requeue m from to (split_by UnparkOne waiters)) (same (λ aborts. cc))
+after_requeue-token m from to RequeueOne waiters given token same =
+    ap (after_requeue m from to (split_by RequeueOne waiters)) (same (λ aborts. cc))
+
+-- an answer that is not for want of memory, and the machine that the step leaves
+abbrev HasAnswer : Machine → Step → Type 0
+HasAnswer m step = (given : Answer) × (given ≢ answer.NoMemory) × (new : Machine) × IsStep m step given new
+
+free_or_not : (s : Status) → (s ≡ status.Free) ⊎ (s ≢ status.Free)
+free_or_not status.Free = inl refl
+free_or_not status.Running = inr (λ same. cc)
+free_or_not (status.Waiting timed) = inr (λ same. cc)
+free_or_not status.Late = inr (λ same. cc)
+free_or_not (status.Taken token) = inr (λ same. cc)
+
+-- of the numbers below n one is the least that is free, or none is free
+abbrev IsLeastBelow : Machine → ℕ → ℕ → Type 0
+IsLeastBelow m n number = (number < n) × (m.status number ≡ status.Free)
+    × ((k : ℕ) → k < number → m.status k ≢ status.Free)
+
+least_free_below : (m : Machine) (n : ℕ) → ((number : ℕ) × IsLeastBelow m n number)
+    ⊎ ((k : ℕ) → k < n → m.status k ≢ status.Free)
+least_free_below m zero = inr (λ k low. absurd (omega arith))
+least_free_below m (suc n) =
+    ⊎_elim (λ (found : (number : ℕ) × IsLeastBelow m n number). let (number, (below, free, least)) = found in
+    inl (number, (omega (arith, below), free, least)))
+    (λ (none : (k : ℕ) → k < n → m.status k ≢ status.Free).
+    ⊎_elim (λ (free : m.status n ≡ status.Free). inl (n, (omega arith, free, none)))
+    (λ (other : m.status n ≢ status.Free).
+    inr (λ k low. ⊎_elim (λ (same : k ≡ n). subst (λ j. m.status j ≢ status.Free) (sym same) other)
+    (λ (apart : k ≢ n). none k (omega (arith, low, apart))) (cases_eq k n))) (free_or_not (m.status n)))
+    (least_free_below m n)
+
+HasAnswer-register : (m : Machine) → HasAnswer m Register
+HasAnswer-register m =
+    ⊎_elim (λ (found : (number : ℕ) × IsLeastBelow m m.max_threads number).
+    let (number, (below, free, least)) = found in (
+      answer.Registered number,
+      (λ same. cc),
+      with_status m number status.Running,
+      (record { below = below; free = free; least = least }, refl),
+    ))
+    (λ (none : IsFull m). (answer.Full, (λ same. cc), m, (none, refl)))
+    (least_free_below m m.max_threads)
+
+-- a step whose answer one test decides
+HasAnswer-either : (m : Machine) (step : Step) (b : Bool) (fit unfit : Machine) (given other : Answer)
+    → given ≢ answer.NoMemory → other ≢ answer.NoMemory
+    → ((g : Answer) (new : Machine) → MatchBool b (Gives fit given g new) (Gives unfit other g new)
+    → IsStep m step g new) → HasAnswer m step
+HasAnswer-either m step true fit unfit given other at_fit at_unfit steps =
+    (given, at_fit, fit, steps given fit (refl, refl))
+HasAnswer-either m step false fit unfit given other at_fit at_unfit steps =
+    (other, at_unfit, unfit, steps other unfit (refl, refl))
+
+HasAnswer-return : (m : Machine) (thread : ℕ) (s : Status)
+    → (given : Answer) × (given ≢ answer.NoMemory) × (new : Machine) × IsReturn m thread s given new
+HasAnswer-return m thread (status.Taken token) =
+    (answer.Unparked token, (λ same. cc), with_status m thread status.Running, (refl, refl))
+HasAnswer-return m thread status.Free = (answer.Misfit, (λ same. cc), m, (refl, refl))
+HasAnswer-return m thread status.Running = (answer.Misfit, (λ same. cc), m, (refl, refl))
+HasAnswer-return m thread (status.Waiting timed) = (answer.Misfit, (λ same. cc), m, (refl, refl))
+HasAnswer-return m thread status.Late = (answer.Misfit, (λ same. cc), m, (refl, refl))
+
+HasAnswer-resolve : (m : Machine) (thread : ℕ) (s : Status) → m.status thread ≡ s → IsConsistent m
+    → (given : Answer) × (given ≢ answer.NoMemory) × (new : Machine) × IsResolve m thread s given new
+HasAnswer-resolve m thread status.Late is (keys, right) =
+    let at : StandsAt m thread (keys thread) = MatchBool-at_true _ _ (ap is_queued is) (right.standing thread) in (
+      answer.TimedOut (keys thread) (is_last m thread (keys thread)),
+      (λ same. cc),
+      after_timeout m thread (keys thread),
+      (keys thread, at, (refl, refl)),
+    )
+HasAnswer-resolve m thread (status.Taken token) is consistent = HasAnswer-return m thread (status.Taken token)
+HasAnswer-resolve m thread status.Free is consistent = HasAnswer-return m thread status.Free
+HasAnswer-resolve m thread status.Running is consistent = HasAnswer-return m thread status.Running
+HasAnswer-resolve m thread (status.Waiting timed) is consistent = HasAnswer-return m thread (status.Waiting timed)
+
+HasAnswer-unpark : (m : Machine) (op : Op) → HasAnswer m (Unpark op)
+HasAnswer-unpark m (One key token) = (_, (λ same. cc), _, (refl, refl))
+HasAnswer-unpark m (All key token) = (_, (λ same. cc), _, (refl, refl))
+HasAnswer-unpark m (Filter key decisions token) = (_, (λ same. cc), _, (refl, refl))
+HasAnswer-unpark m (Requeue from to op token) = (_, (λ same. cc), _, (refl, refl))
+
+pub HasAnswer-step : EachStepHasAnAnswer
+HasAnswer-step m Register consistent = HasAnswer-register m
+HasAnswer-step m (Retire thread) consistent =
+    HasAnswer-either m (Retire thread) (is_running (m.status thread)) _ _ _ _ (λ same. cc) (λ same. cc)
+    (λ g new does. does)
+HasAnswer-step m (Enter thread key true park_token timed) consistent =
+    HasAnswer-either m (Enter thread key true park_token timed) (is_running (m.status thread)) _ _ _ _ (λ same. cc)
+    (λ same. cc) (λ g new does. does)
+HasAnswer-step m (Enter thread key false park_token timed) consistent =
+    HasAnswer-either m (Enter thread key false park_token timed) (is_running (m.status thread)) _ _ _ _ (λ same. cc)
+    (λ same. cc) (λ g new does. does)
+HasAnswer-step m (Unpark op) consistent = HasAnswer-unpark m op
+HasAnswer-step m (Deadline thread) consistent =
+    HasAnswer-either m (Deadline thread) (awaits_deadline (m.status thread)) _ _ _ _ (λ same. cc) (λ same. cc)
+    (λ g new does. does)
+HasAnswer-step m (Resolve thread) consistent = HasAnswer-resolve m thread (m.status thread) refl consistent
+HasAnswer-step m (Return thread) consistent = HasAnswer-return m thread (m.status thread)
+
+-- two answers to one step
+Gives-same_answer : {after after' new left : Machine} {expected given other : Answer} → Gives after expected given new
+    → Gives after' expected other left → given ≡ other
+Gives-same_answer (is, _) (other_is, _) = is ∙ sym other_is
+
+least_free-unique : (m : Machine) (n k : ℕ) → IsLeastFree m n → IsLeastFree m k → n ≡ k
+least_free-unique m n k least other =
+    ⊎_elim (λ (same : n ≡ k). same)
+    (λ (apart : n ≢ k). ⊎_elim (λ (low : n < k). absurd (other.least n low least.free))
+    (λ (high : k ≤ n). absurd (least.least k (omega (arith, high, apart)) other.free)) (cases_lt n k))
+    (cases_eq n k)
+
+IsRegister-same_answer : (m : Machine) (given other : Answer) (new left : Machine) → IsRegister m given new
+    → IsRegister m other left → given ≢ answer.NoMemory → other ≢ answer.NoMemory → given ≡ other
+IsRegister-same_answer m (answer.Registered n) (answer.Registered k) new left (least, _) (other, _) _ _ =
+    ap answer.Registered (least_free-unique m n k least other)
+IsRegister-same_answer m (answer.Registered n) answer.Full new left (least, _) (full, _) _ _ =
+    absurd (full n least.below least.free)
+IsRegister-same_answer m answer.Full (answer.Registered n) new left (full, _) (least, _) _ _ =
+    absurd (full n least.below least.free)
+IsRegister-same_answer m answer.Full answer.Full new left _ _ _ _ = refl
+IsRegister-same_answer m answer.NoMemory _ new left _ _ memory _ = absurd (memory refl)
+IsRegister-same_answer m _ answer.NoMemory new left _ _ _ memory = absurd (memory refl)
+IsRegister-same_answer m (answer.Registered n) _ new left _ none _ _ = absurd none
+IsRegister-same_answer m answer.Full _ new left _ none _ _ = absurd none
+IsRegister-same_answer m _ _ new left none _ _ _ = absurd none
+
+-- one answer of a step that a test decides
+Gives-either : (b : Bool) (fit unfit new left : Machine) (at_fit at_unfit given other : Answer)
+    → MatchBool b (Gives fit at_fit given new) (Gives unfit at_unfit given new)
+    → MatchBool b (Gives fit at_fit other left) (Gives unfit at_unfit other left) → given ≡ other
+Gives-either true fit unfit new left at_fit at_unfit given other gives also = Gives-same_answer gives also
+Gives-either false fit unfit new left at_fit at_unfit given other gives also = Gives-same_answer gives also
+
+IsReturn-same_answer : (m : Machine) (thread : ℕ) (s : Status) (given other : Answer) (new left : Machine)
+    → IsReturn m thread s given new → IsReturn m thread s other left → given ≡ other
+IsReturn-same_answer m thread (status.Taken token) given other new left = Gives-same_answer
+IsReturn-same_answer m thread _ given other new left = Gives-same_answer
+
+-- a thread stands at one key
+key-unique : (m : Machine) (number key other : ℕ) → StandsAt m number key → StandsAt m number other → key ≡ other
+key-unique m number key other at also =
+    ⊎_elim (λ (same : key ≡ other). same)
+    (λ (apart : key ≢ other). absurd (let none = also.nowhere_else key apart in omega (arith, none, at.once)))
+    (cases_eq key other)
+
+IsResolve-same_answer : (m : Machine) (thread : ℕ) (s : Status) (given other : Answer) (new left : Machine)
+    → IsResolve m thread s given new → IsResolve m thread s other left → given ≡ other
+IsResolve-same_answer m thread status.Late given other new left = λ (key, at, (is, _)) (other_key, also, (other_is, _)).
+    is ∙ ap (λ k. answer.TimedOut k (is_last m thread k)) (key-unique m thread key other_key at also) ∙ sym other_is
+IsResolve-same_answer m thread s given other new left = IsReturn-same_answer m thread s given other new left
+
+IsUnpark-same_answer : (m : Machine) (op : Op) (given other : Answer) (new left : Machine) → IsUnpark m op given new
+    → IsUnpark m op other left → given ≡ other
+IsUnpark-same_answer m (One key token) given other new left = Gives-same_answer
+IsUnpark-same_answer m (All key token) given other new left = Gives-same_answer
+IsUnpark-same_answer m (Filter key decisions token) given other new left = Gives-same_answer
+IsUnpark-same_answer m (Requeue from to op token) given other new left = Gives-same_answer
+
+pub IsStep-same_answer : NoOtherAnswer
+IsStep-same_answer m Register given other new left consistent does also memory more =
+    IsRegister-same_answer m given other new left does also memory more
+IsStep-same_answer m (Retire thread) given other new left consistent does also _ _ =
+    Gives-either (is_running (m.status thread)) _ _ new left _ _ given other does also
+IsStep-same_answer m (Enter thread key true park_token timed) given other new left consistent does also _ _ =
+    Gives-either (is_running (m.status thread)) _ _ new left _ _ given other does also
+IsStep-same_answer m (Enter thread key false park_token timed) given other new left consistent does also _ _ =
+    Gives-either (is_running (m.status thread)) _ _ new left _ _ given other does also
+IsStep-same_answer m (Unpark op) given other new left consistent does also _ _ =
+    IsUnpark-same_answer m op given other new left does also
+IsStep-same_answer m (Deadline thread) given other new left consistent does also _ _ =
+    Gives-either (awaits_deadline (m.status thread)) _ _ new left _ _ given other does also
+IsStep-same_answer m (Resolve thread) given other new left consistent does also _ _ =
+    IsResolve-same_answer m thread (m.status thread) given other new left does also
+IsStep-same_answer m (Return thread) given other new left consistent does also _ _ =
+    IsReturn-same_answer m thread (m.status thread) given other new left does also
+
+-- memory is wanting at a registration alone
+Gives-not_memory : {after new : Machine} {expected : Answer} → expected ≢ answer.NoMemory
+    → Gives after expected answer.NoMemory new → ⊥
+Gives-not_memory other (is, _) = other (sym is)
+
+Gives-neither : (b : Bool) (fit unfit new : Machine) (at_fit at_unfit : Answer) → at_fit ≢ answer.NoMemory
+    → at_unfit ≢ answer.NoMemory → MatchBool b (Gives fit at_fit answer.NoMemory new)
+    (Gives unfit at_unfit answer.NoMemory new) → ⊥
+Gives-neither true fit unfit new at_fit at_unfit other also gives = Gives-not_memory other gives
+Gives-neither false fit unfit new at_fit at_unfit other also gives = Gives-not_memory also gives
+
+IsReturn-not_memory : (m : Machine) (thread : ℕ) (s : Status) (new : Machine) → IsReturn m thread s answer.NoMemory new
+    → ⊥
+IsReturn-not_memory m thread (status.Taken token) new = Gives-not_memory (λ same. cc)
+IsReturn-not_memory m thread _ new = Gives-not_memory (λ same. cc)
+
+IsResolve-not_memory : (m : Machine) (thread : ℕ) (s : Status) (new : Machine)
+    → IsResolve m thread s answer.NoMemory new → ⊥
+IsResolve-not_memory m thread status.Late new = λ (key, at, gives). Gives-not_memory (λ same. cc) gives
+IsResolve-not_memory m thread s new = IsReturn-not_memory m thread s new
+
+IsUnpark-not_memory : (m : Machine) (op : Op) (new : Machine) → IsUnpark m op answer.NoMemory new → ⊥
+IsUnpark-not_memory m (One key token) new = Gives-not_memory (λ same. cc)
+IsUnpark-not_memory m (All key token) new = Gives-not_memory (λ same. cc)
+IsUnpark-not_memory m (Filter key decisions token) new = Gives-not_memory (λ same. cc)
+IsUnpark-not_memory m (Requeue from to op token) new = Gives-not_memory (λ same. cc)
+
+abbrev IsOpen : Machine → Step → Machine → Type 0
+IsOpen m step new = (step ≡ Register) × (IsFull m → ⊥) × (new ≡ m)
+
+IsOpen-from : (m : Machine) (step : Step) (new : Machine) → IsStep m step answer.NoMemory new → IsOpen m step new
+IsOpen-from m Register new (free, same) = (refl, free, same)
+IsOpen-from m (Retire thread) new does =
+    absurd (Gives-neither (is_running (m.status thread)) _ _ new _ _ (λ same. cc) (λ same. cc) does)
+IsOpen-from m (Enter thread key true park_token timed) new does =
+    absurd (Gives-neither (is_running (m.status thread)) _ _ new _ _ (λ same. cc) (λ same. cc) does)
+IsOpen-from m (Enter thread key false park_token timed) new does =
+    absurd (Gives-neither (is_running (m.status thread)) _ _ new _ _ (λ same. cc) (λ same. cc) does)
+IsOpen-from m (Unpark op) new does = absurd (IsUnpark-not_memory m op new does)
+IsOpen-from m (Deadline thread) new does =
+    absurd (Gives-neither (awaits_deadline (m.status thread)) _ _ new _ _ (λ same. cc) (λ same. cc) does)
+IsOpen-from m (Resolve thread) new does = absurd (IsResolve-not_memory m thread (m.status thread) new does)
+IsOpen-from m (Return thread) new does = absurd (IsReturn-not_memory m thread (m.status thread) new does)
+
+pub memory-open : OnlyMemoryIsOpen
+memory-open m step new = (
+  IsOpen-from m step new,
+  λ (registers, free, same). subst (λ s. IsStep m s answer.NoMemory new) (sym registers) (free, same),
+)
+
+-- the threads that are registered after a step
+
+threads_of-alike : (m new : Machine) → new.max_threads ≡ m.max_threads
+    → ((j : ℕ) → is_registered (new.status j) ≡ is_registered (m.status j)) → threads_of new ≡ threads_of m
+threads_of-alike m new same alike =
+    ap (λ n. count_by (λ number. is_registered (new.status number)) (range_with_len 0 n)) same
+    ∙ count_by-alike (λ number. is_registered (new.status number))
+    (λ number. is_registered (m.status number)) 0 m.max_threads alike
+
+threads_of-one_more : (m new : Machine) (number : ℕ) → new.max_threads ≡ m.max_threads → number < m.max_threads
+    → is_registered (m.status number) ≡ false → is_registered (new.status number) ≡ true
+    → ((j : ℕ) → j ≢ number → is_registered (m.status j) ≡ is_registered (new.status j))
+    → threads_of new ≡ threads_of m + 1
+threads_of-one_more m new number same below before after others =
+    ap (λ n. count_by (λ number. is_registered (new.status number)) (range_with_len 0 n)) same
+    ∙ count_by-one_more (λ number. is_registered (m.status number))
+    (λ number. is_registered (new.status number)) number 0 m.max_threads before after others (omega arith)
+    (omega (arith, below))
+
+registered-with_status : (m : Machine) (number : ℕ) (s : Status) (j : ℕ) → j ≢ number
+    → is_registered (with_value m.status number s j) ≡ is_registered (m.status j)
+registered-with_status m number s j other = ap is_registered (with_value-other m.status number s j other)
+
+registered-alike : (m : Machine) (number : ℕ) (s : Status) → is_registered s ≡ is_registered (m.status number) → (j : ℕ)
+    → is_registered (with_value m.status number s j) ≡ is_registered (m.status j)
+registered-alike m number s alike j =
+    ⊎_elim (λ (same : j ≡ number). ap is_registered (with_value-same m.status number s j same) ∙ alike
+    ∙ ap (λ k. is_registered (m.status k)) (sym same))
+    (registered-with_status m number s j)
+    (cases_eq j number)
+
+registered-queued : (s : Status) → is_queued s ≡ true → is_registered s ≡ true
+registered-queued (status.Waiting timed) queued = refl
+registered-queued status.Late queued = refl
+registered-queued status.Free queued = absurd (false≢true queued)
+registered-queued status.Running queued = refl
+registered-queued (status.Taken token) queued = refl
+
+registered-taken : (m : Machine) (key : ℕ) (split : Split Waiter) (token : UnparkToken) → IsConsistent m
+    → AreParts split (m.lists key) → (j : ℕ) → is_registered (statuses_with_taken token split.taken m.status j)
+    ≡ is_registered (m.status j)
+registered-taken m key split token (keys, right) parts j =
+    ⊎_elim (λ (none : times_in j split.taken ≡ 0). ap is_registered
+    (statuses_with_taken-other token split.taken m.status j none))
+    (λ (some : times_in j split.taken ≢ 0). ap is_registered
+    (statuses_with_taken-among token split.taken m.status j some)
+    ∙ sym (registered-queued (m.status j)
+    (is_queued-standing keys m j key right.standing (omega (arith, parts.counts j)))))
+    (cases_eq (times_in j split.taken) 0)
+
+module _ (m : Machine) (consistent : IsConsistent m) (given : Answer) (new : Machine) where
+  -- what an answer says of the number of threads
+  abbrev Counts : Machine → Answer → Type 0
+  Counts left expected = threads_of left ≡ threads_after (threads_of m) expected
+
+  Counts-gives : {left : Machine} {expected : Answer} → Counts left expected → Gives left expected given new
+      → Counts new given
+  Counts-gives {left} counts (is, new_is) =
+      subst (λ n. Counts n given) (sym new_is) (subst (Counts left) (sym is) counts)
+
+  IsUnpark-counts : (op : Op) → IsUnpark m op given new → Counts new given
+  IsUnpark-counts (One key token) =
+      Counts-gives (threads_of-alike m (after_unpark m key (split_first (m.lists key)) token) refl
+      (registered-taken m key (split_first (m.lists key)) token consistent (AreParts-first (m.lists key))))
+  IsUnpark-counts (All key token) =
+      Counts-gives (threads_of-alike m (after_unpark m key (split_all (m.lists key)) token) refl
+      (registered-taken m key (split_all (m.lists key)) token consistent (AreParts-all (m.lists key))))
+  IsUnpark-counts (Filter key decisions token) =
+      Counts-gives (threads_of-alike m (after_unpark m key (split_filter decisions.items (m.lists key)) token) refl
+      (registered-taken m key (split_filter decisions.items (m.lists key)) token consistent
+      (AreParts-filter decisions.items (m.lists key))))
+  IsUnpark-counts (Requeue from to op token) =
+      Counts-gives (threads_of-alike m (after_requeue m from to (split_by op (m.lists from)) token) refl
+      (registered-taken m from (split_by op (m.lists from)) token consistent (AreParts-by op (m.lists from))))
+
+  -- one thread goes from a status to another, both of which are registered
+  Counts-status : (thread : ℕ) (was s : Status) (expected : Answer) → m.status thread ≡ was
+      → is_registered s ≡ is_registered was → threads_after (threads_of m) expected ≡ threads_of m
+      → Counts (with_status m thread s) expected
+  Counts-status thread was s expected is alike stays =
+      threads_of-alike m (with_status m thread s) refl (registered-alike m thread s (alike ∙ ap is_registered (sym is)))
+      ∙ sym stays
+
+  IsReturn-counts : (thread : ℕ) (s : Status) → m.status thread ≡ s → IsReturn m thread s given new → Counts new given
+  IsReturn-counts thread (status.Taken token) is =
+      Counts-gives (Counts-status thread (status.Taken token) status.Running (answer.Unparked token) is refl refl)
+  IsReturn-counts thread _ is = Counts-gives refl
+
+  IsResolve-counts : (thread : ℕ) (s : Status) → m.status thread ≡ s → IsResolve m thread s given new → Counts new given
+  IsResolve-counts thread status.Late is = λ (key, _, gives).
+      Counts-gives (threads_of-alike m (after_timeout m thread key) refl
+      (registered-alike m thread status.Running (ap is_registered (sym is)))) gives
+  IsResolve-counts thread s is = IsReturn-counts thread s is
+
+  retired : (thread : ℕ) → m.status thread ≡ status.Running → Counts (with_status m thread status.Free) answer.Retired
+  retired thread runs =
+      let below : thread < m.max_threads = below_max_threads consistent.0 m thread consistent.1
+      (λ free. let same : status.Running ≡ status.Free = sym runs ∙ free in absurd cc) in
+      let left = with_status m thread status.Free in
+      let more = threads_of-one_more left m thread refl below
+      (ap is_registered (with_value-same m.status thread status.Free thread refl)) (ap is_registered runs)
+      (registered-with_status m thread status.Free) in
+      omega (arith, more)
+
+  IsRegister-counts : (given : Answer) → IsRegister m given new → Counts new given
+  IsRegister-counts (answer.Registered number) (least, new_is) =
+      ap threads_of new_is
+      ∙ threads_of-one_more m (with_status m number status.Running) number refl least.below
+      (ap is_registered least.free) (ap is_registered (with_value-same m.status number status.Running number refl))
+      (λ j other. sym (registered-with_status m number status.Running j other))
+  IsRegister-counts answer.Full (_, new_is) = ap threads_of new_is
+  IsRegister-counts answer.NoMemory (_, new_is) = ap threads_of new_is
+  IsRegister-counts _ none = absurd none
+
+  IsStep-counts : (step : Step) → IsStep m step given new → Counts new given
+  IsStep-counts Register = IsRegister-counts given
+  IsStep-counts (Retire thread) =
+      MatchBool-either (is_running (m.status thread))
+      (λ runs. Counts-gives (retired thread (Running-from (m.status thread) runs))) (λ _. Counts-gives refl)
+  IsStep-counts (Enter thread key valid park_token timed) =
+      MatchBool-either (is_running (m.status thread))
+      (λ runs. MatchBool-either valid
+      (λ _. Counts-gives
+      (threads_of-alike m (after_enter m thread key park_token timed) refl
+      (registered-alike m thread (status.Waiting timed)
+      (ap is_registered (sym (Running-from (m.status thread) runs)))))) (λ _. Counts-gives refl))
+      (λ _. Counts-gives refl)
+  IsStep-counts (Unpark op) = IsUnpark-counts op
+  IsStep-counts (Deadline thread) =
+      MatchBool-either (awaits_deadline (m.status thread))
+      (λ timed. Counts-gives
+      (Counts-status thread (status.Waiting true) status.Late answer.Late
+      (Waiting-from (m.status thread) timed) refl refl)) (λ _. Counts-gives refl)
+  IsStep-counts (Resolve thread) = IsResolve-counts thread (m.status thread) refl
+  IsStep-counts (Return thread) = IsReturn-counts thread (m.status thread) refl
+
+pub threads_of-step : AnswersCountThreads
+threads_of-step m step given new consistent does = IsStep-counts m consistent given new step does

@@ -1,0 +1,20 @@
+use Rattle.std.proofs.Common.{rules, ◌∙◌, sym, ap, Vec}
+use Rattle.parking_lot_core.proofs.RequeuedLemmas.{keys_set, all_kept}
+use Rattle.parking_lot_core.proofs.lot.requeue.requeue_waiters.Goals as goal
+
+pub returns-clause-requeued : goal.returns-clause-requeued
+returns-clause-requeued g c =
+    let done = c.requeue_in_table.ensures.requeued in
+    let moves = done.called.moves in
+    let same = all_kept _ (λ moved. moved.0.now.items) (λ moved. (moved.1.now, moved.0.ghost_name))
+    (λ now next number called. (search rules, search rules)) _ _ _ moves in
+    let keys = keys_set _ (λ moved. moved.0.now.items) (λ moved. (moved.1.now, moved.0.ghost_name))
+    (λ now next number called. (search rules, search rules)) _ _ _ moves in
+    record {
+      op = done.op;
+      chosen = done.chosen;
+      lists = done.lists;
+      answer = done.called.results;
+      threads = ap (λ (threads : Vec _ _). threads.items) (c.threads-1.given.1 (sym (ap (λ kept. kept.1) same))) ∙ keys;
+      taken = (done.called.token, done.called.calls_back, done.called.takes);
+    }

@@ -1,0 +1,4 @@
+-- What only private contracts cite: the code's own state between the machine's steps, and a closure of its own.
+pub mod Thread
+pub mod Committed
+pub mod Decisions
