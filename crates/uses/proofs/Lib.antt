@@ -1,0 +1,4 @@
+pub mod ValueLemmas
+pub mod DeadlineLemmas
+pub mod VainLemmas
+pub mod TaskLemmas

@@ -1,0 +1,50 @@
+use super::*;
+use crate::timeout::let_time_out;
+use parking_lot_core::{LotError, ParkResult};
+use std::alloc::Global;
+use std::test::Fail;
+
+const A: usize = 0;
+
+const B: usize = 1;
+
+const KEY: usize = 7;
+
+// A lot where the threads A and B run.
+fn lot_of_two(alloc: Global) -> Result<Lot, LotError> {
+    let mut lot = Lot::new(alloc, 2)?;
+    lot.register()?;
+    lot.register()?;
+    Ok(lot)
+}
+
+#[test]
+fn a_permit_goes_from_hand_to_hand(rt: HostRuntime) -> Result<(), Fail> {
+    let mut lot = lot_of_two(rt.alloc())?;
+    let mut semaphore = Semaphore::new(KEY, 1);
+    assert_eq!(rt; semaphore.acquire(&mut lot, A, false), Ok(Acquired::Now));
+    assert_eq!(rt; semaphore.permits(), 0);
+    assert_eq!(rt; semaphore.acquire(&mut lot, B, true), Ok(Acquired::Parked));
+    assert_eq!(rt; semaphore.acquire(&mut lot, B, true), Err(Misfit));
+    assert_eq!(rt; lot.list(KEY)?.as_slice(), [B].as_slice());
+    assert_eq!(rt; semaphore.permits(), 0);
+    assert!(rt; semaphore.release(&mut lot));
+    assert_eq!(rt; semaphore.permits(), 0);
+    assert_eq!(rt; lot.give_back(B), Ok(PERMIT));
+    assert!(rt; !semaphore.release(&mut lot));
+    assert_eq!(rt; semaphore.permits(), 1);
+    Ok(())
+}
+
+#[test]
+fn a_waiter_whose_time_is_up_has_no_permit(rt: HostRuntime) -> Result<(), Fail> {
+    let mut lot = lot_of_two(rt.alloc())?;
+    let mut semaphore = Semaphore::new(KEY, 1);
+    assert_eq!(rt; semaphore.acquire(&mut lot, A, false), Ok(Acquired::Now));
+    assert_eq!(rt; semaphore.acquire(&mut lot, B, true), Ok(Acquired::Parked));
+    assert_eq!(rt; let_time_out(&mut lot, B), Ok(ParkResult::TimedOut));
+    assert_eq!(rt; semaphore.permits(), 0);
+    assert!(rt; !semaphore.release(&mut lot));
+    assert_eq!(rt; semaphore.permits(), 1);
+    Ok(())
+}

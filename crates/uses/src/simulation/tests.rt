@@ -1,0 +1,61 @@
+use super::*;
+use parking_lot_core::UnparkToken;
+use parking_lot_core::schedule::Op;
+use std::test::Fail;
+
+#[test]
+fn a_run_tells_each_answer(rt: HostRuntime) -> Result<(), Fail> {
+    let token = UnparkToken(9);
+    let steps = [
+        Step::Register,
+        Step::Enter {
+            thread: 0,
+            key: 1,
+            valid: true,
+            park_token: DEFAULT_PARK_TOKEN,
+            timed: false,
+        },
+        Step::Deadline { thread: 0 },
+        Step::Unpark(Op::All { key: 1, token }),
+        Step::Return { thread: 0 },
+    ];
+    let mut lot = Lot::new(rt.alloc(), 1)?;
+    let answers = simulate(rt.alloc(), &mut lot, &steps)?;
+    let expected = [
+        Answer::Registered(0),
+        Answer::Entered,
+        Answer::Misfit,
+        Answer::Count(1),
+        Answer::Unparked(token),
+    ];
+    assert_eq!(rt; answers.as_slice(), expected.as_slice());
+    Ok(())
+}
+
+#[test]
+fn who_waits_in_vain_leaves_the_others(rt: HostRuntime) -> Result<(), Fail> {
+    let mut lot = Lot::new(rt.alloc(), 2)?;
+    assert_eq!(rt; lot.register(), Ok(0));
+    assert_eq!(rt; lot.register(), Ok(1));
+    for last in [true, false] {
+        assert_eq!(rt; lot.status(1), Status::Running);
+        let answers = wait_in_vain(rt.alloc(), &mut lot, 1, 5)?;
+        let expected = [
+            Answer::Entered,
+            Answer::Late,
+            Answer::TimedOut { key: 5, last },
+        ];
+        assert_eq!(rt; answers.as_slice(), expected.as_slice());
+        let entered = lot.enter(0, 5, || true, DEFAULT_PARK_TOKEN, false);
+        assert_eq!(rt; entered.is_ok(), last);
+        assert_eq!(rt; lot.list(5)?.as_slice(), [0].as_slice());
+    }
+    Ok(())
+}
+
+#[test]
+fn the_second_task_has_the_permit_in_time_or_not_at_all(rt: HostRuntime) -> Result<(), Fail> {
+    assert_eq!(rt; two_tasks(rt.alloc(), true)?, ParkResult::Unparked(PERMIT));
+    assert_eq!(rt; two_tasks(rt.alloc(), false)?, ParkResult::TimedOut);
+    Ok(())
+}
