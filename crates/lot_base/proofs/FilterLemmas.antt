@@ -10,7 +10,7 @@ use Rattle.lot_base.specs.declared.token.ParkToken.{ParkToken}
 use Rattle.lot_base.specs.declared.token.UnparkResult.{UnparkResult}
 use Rattle.lot_base.specs.declared.token.FilterOp.{FilterOp}
 use Rattle.lot_base.specs.declared.token.FilterOp.TheVariants.{Unpark, Skip, Stop}
-use Rattle.lot_base.specs.declared.queue.Node.{Node, Node', out-Node, outs-Node'}
+use Rattle.lot_base.specs.declared.queue.Node.{Node}
 use Rattle.lot_base.specs.Node.{fields}
 use Rattle.lot_base.specs.NodeFields.{NodeFields}
 use Rattle.lot_base.specs.Waiting.{with_value, has_any, Split}
@@ -99,9 +99,6 @@ result_of-left : (result : UnparkResult) (taken left more : List NodeFields) (wa
     ≡ counted (record { taken = taken; moved = []; left = left ++ waiter ∷ more })
 result_of-left result taken left more waiter e = rw (e, has_any-append left waiter more) refl
 
-park_token-out : (node : Node) → (out-Node node).park_token ≡ (fields node).park_token
-park_token-out (Node' number key park_token unpark_token timed link) = rw outs-Node' refl
-
 module _ {F : Type 0} (calls : Mut F (ParkToken × Unit {0}) FilterOp) (key : ℕ) (first : F)
     (all : List NodeFields) where
   -- what the filter decides from here on ends as its decisions from the start do
@@ -136,7 +133,7 @@ module _ {F : Type 0} (calls : Mut F (ParkToken × Unit {0}) FilterOp) (key : �
   pub Asked-at_node : (filter next : F) (queue passed rest kept : List NodeFields) (node shown : Node)
       (decision : FilterOp) → kept ++ fields node ∷ [] ++ rest ≡ passed ++ queue
       → lists_of kept key ≡ lists_of passed key → lists_of queue key ≡ fields node ∷ lists_of rest key
-      → (fields node).key ≡ key → shown ≡ node → Called calls filter ((out-Node shown).park_token, tt) decision next
+      → (fields node).key ≡ key → shown ≡ node → Called calls filter (shown.park_token, tt) decision next
       → Asked filter queue passed (fields node) decision next rest kept
   Asked-at_node filter next queue passed rest kept node shown decision nodes before waiters at_key same called =
       record {
@@ -144,7 +141,7 @@ module _ {F : Type 0} (calls : Mut F (ParkToken × Unit {0}) FilterOp) (key : �
         before = before;
         waiters = waiters;
         at_key = at_key;
-        called = rw (same, park_token-out node) at called;
+        called = rw same at called;
       }
 
   module _ (filter next : F) (queue passed taken rest kept : List NodeFields) (waiter : NodeFields)

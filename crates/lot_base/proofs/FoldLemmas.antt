@@ -1,4 +1,4 @@
--- A chain of nodes, and calls of a closure at each.
+-- Calls of a closure at the nodes of a list.
 use Rattle.std.proofs.Common.{◌≡◌, ℕ, List, [], ◌∷◌, ◌++◌, Option, Some, Box, Vec, Result, Ok, Err, IfOk, IsOkAnd, OnOk}
 use Rattle.std.proofs.Common.{OnErr, IsTrue, map, refl, ap, subst, ◌==◌}
 use Rattle.std.proofs.lemmas.Bool.{eq-eqb}
@@ -7,26 +7,14 @@ use Rattle.std.proofs.lemmas.List.Elements.{filter-append}
 use Rattle.std.proofs.lemmas.Fn.{chained_keeps}
 use Rattle.std.specs.Fn.{Called, Mut}
 use Rattle.std.specs.declared.alloc.Global.{Global}
-use Rattle.lot_base.specs.declared.queue.Node.{Node, Node', None', Some'}
-use Rattle.lot_base.specs.declared.queue.Node.TheViews.{out-Node}
+use Rattle.lot_base.specs.declared.queue.Node.{Node}
 use Rattle.lot_base.specs.declared.token.NoMemory.{NoMemory}
 use Rattle.lot_base.specs.Fold.{CanFold, Folds, CalledAtNode}
-use Rattle.lot_base.specs.Node.{fields, nodes_from, chain}
+use Rattle.lot_base.specs.Node.{fields}
 use Rattle.lot_base.specs.NodeFields.{NodeFields}
 use Rattle.lot_base.specs.Waiting.{has_any}
 use Rattle.lot_base.specs.NodeLists.{lists_of}
 use denote.Ref.{Bor}
-
--- the first node, and the chain behind it
-pub nodes_from-link : (node : Node) → nodes_from node ≡ fields node ∷ chain (out-Node node).link
-unfolding out-Node denote.Hole.Carrier.out
-nodes_from-link (Node' number key park_token unpark_token timed None') = refl
-nodes_from-link (Node' number key park_token unpark_token timed (Some' p node)) = refl
-
--- the same, where the first node was looked at
-pub chain-first : (rest : Option (Box Node Global)) (held : Box Node Global) (first second : Node) → rest ≡ Some held
-    → first ≡ held.value → second ≡ held.value → chain rest ≡ fields first ∷ chain (out-Node second).link
-chain-first rest held first second is at_first at_second = rw (is, at_first, at_second) (nodes_from-link held.value)
 
 module _ {F B : Type 0} (g : Mut F (B × (Bor Node × Unit {0})) B) where
   -- the first call may be made

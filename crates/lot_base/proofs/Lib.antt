@@ -1,6 +1,10 @@
 pub mod PlaceLemmas
 pub mod ValueLemmas
 pub mod WaitingLemmas
+pub mod ChainLemmas
+pub mod QueueSteps
+pub mod QueueShows
+pub mod QueueCrosses
 pub mod FoldLemmas
 pub mod FilterLemmas
 pub mod RequeueLemmas

@@ -4,8 +4,7 @@ use Rattle.std.proofs.Common.{min, not, filter, List, [], ◌∷◌, ◌++◌, m
 use Rattle.std.proofs.lemmas.Bool.{eq-eqb}
 use Rattle.std.proofs.lemmas.List.{append-nil}
 use Rattle.std.proofs.lemmas.List.Elements.{All-nil, All-append, All-drop, All-take, All-map, filter-append}
-use Rattle.lot_base.specs.declared.queue.Node.{Node, Node', the_lemmas}
-use Rattle.lot_base.specs.declared.queue.Node.TheViews.{out-Node}
+use Rattle.lot_base.specs.declared.queue.Node.{Node}
 use Rattle.lot_base.specs.Node.{fields}
 use Rattle.lot_base.specs.declared.token.UnparkResult.{UnparkResult}
 use Rattle.lot_base.specs.declared.token.UnparkToken.{UnparkToken}
@@ -72,8 +71,8 @@ module _ {M : Type 0} (m : Mut M (ℕ × Unit {0}) (Unit {0})) (moved next : M) 
   called_one_more last after = rw popped (next, rw of_first at call, after)
 
 -- reading the number of a node
-pub number_read : (node seen : Node) → seen ≡ node → (out-Node seen).number ≡ (fields node).number
-number_read (Node' number key park_token unpark_token timed link) seen same = search (rules, same, the_lemmas)
+pub number_read : (node seen : Node) → seen ≡ node → seen.number ≡ (fields node).number
+number_read node seen same = ap (λ n. n.number) same
 
 -- nodes with a new key stand in its list alone
 lists_of-with_new_key : (key : ℕ) (nodes : List NodeFields)

@@ -15,5 +15,6 @@ pub mod SlotState
 pub mod Filter
 pub mod Requeue
 pub mod Fold
--- Last what the type of a queue holds.
+-- Last what a node shows of itself, and what the type of a queue keeps of its nodes.
 pub mod Node
+pub mod Chain

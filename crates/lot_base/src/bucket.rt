@@ -37,8 +37,7 @@ pub fn place(key: usize, size: usize) -> usize
 /// does the steps. No step but `list` allocates, and no other can be refused.
 ///
 /// A step that looks for waiters takes the nodes that it passes off the queue and puts them back,
-/// each by one `push_back`, and those behind them by one `append`. The visits that the steps name
-/// do not count the walks of these calls.
+/// each by one `push_back`, and those behind them by one `append`. Neither walks.
 #[derive(Drop)]
 pub struct Bucket {
     place: usize,
@@ -233,8 +232,8 @@ impl Bucket {
     ///
     /// An operation on one thread looks for waiters of `from` up to the second one, and any other
     /// looks at each node of the bucket once. Each node that was passed or moves is one `push_back`
-    /// to a queue of such nodes, and if any moves, they all are put last by one walk of the bucket.
-    /// It moves boxes and allocates nothing.
+    /// to a queue of such nodes, and those that move are put last by one `append`. It moves boxes
+    /// and allocates nothing.
     ///
     /// Upstream's `unpark_requeue` does this between its locks.
     pub fn requeue_one<
@@ -278,8 +277,7 @@ impl Bucket {
     /// `target`: requeued nodes stand there, behind the waiters of `to`. At an abort no list of
     /// either bucket changes.
     ///
-    /// It costs what `requeue_one` costs, but that the last walk is one of `target`. It moves boxes
-    /// and allocates nothing.
+    /// It costs what `requeue_one` costs. It moves boxes and allocates nothing.
     pub fn requeue_two<
         V: FnOnce() -> RequeueOp,
         C: FnOnce(RequeueOp, UnparkResult) -> UnparkToken,

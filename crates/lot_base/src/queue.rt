@@ -1,12 +1,16 @@
 //! A queue of owned nodes, one for each waiting thread, linked by the nodes themselves.
 
-ghost use Rattle.std.specs.Prelude.{◌≡◌, [], ◌∷◌, ◌++◌, ◌↔◌, IsNone, IfOk, MatchOption, drop, reverse};
+ghost use Rattle.std.specs.Prelude.{◌≡◌, List, [], ◌∷◌, ◌++◌, ◌↔◌, IsNone, IfOk, MatchOption, drop};
+ghost use Rattle.std.specs.Coded.{prop_coded};
+ghost use denote.RawPtr.{null_ptr};
+ghost use Rattle.lot_base.specs.Chain.{Placed, all_fields, LeadsTo, LeadsTo-prop, IsChain, IsChain-prop, nodes_lent};
 ghost use Rattle.lot_base.specs.Fold.{CanFold, Folds};
-ghost use Rattle.lot_base.specs.Node.{fields, new_node, chain, option_nodes};
+ghost use Rattle.lot_base.specs.Node.{fields, new_node, option_nodes};
 
 use crate::token::{DEFAULT_PARK_TOKEN, DEFAULT_UNPARK_TOKEN, NoMemory, ParkToken, UnparkToken};
 use std::alloc::Global;
-use std::marker::Model;
+use std::marker::{Model, PhantomData, Send, Sync};
+use std::ptr;
 
 /// The node of a registered thread, which stands in a queue while the thread waits. Whoever holds
 /// the box may write its fields.
@@ -29,10 +33,17 @@ pub struct Node {
     /// Whether the thread waits with a timeout.
     pub timed: bool,
 
-    link: Link,
+    // The node behind it in a queue, or null. Outside of a queue it means nothing.
+    link: *mut Node,
+
+    // What frees its box.
+    alloc: Global,
 }
 
-type Link = Option<Box<Node>>;
+// Only a queue follows the link, and it owns the nodes that it follows it to.
+unsafe impl Send for Node {}
+
+unsafe impl Sync for Node {}
 
 impl Node {
     /// A node of the thread of this number, with key 0, both default tokens and no timeout. This
@@ -50,7 +61,8 @@ impl Node {
             park_token: DEFAULT_PARK_TOKEN,
             unpark_token: DEFAULT_UNPARK_TOKEN,
             timed: false,
-            link: None,
+            link: ptr::null_mut(),
+            alloc,
         };
         Ok(Box::new(alloc, node)?)
     }
@@ -69,12 +81,17 @@ impl Node {
     }
 }
 
-/// A queue of nodes, first in, first out: a chain of the nodes themselves. No call allocates and
-/// none can be refused. A queue that is dropped frees its nodes one after another, however many.
+/// A queue of nodes, first in, first out: a chain of the nodes themselves, of which it keeps the
+/// first and the last. No call allocates and none can be refused. A queue that is dropped frees its
+/// nodes one after another, however many.
 ///
 /// Upstream keeps such chains inside its buckets.
 pub struct Queue {
-    head: Link,
+    // Both are null if there is no node.
+    head: *mut Node,
+    tail: *mut Node,
+    ghost nodes: { List Placed },
+    ghost linked: { IsChain head tail nodes } by { prop_coded (IsChain-prop head tail nodes) },
 }
 
 impl Model for Queue {
@@ -83,38 +100,68 @@ impl Model for Queue {
 
     ghost Value = { List NodeFields };
 
-    ghost use Rattle.lot_base.specs.Node.{chain};
+    ghost use denote.RawPtr.{null_ptr};
+    ghost use Rattle.lot_base.specs.Chain.{all_fields, nodes_own, nodes_lent};
 
-    ghost view = { λ queue. chain queue.head };
+    ghost view = { λ queue. all_fields queue.nodes };
+
+    ghost also_owns = { λ queue. nodes_own queue.nodes null_ptr };
+
+    ghost also_shares = { λ queue _ κ. nodes_lent queue.nodes null_ptr κ };
 }
+
+unsafe impl Send for Queue {}
+
+unsafe impl Sync for Queue {}
 
 impl Queue {
     /// The empty queue. It asks for no memory.
     pub fn new() -> Queue
         ensures { result ≡ [] }
     {
-        Queue { head: None }
+        Queue {
+            head: ptr::null_mut(),
+            tail: ptr::null_mut(),
+        }
     }
 
-    /// Puts the node last. It walks the queue from its head: two visits to each node of it.
+    // The queue of one node.
+    fn of(node: Box<Node>) -> Queue
+        ensures { result ≡ fields node.value ∷ [] }
+    {
+        let only = Box::into_raw(node);
+        unsafe { (*only).link = ptr::null_mut() };
+        Queue {
+            head: only,
+            tail: only,
+        }
+    }
+
+    /// Puts the node last. It takes the same time however many nodes there are, and of those visits
+    /// only the one that was last.
     pub fn push_back(&mut self, node: Box<Node>)
         ensures { self.new ≡ self.old ++ fields node.value ∷ [] }
     {
-        let mut last = node;
-        last.link = None;
-        self.head = reversed_onto(reversed_onto(self.head.take(), None), Some(last));
+        self.append(&mut Queue::of(node));
     }
 
-    /// Puts the other queue's nodes behind this queue's, and leaves the other empty. It walks this
-    /// queue as `push_back` does, unless the other is empty, and visits no node of the other.
+    /// Puts the other queue's nodes behind this queue's, and leaves the other empty. It takes the
+    /// same time however many nodes there are, and visits only the last one of this queue.
     pub fn append(&mut self, other: &mut Queue)
         ensures nodes { self.new ≡ self.old ++ other.old }
         ensures emptied { other.new ≡ [] }
     {
-        let Some(first) = other.head.take() else {
+        if other.head.is_null() {
             return;
-        };
-        self.head = reversed_onto(reversed_onto(self.head.take(), None), Some(first));
+        }
+        if self.tail.is_null() {
+            self.head = other.head;
+        } else {
+            unsafe { (*self.tail).link = other.head };
+        }
+        self.tail = other.tail;
+        other.head = ptr::null_mut();
+        other.tail = ptr::null_mut();
     }
 
     /// Takes the first node, or answers `None` exactly if the queue is empty. It visits one node.
@@ -122,9 +169,32 @@ impl Queue {
         ensures nodes { self.old ≡ option_nodes result ++ self.new }
         ensures none { IsNone result ↔ (self.old ≡ []) }
     {
-        let mut first = self.head.take()?;
-        self.head = first.link.take();
-        Some(first)
+        let first = self.head;
+        if first.is_null() {
+            return None;
+        }
+        self.head = unsafe { (*first).link };
+        if self.head.is_null() {
+            self.tail = ptr::null_mut();
+        }
+        Some(unsafe { Box::from_raw((*first).alloc, first) })
+    }
+
+    // The end of a queue that owns no node any more.
+    fn end(self)
+        requires { self ≡ [] }
+    {
+        let Queue { head: _, tail: _ } = self;
+    }
+
+    // The nodes, first to last.
+    fn nodes(&self) -> Nodes<'_>
+        ensures { all_fields result.nodes ≡ self.now }
+    {
+        Nodes {
+            first: self.head,
+            lent: PhantomData,
+        }
     }
 
     /// The first node, or `None` exactly if the queue is empty. It visits one node.
@@ -132,7 +202,7 @@ impl Queue {
         ensures { MatchOption result (self.now ≡ [])
             (λ node. self.now ≡ fields node.now ∷ drop 1 self.now) }
     {
-        self.head.as_deref()
+        self.nodes().next()
     }
 
     /// Calls `f` once for each node, in order: with the answer of the call before, at first
@@ -143,36 +213,50 @@ impl Queue {
         ensures { (last : F) × Folds F.FnMut f start self.now last result }
     {
         let mut answer = start;
-        let mut rest = &self.head;
-        while let Some(node) = rest {
+        let mut nodes = self.nodes();
+        while let Some(node) = nodes.next() {
             answer = f(answer, node);
-            rest = &node.link;
         }
         answer
     }
 }
 
-// The nodes of `from` in reverse order, and then those of `onto`.
-fn reversed_onto(from: Link, onto: Link) -> Link
-    ensures { chain result ≡ reverse (chain from) ++ chain onto }
-{
-    let mut rest = from;
-    let mut done = onto;
-    while let Some(mut node) = rest {
-        rest = node.link.take();
-        node.link = done;
-        done = Some(node);
-    }
-    done
-}
-
 impl Drop for Queue {
-    // A derived end would call itself once for each node.
+    // A derived end would free none of the nodes.
     fn drop(mut self) {
         while let Some(node) = self.pop_front() {
             drop(node);
         }
-        let Queue { head: _ } = self;
+        self.end();
+    }
+}
+
+// The nodes of a queue from one of them on. At the end `first` is null.
+#[derive(Drop)]
+struct Nodes<'a> {
+    first: *const Node,
+    lent: PhantomData<&'a Node>,
+    ghost nodes: { List Placed },
+    ghost leads: { LeadsTo first nodes } by { prop_coded (LeadsTo-prop first nodes) },
+}
+
+impl<'a> Model for Nodes<'a> {
+    ghost also_owns = { λ rest. nodes_lent rest.nodes null_ptr 'a };
+}
+
+impl<'a> Nodes<'a> {
+    // The first of the nodes, which are from then on those behind it.
+    fn next(&mut self) -> Option<&'a Node>
+        ensures { MatchOption result
+            ((self.old.nodes ≡ []) × (self.new.nodes ≡ []))
+            (λ node. all_fields self.old.nodes ≡ fields node.now ∷ all_fields self.new.nodes) }
+    {
+        if self.first.is_null() {
+            return None;
+        }
+        let node = unsafe { &*self.first };
+        self.first = node.link;
+        Some(node)
     }
 }
 

@@ -1,4 +1,3 @@
-pub mod NodeLemmas
 pub mod ThreadLemmas
 pub mod CountLemmas
 pub mod WaiterLemmas

@@ -88,25 +88,67 @@ fn a_queue_goes_on_after_its_only_node_left(rt: HostRuntime) -> Result<(), Fail>
     Ok(())
 }
 
-// A queue of `count` nodes, made from its last node to its first.
-fn long_queue(alloc: Global, count: usize) -> Result<Queue, NoMemory> {
-    let mut queue = Queue::new();
-    for number in 0..count {
-        let mut node = Node::new(alloc, number)?;
-        node.link = queue.head.take();
-        queue.head = Some(node);
-    }
-    Ok(queue)
+// How many nodes there are.
+fn count(queue: &Queue) -> usize {
+    queue.fold(0usize, |number, _| number.wrapping_add(1))
 }
 
-// No clause refuses a derived end, which would call itself once for each node and run out of stack.
+#[test]
+fn a_node_is_last_behind_nodes_that_were_appended(rt: HostRuntime) -> Result<(), Fail> {
+    let mut queue = queue_of(rt.alloc(), &[1, 2])?;
+    let mut other = queue_of(rt.alloc(), &[3, 4])?;
+    queue.append(&mut other);
+    queue.push_back(Node::new(rt.alloc(), 5)?);
+    assert_eq!(rt; (digits(&queue), count(&other)), (12345, 0));
+    Ok(())
+}
+
+#[test]
+fn a_queue_that_gave_its_nodes_away_goes_on(rt: HostRuntime) -> Result<(), Fail> {
+    let mut queue = queue_of(rt.alloc(), &[1])?;
+    let mut other = queue_of(rt.alloc(), &[2, 3])?;
+    queue.append(&mut other);
+    other.push_back(Node::new(rt.alloc(), 4)?);
+    assert_eq!(rt; (digits(&queue), digits(&other)), (123, 4));
+    Ok(())
+}
+
+#[test]
+fn a_node_that_leaves_a_queue_can_enter_another(rt: HostRuntime) -> Result<(), Fail> {
+    let mut queue = queue_of(rt.alloc(), &[1, 2, 3])?;
+    let mut other = queue_of(rt.alloc(), &[4])?;
+    other.push_back(queue.pop_front().expect(&rt, "a node"));
+    assert_eq!(rt; (digits(&queue), digits(&other)), (23, 41));
+    Ok(())
+}
+
+#[test]
+fn a_node_leaves_with_what_it_entered_with(rt: HostRuntime) -> Result<(), Fail> {
+    let mut node = Node::new(rt.alloc(), 1)?;
+    node.prepare(7, ParkToken(8), true);
+    node.unpark_token = UnparkToken(9);
+    let mut queue = queue_of(rt.alloc(), &[2])?;
+    queue.push_back(node);
+    queue.push_back(Node::new(rt.alloc(), 3)?);
+    assert_eq!(rt; take(&rt, &mut queue), 2);
+    let node = queue.pop_front().expect(&rt, "a node");
+    assert_eq!(rt; (node.number, node.key, node.timed), (1, 7, true));
+    assert_eq!(rt;
+        (node.park_token, node.unpark_token),
+        (ParkToken(8), UnparkToken(9))
+    );
+    Ok(())
+}
+
+// A derived end would free no node, and one by boxes would call itself once for each and run out
+// of stack.
 #[test]
 fn a_long_queue_is_freed_by_a_loop(rt: HostRuntime) -> Result<(), Fail> {
-    let queue = long_queue(rt.alloc(), 100_000)?;
-    assert_eq!(rt;
-        queue.fold(0usize, |count, _| count.wrapping_add(1)),
-        100_000
-    );
+    let mut queue = Queue::new();
+    for number in 0..100_000usize {
+        queue.push_back(Node::new(rt.alloc(), number)?);
+    }
+    assert_eq!(rt; count(&queue), 100_000);
     drop(queue);
     Ok(())
 }

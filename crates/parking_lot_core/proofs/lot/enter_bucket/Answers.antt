@@ -1,19 +1,17 @@
 use Rattle.std.proofs.Common.{◌≡◌, ◌∙◌, sym, ap}
 use Rattle.std.proofs.lemmas.Result.{on_ok_weaker, on_err_weaker}
 use Rattle.lot_base.specs.Node.{fields}
-use Rattle.lot_base.specs.declared.queue.Node.{out-Node}
-use Rattle.parking_lot_core.proofs.NodeLemmas.{key-fields}
 use Rattle.parking_lot_core.proofs.RowLemmas.{put_with_node, put_back}
 use Rattle.parking_lot_core.proofs.lot.enter_bucket.Goals as goal
 
 pub returns-clause-entered : goal.returns-clause-entered
 returns-clause-entered g c =
     let take = c.take-bucket.ensures in
-    let key : (fields c.args.node.value).key ≡ (out-Node c.deref.result.now).key =
-    key-fields c.args.node.value ∙ ap (λ node. (out-Node node).key) (sym c.deref.ensures) in
+    let key : (fields c.args.node.value).key ≡ c.deref.result.now.key =
+    ap (λ node. node.key) (sym c.deref.ensures) in
     rw (c.put.ensures, take.left)
     (on_ok_weaker c.enter-entered.result
-    (put_with_node c.args.table.now.cells (out-Node c.deref.result.now).key c.take-bucket.result _
+    (put_with_node c.args.table.now.cells c.deref.result.now.key c.take-bucket.result _
     c.enter-entered.new.self (fields c.args.node.value) take.taken take.place key) c.enter-entered.ensures.entered)
 
 pub returns-clause-refused : goal.returns-clause-refused
@@ -21,5 +19,5 @@ returns-clause-refused g c =
     let take = c.take-bucket.ensures in
     rw (c.put.ensures, take.left)
     (on_err_weaker c.enter-entered.result
-    (put_back c.args.table.now.cells (out-Node c.deref.result.now).key c.take-bucket.result _ c.enter-entered.new.self
+    (put_back c.args.table.now.cells c.deref.result.now.key c.take-bucket.result _ c.enter-entered.new.self
     take.taken take.place) c.enter-entered.ensures.refused)

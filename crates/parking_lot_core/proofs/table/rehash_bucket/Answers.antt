@@ -1,17 +1,15 @@
 use Rattle.std.proofs.Common.{◌≡◌, ℕ, ◌∙◌, length, sym, ap, arith}
 use Rattle.lot_base.specs.Node.{fields}
 use Rattle.lot_base.specs.Place.{place_of}
-use Rattle.lot_base.specs.declared.queue.Node.{Node, out-Node}
+use Rattle.lot_base.specs.declared.queue.Node.{Node}
 use Rattle.parking_lot_core.proofs.GrowthLemmas.{IsSpreading-start, IsSpreading-step, own_place, with_node-is}
-use Rattle.parking_lot_core.proofs.NodeLemmas.{key-fields}
 use Rattle.parking_lot_core.proofs.table.rehash_bucket.Goals as goal
 
 -- the place of the node that was read
-target : (node read : Node) (place len size : ℕ) → place ≡ place_of (out-Node read).key len → read ≡ node → len ≡ size
+target : (node read : Node) (place len size : ℕ) → place ≡ place_of read.key len → read ≡ node → len ≡ size
     → place ≡ place_of (fields node).key size
 target node read place len size is same sized =
-    is ∙ ap (λ n. place_of (out-Node n).key len) same ∙ ap (λ key. place_of key len) (sym (key-fields node))
-    ∙ ap (place_of (fields node).key) sized
+    is ∙ ap (λ n. place_of n.key len) same ∙ ap (place_of (fields node).key) sized
 
 pub loop-node-init : goal.loop-node-init
 loop-node-init c =

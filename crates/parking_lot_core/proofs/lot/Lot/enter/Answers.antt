@@ -1,6 +1,8 @@
-use Rattle.std.proofs.Common.{◌≡◌, ◌∙◌, sym, ap, refl, slice_set, get_or, set-set}
+use Rattle.std.proofs.Common.{subst, ◌≡◌, ◌∙◌, sym, ap, refl, slice_set, get_or, set-set}
 use Rattle.std.proofs.lemmas.List.{get_or-set_same}
 use Rattle.lot_base.specs.Node.{fields}
+use Rattle.lot_base.specs.NodeFields.{NodeFields}
+use Rattle.parking_lot_core.specs.Represents.{with_node}
 use Rattle.parking_lot_core.specs.Lot.{machine, use_of}
 use Rattle.parking_lot_core.specs.LotState.{ThreadState}
 use Rattle.parking_lot_core.specs.Machine.{after_enter}
@@ -38,10 +40,20 @@ step : (g : given.Over) (c : In-Ok g)
     → IsLotStep (record { buckets = c.enter_bucket.new.table.cells; threads = c.start_waiting.new.threads.items })
     (after_enter (machine (lot_of c.self.inside)) c.args.number c.args.key c.args.park_token c.args.timed)
 step g c =
-    rw (c.in-Ok.ensures.entered, c.in_ok-node.ensures.ok, prepared g c)
+    rw (c.in-Ok.ensures.entered, c.in_ok-node.ensures.ok)
+    (subst
+    (λ (node : NodeFields).
+    IsLotStep
+    (record {
+      buckets = with_node (lot_of c.self.inside).buckets node;
+      threads = slice_set c.self.inside.threads.items c.args.number
+          (record { number = c.args.number; key = c.args.key; status = Waiting c.args.timed });
+    })
+    (after_enter (machine (lot_of c.self.inside)) c.args.number c.args.key c.args.park_token c.args.timed))
+    (sym (prepared g c))
     (IsLotStep-after_enter (lot_of c.self.inside) c.args.number c.args.key c.args.park_token
     (fields c.deref_mut.result.now).unpark_token c.args.timed c.self.invariant.0 c.in-Ok.ensures.table
-    (c.in_ok-node.ensures.fits.0 refl))
+    (c.in_ok-node.ensures.fits.0 refl)))
 
 pub invariant_of-self-in-Ok : goal.invariant_of-self-in-Ok
 invariant_of-self-in-Ok g c = (

@@ -10,7 +10,6 @@ use Rattle.parking_lot_core.specs.declared.table.Use.TheVariants.{Registered}
 use Rattle.parking_lot_core.proofs.CommitLemmas.{uses-set}
 use Rattle.parking_lot_core.proofs.LotLemmas.{lot_of, IsLotStep, IsLotStep-registered}
 use Rattle.parking_lot_core.proofs.UseLemmas.{IsFull-counted, counted-IsFull, IsLeastFree-given, threads_of-uses}
-use Rattle.parking_lot_core.proofs.NodeLemmas.{number-rolled}
 use Rattle.parking_lot_core.proofs.lot.Lot.register.Goals as goal
 use Rattle.parking_lot_core.proofs.lot.Lot.register.Goals.{After-self-1}
 
@@ -49,8 +48,7 @@ pub register-requires-2-clause-number : goal.register-requires-2-clause-number
 register-requires-2-clause-number c =
     let least = IsLeastFree-given (lot_of c.self.inside) c.self.inside.table.numbers c.in_ok-number.number
     c.self.invariant.1 c.in_ok-number.ensures.number.0 in
-    number-rolled _
-    ∙ sym (ap (λ thread. thread.number)
+    sym (ap (λ thread. thread.number)
     (read c.self.inside.threads.items c.in_ok-number.number c.index_mut.result.now least.below
     c.index_mut.ensures.value) ∙ c.self.invariant.0.numbers c.in_ok-number.number)
 

@@ -1,7 +1,5 @@
 use Rattle.std.proofs.Common.{◌∙◌, ap, sym}
 use Rattle.lot_base.specs.Node.{fields}
-use Rattle.lot_base.specs.declared.queue.Node.{out-Node}
-use Rattle.parking_lot_core.proofs.NodeLemmas.{unpark_token-fields}
 use Rattle.parking_lot_core.proofs.ThreadLemmas.{HasItsNode-taken}
 use Rattle.parking_lot_core.proofs.lot.thread.Thread.unpark.Goals as goal
 
@@ -10,4 +8,4 @@ invariant_of-self c =
     HasItsNode-taken c.self.inside.state c.self.inside.slot c.put.new.self
     (fields c.args.node.value) c.args.self.now c.self.inside.key _ c.self.view_is c.self.invariant c.requires.number
     c.requires.queued c.put.ensures
-    (unpark_token-fields c.args.node.value ∙ ap (λ node. (out-Node node).unpark_token) (sym c.deref.ensures))
+    (ap (λ node. node.unpark_token) (sym c.deref.ensures))
