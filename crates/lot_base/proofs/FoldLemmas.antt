@@ -1,5 +1,5 @@
 -- Calls of a closure at the nodes of a list.
-use Rattle.std.proofs.Common.{◌≡◌, ℕ, List, [], ◌∷◌, ◌++◌, Option, Some, Box, Vec, Result, Ok, Err, IfOk, IsOkAnd, OnOk}
+use Rattle.std.proofs.Common.{◌≡◌, ℕ, List, [], ◌∷◌, ◌++◌, Vec, Result, Ok, Err, IfOk, IsOkAnd, OnOk}
 use Rattle.std.proofs.Common.{OnErr, IsTrue, map, refl, ap, subst, ◌==◌}
 use Rattle.std.proofs.lemmas.Bool.{eq-eqb}
 use Rattle.std.proofs.lemmas.List.{map-append}

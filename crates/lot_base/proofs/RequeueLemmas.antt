@@ -1,6 +1,6 @@
 -- Lists of nodes through a requeue.
 use Rattle.std.proofs.Common.{false, sym, subst, ◌≡◌, ℕ, ◌+◌, ◌-◌, ◌^◌, ◌==◌, ◌≢◌, All, ◌∙◌}
-use Rattle.std.proofs.Common.{min, not, filter, List, [], ◌∷◌, ◌++◌, map, append_assoc, refl, ap, arith, rules}
+use Rattle.std.proofs.Common.{min, not, filter, List, [], ◌∷◌, ◌++◌, map, take, append_assoc, refl, ap, arith}
 use Rattle.std.proofs.lemmas.Bool.{eq-eqb}
 use Rattle.std.proofs.lemmas.List.{append-nil}
 use Rattle.std.proofs.lemmas.List.Elements.{All-nil, All-append, All-drop, All-take, All-map, filter-append}
@@ -38,6 +38,17 @@ lists_of-others_all key (node ∷ nodes) k h = grind (arith, lists_of-others_all
 pub lists_of-others : (key : ℕ) (nodes : List NodeFields) (k : ℕ)
     → lists_of (others_of key nodes) k ≡ with_value (lists_of nodes) key [] k
 lists_of-others key nodes k = grind (arith, lists_of-others_none key nodes, lists_of-others_all key nodes k)
+
+-- the waiters of the key of the first node
+pub lists_of-first : (key : ℕ) (first : NodeFields) (rest nodes : List NodeFields) → nodes ≡ first ∷ rest
+    → first.key ≡ key → lists_of nodes key ≡ first ∷ lists_of rest key
+lists_of-first key first rest nodes popped of_key = rw (popped, eq-eqb first.key key of_key) refl
+
+-- the first waiter of a key waits on it
+pub lists_of-take_one : (key : ℕ) (nodes : List NodeFields)
+    → lists_of (take 1 (lists_of nodes key)) key ≡ take 1 (lists_of nodes key)
+lists_of-take_one key [] = refl
+lists_of-take_one key (node ∷ nodes) = grind (arith, lists_of-take_one key nodes)
 
 pub count_one_more : (count n : ℕ) → min (min (count + 1) (2 ^ 64 - 1) + n) (2 ^ 64 - 1)
     ≡ min (count + (n + 1)) (2 ^ 64 - 1)

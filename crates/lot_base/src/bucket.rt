@@ -1,18 +1,25 @@
 //! The buckets of the hash table: the steps of parking and unparking on the queue of one bucket.
 
-ghost use Rattle.std.specs.Prelude.{◌≡◌, ℕ, [], ◌∷◌, ◌++◌, ◌<◌, map, take, drop, IfErr, IfNone, IfSome, OnOk, IfOk, IsOkAnd, OnErr, is_ok, is_some, IsTrue, length, List, ◌≢◌, ◌↔◌, find, option_map, not, None, Some, IsNone, MatchOption};
+ghost use Rattle.std.specs.Prelude.{◌≡◌, ℕ, [], ◌∷◌, ◌++◌, ◌<◌, map, IfErr, IfSome, OnOk, IfOk, IsOkAnd, OnErr, is_ok, IsTrue, length, List, ◌≢◌, ◌↔◌, find, not, None, Some, IsNone, MatchOption};
 ghost use Rattle.lot_base.specs.Filter.{IsFilterCallable, IsFiltered, park_tokens};
 ghost use Rattle.lot_base.specs.Node.{fields, option_nodes};
 ghost use Rattle.lot_base.specs.Place.{IsTableSize, place_of};
 ghost use Rattle.lot_base.specs.BucketState.{KeepsPlace};
-ghost use Rattle.lot_base.specs.Requeue.{numbers, IsCallableAtEach, IsCalledAtEach, AreCallable, AreCalled};
+ghost use Rattle.lot_base.specs.Requeue.{numbers, AreCallable, AreCalled};
 ghost use Rattle.lot_base.specs.Waiting.{split_first, split_all, split_filter, split_by, lists_after_requeue, has_any, result_of, without_first};
-ghost use Rattle.lot_base.specs.NodeLists.{lists_of, ChangesOnly, saturated, with_saturated_counts, with_token, with_new_key, split_to, has_number};
+ghost use Rattle.lot_base.specs.NodeLists.{lists_of, ChangesOnly, saturated, with_saturated_counts, with_token, split_to, has_number};
 ghost use Rattle.lot_base.specs.declared.token.FilterOp.{FilterOp};
 ghost use Rattle.lot_base.specs.declared.token.RequeueOp.{RequeueOp};
 
+mod passing;
+mod requeue;
+
 use crate::queue::{Node, Queue};
 use crate::token::{FilterOp, NoMemory, ParkToken, RequeueOp, UnparkResult, UnparkToken};
+use passing::{
+    queue_of, take_chosen, take_every, take_first, take_numbered, with_unpark_token, write_token,
+};
+use requeue::requeue_from;
 use std::alloc::Global;
 use std::marker::Model;
 
@@ -160,8 +167,7 @@ impl Bucket {
     /// Takes every waiter of the key, in order, writes the token into each, and answers how many
     /// there were, or `usize::MAX` where no `usize` can hold the count.
     ///
-    /// Each node of the bucket is visited once, and each one taken once more. It moves boxes and
-    /// allocates nothing.
+    /// Each node of the bucket is visited once. It moves boxes and allocates nothing.
     ///
     /// Upstream calls it `unpark_all`.
     pub fn take_all(&mut self, key: usize, token: UnparkToken) -> (usize, Queue)
@@ -172,8 +178,7 @@ impl Bucket {
         ensures taken { result.1 ≡ map (with_token token)
             (split_all (lists_of self.old.nodes key)).taken }
     {
-        let taken = take_every(&mut self.queue, key);
-        write_token(taken, token)
+        take_every(&mut self.queue, key, token)
     }
 
     /// Takes those waiters of the key that the filter unparks, and leaves the others of the key,
@@ -185,8 +190,9 @@ impl Bucket {
     /// that were taken, or has `usize::MAX` where no `usize` can hold the count. The token that the
     /// callback answers is written into each node taken.
     ///
-    /// The nodes of the bucket are visited once, up to and with the one at which the filter stops,
-    /// and those taken once more. It moves boxes and allocates nothing.
+    /// The nodes of the bucket are visited once, up to and with the one at which the filter stops.
+    /// Those that were taken are visited once more, since their token is known only then. It moves
+    /// boxes and allocates nothing.
     ///
     /// Upstream calls it `unpark_filter`.
     pub fn take_filter<F: FnMut(ParkToken) -> FilterOp, C: FnOnce(UnparkResult) -> UnparkToken>(
@@ -215,8 +221,7 @@ impl Bucket {
     {
         let (result, chosen) = take_chosen(&mut self.queue, key, filter);
         let token = callback(result);
-        let (_, taken) = write_token(chosen, token);
-        (result, taken)
+        (result, write_token(chosen, token))
     }
 
     /// Unparks or requeues waiters of the key `from` onto the key `to`, as `validate` chooses. Both
@@ -381,347 +386,6 @@ impl Bucket {
             push_if_waiting(numbers, node, key)
         })
     }
-}
-
-// Takes the first node of the key from the queue, and tells whether another one is left.
-fn take_first(queue: &mut Queue, key: usize) -> (Option<Box<Node>>, bool)
-    ensures first { option_nodes result.0 ≡ take 1 (lists_of queue.old key) }
-    ensures more { result.1 ≡ has_any (drop 1 (lists_of queue.old key)) }
-    ensures lists { ChangesOnly queue.old queue.new key (drop 1 (lists_of queue.old key)) }
-{
-    let mut passed = Queue::new();
-    let first = take_next(queue, &mut passed, key);
-    let have_more_threads = pass_to_next(queue, &mut passed, key);
-    passed.append(queue);
-    *queue = passed;
-    (first, have_more_threads)
-}
-
-// Looks for a node of the key in the queue; it and those before it go behind `passed`.
-fn pass_to_next(queue: &mut Queue, passed: &mut Queue, key: usize) -> bool
-    ensures nodes { passed.new ++ queue.new ≡ passed.old ++ queue.old }
-    ensures found { result ≡ has_any (lists_of queue.old key) }
-{
-    match take_next(queue, passed, key) {
-        Some(node) => {
-            passed.push_back(node);
-            true
-        }
-        None => false,
-    }
-}
-
-// Takes the first node of the key from the queue; those before it go behind `passed`.
-fn take_next(queue: &mut Queue, passed: &mut Queue, key: usize) -> Option<Box<Node>>
-    ensures nodes { passed.new ++ option_nodes result ++ queue.new ≡ passed.old ++ queue.old }
-    ensures passed { lists_of passed.new key ≡ lists_of passed.old key }
-    ensures waiters { lists_of queue.old key ≡ option_nodes result ++ lists_of queue.new key }
-    ensures found { IfSome result (λ node. (fields node.value).key ≡ key) }
-    ensures none { IfNone result (queue.new ≡ []) }
-{
-    while let Some(node) = queue.pop_front() {
-        if node.key == key {
-            return Some(node);
-        }
-        passed.push_back(node);
-    }
-    None
-}
-
-// Takes all nodes of the key from the queue.
-fn take_every(queue: &mut Queue, key: usize) -> Queue
-    ensures taken { result ≡ lists_of queue.old key }
-    ensures lists { ChangesOnly queue.old queue.new key [] }
-{
-    let mut taken = Queue::new();
-    let mut others = Queue::new();
-    while let Some(node) = queue.pop_front() {
-        if node.key == key {
-            taken.push_back(node);
-        } else {
-            others.push_back(node);
-        }
-    }
-    *queue = others;
-    taken
-}
-
-// Takes from the queue the nodes of the key that the filter unparks; the others of the key stay, in
-// order.
-fn take_chosen<F: FnMut(ParkToken) -> FilterOp>(
-    queue: &mut Queue,
-    key: usize,
-    mut filter: F,
-) -> (UnparkResult, Queue)
-    requires { IsFilterCallable F.FnMut filter (park_tokens (lists_of queue.old key)) }
-    ensures { let waiters = lists_of queue.old key in record {
-      decisions : List FilterOp;
-      decided : IsFiltered F.FnMut filter (park_tokens waiters) decisions;
-      lists : ChangesOnly queue.old queue.new key (split_filter decisions waiters).left;
-      answer : result.0 ≡ with_saturated_counts (result_of (split_filter decisions waiters));
-      taken : result.1 ≡ (split_filter decisions waiters).taken;
-    } }
-{
-    let mut passed = Queue::new();
-    let mut taken = Queue::new();
-    let mut result = UnparkResult::default();
-    while let Some(node) = take_next(queue, &mut passed, key) {
-        match filter(node.park_token) {
-            FilterOp::Unpark => {
-                result.unparked_threads = result.unparked_threads.saturating_add(1);
-                taken.push_back(node);
-            }
-            FilterOp::Skip => {
-                result.have_more_threads = true;
-                passed.push_back(node);
-            }
-            FilterOp::Stop => {
-                result.have_more_threads = true;
-                passed.push_back(node);
-                break;
-            }
-        }
-    }
-    passed.append(queue);
-    *queue = passed;
-    (result, taken)
-}
-
-// The nodes with the token written into each, and how many they are.
-fn write_token(mut nodes: Queue, token: UnparkToken) -> (usize, Queue)
-    ensures count { result.0 ≡ saturated (length nodes) }
-    ensures nodes { result.1 ≡ map (with_token token) nodes }
-{
-    let mut written = Queue::new();
-    let mut count: usize = 0;
-    while let Some(node) = nodes.pop_front() {
-        written.push_back(with_unpark_token(node, token));
-        count = count.saturating_add(1);
-    }
-    (count, written)
-}
-
-// What a requeue gives, with the nodes that are still to be put behind those of their new key.
-#[derive(Drop)]
-struct Requeued {
-    result: UnparkResult,
-    taken: Queue,
-    moved: Queue,
-}
-
-// Does what a requeue does to the list of its first key and calls its closures, or nothing if it
-// is to abort.
-fn requeue_from<C: FnOnce(RequeueOp, UnparkResult) -> UnparkToken, M: FnMut(usize)>(
-    queue: &mut Queue,
-    from: usize,
-    to: usize,
-    op: RequeueOp,
-    callback: C,
-    moved: &mut M,
-) -> Option<Requeued>
-    requires { AreCallable C.FnOnce M.FnMut op (lists_of queue.old from) callback moved.old }
-    ensures aborted { IfNone result
-        ((op ≡ RequeueOp.Abort) × (queue.new ≡ queue.old) × (moved.new ≡ moved.old)) }
-    ensures chosen { IfSome result (λ _. op ≢ RequeueOp.Abort) }
-    ensures called { IfSome result (λ done.
-        AreCalled C.FnOnce M.FnMut op (lists_of queue.old from) callback moved.old moved.new
-        done.result done.taken) }
-    ensures moved { IfSome result (λ done.
-        done.moved ≡ (split_to to (split_by op (lists_of queue.old from))).moved) }
-    ensures lists { IfSome result (λ _.
-        ChangesOnly queue.old queue.new from (split_by op (lists_of queue.old from)).left) }
-{
-    // Pick: what the operation asks for leaves the queue. An abort ends here.
-    let picked = pick(queue, from, op)?;
-    let unparked_threads = if picked.taken.is_some() { 1 } else { 0 };
-
-    // Move: those to be requeued get the new key, and `moved` is told the number of each.
-    let (moved_nodes, requeued_threads) = rekey(picked.moved, to, moved);
-
-    // Count: what was taken, what was moved, and whether any waiter is left.
-    let result = UnparkResult {
-        unparked_threads,
-        requeued_threads,
-        have_more_threads: picked.have_more_threads,
-    };
-
-    // Call back: the token is for the node that was taken, if any.
-    let token = callback(op, result);
-    Some(Requeued {
-        result,
-        taken: queue_of(picked.taken.map(|node| with_unpark_token(node, token))),
-        moved: moved_nodes,
-    })
-}
-
-// What a requeue picks of the nodes of a key, and whether it leaves any.
-#[derive(Drop)]
-struct Picked {
-    taken: Option<Box<Node>>,
-    moved: Queue,
-    have_more_threads: bool,
-}
-
-// Picks what the operation asks for from the nodes of the key, or nothing if it is to abort.
-fn pick(queue: &mut Queue, key: usize, op: RequeueOp) -> Option<Picked>
-    ensures aborted { IfNone result ((op ≡ RequeueOp.Abort) × (queue.new ≡ queue.old)) }
-    ensures chosen { IfSome result (λ _. op ≢ RequeueOp.Abort) }
-    ensures taken { IfSome result (λ picked.
-        option_nodes picked.taken ≡ (split_by op (lists_of queue.old key)).taken) }
-    ensures moved { IfSome result (λ picked.
-        picked.moved ≡ (split_by op (lists_of queue.old key)).moved) }
-    ensures more { IfSome result (λ picked.
-        picked.have_more_threads ≡ has_any (split_by op (lists_of queue.old key)).left) }
-    ensures lists { IfSome result (λ _.
-        ChangesOnly queue.old queue.new key (split_by op (lists_of queue.old key)).left) }
-{
-    match op {
-        RequeueOp::Abort => None,
-        RequeueOp::UnparkOne => {
-            let (first, have_more_threads) = take_first(queue, key);
-            Some(Picked {
-                taken: first,
-                moved: Queue::new(),
-                have_more_threads,
-            })
-        }
-        RequeueOp::RequeueOne => {
-            let (first, have_more_threads) = take_first(queue, key);
-            Some(Picked {
-                taken: None,
-                moved: queue_of(first),
-                have_more_threads,
-            })
-        }
-        RequeueOp::RequeueAll => {
-            Some(Picked {
-                taken: None,
-                moved: take_every(queue, key),
-                have_more_threads: false,
-            })
-        }
-        RequeueOp::UnparkOneRequeueRest => {
-            let mut all = take_every(queue, key);
-            let first = all.pop_front();
-            Some(Picked {
-                taken: first,
-                moved: all,
-                have_more_threads: false,
-            })
-        }
-    }
-}
-
-// The nodes with another key, and how many they are. `moved` is called with the number of each.
-fn rekey<M: FnMut(usize)>(mut nodes: Queue, key: usize, moved: &mut M) -> (Queue, usize)
-    requires { IsCallableAtEach M.FnMut moved.old (numbers nodes) }
-    ensures nodes { result.0 ≡ map (with_new_key key) nodes }
-    ensures count { result.1 ≡ saturated (length nodes) }
-    ensures moved { IsCalledAtEach M.FnMut moved.old (numbers nodes) moved.new }
-{
-    let mut changed = Queue::new();
-    let mut count: usize = 0;
-    while let Some(node) = nodes.pop_front() {
-        moved(node.number);
-        changed.push_back(with_key(node, key));
-        count = count.saturating_add(1);
-    }
-    (changed, count)
-}
-
-// Takes the key's first node of this number from the queue, and tells whether the key has none
-// left.
-fn take_numbered(queue: &mut Queue, number: usize, key: usize) -> Option<(Box<Node>, bool)>
-    ensures lists { ChangesOnly queue.old queue.new key
-        (without_first (has_number number) (lists_of queue.old key)) }
-    ensures found { let waiters = lists_of queue.old key in
-        MatchOption result
-        ((find (has_number number) waiters ≡ None) × (queue.new ≡ queue.old))
-        (λ (node, last). (find (has_number number) waiters ≡ Some (fields node.value))
-        × (last ≡ not (has_any (without_first (has_number number) waiters)))) }
-{
-    let mut passed = Queue::new();
-    let found = take_numbered_and_look(queue, &mut passed, number, key);
-    passed.append(queue);
-    *queue = passed;
-    found
-}
-
-// Takes the key's first node of this number from the queue; those before it go behind `passed`. It
-// also tells whether no other node of the key was passed here or comes later.
-fn take_numbered_and_look(
-    queue: &mut Queue,
-    passed: &mut Queue,
-    number: usize,
-    key: usize,
-) -> Option<(Box<Node>, bool)>
-    ensures lists { ChangesOnly (passed.old ++ queue.old) (passed.new ++ queue.new) key
-        (lists_of passed.old key ++ without_first (has_number number) (lists_of queue.old key)) }
-    ensures found { let waiters = lists_of queue.old key in
-        MatchOption result
-        ((find (has_number number) waiters ≡ None)
-        × (passed.new ++ queue.new ≡ passed.old ++ queue.old))
-        (λ (node, last). (find (has_number number) waiters ≡ Some (fields node.value))
-        × (last ≡ not (has_any (without_first (has_number number) waiters)))) }
-{
-    let first = take_next(queue, passed, key)?;
-    if first.number == number {
-        let last = !pass_to_next(queue, passed, key);
-        return Some((first, last));
-    }
-    passed.push_back(first);
-    let node = take_next_numbered(queue, passed, number, key)?;
-    Some((node, false))
-}
-
-// Takes the key's first node of this number from the queue; those before it go behind `passed`.
-fn take_next_numbered(
-    queue: &mut Queue,
-    passed: &mut Queue,
-    number: usize,
-    key: usize,
-) -> Option<Box<Node>>
-    ensures nodes { passed.new ++ option_nodes result ++ queue.new ≡ passed.old ++ queue.old }
-    ensures left { lists_of (passed.new ++ queue.new) key
-        ≡ lists_of passed.old key ++ without_first (has_number number) (lists_of queue.old key) }
-    ensures key { IfSome result (λ node. (fields node.value).key ≡ key) }
-    ensures found { find (has_number number) (lists_of queue.old key)
-        ≡ option_map (λ node. fields node.value) result }
-{
-    while let Some(node) = queue.pop_front() {
-        if node.key == key && node.number == number {
-            return Some(node);
-        }
-        passed.push_back(node);
-    }
-    None
-}
-
-// The node with another key.
-fn with_key(mut node: Box<Node>, key: usize) -> Box<Node>
-    ensures { fields result.value ≡ with_new_key key (fields node.value) }
-{
-    node.key = key;
-    node
-}
-
-// The node with the token that its thread is handed.
-fn with_unpark_token(mut node: Box<Node>, token: UnparkToken) -> Box<Node>
-    ensures { fields result.value ≡ with_token token (fields node.value) }
-{
-    node.unpark_token = token;
-    node
-}
-
-// The queue of the node, if there is one.
-fn queue_of(node: Option<Box<Node>>) -> Queue
-    ensures { result ≡ option_nodes node }
-{
-    let mut nodes = Queue::new();
-    if let Some(node) = node {
-        nodes.push_back(node);
-    }
-    nodes
 }
 
 // The numbers, and behind them that of the node if it waits on the key.

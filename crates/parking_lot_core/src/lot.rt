@@ -102,8 +102,8 @@ impl Lot {
     }
 
     /// Registers a thread under the least free number; it is running then. This asks for all the
-    /// memory that the thread will ever need: its node, and what the table needs to grow, so that it
-    /// has three buckets for each thread.
+    /// memory that the thread will ever need: its node, and what the table needs to grow, so that
+    /// it has three buckets for each thread.
     ///
     /// It is one `Table::register`. Upstream's `park` does it at a thread's first use.
     ///

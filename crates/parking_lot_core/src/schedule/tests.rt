@@ -22,8 +22,8 @@ const D: usize = 3;
 
 const WAITS: Status = Status::Waiting { timed: false };
 
-// A lot for six threads, four of which are registered, where these threads have entered, each on its
-// key and untimed.
+// A lot for six threads, four of which are registered, where these threads have entered, each on
+// its key and untimed.
 fn lot_of(alloc: Global, waiters: &[(usize, usize)]) -> Result<Lot, LotError> {
     let mut lot = Lot::new(alloc, 6)?;
     for _ in 0..4 {
@@ -166,7 +166,8 @@ fn an_abort_and_a_requeue_of_nobody_change_nothing(rt: HostRuntime) -> Result<()
     Ok(())
 }
 
-// Unparks by a filter with these decisions, and compares the answer, who was taken, and who is left.
+// Unparks by a filter with these decisions, and compares the answer, who was taken, and who is
+// left.
 fn expect_filter(
     rt: &impl Abort,
     alloc: Global,
@@ -339,9 +340,9 @@ fn answers_stand_behind_those_that_are_there(rt: HostRuntime) -> Result<(), Fail
     Ok(())
 }
 
-// It ends well whichever one of its requests for memory is refused, as `rt try --test --fail-alloc N`
-// refuses the Nth: a run that has no room for its answers leaves all as it was, and a registration
-// that is refused is answered so.
+// It ends well whichever one of its requests for memory is refused, as the command
+// `rt try --test --fail-alloc N` refuses the Nth: a run that has no room for its answers leaves all
+// as it was, and a registration that is refused is answered so.
 #[test]
 fn a_run_without_room_for_its_answers_changes_nothing(rt: HostRuntime) {
     let Ok(mut lot) = Lot::new(rt.alloc(), 2) else {

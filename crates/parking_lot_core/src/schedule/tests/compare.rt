@@ -86,8 +86,8 @@ impl Pair {
     }
 }
 
-// Does the list of so many steps whose kinds are the digits of the code. What is compared at its end
-// is compared at the end of each of its beginnings too: they are lists themselves.
+// Does the list of so many steps whose kinds are the digits of the code. What is compared at its
+// end is compared at the end of each of its beginnings too: they are lists themselves.
 fn check_list(
     rt: &impl Abort,
     alloc: Global,

@@ -1,5 +1,5 @@
-//! The machine of docs/MODEL.md, as slow and plain as it is told there: a list of thread numbers for
-//! each key, a status for each number, and the greatest number of threads.
+//! The machine of docs/MODEL.md, as slow and plain as it is told there: a list of thread numbers
+//! for each key, a status for each number, and the greatest number of threads.
 //!
 //! It knows no bucket, no node and no place, and no lot.
 

@@ -1,4 +1,5 @@
-//! What each step makes of the waiters of a key: the table of docs/MODEL.md, on lists of thread numbers.
+//! What each step makes of the waiters of a key: the table of docs/MODEL.md, on lists of thread
+//! numbers.
 
 use crate::schedule::Answer;
 use lot_base::token::{FilterOp, NoMemory, RequeueOp, UnparkResult};
@@ -52,7 +53,8 @@ pub fn split_all(alloc: Global, waiters: &[usize]) -> Result<Split, NoMemory> {
     Ok(split)
 }
 
-/// The decisions go with the waiters in order, up to the first stop. One without a decision is left.
+/// The decisions go with the waiters in order, up to the first stop. One without a decision is
+/// left.
 pub fn split_filter(
     alloc: Global,
     decisions: &[FilterOp],

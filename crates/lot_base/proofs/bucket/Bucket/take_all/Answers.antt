@@ -7,5 +7,5 @@ use Rattle.lot_base.proofs.bucket.Bucket.take_all.Goals as goal
 pub invariant_of-self : goal.invariant_of-self
 invariant_of-self c =
     let bucket = the_view c.self.inside in
-    IsInPlace-left bucket c.args.key c.take_every-taken.new.queue []
-    (λ P all. All-nil P) c.take_every-taken.ensures.lists c.self.invariant
+    IsInPlace-left bucket c.args.key c.take_every.new.queue []
+    (λ P all. All-nil P) c.take_every.ensures.lists c.self.invariant

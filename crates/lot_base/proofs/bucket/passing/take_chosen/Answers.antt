@@ -1,8 +1,8 @@
 use Rattle.lot_base.specs.declared.token.FilterOp.TheVariants.{Unpark, Skip, Stop}
 use Rattle.lot_base.proofs.FilterLemmas.{Decided, Asked-at_node, Deciding-unpark, Deciding-skip, Decided-stop}
 use Rattle.lot_base.proofs.FilterLemmas.{Decided-end}
-use Rattle.lot_base.proofs.bucket.take_chosen.Goals as goal
-use Rattle.lot_base.proofs.bucket.take_chosen.Goals.{in-Some+in-Stop, in_default}
+use Rattle.lot_base.proofs.bucket.passing.take_chosen.Goals as goal
+use Rattle.lot_base.proofs.bucket.passing.take_chosen.Goals.{in-Some+in-Stop, in_default}
 
 pub loop-node-preserved-in-Unpark : goal.loop-node-preserved-in-Unpark
 loop-node-preserved-in-Unpark g c =

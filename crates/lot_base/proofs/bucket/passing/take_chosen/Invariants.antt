@@ -1,7 +1,7 @@
 use Rattle.std.proofs.Common.{length}
 use Rattle.lot_base.specs.NodeLists.{lists_of}
 use Rattle.lot_base.proofs.FilterLemmas.{Deciding}
-use Rattle.lot_base.proofs.bucket.take_chosen.Given as goal
+use Rattle.lot_base.proofs.bucket.passing.take_chosen.Given as goal
 
 -- what the decisions still to come do from here is what all decisions do from the start
 abbrev pub invariant-loop-node : goal.invariant-loop-node

@@ -1,7 +1,7 @@
 use Rattle.std.proofs.Common.{◌≡◌, ◌++◌, length, find}
 use Rattle.lot_base.specs.Waiting.{without_first}
 use Rattle.lot_base.specs.NodeLists.{lists_of, has_number}
-use Rattle.lot_base.proofs.bucket.take_next_numbered.Given as goal
+use Rattle.lot_base.proofs.bucket.passing.take_next_numbered.Given as goal
 
 abbrev pub invariant-loop-node : goal.invariant-loop-node
 invariant-loop-node l = record {
