@@ -5,5 +5,6 @@
 pub mod bucket;
 pub mod laws;
 pub mod queue;
+pub mod spinwait;
 pub mod thread_parker;
 pub mod token;

@@ -13,6 +13,7 @@ use crate::token::NoMemory;
 pub use mutex::{ThreadParker, UnparkHandle};
 use std::marker::Model;
 use std::sync::Wait;
+use std::thread;
 
 /// Puts one thread to sleep until another hands it its node.
 ///
@@ -105,6 +106,13 @@ pub trait UnparkHandleT<P: ThreadParkerT>: Drop {
     /// here and the parker's lock is let go.
     fn unpark(self, parker: &P)
         requires { P.owner parker.now ≡ number self };
+}
+
+/// Yields the processor, so that another thread may run. It takes no lock.
+///
+/// Upstream has it under this name.
+pub fn thread_yield() {
+    thread::yield_now();
 }
 
 /// Where a thread finds its node when it was unparked. All nodes in it have the owner's number. No
