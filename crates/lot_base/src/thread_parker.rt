@@ -2,18 +2,22 @@
 //! which the node goes.
 
 ghost use Rattle.std.specs.Prelude.{◌≡◌, [], ◌∷◌, ◌++◌, ◌↔◌, ℕ, IsNone, IsTrue, IfSome, IfOk};
+ghost use Rattle.std.specs.Sync.Mutex.{mutex_guard_value};
 ghost use Rattle.lot_base.specs.Node.{fields, option_nodes};
 
+mod generic;
 mod mutex;
 #[cfg(test)]
 mod tests;
 
 use crate::queue::{Node, Queue};
 use crate::token::NoMemory;
+pub use generic::{YieldHandle, YieldParker};
 pub use mutex::{ThreadParker, UnparkHandle};
 use std::marker::Model;
-use std::sync::Wait;
+use std::sync::{Mutex, MutexGuard, Wait};
 use std::thread;
+use std::time::{Clock, Duration, Instant};
 
 /// Puts one thread to sleep until another hands it its node.
 ///
@@ -21,9 +25,9 @@ use std::thread;
 /// owner is parked or may go to park; a node in the slot means that an unpark of the owner was
 /// committed. The law of the trait: a node that comes back has the owner's number.
 ///
-/// `timed_out`, `park` and `unpark_lock` take the parker's own lock and no other, behind any lock
-/// of a table or a bucket that their caller holds, and let it go before they return. No call but
-/// `new` may ask for memory.
+/// `timed_out`, `park`, `park_until` and `unpark_lock` take the parker's own lock and no other,
+/// behind any lock of a table or a bucket that their caller holds, and let it go before they
+/// return. No call but `new` may ask for memory.
 ///
 /// Upstream has the trait under this name, with unsafe calls. There a thread's data stays at its
 /// address and a flag says who may use it; here the node itself moves through the calls.
@@ -69,6 +73,15 @@ pub trait ThreadParkerT: Sized + Drop {
     /// Upstream waits until its flag is cleared, and gives nothing.
     fn park<R: Wait>(&self, rt: &R) -> Box<Node>
         ensures { (fields result.value).number ≡ owner self.now };
+
+    /// Waits until the slot holds a node, and takes it, or until the deadline. `None` says that the
+    /// slot was empty at a look after the deadline; a node may come later. A clock that cannot be
+    /// read counts as past the deadline. The owner calls it in place of `park`. It holds no lock
+    /// while it sleeps.
+    ///
+    /// Upstream answers whether its flag was cleared, and its clock can be read always.
+    fn park_until<R: Wait + Clock>(&self, rt: &R, timeout: Instant) -> Option<Box<Node>>
+        ensures { IfSome result (λ node. (fields node.value).number ≡ owner self.now) };
 
     /// Puts a node of the owner into the slot. This is the commit of an unpark: from here on the
     /// owner may take its node and go on at any moment, whether or not it is woken. Any thread
@@ -177,5 +190,58 @@ impl Slot {
         ensures number { IfSome result (λ node. (fields node.value).number ≡ self.old.owner) }
     {
         self.nodes.pop_front()
+    }
+}
+
+// The time until the deadline. `None` says that it has come, or that the clock cannot be read.
+fn time_left<R: Clock>(rt: &R, deadline: Instant) -> Option<Duration> {
+    let now = Instant::now(rt).ok()?;
+    deadline
+        .checked_duration_since(now)
+        .filter(|left| !left.is_zero())
+}
+
+// A slot under a lock, with its owner's number beside it.
+//
+// The slot is made with that number, and the lock holds that slot always. No contract tells what a
+// lock holds, so each call that locks it compares the slot's owner with the number: they are equal
+// whenever the program runs, and no look is ever repeated.
+#[derive(Drop)]
+struct LockedSlot {
+    owner: usize,
+    slot: Mutex<Slot>,
+}
+
+impl LockedSlot {
+    // An empty slot of the thread of this number.
+    fn new(number: usize) -> LockedSlot
+        ensures { result.owner ≡ number }
+    {
+        LockedSlot {
+            owner: number,
+            slot: Mutex::new(Slot::new(number)),
+        }
+    }
+
+    // Locks the slot, and compares its owner.
+    fn lock<'s, R: Wait>(&'s self, rt: &R) -> MutexGuard<'s, Slot>
+        ensures { (mutex_guard_value result).owner ≡ self.now.owner }
+    {
+        self.compared(rt, self.slot.lock(rt))
+    }
+
+    // Compares the owner of a slot that is locked already, as after a wait.
+    fn compared<'s, R: Wait>(&'s self, rt: &R, locked: MutexGuard<'s, Slot>) -> MutexGuard<'s, Slot>
+        ensures { (mutex_guard_value result).owner ≡ self.now.owner }
+    {
+        let mut slot = locked;
+        for _ in rt.forever() {
+            if slot.owner() == self.owner {
+                return slot;
+            }
+            drop(slot);
+            slot = self.slot.lock(rt);
+        }
+        unreachable!()
     }
 }

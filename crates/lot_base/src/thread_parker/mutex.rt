@@ -1,49 +1,21 @@
 //! A parker whose thread sleeps on a condition variable.
 
 ghost use Rattle.std.specs.Prelude.{◌≡◌, IsOk, IfOk};
-ghost use Rattle.std.specs.Sync.Mutex.{mutex_guard_value};
 
-use super::{Slot, ThreadParkerT, UnparkHandleT};
+use super::{LockedSlot, ThreadParkerT, UnparkHandleT, time_left};
 use crate::queue::Node;
 use crate::token::NoMemory;
-use std::sync::{Condvar, Mutex, MutexGuard, Wait};
+use std::sync::{Condvar, Wait};
+use std::time::{Clock, Instant};
 
 /// A parker over a `Mutex` round the slot and a `Condvar`. No call of it allocates.
-///
-/// The parker makes its slot with its own number, and its lock holds that slot always. No contract
-/// tells what a lock holds, so each call that locks it compares the slot's owner with the parker's:
-/// they are equal whenever the program runs, and no look is ever repeated.
 ///
 /// Upstream's `unix.rs` has it under this name, over the system's own calls and with a flag in
 /// place of the slot.
 #[derive(Drop)]
 pub struct ThreadParker {
-    owner: usize,
-    slot: Mutex<Slot>,
+    slot: LockedSlot,
     filled: Condvar,
-}
-
-impl ThreadParker {
-    // The locked slot, once its owner was compared with the parker's. The loop never repeats when
-    // the program runs, since the parker's lock holds the parker's own slot always. No contract
-    // tells what a lock holds, and the comparison is what the contract below is proved from.
-    fn owners_slot<'p, R: Wait>(
-        &'p self,
-        rt: &R,
-        locked: MutexGuard<'p, Slot>,
-    ) -> MutexGuard<'p, Slot>
-        ensures { (mutex_guard_value result).owner ≡ self.now.owner }
-    {
-        let mut slot = locked;
-        for _ in rt.forever() {
-            if slot.owner() == self.owner {
-                return slot;
-            }
-            drop(slot);
-            slot = self.slot.lock(rt);
-        }
-        unreachable!()
-    }
 }
 
 impl ThreadParkerT for ThreadParker {
@@ -51,7 +23,7 @@ impl ThreadParkerT for ThreadParker {
 
     const IS_CHEAP_TO_CONSTRUCT: bool = false;
 
-    ghost owner = { λ parker. parker.owner };
+    ghost owner = { λ parker. parker.slot.owner };
 
     /// It is never refused: neither the lock nor the condition variable asks for memory.
     ///
@@ -62,8 +34,7 @@ impl ThreadParkerT for ThreadParker {
             ⟦<ThreadParker as ThreadParkerT>⟧.owner parker ≡ number) }
     {
         Ok(ThreadParker {
-            owner: number,
-            slot: Mutex::new(Slot::new(number)),
+            slot: LockedSlot::new(number),
             filled: Condvar::new(),
         })
     }
@@ -75,7 +46,7 @@ impl ThreadParkerT for ThreadParker {
     ///
     /// Upstream does the same with its flag.
     fn timed_out<R: Wait>(&self, rt: &R) -> bool {
-        self.owners_slot(rt, self.slot.lock(rt)).is_empty()
+        self.slot.lock(rt).is_empty()
     }
 
     /// Takes the slot's lock, and lets it go while it sleeps on the condition variable. A wake
@@ -85,11 +56,28 @@ impl ThreadParkerT for ThreadParker {
     fn park<R: Wait>(&self, rt: &R) -> Box<Node> {
         let mut slot = self.slot.lock(rt);
         for _ in rt.forever() {
-            slot = self.owners_slot(rt, slot);
             if let Some(node) = slot.take() {
                 return node;
             }
-            slot = self.filled.wait(rt, slot);
+            slot = self.slot.compared(rt, self.filled.wait(rt, slot));
+        }
+        unreachable!()
+    }
+
+    /// Takes the slot's lock, and lets it go while it sleeps on the condition variable, at most
+    /// until the deadline. It reads the clock after each look, still with the lock.
+    ///
+    /// Upstream waits for its flag in the same way, and without a deadline where its system cannot
+    /// represent it.
+    fn park_until<R: Wait + Clock>(&self, rt: &R, timeout: Instant) -> Option<Box<Node>> {
+        let mut slot = self.slot.lock(rt);
+        for _ in rt.forever() {
+            if let Some(node) = slot.take() {
+                return Some(node);
+            }
+            let left = time_left(rt, timeout)?;
+            let (locked, _) = self.filled.wait_timeout(rt, slot, left);
+            slot = self.slot.compared(rt, locked);
         }
         unreachable!()
     }
@@ -99,7 +87,7 @@ impl ThreadParkerT for ThreadParker {
     /// Upstream locks, and leaves the rest to `unpark`.
     fn unpark_lock<R: Wait>(&self, rt: &R, node: Box<Node>) -> UnparkHandle {
         let number = node.number;
-        self.owners_slot(rt, self.slot.lock(rt)).put(node);
+        self.slot.lock(rt).put(node);
         UnparkHandle { number }
     }
 }

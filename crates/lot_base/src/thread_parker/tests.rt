@@ -3,7 +3,7 @@
 ghost use Rattle.std.specs.Prelude.{◌≡◌, IfOk};
 ghost use Rattle.lot_base.specs.Node.{fields};
 
-use super::{Slot, ThreadParker, ThreadParkerT, UnparkHandleT};
+use super::{Slot, ThreadParker, ThreadParkerT, UnparkHandleT, YieldParker, thread_yield};
 use crate::queue::Node;
 use crate::token::{DEFAULT_PARK_TOKEN, NoMemory, UnparkToken};
 use std::alloc::Global;
@@ -11,12 +11,34 @@ use std::process::Abort;
 use std::sync::Wait;
 use std::sync::atomic::{AtomicBool, Ordering};
 use std::test::Fail;
-use std::thread;
 use std::thread::Threads;
+use std::time::{Clock, Duration, Instant};
+use std::{io, thread};
 
 const OWNER: usize = 3;
 
 const TURNS: usize = 10_000_000;
+
+// A runtime whose clock cannot be read.
+#[derive(Drop)]
+struct Clockless<R>(R);
+
+impl<R: Wait> Wait for Clockless<R> {}
+
+impl<R> Clock for Clockless<R> {
+    fn monotonic(&self) -> io::Result<Duration> {
+        Err(io::ErrorKind::Unsupported.into())
+    }
+
+    fn since_1970(&self) -> io::Result<Duration> {
+        Err(io::ErrorKind::Unsupported.into())
+    }
+}
+
+fn from_now<R: Clock + Abort>(rt: &R, duration: Duration) -> Result<Instant, Fail> {
+    let now = Instant::now(rt)?;
+    Ok(now.checked_add(duration).expect(rt, "a time of the clock"))
+}
 
 fn owners_node(alloc: Global, token: UnparkToken) -> Result<Box<Node>, NoMemory>
     ensures { IfOk result (λ node. (fields node.value).number ≡ OWNER) }
@@ -48,22 +70,62 @@ fn commits_take_turns<P: ThreadParkerT, R: Wait + Abort>(
     Ok(())
 }
 
+// No clause says when a timed wait ends. With a `park_until` that looks at no clock, this does not
+// end.
+fn waits_to_the_deadline<P: ThreadParkerT, R: Wait + Clock + Abort>(rt: &R) -> Result<(), Fail> {
+    let parker = P::new(OWNER)?;
+    let soon = from_now(rt, Duration::from_millis(20))?;
+    assert!(rt; parker.park_until(rt, soon).is_none(), "nobody puts a node");
+    assert!(rt; soon <= Instant::now(rt)?, "the deadline has passed");
+    assert!(rt;
+        parker.park_until(rt, soon).is_none(),
+        "the deadline passed before"
+    );
+    assert!(rt; parker.timed_out(rt), "nobody has put a node");
+    Ok(())
+}
+
+// No clause says what a wait without a clock does. With one that goes on, this takes an hour.
+fn waits_for_no_clock<P: ThreadParkerT, R: Wait + Clock + Abort>(rt: &R) -> Result<(), Fail> {
+    let parker = P::new(OWNER)?;
+    let in_an_hour = from_now(rt, Duration::from_hours(1))?;
+    assert!(rt; parker.park_until(&Clockless(rt), in_an_hour).is_none());
+    Ok(())
+}
+
+// No clause says that a node in the slot is found. This refuses a `park_until` that answers `None`
+// at a deadline without a look.
+fn looks_after_the_deadline<P: ThreadParkerT, R: Wait + Clock + Abort>(
+    rt: &R,
+    alloc: Global,
+) -> Result<(), Fail> {
+    let parker = P::new(OWNER)?;
+    let late = parker.unpark_lock(rt, owners_node(alloc, UnparkToken(42))?);
+    let node = parker.park_until(rt, Instant::now(rt)?);
+    let token = node.expect(rt, "the node was put before").unpark_token;
+    assert_eq!(rt; token, UnparkToken(42));
+    late.unpark(&parker);
+    assert!(rt; parker.timed_out(rt), "a late unpark fills no slot");
+    Ok(())
+}
+
 fn wait_until(started: &AtomicBool) {
     for _ in 0..TURNS {
         if started.load(Ordering::SeqCst) {
             return;
         }
-        thread::yield_now();
+        thread_yield();
     }
 }
 
-// No clause says that a wake reaches anybody. With an `unpark` that notifies nobody, this does not
-// end where the owner slept before the commit.
-fn token_between_threads<P: ThreadParkerT + Sync, R: Threads + Wait + Sync>(
+// No clause says that a wake reaches anybody. With an `unpark` that notifies nobody, this ends no
+// sooner than the deadline where the owner slept before the commit, and not without one.
+fn token_between_threads<P: ThreadParkerT + Sync, R: Threads + Wait + Clock + Sync>(
     rt: &R,
     alloc: Global,
     token: UnparkToken,
-) -> Result<UnparkToken, NoMemory> {
+    deadline: Option<Instant>,
+) -> Result<Option<UnparkToken>, NoMemory> {
     let parker = P::new(OWNER)?;
     let node = owners_node(alloc, token)?;
     let starts = AtomicBool::new(false);
@@ -71,7 +133,10 @@ fn token_between_threads<P: ThreadParkerT + Sync, R: Threads + Wait + Sync>(
         rt,
         || {
             starts.store(true, Ordering::SeqCst);
-            parker.park(rt)
+            match deadline {
+                None => Some(parker.park(rt)),
+                Some(deadline) => parker.park_until(rt, deadline),
+            }
         },
         ||
             requires { (fields node.value).number ≡ P.owner parker }
@@ -80,7 +145,33 @@ fn token_between_threads<P: ThreadParkerT + Sync, R: Threads + Wait + Sync>(
             parker.unpark_lock(rt, node).unpark(&parker);
         },
     );
-    Ok(node.unpark_token)
+    Ok(node.map(|node| node.unpark_token))
+}
+
+fn wakes_its_thread<P: ThreadParkerT + Sync, R: Threads + Wait + Clock + Sync + Abort>(
+    rt: &R,
+    alloc: Global,
+    deadline: Option<Instant>,
+) -> Result<(), NoMemory> {
+    for round in 0..100 {
+        let token = UnparkToken(round);
+        let came = token_between_threads::<P, _>(rt, alloc, token, deadline)?;
+        assert_eq!(rt; came, Some(token));
+    }
+    Ok(())
+}
+
+fn wakes_its_thread_in_time<P: ThreadParkerT + Sync, R: Threads + Wait + Clock + Sync + Abort>(
+    rt: &R,
+    alloc: Global,
+) -> Result<(), Fail> {
+    let deadline = from_now(rt, Duration::from_secs(30))?;
+    wakes_its_thread::<P, _>(rt, alloc, Some(deadline))?;
+    assert!(rt;
+        Instant::now(rt)? < deadline,
+        "no wait lasted to the deadline"
+    );
+    Ok(())
 }
 
 #[test]
@@ -91,14 +182,58 @@ fn thread_parker_commits_take_turns(rt: HostRuntime) -> Result<(), Fail> {
 
 #[test]
 fn thread_parker_wakes_its_thread(rt: HostRuntime) -> Result<(), Fail> {
-    for round in 0..100 {
-        let token = UnparkToken(round);
-        assert_eq!(rt;
-            token_between_threads::<ThreadParker, _>(&rt, rt.alloc(), token)?,
-            token
-        );
-    }
-    Ok(())
+    Ok(wakes_its_thread::<ThreadParker, _>(&rt, rt.alloc(), None)?)
+}
+
+#[test]
+fn thread_parker_wakes_its_thread_in_time(rt: HostRuntime) -> Result<(), Fail> {
+    wakes_its_thread_in_time::<ThreadParker, _>(&rt, rt.alloc())
+}
+
+#[test]
+fn thread_parker_waits_to_the_deadline(rt: HostRuntime) -> Result<(), Fail> {
+    waits_to_the_deadline::<ThreadParker, _>(&rt)
+}
+
+#[test]
+fn thread_parker_waits_for_no_clock(rt: HostRuntime) -> Result<(), Fail> {
+    waits_for_no_clock::<ThreadParker, _>(&rt)
+}
+
+#[test]
+fn thread_parker_looks_after_the_deadline(rt: HostRuntime) -> Result<(), Fail> {
+    looks_after_the_deadline::<ThreadParker, _>(&rt, rt.alloc())
+}
+
+#[test]
+fn yield_parker_commits_take_turns(rt: HostRuntime) -> Result<(), Fail> {
+    assert!(rt; YieldParker::IS_CHEAP_TO_CONSTRUCT);
+    Ok(commits_take_turns::<YieldParker, _>(&rt, rt.alloc())?)
+}
+
+#[test]
+fn yield_parker_finds_its_node(rt: HostRuntime) -> Result<(), Fail> {
+    Ok(wakes_its_thread::<YieldParker, _>(&rt, rt.alloc(), None)?)
+}
+
+#[test]
+fn yield_parker_finds_its_node_in_time(rt: HostRuntime) -> Result<(), Fail> {
+    wakes_its_thread_in_time::<YieldParker, _>(&rt, rt.alloc())
+}
+
+#[test]
+fn yield_parker_waits_to_the_deadline(rt: HostRuntime) -> Result<(), Fail> {
+    waits_to_the_deadline::<YieldParker, _>(&rt)
+}
+
+#[test]
+fn yield_parker_waits_for_no_clock(rt: HostRuntime) -> Result<(), Fail> {
+    waits_for_no_clock::<YieldParker, _>(&rt)
+}
+
+#[test]
+fn yield_parker_looks_after_the_deadline(rt: HostRuntime) -> Result<(), Fail> {
+    looks_after_the_deadline::<YieldParker, _>(&rt, rt.alloc())
 }
 
 #[test]
