@@ -26,8 +26,6 @@ impl ThreadParkerT for YieldParker {
     ghost owner = { λ parker. parker.slot.owner };
 
     /// It is never refused: the lock does not ask for memory.
-    ///
-    /// Upstream makes its flag.
     fn new(number: usize) -> Result<YieldParker, NoMemory>
         ensures made { IsOk result }
         ensures owner { IfOk result (λ parker.
