@@ -1,8 +1,8 @@
 -- Growth: nodes that are spread over the buckets of another table keep the list of each key.
-use Rattle.std.proofs.Common.{◌≡◌, ◌≢◌, ℕ, ◌+◌, ◌<◌, ◌≤◌, ◌==◌, List, [], ◌∷◌, ◌++◌, length, length-append, get_or, map}
-use Rattle.std.proofs.Common.{drop, slice_set, All, refl, sym, ap, ◌∙◌, subst, ⊎_elim, arith, append_assoc, append-nil}
+use Rattle.std.proofs.Common.{◌≡◌, ◌≢◌, ℕ, ◌+◌, ◌<◌, ◌≤◌, ◌==◌, List, [], ◌∷◌, ◌++◌, length, get_or, map}
+use Rattle.std.proofs.Common.{slice_set, All, refl, sym, ap, ◌∙◌, subst, ⊎_elim, arith, append_assoc, append-nil}
 use Rattle.std.proofs.lemmas.Bool.{cases_eq, ne_eqb, cond-false}
-use Rattle.std.proofs.lemmas.List.{get_or_read, length-set, map-set, drop-set, length-map}
+use Rattle.std.proofs.lemmas.List.{get_or_read, length-set}
 use Rattle.std.proofs.lemmas.List.Elements.{All-push, All-cons, All-head, All-tail, filter-append}
 use Rattle.lot_base.proofs.PlaceLemmas.{place_of-below}
 use Rattle.lot_base.specs.BucketState.{BucketState}
@@ -13,7 +13,7 @@ use Rattle.parking_lot_core.specs.Represents.{bucket_at, waiters_in, waiter_of, 
 use Rattle.parking_lot_core.specs.Table.{IsRowOf, AreEmpty, KeepsLists}
 use Rattle.parking_lot_core.specs.Represents.{nodes_in}
 use Rattle.parking_lot_core.proofs.RowLemmas.{bucket_at-set_same, bucket_at-set_other, Represents-set}
-use Rattle.parking_lot_core.proofs.TableLemmas.{IsRowOf-set, nodes-empty, told_at}
+use Rattle.parking_lot_core.proofs.TableLemmas.{IsRowOf-set, nodes-empty, read_in_place}
 
 -- one node waits on its own key alone
 lists_of-other : (node : NodeFields) (k : ℕ) → k ≢ node.key → lists_of (node ∷ []) k ≡ []
@@ -114,9 +114,8 @@ pub own_place : (row : List BucketState) (place : ℕ) (bucket : BucketState) (n
     → IsRowOf (length row) row → place ≡ place_of node.key (length row) → place < length row
     → bucket ≡ get_or row place bucket → place_of node.key bucket.size ≡ bucket.place
 own_place row place bucket node is_row at below read =
-    let here : bucket ≡ bucket_at row place = get_or_read row place bucket below read _ in
-    ap (place_of node.key) (ap (λ b. b.size) here ∙ is_row.sizes place below) ∙ sym at
-    ∙ sym (ap (λ b. b.place) here ∙ is_row.places place below)
+    let own = read_in_place row place bucket below read is_row in
+    ap (place_of node.key) own.1 ∙ sym at ∙ sym own.0
 
 pub with_node-is : (row : List BucketState) (place : ℕ) (bucket new : BucketState) (node : NodeFields)
     → place ≡ place_of node.key (length row) → place < length row → bucket ≡ get_or row place bucket
@@ -175,32 +174,6 @@ IsGathered-step told told_now row row_now row_next place left bucket below is_ro
     unmoved k other = moved k ∙ ap (λ nodes. nodes_in row_now k ++ nodes)
         (lists_of-elsewhere (length told) place bucket.nodes k in_place other) ∙ append-nil (nodes_in row_now k)
 
--- the same for the cells that tell the buckets
-pub IsGathered-cells : {C : Type 0} (tell : C → BucketState) (cells cells_now : List C)
-    (row row_now row_next : List BucketState) (place : ℕ) (cell left : C) (bucket : BucketState) → place < length cells
-    → length cells_now ≡ length cells → IsRowOf (length cells) (map tell cells) → cell ≡ get_or cells_now place cell
-    → bucket ≡ tell cell → All (λ node. place_of node.key bucket.size ≡ bucket.place) bucket.nodes
-    → ((k : ℕ) → nodes_in row_next k ≡ nodes_in row_now k ++ lists_of bucket.nodes k)
-    → IsGathered (map tell cells) (map tell cells_now) row row_now place
-    → IsGathered (map tell cells) (map tell (slice_set cells_now place left)) row row_next (place + 1)
-IsGathered-cells tell cells cells_now row row_now row_next place cell left bucket below count is_row read is all moved
-    gathered =
-    let same : length (map tell cells) ≡ length cells = length-map cells tell in
-    subst (λ now. IsGathered (map tell cells) now row row_next (place + 1)) (sym (map-set tell cells_now place left))
-    (IsGathered-step (map tell cells) (map tell cells_now) row row_now row_next place (tell left) bucket (omega arith)
-    (subst (λ size. IsRowOf size (map tell cells)) (sym same) is_row)
-    (is ∙ told_at tell cells_now place cell (omega arith) read) all moved gathered)
-
-pub IsGathered-end : {C : Type 0} (tell : C → BucketState) (cells cells_now : List C) (row row_now : List BucketState)
-    (place : ℕ) → place ≡ length cells → IsTableSize (length cells)
-    → IsGathered (map tell cells) (map tell cells_now) row row_now place → (k : ℕ)
-    → nodes_in row_now k ≡ nodes_in row k ++ nodes_in (map tell cells) k
-IsGathered-end tell cells cells_now row row_now place all table gathered k =
-    let same : length (map tell cells) ≡ length cells = length-map cells tell in
-    let low : place_of k (length (map tell cells)) < length (map tell cells) =
-    place_of-below k (length (map tell cells)) (subst IsTableSize (sym same) table) in
-    gathered.done k (omega arith)
-
 -- rows whose buckets are empty
 pub nodes_in-empty : (size : ℕ) (row : List BucketState) → AreEmpty size row → (k : ℕ) → nodes_in row k ≡ []
 nodes_in-empty size row empty k =
@@ -216,15 +189,3 @@ KeepsLists-from_nodes old new represents same = record {
     in_order = λ key. was.in_order key ∙ ap (map waiter_of) (sym (same key));
   };
 }
-
--- buckets that are swapped into their places from the last one on
-pub filled-step : {C : Type 0} (tell : C → BucketState) (row left : List BucketState) (cells : List C) (cell : C)
-    (bucket : BucketState) → length left < length cells → tell cell ≡ bucket
-    → left ++ bucket ∷ [] ++ drop (length (left ++ bucket ∷ [])) (map tell cells) ≡ row
-    → left ++ drop (length left) (map tell (slice_set cells (length left) cell)) ≡ row
-filled-step tell row left cells cell bucket below is filled =
-    ap (λ told. left ++ drop (length left) told)
-    (map-set tell cells (length left) cell ∙ ap (slice_set (map tell cells) (length left)) is)
-    ∙ ap (λ back. left ++ back) (drop-set (map tell cells) (length left) bucket (omega (arith, length-map cells tell))
-    ∙ ap (λ n. bucket ∷ drop n (map tell cells)) (sym (length-append left (bucket ∷ []))))
-    ∙ sym (append_assoc left (bucket ∷ []) (drop (length (left ++ bucket ∷ [])) (map tell cells))) ∙ filled

@@ -1,9 +1,8 @@
 -- Thread numbers, and the sizes of tables.
 use Rattle.std.proofs.Common.{◌≡◌, ℕ, ◌+◌, ◌/◌, ◌^◌, ◌<◌, ◌≤◌, List, [], ◌∷◌, length, get_or, max, slice_get, slice_set}
-use Rattle.std.proofs.Common.{set-set, Some, refl, sym, ap, ◌∙◌, ⊎_elim, arith, suc, zero, cond}
+use Rattle.std.proofs.Common.{Some, refl, ap, ◌∙◌, ⊎_elim, arith, suc, zero, cond}
 use Rattle.std.proofs.lemmas.Bool.{cases_lt}
 use Rattle.std.proofs.lemmas.Nat.{pow_below}
-use Rattle.std.proofs.lemmas.List.{set-get_or}
 use Rattle.std.proofs.lemmas.List.Sums.{count_by-le-length, sum_by-cons, sum_by-set}
 use Rattle.std.proofs.lemmas.Option.{none-some, get_or_from_slice_get, slice_get_within}
 use Rattle.std.specs.Int.{IsPowerOfTwo}
@@ -71,11 +70,3 @@ pub IsTableSize-grown : (old wanted size : ℕ) → IsTableSize old → old < wa
     → wanted ≤ size → size / 2 < max 1 wanted → IsTableSize size
 IsTableSize-grown old wanted size table more few power not_below least =
     let low = IsTableSize-least old table in IsTableSize-power size power (omega arith) (omega arith)
-
--- a free number that was registered and freed again
-pub freed_again : (numbers : List Use) (number : ℕ) → slice_get numbers number ≡ Some Free
-    → slice_set (slice_set numbers number Registered) number Free ≡ numbers
-freed_again numbers number free =
-    set-set numbers number Registered Free
-    ∙ ap (slice_set numbers number) (sym (get_or_from_slice_get numbers number Free Free free))
-    ∙ set-get_or numbers number Free

@@ -26,6 +26,11 @@ without_first-map number (node ∷ nodes) = chosen (node.number == number) (with
     chosen false rest = ap (λ waiters. waiter_of node ∷ waiters) rest
 
 -- the node of a thread that stands among the waiters is found, and is its own
+pub find-number : (number : ℕ) (nodes : List NodeFields) (node : NodeFields)
+    → find (has_number number) nodes ≡ Some node → node.number ≡ number
+find-number number [] node found = search
+find-number number (first ∷ nodes) node found = grind (arith, find-number number nodes node)
+
 pub find-standing : (number : ℕ) (nodes : List NodeFields) → times_in number (map waiter_of nodes) ≡ 1
     → IsSomeAnd (find (has_number number) nodes) (λ node. node.number ≡ number)
 find-standing number [] once = absurd (omega (arith, once))

@@ -1,36 +1,14 @@
--- Rows of buckets, and the cells that tell them.
-use Rattle.std.proofs.Common.{◌≡◌, ◌≢◌, ℕ, ◌-◌, ◌<◌, ◌≤◌, List, [], ◌∷◌, ◌++◌, Option, Some, None, IfSome, length}
-use Rattle.std.proofs.Common.{length-append, get_or, map, option_map, slice_get, slice_set, refl, sym, ap, ◌∙◌, ⊎_elim}
+-- Rows of buckets.
+use Rattle.std.proofs.Common.{◌≡◌, ◌≢◌, ℕ, ◌-◌, ◌<◌, ◌≤◌, List, [], ◌∷◌, ◌++◌, length}
+use Rattle.std.proofs.Common.{length-append, get_or, slice_set, refl, sym, ap, ◌∙◌, ⊎_elim}
 use Rattle.std.proofs.Common.{arith}
 use Rattle.std.proofs.Math.ListN.{length-set}
 use Rattle.std.proofs.lemmas.Bool.{cases_eq, cases_lt}
-use Rattle.std.proofs.lemmas.List.{get_or_past, get_or_append_left, get_or-append_right}
-use Rattle.std.proofs.lemmas.Option.{slice_get-map, slice_get_read, get_or_from_slice_get}
+use Rattle.std.proofs.lemmas.List.{get_or_past, get_or_read, get_or_append_left, get_or-append_right}
 use Rattle.lot_base.specs.BucketState.{BucketState}
 use Rattle.parking_lot_core.specs.Represents.{bucket_at}
 use Rattle.parking_lot_core.specs.Table.{IsRowOf, AreEmpty}
 use Rattle.parking_lot_core.proofs.RowLemmas.{bucket_at-set_same, bucket_at-set_other}
-
--- what follows from two facts about the value, if there is one
-pub IfSome-both : {A : Type 0} (o : Option A) {P Q R : A → Type 0} → IfSome o P → IfSome o Q
-    → ((a : A) → P a → Q a → R a) → IfSome o R
-IfSome-both None p q f = tt
-IfSome-both (Some a) p q f = f a p q
-
-pub IfSome-three : {A : Type 0} (o : Option A) {P Q R S : A → Type 0} → IfSome o P → IfSome o Q → IfSome o R
-    → ((a : A) → P a → Q a → R a → S a) → IfSome o S
-IfSome-three None p q r f = tt
-IfSome-three (Some a) p q r f = f a p q r
-
-pub IfSome-always : {A : Type 0} (o : Option A) {P : A → Type 0} → ((a : A) → P a) → IfSome o P
-IfSome-always None f = tt
-IfSome-always (Some a) f = f a
-
--- what a cell tells stands at its place
-pub bucket_at-map : {C : Type 0} (tell : C → BucketState) (cells : List C) (i : ℕ) (cell : C)
-    → slice_get cells i ≡ Some cell → bucket_at (map tell cells) i ≡ tell cell
-bucket_at-map tell cells i cell here =
-    get_or_from_slice_get (map tell cells) i (tell cell) _ (slice_get-map tell cells i ∙ ap (option_map tell) here)
 
 -- one empty bucket more
 pub AreEmpty-push : (size : ℕ) (row : List BucketState) (bucket : BucketState)
@@ -72,17 +50,9 @@ IsRowOf-set size row place bucket below at sized is_row = record {
     here : bucket_at (slice_set row place bucket) place ≡ bucket
     here = bucket_at-set_same row place bucket (omega (arith, is_row.count))
 
--- a cell that was read has its own place
-pub place_told : {C : Type 0} (tell : C → BucketState) (cells : List C) (i : ℕ) (cell : C) → i < length cells
-    → cell ≡ get_or cells i cell → IsRowOf (length cells) (map tell cells)
-    → ((tell cell).place ≡ i) × ((tell cell).size ≡ length cells)
-place_told tell cells i cell below read row =
-    let here : bucket_at (map tell cells) i ≡ tell cell =
-    bucket_at-map tell cells i cell (slice_get_read cells (length cells) i cell refl below read) in
-    (ap (λ b. b.place) (sym here) ∙ row.places i below, ap (λ b. b.size) (sym here) ∙ row.sizes i below)
-
--- and what it tells stands there in the row
-pub told_at : {C : Type 0} (tell : C → BucketState) (cells : List C) (i : ℕ) (cell : C) → i < length cells
-    → cell ≡ get_or cells i cell → tell cell ≡ bucket_at (map tell cells) i
-told_at tell cells i cell below read =
-    sym (bucket_at-map tell cells i cell (slice_get_read cells (length cells) i cell refl below read))
+-- a bucket that was read has its own place
+pub read_in_place : (row : List BucketState) (i : ℕ) (bucket : BucketState) → i < length row
+    → bucket ≡ get_or row i bucket → IsRowOf (length row) row → (bucket.place ≡ i) × (bucket.size ≡ length row)
+read_in_place row i bucket below read is_row =
+    let here : bucket ≡ bucket_at row i = get_or_read row i bucket below read _ in
+    (ap (λ b. b.place) here ∙ is_row.places i below, ap (λ b. b.size) here ∙ is_row.sizes i below)

@@ -17,5 +17,6 @@ pub mod TableState
 pub mod Table
 pub mod ThreadDataState
 pub mod ParkingLotState
+pub mod Threaded
 -- Last what only private contracts cite.
 pub mod Private

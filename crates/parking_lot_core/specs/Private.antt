@@ -2,3 +2,5 @@
 pub mod Thread
 pub mod Committed
 pub mod Decisions
+pub mod RegistryState
+pub mod Section

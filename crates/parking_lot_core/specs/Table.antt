@@ -1,10 +1,8 @@
 -- Thread numbers, rows of buckets, and what every table keeps.
-use Rattle.std.specs.Prelude.{◌≡◌, ℕ, ◌*◌, ◌<◌, ◌≤◌, Bool, true, false, Option, IfSome, List, length, map, count_by, []}
-use Rattle.std.specs.Prelude.{slice_get, Some}
+use Rattle.std.specs.Prelude.{◌≡◌, ℕ, ◌*◌, ◌<◌, ◌≤◌, Bool, true, false, List, length, count_by, [], slice_get, Some}
 use Rattle.lot_base.specs.BucketState.{BucketState}
 use Rattle.lot_base.specs.NodeFields.{NodeFields}
 use Rattle.lot_base.specs.Place.{IsTableSize}
-use Rattle.parking_lot_core.specs.declared.table.TheConstants.{MAX_THREADS}
 use Rattle.parking_lot_core.specs.declared.table.Use.{Use}
 use Rattle.parking_lot_core.specs.declared.table.Use.TheVariants.{Free, Registered}
 use Rattle.parking_lot_core.specs.Represents.{bucket_at, nodes_in, waiters_in, Represents}
@@ -45,10 +43,8 @@ pub record KeepsLists (old new : List BucketState) : Type 0 where
   pub nodes : (key : ℕ) → nodes_in new key ≡ nodes_in old key
   pub represents : (lists : _) → Represents old lists → Represents new lists
 
--- what every table keeps, where `contents` tells the bucket of a cell; it is `None` where the cells are locks, and then
--- nothing is said of the row
-pub record IsTable {C : Type 0} (contents : Option (C → BucketState)) (table : TableState C) : Type 0 where
+-- what every table keeps
+pub record IsTable (table : TableState) : Type 0 where
   pub size : IsTableSize (length table.cells)
   pub room : 3 * count_registered table.numbers ≤ length table.cells
-  pub threads : length table.numbers ≤ MAX_THREADS
-  pub row : IfSome contents (λ tell. IsRowOf (length table.cells) (map tell table.cells))
+  pub row : IsRowOf (length table.cells) table.cells

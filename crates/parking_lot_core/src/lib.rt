@@ -10,9 +10,15 @@ pub mod table;
 
 pub use lot_base::bucket::{Bucket, place};
 pub use lot_base::queue::{Node, Queue};
-pub use lot_base::thread_parker::{Slot, ThreadParker, ThreadParkerT, UnparkHandle, UnparkHandleT};
+pub use lot_base::spinwait::SpinWait;
+pub use lot_base::thread_parker::{
+    Slot, ThreadParker, ThreadParkerT, UnparkHandle, UnparkHandleT, YieldHandle, YieldParker,
+    thread_yield,
+};
 pub use lot_base::token::{
     DEFAULT_PARK_TOKEN, DEFAULT_UNPARK_TOKEN, FilterOp, LotError, Misfit, NoMemory, ParkResult,
     ParkToken, RequeueOp, StepError, UnparkResult, UnparkToken,
 };
-pub use parking_lot::{ParkingLot, ThreadData, park, unpark_one};
+pub use parking_lot::{
+    ParkingLot, ThreadData, park, unpark_all, unpark_filter, unpark_one, unpark_requeue,
+};

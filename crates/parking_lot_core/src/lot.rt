@@ -18,7 +18,6 @@ mod requeue;
 mod thread;
 
 use crate::table::{MAX_THREADS, Table};
-use lot_base::bucket::Bucket;
 use lot_base::queue::Node;
 use lot_base::token::{
     FilterOp, LotError, Misfit, NoMemory, ParkResult, ParkToken, RequeueOp, UnparkResult,
@@ -62,7 +61,7 @@ pub enum Status {
 /// Upstream has no such type. Its `park` is `enter`, and after the sleep `resolve`.
 #[derive(Drop)]
 pub struct Lot {
-    table: Table<Bucket>,
+    table: Table,
     threads: Vec<Thread>,
 }
 
@@ -125,7 +124,7 @@ impl Lot {
             return Err(LotError::Full);
         }
         let mut node = Node::new(*self.threads.allocator(), 0)?;
-        let number = self.table.register(&())?;
+        let number = self.table.register()?;
         node.number = number;
         self.threads[number].register(node);
         Ok(number)
@@ -429,7 +428,7 @@ impl Lot {
         ensures numbers { IfOk result (λ numbers. numbers.items
             ≡ map (λ waiter. waiter.number) ((machine self.now).lists key)) }
     {
-        self.table.cell(key).list(*self.threads.allocator(), key)
+        self.table.bucket(key).list(*self.threads.allocator(), key)
     }
 
     /// What the number is doing. One that is not below the greatest number of threads is `Free`.
@@ -470,7 +469,7 @@ impl Lot {
 
 // Hands the node to the bucket of its key, or gives it back if `validate` answers false.
 fn enter_bucket<V: FnOnce() -> bool>(
-    table: &mut Table<Bucket>,
+    table: &mut Table,
     node: Box<Node>,
     validate: V,
 ) -> Result<(), Box<Node>>

@@ -1,24 +1,29 @@
 //! The threaded lot, which threads share by reference: each parks itself, and any may unpark it.
 
-ghost use Rattle.std.specs.Prelude.{◌≡◌, ◌≢◌, ◌↔◌, ◌<◌, Bool, true, List, length, map, slice_set, None, Err, IsErrOf, IfOk, IfErr, OnErr, MatchBool, is_ok};
+ghost use Rattle.std.specs.Prelude.{◌≡◌, ◌≢◌, ◌↔◌, ◌<◌, Bool, true, length, map, None, Err, IsTrue, IsErrOf, IfOk, IfErr, MatchBool, is_ok};
 ghost use Rattle.std.specs.List.{range_with_len};
-ghost use Rattle.std.specs.Sync.Mutex.{mutex_guard_value};
 ghost use Rattle.lot_base.specs.Node.{fields};
-ghost use Rattle.lot_base.specs.NodeFields.{NodeFields};
-ghost use Rattle.lot_base.specs.Place.{place_of};
-ghost use Rattle.lot_base.specs.Waiting.{split_first, result_of};
-ghost use Rattle.parking_lot_core.specs.Table.{count_registered, IsLeastUnregistered};
+ghost use Rattle.lot_base.specs.Requeue.{IsCallableAtEach};
+ghost use Rattle.parking_lot_core.specs.Private.Section.{HasPlaceOf, AreApart};
+ghost use Rattle.parking_lot_core.specs.Threaded.{IsCallableForOne, IsUnparkOfOne, AreCallableForFilter, IsUnparkByFilter, AreCallableForRequeue, IsRequeueByChoice};
 
-use crate::table::{MAX_THREADS, Table, Use};
-use lot_base::bucket::{Bucket, place};
+mod buckets;
+mod handles;
+
+use crate::table::MAX_THREADS;
+use buckets::Buckets;
+use handles::{HANDLES, Handles, Room};
+use lot_base::bucket::Bucket;
 use lot_base::queue::{Node, Queue};
 use lot_base::thread_parker::{ThreadParkerT, UnparkHandleT};
-use lot_base::token::{LotError, NoMemory, ParkResult, ParkToken, UnparkResult, UnparkToken};
+use lot_base::token::{
+    FilterOp, LotError, NoMemory, ParkResult, ParkToken, RequeueOp, UnparkResult, UnparkToken,
+};
 use std::alloc::Global;
 use std::marker::Model;
+use std::sync::Wait;
 use std::sync::atomic::{AtomicUsize, Ordering};
-use std::sync::{Mutex, MutexGuard, RwLock, Wait};
-use std::time::Instant;
+use std::time::{Clock, Instant};
 
 /// A registered thread: its number, and its node while it does not wait. It belongs to the lot that
 /// gave it. With another lot's data every call is safe, and nothing else is said.
@@ -57,7 +62,7 @@ impl ThreadData {
 }
 
 // What the lot keeps for one thread number from the first: its parker, and the key of the queue
-// that its thread entered last.
+// that its thread entered last, or was moved to.
 #[derive(Drop)]
 struct PerThread<P: ThreadParkerT> {
     parker: P,
@@ -67,15 +72,17 @@ struct PerThread<P: ThreadParkerT> {
 /// A parking lot: threads park on keys and are unparked by others, through the free functions of
 /// this module.
 ///
-/// It is made for a greatest number of threads, each of which registers by `thread_data`. What is
-/// behind its locks is one table of buckets, which grows with the registered threads. A section is
-/// what a call does under the lock of one bucket. It holds the table's lock for reading to its
-/// end, so that the table does not grow meanwhile; registering and retiring take that for writing.
+/// It is made for a greatest number of threads, each of which registers by `thread_data`. Each
+/// bucket has a lock of its own, and a section is what a call does under the lock of its key's
+/// bucket, or of its two keys' buckets, the one at the lower place first. It takes no other lock
+/// but parkers' own, one at a time. Registering and retiring take the lock of the numbers, and a
+/// registration that lets the table grow also that of each bucket in turn; sections that meet it
+/// sleep until it is done.
 ///
 /// Upstream has one lot for the process, in statics.
 #[derive(Drop)]
 pub struct ParkingLot<P: ThreadParkerT> {
-    table: RwLock<Table<Mutex<Bucket>>>,
+    buckets: Buckets,
     threads: Vec<PerThread<P>>,
 }
 
@@ -95,7 +102,7 @@ impl<P: ThreadParkerT> Model for ParkingLot<P> {
 impl<P: ThreadParkerT> ParkingLot<P> {
     /// A lot for at most this many threads, none of which is registered.
     ///
-    /// It allocates the table, and a parker and a key word for each number.
+    /// It allocates 16 buckets, and a parker and a key word for each number.
     ///
     /// # Errors
     ///
@@ -106,12 +113,9 @@ impl<P: ThreadParkerT> ParkingLot<P> {
         ensures not_full { result ≢ Err LotError.Full }
         ensures ok { IfOk result (λ lot. lot.max_threads ≡ max_threads) }
     {
-        let table = Table::new(alloc, max_threads)?;
+        let buckets = Buckets::new(alloc, max_threads)?;
         let threads = for_each_number(alloc, max_threads)?;
-        Ok(ParkingLot {
-            table: RwLock::new(table),
-            threads,
-        })
+        Ok(ParkingLot { buckets, threads })
     }
 
     /// The greatest number of threads. Every number is below it.
@@ -121,11 +125,19 @@ impl<P: ThreadParkerT> ParkingLot<P> {
         self.threads.len()
     }
 
+    /// Whether the data's number is one of this lot's, so that its thread may park here. It tells
+    /// nothing of which lot the data came from.
+    pub fn accepts(&self, thread_data: &ThreadData) -> bool
+        ensures { IsTrue result ↔ (thread_data.now.number < self.now.max_threads) }
+    {
+        thread_data.number < self.threads.len()
+    }
+
     /// Registers a thread under the least free number.
     ///
-    /// It allocates the thread's node, then takes the table's lock for writing, waiting for all
-    /// sections to end, and allocates what the table needs to grow. From then on the thread parks
-    /// without asking for memory.
+    /// It allocates the thread's node, then takes the lock of the numbers, and allocates what the
+    /// table needs to grow. Growth waits for each section of the old buckets in turn. From then on
+    /// the thread parks without asking for memory.
     ///
     /// # Errors
     ///
@@ -136,7 +148,7 @@ impl<P: ThreadParkerT> ParkingLot<P> {
         ensures number { IfOk result (λ thread. thread.number < self.now.max_threads) }
     {
         let mut node = Node::new(alloc, 0)?;
-        let number = register_below(rt, &mut self.table.write(rt), self.threads.len())?;
+        let number = self.buckets.register(rt, alloc, self.threads.len())?;
         node.number = number;
         Ok(ThreadData {
             number,
@@ -144,10 +156,10 @@ impl<P: ThreadParkerT> ParkingLot<P> {
         })
     }
 
-    /// Frees the thread's number. It takes the table's lock for writing, and allocates nothing.
-    /// With another lot's data it frees whoever has that number here.
+    /// Frees the thread's number. It takes the lock of the numbers, and allocates nothing. With
+    /// another lot's data it frees whoever has that number here.
     pub fn retire<R: Wait>(&self, rt: &R, data: ThreadData) {
-        self.table.write(rt).release(data.number);
+        self.buckets.release(rt, data.number);
     }
 
     /// The numbers of the threads that waited on the key while its bucket was locked, in order.
@@ -158,12 +170,14 @@ impl<P: ThreadParkerT> ParkingLot<P> {
     ///
     /// `NoMemory` if memory for the list cannot be had. The empty list needs none.
     pub fn list<R: Wait>(&self, rt: &R, alloc: Global, key: usize) -> Result<Vec<usize>, NoMemory> {
-        let table = self.table.read(rt);
-        list_of(&locked_bucket(rt, &table, key), alloc, key)
+        let bucket = self.buckets.lock(rt, key);
+        let numbers = list_of(&bucket, alloc, key);
+        drop(bucket);
+        numbers
     }
 
-    // Puts the node last in the queue of its key, in a section, or gives it back if `validate`
-    // answers false.
+    // The section in which a thread comes to park: puts its node last in the queue of its key, or
+    // gives it back if `validate` answers false.
     fn enter<R: Wait, V: FnOnce() -> bool>(
         &self,
         rt: &R,
@@ -175,15 +189,152 @@ impl<P: ThreadParkerT> ParkingLot<P> {
         ensures returned { IfErr result (λ back. back.value ≡ node.value) }
     {
         let Node { number, key, .. } = *node;
-        let table = self.table.read(rt);
-        let mut bucket = locked_bucket(rt, &table, key);
-        bucket.enter(node, validate)?;
+        let mut bucket = self.buckets.lock(rt, key);
+        let entered = bucket.enter(node, validate);
+        if entered.is_ok() {
+            self.set_key(number, key);
+        }
+        drop(bucket);
+        entered
+    }
+
+    // The section in which a thread whose deadline has passed leaves its queue, unless an unpark of
+    // it was committed before. A requeue may move the thread to another key until that key's bucket
+    // is locked, and then it is looked for again.
+    fn leave<R: Wait, T: FnOnce(usize, bool)>(
+        &self,
+        rt: &R,
+        number: usize,
+        timed_out: T,
+    ) -> (ParkResult, Box<Node>)
+        requires number { number < self.now.max_threads }
+        requires timed_out { (key last : _) → T.pre timed_out key last }
+        ensures valid { result.0 ≢ ParkResult.Invalid }
+        ensures timed_out { result.0 ≡ ParkResult.TimedOut
+            → (key : _) × (last : _) × T.post timed_out key last tt }
+        ensures number { (fields result.1.value).number ≡ number }
+    {
+        let parker = self.parker(number);
+        for _ in rt.forever() {
+            let key = self.key(number);
+            let mut bucket = self.buckets.lock(rt, key);
+            if self.key(number) != key {
+                drop(bucket);
+                continue;
+            }
+            if !parker.timed_out(rt) {
+                drop(bucket);
+                let node = parker.park(rt);
+                return (ParkResult::Unparked(node.unpark_token), node);
+            }
+            if let Some((node, last)) = bucket.remove(number, key, |_, last| last) {
+                timed_out(key, last);
+                drop(bucket);
+                return (ParkResult::TimedOut, node);
+            }
+            drop(bucket);
+        }
+        unreachable!()
+    }
+
+    // The section of an unpark of one.
+    fn take_one<R: Wait, C: FnOnce(UnparkResult) -> UnparkToken>(
+        &self,
+        rt: &R,
+        key: usize,
+        callback: C,
+    ) -> (UnparkResult, Option<P::UnparkHandle>)
+        requires { IsCallableForOne C.FnOnce callback }
+        ensures { IsUnparkOfOne C.FnOnce callback result.0 }
+    {
+        let mut bucket = self.buckets.lock(rt, key);
+        let (result, taken) = take_one(&mut bucket, key, callback);
+        let handle = self.commit_one(rt, taken);
+        drop(bucket);
+        (result, handle)
+    }
+
+    // The section of an unpark of all.
+    fn take_all<R: Wait>(
+        &self,
+        rt: &R,
+        key: usize,
+        token: UnparkToken,
+    ) -> (usize, Handles<P::UnparkHandle>) {
+        let mut bucket = self.buckets.lock(rt, key);
+        let (count, taken) = take_all(&mut bucket, key, token);
+        let handles = self.commit(rt, taken);
+        drop(bucket);
+        (count, handles)
+    }
+
+    // The section of an unpark by a filter.
+    fn take_filter<
+        R: Wait,
+        F: FnMut(ParkToken) -> FilterOp,
+        C: FnOnce(UnparkResult) -> UnparkToken,
+    >(&self, rt: &R, key: usize, filter: F, callback: C) -> (UnparkResult, Handles<P::UnparkHandle>)
+        requires callable { AreCallableForFilter F.FnMut C.FnOnce filter callback }
+        ensures { IsUnparkByFilter F.FnMut C.FnOnce filter callback result.0 }
+    {
+        let mut bucket = self.buckets.lock(rt, key);
+        let (result, taken) = take_filter(&mut bucket, key, filter, callback);
+        let handles = self.commit(rt, taken);
+        drop(bucket);
+        (result, handles)
+    }
+
+    // The section of a requeue, in one bucket or in two.
+    fn requeue<
+        R: Wait,
+        V: FnOnce() -> RequeueOp,
+        C: FnOnce(RequeueOp, UnparkResult) -> UnparkToken,
+    >(
+        &self,
+        rt: &R,
+        from: usize,
+        to: usize,
+        validate: V,
+        callback: C,
+    ) -> (UnparkResult, Option<P::UnparkHandle>)
+        requires callable { AreCallableForRequeue V.FnOnce C.FnOnce validate callback }
+        ensures { IsRequeueByChoice V.FnOnce C.FnOnce validate callback result.0 }
+    {
+        let (mut source, mut target) = self.buckets.lock_two(rt, from, to);
+        let mut moved = |number: usize| self.set_key(number, to);
+        let (result, taken) = match &mut target {
+            None => requeue_one(&mut source, from, to, validate, callback, &mut moved),
+            Some(target) => {
+                requeue_two(
+                    &mut source,
+                    target,
+                    from,
+                    to,
+                    validate,
+                    callback,
+                    &mut moved,
+                )
+            }
+        };
+        let handle = self.commit_one(rt, taken);
+        drop(source);
+        drop(target);
+        (result, handle)
+    }
+
+    // The key of the queue that the thread of this number entered last, or was moved to.
+    fn key(&self, number: usize) -> usize
+        requires { number < self.now.max_threads }
+    {
+        self.threads[number].key.load(Ordering::SeqCst)
+    }
+
+    // Notes in which queue the thread of this number is. A number that is no thread's of this lot
+    // is skipped.
+    fn set_key(&self, number: usize, key: usize) {
         if let Some(thread) = self.threads.get(number) {
             thread.key.store(key, Ordering::SeqCst);
         }
-        drop(bucket);
-        drop(table);
-        Ok(())
     }
 
     // The parker of the thread of this number.
@@ -196,7 +347,7 @@ impl<P: ThreadParkerT> ParkingLot<P> {
 
     // Hands the node to its thread: the commit of an unpark. A node whose number is no thread's of
     // this lot is dropped.
-    fn commit<R: Wait>(&self, rt: &R, node: Box<Node>) -> Option<P::UnparkHandle> {
+    fn hand_over<R: Wait>(&self, rt: &R, node: Box<Node>) -> Option<P::UnparkHandle> {
         let number = node.number;
         if number >= self.threads.len() {
             return None;
@@ -204,11 +355,41 @@ impl<P: ThreadParkerT> ParkingLot<P> {
         Some(self.parker(number).unpark_lock(rt, node))
     }
 
+    // Commits the unpark of the node that was taken, if there is one.
+    fn commit_one<R: Wait>(&self, rt: &R, mut taken: Queue) -> Option<P::UnparkHandle> {
+        let node = taken.pop_front()?;
+        self.hand_over(rt, node)
+    }
+
+    // Commits the unparks of all nodes that were taken, in order. It wakes those for whose handles
+    // there is no room.
+    fn commit<R: Wait>(&self, rt: &R, mut taken: Queue) -> Handles<P::UnparkHandle> {
+        let mut handles: Handles<P::UnparkHandle> = Room::empty();
+        while let Some(node) = taken.pop_front() {
+            if let Some(handle) = self.hand_over(rt, node)
+                && let Some(handle) = handles.put(handle)
+            {
+                self.wake(handle);
+            }
+        }
+        handles
+    }
+
     // Wakes the thread whose unpark was committed.
     fn wake(&self, handle: P::UnparkHandle) {
         let number = handle.number();
         if number < self.threads.len() {
             handle.unpark(self.parker(number));
+        }
+    }
+
+    // Wakes the threads whose unparks were committed.
+    fn wake_all(&self, mut handles: Handles<P::UnparkHandle>) {
+        for _ in 0..HANDLES {
+            let Some(handle) = handles.take() else {
+                return;
+            };
+            self.wake(handle);
         }
     }
 }
@@ -231,52 +412,9 @@ fn for_each_number<P: ThreadParkerT>(
     Ok(threads)
 }
 
-// Registers the least free number, which is to be below `max_threads`. A lock does not tell that
-// its table has no more numbers than that.
-fn register_below<R: Wait>(
-    rt: &R,
-    table: &mut Table<Mutex<Bucket>>,
-    max_threads: usize,
-) -> Result<usize, LotError>
-    ensures full { length table.old.numbers ≡ max_threads
-        → (IsErrOf result LotError.Full ↔ (count_registered table.old.numbers ≡ max_threads)) }
-    ensures not_too_many { result ≢ Err LotError.TooManyThreads }
-    ensures number { IfOk result (λ number. (number < max_threads)
-        × IsLeastUnregistered table.old.numbers number
-        × (table.new.numbers ≡ slice_set table.old.numbers number Use.Registered)) }
-    ensures err { OnErr result (table.new.numbers ≡ table.old.numbers) }
-{
-    let number = table.register(rt)?;
-    if number >= max_threads {
-        table.release(number);
-        return Err(LotError::Full);
-    }
-    Ok(number)
-}
-
-// Locks the bucket of the key. A lock does not tell its bucket, so it looks again until the bucket
-// has the key's place and the table's size.
-fn locked_bucket<'t, R: Wait>(
-    rt: &R,
-    table: &'t Table<Mutex<Bucket>>,
-    key: usize,
-) -> MutexGuard<'t, Bucket>
-    ensures { place_of key (mutex_guard_value result).size ≡ (mutex_guard_value result).place }
-{
-    let size = table.size();
-    let wanted = place(key, size);
-    for _ in rt.forever() {
-        let bucket = table.cell(key).lock(rt);
-        if bucket.place() == wanted && bucket.size() == size {
-            return bucket;
-        }
-    }
-    unreachable!()
-}
-
 // The list of the key, of the bucket that is the key's.
 fn list_of(bucket: &Bucket, alloc: Global, key: usize) -> Result<Vec<usize>, NoMemory>
-    requires { place_of key bucket.now.size ≡ bucket.now.place }
+    requires { HasPlaceOf key bucket.now }
 {
     bucket.list(alloc, key)
 }
@@ -287,13 +425,78 @@ fn take_one<C: FnOnce(UnparkResult) -> UnparkToken>(
     key: usize,
     callback: C,
 ) -> (UnparkResult, Queue)
-    requires place { place_of key bucket.old.size ≡ bucket.old.place }
-    requires callback { (waiters : List NodeFields)
-        → C.pre callback (result_of (split_first waiters)) }
-    ensures { (waiters : List NodeFields) × (result.0 ≡ result_of (split_first waiters))
-        × (token : _) × C.post callback result.0 token }
+    requires place { HasPlaceOf key bucket.old }
+    requires callback { IsCallableForOne C.FnOnce callback }
+    ensures { IsUnparkOfOne C.FnOnce callback result.0 }
 {
     bucket.take_one(key, callback)
+}
+
+// Takes all waiters of the key out of the bucket that is the key's.
+fn take_all(bucket: &mut Bucket, key: usize, token: UnparkToken) -> (usize, Queue)
+    requires { HasPlaceOf key bucket.old }
+{
+    bucket.take_all(key, token)
+}
+
+// Takes those waiters of the key that the filter unparks out of the bucket that is the key's.
+fn take_filter<F: FnMut(ParkToken) -> FilterOp, C: FnOnce(UnparkResult) -> UnparkToken>(
+    bucket: &mut Bucket,
+    key: usize,
+    filter: F,
+    callback: C,
+) -> (UnparkResult, Queue)
+    requires place { HasPlaceOf key bucket.old }
+    requires callable { AreCallableForFilter F.FnMut C.FnOnce filter callback }
+    ensures { IsUnparkByFilter F.FnMut C.FnOnce filter callback result.0 }
+{
+    bucket.take_filter(key, filter, callback)
+}
+
+// Requeues waiters of the key `from` onto the key `to`, where both have one bucket.
+fn requeue_one<
+    V: FnOnce() -> RequeueOp,
+    C: FnOnce(RequeueOp, UnparkResult) -> UnparkToken,
+    M: FnMut(usize),
+>(
+    bucket: &mut Bucket,
+    from: usize,
+    to: usize,
+    validate: V,
+    callback: C,
+    moved: &mut M,
+) -> (UnparkResult, Queue)
+    requires from { HasPlaceOf from bucket.old }
+    requires to { HasPlaceOf to bucket.old }
+    requires callable { AreCallableForRequeue V.FnOnce C.FnOnce validate callback }
+    requires moved { (numbers : _) → IsCallableAtEach M.FnMut moved.old numbers }
+    ensures { IsRequeueByChoice V.FnOnce C.FnOnce validate callback result.0 }
+{
+    bucket.requeue_one(from, to, validate, callback, moved)
+}
+
+// Requeues waiters of the key `from` onto the key `to`, where each has a bucket of its own.
+fn requeue_two<
+    V: FnOnce() -> RequeueOp,
+    C: FnOnce(RequeueOp, UnparkResult) -> UnparkToken,
+    M: FnMut(usize),
+>(
+    source: &mut Bucket,
+    target: &mut Bucket,
+    from: usize,
+    to: usize,
+    validate: V,
+    callback: C,
+    moved: &mut M,
+) -> (UnparkResult, Queue)
+    requires apart { AreApart source.old target.old }
+    requires from { HasPlaceOf from source.old }
+    requires to { HasPlaceOf to target.old }
+    requires callable { AreCallableForRequeue V.FnOnce C.FnOnce validate callback }
+    requires moved { (numbers : _) → IsCallableAtEach M.FnMut moved.old numbers }
+    ensures { IsRequeueByChoice V.FnOnce C.FnOnce validate callback result.0 }
+{
+    source.requeue_two(target, from, to, validate, callback, moved)
 }
 
 /// Parks the thread of this data in the queue of the key, until another thread unparks it. The
@@ -305,50 +508,78 @@ fn take_one<C: FnOnce(UnparkResult) -> UnparkToken>(
 /// until its unpark was committed. The answer is `Unparked` with the token that the other thread
 /// gave.
 ///
-/// There are no timeouts yet: `timeout` must be `None`, and `timed_out` is not called. The park
-/// token is what a filter sees of the thread.
+/// With a timeout the thread waits no longer than until that instant; a clock that cannot be read
+/// counts as past it. Then, in a section of the key's bucket, the thread leaves its queue and
+/// `timed_out` is called once, with the key that the thread waited on last, to which a requeue may
+/// have moved it, and with whether no other thread waits on that key; the answer is `TimedOut`. If
+/// an unpark of the thread was committed before that section, `timed_out` is not called, and the
+/// answer is `Unparked`.
 ///
-/// It takes the table's lock for reading and then the bucket's, for one `Bucket::enter`; after that
-/// the parker's alone. It is never refused and allocates nothing. `validate` must not call the lot.
-/// `before_sleep` may unpark, but not park.
+/// The park token is what a filter sees of the thread.
+///
+/// It is one section with one `Bucket::enter`, and after a deadline one more with one
+/// `Bucket::remove`; between them it takes the parker's lock alone. It is never refused and
+/// allocates nothing. `validate` and `timed_out` must not call the lot, nor wait for a thread that
+/// does. `before_sleep` may unpark, but not park.
 ///
 /// Upstream has it under this name. There the lot and the thread's data are found, not handed in,
 /// and any number that the caller has no right to is unsafe as a key; here it is only unwise.
-pub fn park<P: ThreadParkerT, R: Wait, V: FnOnce() -> bool, B: FnOnce(), T: FnOnce(usize, bool)>(
+pub fn park<
+    P: ThreadParkerT,
+    R: Wait + Clock,
+    V: FnOnce() -> bool,
+    B: FnOnce(),
+    T: FnOnce(usize, bool),
+>(
     rt: &R,
     lot: &ParkingLot<P>,
     thread_data: &mut ThreadData,
     key: usize,
     validate: V,
     before_sleep: B,
-    _timed_out: T,
+    timed_out: T,
     park_token: ParkToken,
     timeout: Option<Instant>,
 ) -> ParkResult
     requires number { thread_data.old.number < lot.now.max_threads }
-    requires no_timeout { timeout ≡ None }
     requires validate { V.pre validate }
     requires before_sleep { V.post validate true → B.pre before_sleep }
+    requires timed_out { V.post validate true → timeout ≢ None
+        → (key last : _) → T.pre timed_out key last }
 
     ensures asked { (valid : Bool) × V.post validate valid
         × MatchBool valid ((result ≢ ParkResult.Invalid) × B.post before_sleep tt)
         (result ≡ ParkResult.Invalid) }
-    ensures not_timed_out { result ≢ ParkResult.TimedOut }
+    ensures timed_out { result ≡ ParkResult.TimedOut
+        → (timeout ≢ None) × (key : _) × (last : _) × T.post timed_out key last tt }
     ensures number { thread_data.new ≡ thread_data.old }
 {
-    let parker = lot.parker(thread_data.number);
+    let number = thread_data.number;
+    let parker = lot.parker(number);
     let mut node = thread_data.node.take().unwrap();
     node.prepare(key, park_token, timeout.is_some());
+
+    // Queue: validate and enter in one section.
     parker.prepare_park();
     if let Err(node) = lot.enter(rt, node, validate) {
         thread_data.node = Some(node);
         return ParkResult::Invalid;
     }
+
+    // Sleep: until an unpark of this thread was committed, or until the deadline.
     before_sleep();
-    let node = parker.park(rt);
-    let token = node.unpark_token;
+    let unparked = match timeout {
+        None => Some(parker.park(rt)),
+        Some(timeout) => parker.park_until(rt, timeout),
+    };
+
+    // Second look: whoever was not unparked in time leaves its queue.
+    let (result, node) = match unparked {
+        Some(node) => (ParkResult::Unparked(node.unpark_token), node),
+        None => lot.leave(rt, number, timed_out),
+    };
     thread_data.node = Some(node);
-    ParkResult::Unparked(token)
+    result
 }
 
 /// Unparks the first thread in the queue of the key, if there is one, and hands it the token that
@@ -358,9 +589,9 @@ pub fn park<P: ThreadParkerT, R: Wait, V: FnOnce() -> bool, B: FnOnce(), T: FnOn
 /// too: `(1, 0, more)`, where `more` says whether the key has another waiter, or `(0, 0, false)`
 /// where nobody waits. What it answers then is ignored.
 ///
-/// It takes the table's lock for reading, then the bucket's for one `Bucket::take_one`, and within
-/// these the parker's, for the commit. All are let go before the thread is woken. It is never
-/// refused and allocates nothing. `callback` must not call the lot.
+/// It is one section with one `Bucket::take_one`, in which the unpark is committed; the thread is
+/// woken after it. It is never refused and allocates nothing. `callback` must not call the lot, nor
+/// wait for a thread that does.
 ///
 /// Upstream has it under this name.
 pub fn unpark_one<P: ThreadParkerT, R: Wait, C: FnOnce(UnparkResult) -> UnparkToken>(
@@ -369,17 +600,99 @@ pub fn unpark_one<P: ThreadParkerT, R: Wait, C: FnOnce(UnparkResult) -> UnparkTo
     key: usize,
     callback: C,
 ) -> UnparkResult
-    requires { (waiters : List NodeFields) → C.pre callback (result_of (split_first waiters)) }
+    requires { IsCallableForOne C.FnOnce callback }
 
-    ensures { (waiters : List NodeFields) × (result ≡ result_of (split_first waiters))
-        × (token : _) × C.post callback result token }
+    ensures { IsUnparkOfOne C.FnOnce callback result }
 {
-    let table = lot.table.read(rt);
-    let mut bucket = locked_bucket(rt, &table, key);
-    let (result, mut taken) = take_one(&mut bucket, key, callback);
-    let handle = taken.pop_front().and_then(|node| lot.commit(rt, node));
-    drop(bucket);
-    drop(table);
+    let (result, handle) = lot.take_one(rt, key, callback);
+    if let Some(handle) = handle {
+        lot.wake(handle);
+    }
+    result
+}
+
+/// Unparks all threads in the queue of the key, in order, hands each the token, and answers how
+/// many there were.
+///
+/// It is one section with one `Bucket::take_all`, in which each unpark is committed. The first
+/// eight threads are woken after the section, and any others in it. It is never refused and
+/// allocates nothing. What it answers is shown by tests: no contract tells how many waited.
+///
+/// Upstream has it under this name, and keeps the handles of more than eight threads in memory that
+/// it asks for.
+pub fn unpark_all<P: ThreadParkerT, R: Wait>(
+    rt: &R,
+    lot: &ParkingLot<P>,
+    key: usize,
+    unpark_token: UnparkToken,
+) -> usize {
+    let (count, handles) = lot.take_all(rt, key, unpark_token);
+    lot.wake_all(handles);
+    count
+}
+
+/// Unparks those threads in the queue of the key that the filter chooses, in order, and hands each
+/// the token that `callback` answers.
+///
+/// In the section of the key's bucket, `filter` is called with the park token of each thread in
+/// order, until it answers `Stop`; that one and all behind it stay. Then `callback` is called once
+/// with the result that is answered too: how many were unparked, 0, and whether a thread of the key
+/// is left. What it answers where none was unparked is ignored.
+///
+/// It is one section with one `Bucket::take_filter`, in which each unpark is committed. The first
+/// eight threads are woken after the section, and any others in it. It is never refused and
+/// allocates nothing. Neither closure may call the lot, nor wait for a thread that does.
+///
+/// Upstream has it under this name, and keeps the handles of more than eight threads in memory that
+/// it asks for.
+pub fn unpark_filter<
+    P: ThreadParkerT,
+    R: Wait,
+    F: FnMut(ParkToken) -> FilterOp,
+    C: FnOnce(UnparkResult) -> UnparkToken,
+>(rt: &R, lot: &ParkingLot<P>, key: usize, filter: F, callback: C) -> UnparkResult
+    requires { AreCallableForFilter F.FnMut C.FnOnce filter callback }
+
+    ensures { IsUnparkByFilter F.FnMut C.FnOnce filter callback result }
+{
+    let (result, handles) = lot.take_filter(rt, key, filter, callback);
+    lot.wake_all(handles);
+    result
+}
+
+/// Unparks or requeues threads in the queue of the key `key_from` onto that of `key_to`, as
+/// `validate` chooses. The keys may be equal.
+///
+/// In the section of both keys' buckets, `validate` is called first, once. If it aborts, nothing
+/// changes, `callback` is not called, and the answer is the default result. Otherwise `callback` is
+/// called once with the operation and the result that is answered too, also where nobody waits; a
+/// thread that is unparked is handed the token that it answers. Requeued threads stand behind those
+/// in the queue of `key_to`, in order.
+///
+/// It is one section with one `Bucket::requeue_one` or `requeue_two`, in which the unpark is
+/// committed; the thread is woken after it. Two buckets are locked the lower place first, one is
+/// locked once. It is never refused and allocates nothing. Neither closure may call the lot, nor
+/// wait for a thread that does.
+///
+/// Upstream has it under this name.
+pub fn unpark_requeue<
+    P: ThreadParkerT,
+    R: Wait,
+    V: FnOnce() -> RequeueOp,
+    C: FnOnce(RequeueOp, UnparkResult) -> UnparkToken,
+>(
+    rt: &R,
+    lot: &ParkingLot<P>,
+    key_from: usize,
+    key_to: usize,
+    validate: V,
+    callback: C,
+) -> UnparkResult
+    requires { AreCallableForRequeue V.FnOnce C.FnOnce validate callback }
+
+    ensures { IsRequeueByChoice V.FnOnce C.FnOnce validate callback result }
+{
+    let (result, handle) = lot.requeue(rt, key_from, key_to, validate, callback);
     if let Some(handle) = handle {
         lot.wake(handle);
     }

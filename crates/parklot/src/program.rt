@@ -1,24 +1,33 @@
 //! The commands of the program.
 
-use parking_lot_core::{
-    DEFAULT_PARK_TOKEN, ParkResult, ParkingLot, ThreadData, ThreadParker, ThreadParkerT,
-    UnparkToken, park, unpark_one,
-};
+mod buckets;
+mod latch;
+mod pair;
+mod single;
+mod turns;
+mod wake;
+
+use latch::Plan;
+use pair::Pair;
+use parking_lot_core::{ParkingLot, ThreadParker, UnparkToken};
 use std::alloc::Global;
 use std::process::ExitCode;
 use std::rt::Env;
-use std::sync::{Arc, Wait};
-use std::thread::{JoinHandle, Threads};
-use std::{env, io, thread};
+use std::sync::Wait;
+use std::thread::Threads;
+use std::time::Clock;
+use std::{env, io};
 
 const USAGE_STATUS: u8 = 2;
+
+// How many threads the lot of a test is for.
+const MAX_THREADS: usize = 100;
 
 const KEY: usize = 7;
 
 const TOKEN: UnparkToken = UnparkToken(42);
 
-// How often a test that waits by turns looks before it has failed.
-const TURNS: usize = 10_000_000;
+type Lot = ParkingLot<ThreadParker>;
 
 enum Command {
     Threads,
@@ -26,7 +35,7 @@ enum Command {
 
 /// Runs the command that the arguments name. Any other words, none or too many are answered by the
 /// usage line on the error output and the status 2.
-pub fn run<R: Env + Print + Eprint + AllocGlobal + Threads + Wait + Copy + Send + 'static>(
+pub fn run<R: Env + Print + Eprint + AllocGlobal + Threads + Wait + Clock + Copy + Send + 'static>(
     rt: &R,
 ) -> ExitCode {
     match chosen_command(rt) {
@@ -51,97 +60,99 @@ fn chosen_command<R: Env + AllocGlobal>(rt: &R) -> Option<Command> {
     }
 }
 
-fn threads<R: Print + AllocGlobal + Threads + Wait + Copy + Send + 'static>(rt: &R) -> ExitCode {
-    match run_pair::<ThreadParker, _>(rt, rt.alloc()) {
+// A test with threads.
+#[derive(Copy, Clone)]
+enum Test {
+    Timeout,
+    UnparkBeforeSleep,
+    OneThenAll,
+    FilterThenAll,
+    Latches(Plan),
+    TwoBuckets,
+}
+
+impl Test {
+    fn with_latches(latches: u8, threads: u8, single_unparks: u8) -> Test {
+        Test::Latches(Plan {
+            latches,
+            threads,
+            single_unparks,
+        })
+    }
+}
+
+// The tests by their names, in the order in which they run.
+fn all_tests() -> [(&'static str, Test); 11] {
+    [
+        ("single_thread_timeout", Test::Timeout),
+        ("single_thread_unpark_before_sleep", Test::UnparkBeforeSleep),
+        ("wake_one_then_all", Test::OneThenAll),
+        ("wake_filter_then_all", Test::FilterThenAll),
+        ("unpark_all_one", Test::with_latches(1, 1, 0)),
+        ("unpark_all_hundred", Test::with_latches(1, 100, 0)),
+        ("unpark_one_one", Test::with_latches(1, 1, 1)),
+        ("unpark_one_fifty", Test::with_latches(1, 50, 50)),
+        (
+            "unpark_one_fifty_then_fifty_all",
+            Test::with_latches(1, 100, 50),
+        ),
+        ("hundred_unpark_all_one", Test::with_latches(100, 1, 0)),
+        ("two_buckets", Test::TwoBuckets),
+    ]
+}
+
+fn threads<R: Print + AllocGlobal + Threads + Wait + Clock + Copy + Send + 'static>(
+    rt: &R,
+) -> ExitCode {
+    match run_all(rt) {
+        Ok(true) => ExitCode::SUCCESS,
+        _ => ExitCode::FAILURE,
+    }
+}
+
+// Runs the pair and then each test once, prints a line of each, and tells whether all passed.
+fn run_all<R: Print + AllocGlobal + Threads + Wait + Clock + Copy + Send + 'static>(
+    rt: &R,
+) -> io::Result<bool> {
+    let mut passed = run_pair(rt)?;
+    for (name, test) in all_tests() {
+        if run_test(rt, rt.alloc(), test).is_some() {
+            println!(rt; "{name} ok")?;
+        } else {
+            println!(rt; "{name} failed")?;
+            passed = false;
+        }
+    }
+    Ok(passed)
+}
+
+fn run_pair<R: Print + AllocGlobal + Threads + Wait + Clock + Copy + Send + 'static>(
+    rt: &R,
+) -> io::Result<bool> {
+    match pair::run(rt, rt.alloc()) {
         Some(Pair { unparked, token }) if unparked == 1 && token == TOKEN => {
-            report(println!(rt; "pair unparked {unparked} token {}", token.0))
+            println!(rt; "pair unparked {unparked} token {}", token.0)?;
+            Ok(true)
         }
         _ => {
-            let _ = println!(rt; "pair failed");
-            ExitCode::FAILURE
+            println!(rt; "pair failed")?;
+            Ok(false)
         }
     }
 }
 
-fn report(written: io::Result<()>) -> ExitCode {
-    match written {
-        Ok(()) => ExitCode::SUCCESS,
-        Err(_) => ExitCode::FAILURE,
-    }
-}
-
-// What the unpark and the park of a pair of threads answered.
-#[derive(Copy, Clone)]
-struct Pair {
-    unparked: usize,
-    token: UnparkToken,
-}
-
-// One thread parks and this one unparks it. `None` says that a call was refused, or that the other
-// thread did not come to park; then it is not joined.
-fn run_pair<P, R>(rt: &R, alloc: Global) -> Option<Pair>
-where
-    P: ThreadParkerT + Send + Sync + 'static,
-    P::UnparkHandle: 'static,
-    R: Threads + Wait + Copy + Send + 'static,
-{
-    let lot = Arc::new(alloc, ParkingLot::<P>::new(alloc, 1).ok()?).ok()?;
-    let data = lot.thread_data(rt, alloc).ok()?;
-    let parked = start_park(rt, Arc::try_clone(&lot).ok()?, data)?;
-    let unparked = unpark_by_turns(rt, &lot)?;
-    let token = parked.join(rt)?;
-    Some(Pair { unparked, token })
-}
-
-// Starts a thread that parks. `None` says that it could not be started.
-fn start_park<P, R>(
+// Runs a test on a lot of its own. `None` says that it failed, or that a call was refused.
+fn run_test<R: Threads + Wait + Clock + Copy + Send + 'static>(
     rt: &R,
-    lot: Arc<ParkingLot<P>, Global>,
-    data: ThreadData,
-) -> Option<JoinHandle<Option<UnparkToken>>>
-where
-    P: ThreadParkerT + Send + Sync + 'static,
-    P::UnparkHandle: 'static,
-    R: Threads + Wait + Copy + Send + 'static,
-{
-    let runtime = *rt;
-    thread::spawn(rt, move || token_of_park(&runtime, &lot, data)).ok()
-}
-
-// Parks until another thread unparks this one, and answers its token.
-fn token_of_park<P: ThreadParkerT, R: Wait>(
-    rt: &R,
-    lot: &ParkingLot<P>,
-    mut data: ThreadData,
-) -> Option<UnparkToken> {
-    if data.number() >= lot.max_threads() {
-        return None;
+    alloc: Global,
+    test: Test,
+) -> Option<()> {
+    match test {
+        Test::Timeout => single::time_out(rt, alloc),
+        Test::UnparkBeforeSleep => single::unpark_before_sleep(rt, alloc),
+        Test::OneThenAll => wake::one_then_all(rt, alloc),
+        Test::FilterThenAll => wake::filter_then_all(rt, alloc),
+        Test::Latches(plan) => latch::run(rt, alloc, plan),
+        Test::TwoBuckets => buckets::run(rt, alloc),
     }
-    let result = park(
-        rt,
-        lot,
-        &mut data,
-        KEY,
-        || true,
-        || (),
-        |_, _| (),
-        DEFAULT_PARK_TOKEN,
-        None,
-    );
-    match result {
-        ParkResult::Unparked(token) => Some(token),
-        _ => None,
-    }
-}
-
-// Unparks until a thread was unparked, and answers how many were.
-fn unpark_by_turns<P: ThreadParkerT, R: Wait>(rt: &R, lot: &ParkingLot<P>) -> Option<usize> {
-    for _ in 0..TURNS {
-        let unparked = unpark_one(rt, lot, KEY, |_| TOKEN).unparked_threads;
-        if unparked > 0 {
-            return Some(unparked);
-        }
-        thread::yield_now();
-    }
-    None
 }

@@ -16,6 +16,10 @@ pub(super) fn take_first(queue: &mut Queue, key: usize) -> (Option<Box<Node>>, b
     ensures more { result.1 ≡ has_any (drop 1 (lists_of queue.old key)) }
     ensures lists { ChangesOnly queue.old queue.new key (drop 1 (lists_of queue.old key)) }
 {
+    // An unpark that finds nobody is the usual one, and most buckets are empty.
+    if queue.front().is_none() {
+        return (None, false);
+    }
     let mut passed = Queue::new();
     let first = take_next(queue, &mut passed, key);
     let have_more_threads = pass_to_next(queue, &mut passed, key);

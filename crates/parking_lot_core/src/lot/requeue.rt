@@ -12,7 +12,7 @@ ghost use Rattle.parking_lot_core.specs.Private.Committed.{threads_with_key, thr
 
 use super::thread::{Thread, set_key};
 use crate::table::Table;
-use lot_base::bucket::{Bucket, place};
+use lot_base::bucket::place;
 use lot_base::queue::Queue;
 use lot_base::token::{RequeueOp, UnparkResult, UnparkToken};
 
@@ -22,7 +22,7 @@ pub(super) fn requeue_waiters<
     V: FnOnce() -> RequeueOp,
     C: FnOnce(RequeueOp, UnparkResult) -> UnparkToken,
 >(
-    table: &mut Table<Bucket>,
+    table: &mut Table,
     threads: &mut Vec<Thread>,
     from: usize,
     to: usize,
@@ -65,7 +65,7 @@ fn requeue_in_table<
     C: FnOnce(RequeueOp, UnparkResult) -> UnparkToken,
     M: FnMut(usize),
 >(
-    table: &mut Table<Bucket>,
+    table: &mut Table,
     from: usize,
     to: usize,
     validate: V,

@@ -1,13 +1,19 @@
 //! Threads that park and unpark.
 
+mod alone;
+mod latch;
+mod races;
+mod together;
+
 use super::*;
-use lot_base::thread_parker::ThreadParker;
+use lot_base::thread_parker::{ThreadParker, YieldParker};
 use lot_base::token::{DEFAULT_PARK_TOKEN, DEFAULT_UNPARK_TOKEN};
 use std::process::Abort;
 use std::sync::Arc;
 use std::test::Fail;
 use std::thread;
 use std::thread::{JoinHandle, Threads};
+use std::time::Duration;
 
 type Lot = ParkingLot<ThreadParker>;
 
@@ -15,17 +21,24 @@ const KEY: usize = 7;
 
 const TURNS: usize = 10_000_000;
 
-// Parks on the key until another thread unparks this one. `None` says that the data is of another
-// lot.
-fn wait<P: ThreadParkerT, R: Wait>(
+// The instant that comes so long from now.
+fn from_now<R: Clock + Abort>(rt: &R, duration: Duration) -> Result<Instant, Fail> {
+    let now = Instant::now(rt)?;
+    Ok(now.checked_add(duration).expect(rt, "a time of the clock"))
+}
+
+// Parks on the key until another thread unparks this one, and shows filters the thread's number.
+// `None` says that the data is of another lot.
+fn wait<P: ThreadParkerT, R: Wait + Clock>(
     rt: &R,
     lot: &ParkingLot<P>,
     mut data: ThreadData,
     key: usize,
 ) -> Option<ParkResult> {
-    if data.number() >= lot.max_threads() {
+    if !lot.accepts(&data) {
         return None;
     }
+    let park_token = ParkToken(data.number());
     Some(park(
         rt,
         lot,
@@ -34,7 +47,7 @@ fn wait<P: ThreadParkerT, R: Wait>(
         || true,
         || (),
         |_, _| (),
-        DEFAULT_PARK_TOKEN,
+        park_token,
         None,
     ))
 }
@@ -72,17 +85,36 @@ fn come_by_turns<P: ThreadParkerT, R: Wait>(
     Ok(false)
 }
 
-// Two threads register at the same time.
-fn register_two<P: ThreadParkerT + Send + Sync, R: Threads + Wait + Sync>(
+// Registers four threads, whose data it drops, and tells their numbers.
+fn register_four<P: ThreadParkerT, R: Wait>(
     rt: &R,
     alloc: Global,
     lot: &ParkingLot<P>,
-) -> (Result<ThreadData, LotError>, Result<ThreadData, LotError>) {
-    thread::join(
+) -> Result<Vec<usize>, LotError> {
+    let mut numbers = Vec::new(alloc);
+    for _ in 0..4 {
+        numbers.push(lot.thread_data(rt, alloc)?.number())?;
+    }
+    Ok(numbers)
+}
+
+// Two threads register four each at the same time. It tells their numbers in order.
+fn register_eight<P: ThreadParkerT + Send + Sync, R: Threads + Wait + Sync>(
+    rt: &R,
+    alloc: Global,
+    lot: &ParkingLot<P>,
+) -> Result<Vec<usize>, LotError> {
+    let (left, right) = thread::join(
         rt,
-        || lot.thread_data(rt, alloc),
-        || lot.thread_data(rt, alloc),
-    )
+        || register_four(rt, alloc, lot),
+        || register_four(rt, alloc, lot),
+    );
+    let mut numbers = left?;
+    for number in right? {
+        numbers.push(number)?;
+    }
+    numbers.sort()?;
+    Ok(numbers)
 }
 
 // Starts a thread that parks on the key.
@@ -95,34 +127,10 @@ fn start_waiter<P, R>(
 where
     P: ThreadParkerT + Send + Sync + 'static,
     P::UnparkHandle: 'static,
-    R: Threads + Wait + Copy + Send + 'static,
+    R: Threads + Wait + Clock + Copy + Send + 'static,
 {
     let runtime = *rt;
     thread::spawn(rt, move || wait(&runtime, &lot, data, key)).ok()
-}
-
-// It refuses an `unpark_one` that answers as where nobody waits, and one that hands no node to the
-// parker.
-#[test]
-fn an_unpark_before_the_sleep_is_not_lost(rt: HostRuntime) -> Result<(), Fail> {
-    let lot = Lot::new(rt.alloc(), 1)?;
-    let mut data = lot.thread_data(&rt, rt.alloc())?;
-    let result = park(
-        &rt,
-        &lot,
-        &mut data,
-        KEY,
-        || true,
-        || {
-            let result = unpark_one(&rt, &lot, KEY, |_| UnparkToken(42));
-            assert_eq!(rt; result.unparked_threads, 1);
-        },
-        |_, _| (),
-        DEFAULT_PARK_TOKEN,
-        None,
-    );
-    assert_eq!(rt; result, ParkResult::Unparked(UnparkToken(42)));
-    Ok(())
 }
 
 // It refuses an `unpark_one` that wakes nobody.
@@ -142,6 +150,7 @@ fn two_threads_park_and_unpark(rt: HostRuntime) -> Result<(), Fail> {
     Ok(())
 }
 
+// It refuses a `park` that leaves the thread in its queue although `validate` answered false.
 #[test]
 fn a_park_that_is_not_valid_ends_at_once(rt: HostRuntime) -> Result<(), Fail> {
     let lot = Lot::new(rt.alloc(), 1)?;
@@ -168,6 +177,7 @@ fn a_park_that_is_not_valid_ends_at_once(rt: HostRuntime) -> Result<(), Fail> {
     Ok(())
 }
 
+// It refuses an `unpark_one` that answers one thread where nobody waits.
 #[test]
 fn an_unpark_of_nobody_calls_back_with_the_default_result(rt: HostRuntime) -> Result<(), Fail> {
     let lot = Lot::new(rt.alloc(), 1)?;
@@ -192,11 +202,25 @@ fn dropped_data_keeps_its_number_and_retired_data_frees_it(rt: HostRuntime) -> R
     assert_eq!(rt; (first.number(), second.number()), (0, 1));
     drop(first);
     assert!(rt; matches!(&lot.thread_data(&rt, rt.alloc()), Err(LotError::Full)));
+    assert!(rt; lot.accepts(&second));
     lot.retire(&rt, second);
     assert_eq!(rt; lot.thread_data(&rt, rt.alloc())?.number(), 1);
     Ok(())
 }
 
+// It refuses a `thread_data` that gives one number always.
+#[test]
+fn a_lot_accepts_no_number_that_only_a_larger_lot_has(rt: HostRuntime) -> Result<(), Fail> {
+    let (lot, larger) = (Lot::new(rt.alloc(), 2)?, Lot::new(rt.alloc(), 3)?);
+    for number in 0..3 {
+        let data = larger.thread_data(&rt, rt.alloc())?;
+        assert!(rt; larger.accepts(&data));
+        assert_eq!(rt; lot.accepts(&data), number < 2, "{number}");
+    }
+    Ok(())
+}
+
+// It refuses a `new` that answers `NoMemory` always.
 #[test]
 fn a_lot_is_for_at_most_1024_threads(rt: HostRuntime) -> Result<(), Fail> {
     let refused = Lot::new(rt.alloc(), 1_025);
@@ -212,12 +236,13 @@ fn a_lot_is_for_at_most_1024_threads(rt: HostRuntime) -> Result<(), Fail> {
     Ok(())
 }
 
-// The keys 0 and 13 have place 0 in a table of 16, and the places 0 and 1 in one of 32.
+// The keys 0 and 13 have place 0 in a table of 16, and the places 0 and 1 in one of 32, as six
+// threads need it. Twelve threads need one of 64.
 //
 // It refuses a `list` that is always empty, and a growth that drops the nodes in the locks.
 #[test]
-fn waiters_stay_where_the_table_grows_under_them(rt: HostRuntime) -> Result<(), Fail> {
-    let lot = Arc::new(rt.alloc(), Lot::new(rt.alloc(), 6)?)?;
+fn waiters_stay_where_the_table_grows_twice_under_them(rt: HostRuntime) -> Result<(), Fail> {
+    let lot = Arc::new(rt.alloc(), Lot::new(rt.alloc(), 12)?)?;
     let mut waiters = Vec::new(rt.alloc());
     for number in 0..4 {
         let data = lot.thread_data(&rt, rt.alloc())?;
@@ -226,9 +251,8 @@ fn waiters_stay_where_the_table_grows_under_them(rt: HostRuntime) -> Result<(), 
         waiters.push(started.expect(&rt, "a thread"))?;
         assert!(rt; come_by_turns(&rt, rt.alloc(), &lot, key, number / 2 + 1)?);
     }
-    let (fifth, sixth) = register_two(&rt, rt.alloc(), &lot);
-    let numbers = (fifth?.number(), sixth?.number());
-    assert!(rt; numbers == (4, 5) || numbers == (5, 4));
+    let numbers = register_eight(&rt, rt.alloc(), &lot)?;
+    assert_eq!(rt; numbers.as_slice(), &[4, 5, 6, 7, 8, 9, 10, 11][..]);
     assert_eq!(rt; lot.list(&rt, rt.alloc(), 0)?.as_slice(), &[0, 2][..]);
     assert_eq!(rt; lot.list(&rt, rt.alloc(), 13)?.as_slice(), &[1, 3][..]);
     for (key, number) in [(0, 0), (13, 1), (0, 2), (13, 3)] {

@@ -3,49 +3,50 @@
 #![tactic(auto)]
 
 use super::*;
-use lot_base::token::ParkToken;
+use lot_base::queue::Node;
+use lot_base::token::{NoMemory, ParkToken};
 use std::test::Fail;
 
 // Lets a thread wait on a key.
-fn enter(alloc: Global, table: &mut Table<Bucket>, number: usize, key: usize) -> Result<(), Fail> {
+fn enter(alloc: Global, table: &mut Table, number: usize, key: usize) -> Result<(), Fail> {
     let mut node = Node::new(alloc, number)?;
     node.prepare(key, ParkToken(number), false);
     let mut bucket = table.take(key);
-    put_last(&mut bucket, node);
+    let _ = bucket.enter(node, || true);
     table.put(bucket);
     Ok(())
 }
 
 // The numbers of the threads that wait on a key.
-fn list(alloc: Global, table: &Table<Bucket>, key: usize) -> Result<Vec<usize>, NoMemory> {
-    table.cell(key).list(alloc, key)
+fn list(alloc: Global, table: &Table, key: usize) -> Result<Vec<usize>, NoMemory> {
+    table.bucket(key).list(alloc, key)
 }
 
 // A table with so many registered threads.
-fn table_of(alloc: Global, max: usize, threads: usize) -> Result<Table<Bucket>, LotError> {
+fn table_of(alloc: Global, max: usize, threads: usize) -> Result<Table, LotError> {
     let mut table = Table::new(alloc, max)?;
     for _ in 0..threads {
-        table.register(&())?;
+        table.register()?;
     }
     Ok(table)
 }
 
 #[test]
 fn numbers_are_given_from_the_least_free_one_on(rt: HostRuntime) -> Result<(), Fail> {
-    let mut table: Table<Bucket> = Table::new(rt.alloc(), 40)?;
+    let mut table = Table::new(rt.alloc(), 40)?;
     assert_eq!(rt; (table.registered(), table.size()), (0, 16));
     for number in 0..10 {
-        assert_eq!(rt; table.register(&())?, number);
+        assert_eq!(rt; table.register()?, number);
     }
     assert_eq!(rt; (table.registered(), table.size()), (10, 32));
-    assert_eq!(rt; table.register(&())?, 10);
+    assert_eq!(rt; table.register()?, 10);
     assert_eq!(rt; (table.registered(), table.size()), (11, 64));
 
     table.release(2);
     table.release(2);
     table.release(30);
     assert_eq!(rt; (table.registered(), table.size()), (10, 64));
-    assert_eq!(rt; table.register(&())?, 2);
+    assert_eq!(rt; table.register()?, 2);
     assert_eq!(rt; table.registered(), 11);
 
     for number in 0..50 {
@@ -57,22 +58,22 @@ fn numbers_are_given_from_the_least_free_one_on(rt: HostRuntime) -> Result<(), F
 
 #[test]
 fn a_table_is_for_at_most_1024_threads(rt: HostRuntime) {
-    let refused: Result<Table<Bucket>, LotError> = Table::new(rt.alloc(), 1_025);
+    let refused = Table::new(rt.alloc(), 1_025);
     assert_eq!(rt; refused.err(), Some(LotError::TooManyThreads));
-    let made: Result<Table<Bucket>, LotError> = Table::new(rt.alloc(), 1_024);
+    let made = Table::new(rt.alloc(), 1_024);
     assert_eq!(rt; made.err(), None);
 }
 
 #[test]
 fn a_full_table_refuses_a_registration(rt: HostRuntime) -> Result<(), Fail> {
     let mut none = table_of(rt.alloc(), 0, 0)?;
-    assert_eq!(rt; none.register(&()), Err(LotError::Full));
+    assert_eq!(rt; none.register(), Err(LotError::Full));
 
     let mut table = table_of(rt.alloc(), 5, 5)?;
-    assert_eq!(rt; table.register(&()), Err(LotError::Full));
+    assert_eq!(rt; table.register(), Err(LotError::Full));
     assert_eq!(rt; (table.registered(), table.size()), (5, 16));
     table.release(3);
-    assert_eq!(rt; table.register(&()), Ok(3));
+    assert_eq!(rt; table.register(), Ok(3));
     Ok(())
 }
 
@@ -83,22 +84,22 @@ fn growth_keeps_the_list_of_each_key(rt: HostRuntime) -> Result<(), Fail> {
     enter(alloc, &mut table, 0, 0)?;
     enter(alloc, &mut table, 1, 13)?;
     enter(alloc, &mut table, 2, 0)?;
-    assert_eq!(rt; (table.cell(0).place(), table.cell(13).place()), (0, 0));
+    assert_eq!(rt; (table.bucket(0).place(), table.bucket(13).place()), (0, 0));
 
-    let number = match table.register(&()) {
+    let number = match table.register() {
         Err(LotError::NoMemory) => {
             assert_eq!(rt; (table.registered(), table.size()), (5, 16));
             assert_eq!(rt; list(alloc, &table, 0)?.as_slice(), [0, 2].as_slice());
             assert_eq!(rt; list(alloc, &table, 13)?.as_slice(), [1].as_slice());
-            table.register(&())?
+            table.register()?
         }
         registered => registered?,
     };
     assert_eq!(rt; (number, table.registered(), table.size()), (5, 6, 32));
     assert_eq!(rt; list(alloc, &table, 0)?.as_slice(), [0, 2].as_slice());
     assert_eq!(rt; list(alloc, &table, 13)?.as_slice(), [1].as_slice());
-    assert_eq!(rt; (table.cell(0).place(), table.cell(13).place()), (0, 1));
-    assert_eq!(rt; (table.cell(0).size(), table.cell(13).size()), (32, 32));
+    assert_eq!(rt; (table.bucket(0).place(), table.bucket(13).place()), (0, 1));
+    assert_eq!(rt; (table.bucket(0).size(), table.bucket(13).size()), (32, 32));
     Ok(())
 }
 
@@ -125,40 +126,10 @@ fn the_size_goes_by_the_number_of_threads(rt: HostRuntime) -> Result<(), Fail> {
         (1_024, 4_096),
     ] {
         for _ in table.registered()..threads {
-            table.register(&())?;
+            table.register()?;
         }
         assert_eq!(rt; table.size(), size, "the size for {threads} threads");
     }
-    assert_eq!(rt; table.register(&()), Err(LotError::Full));
-    Ok(())
-}
-
-// It refuses a growth that drops the nodes in the locks: a lock does not tell its bucket, so no
-// clause does.
-#[test]
-fn a_table_of_locks_keeps_the_nodes_in_them(rt: HostRuntime) -> Result<(), Fail> {
-    let alloc = rt.alloc();
-    let mut table: Table<Mutex<Bucket>> = Table::new(alloc, 6)?;
-    for _ in 0..5 {
-        table.register(&rt)?;
-    }
-    for (number, key) in [(0, 0), (1, 13), (2, 0)] {
-        let mut node = Node::new(alloc, number)?;
-        node.prepare(key, ParkToken(number), false);
-        let size = table.size();
-        let mut guard = table.cell(key).lock(&rt);
-        let bucket = &mut *guard;
-        assert_eq!(rt; bucket.size(), size);
-        assert_eq!(rt; bucket.place(), place(key, size));
-        put_last(bucket, node);
-    }
-
-    assert_eq!(rt; table.register(&rt)?, 5);
-    assert_eq!(rt; table.size(), 32);
-    for (key, place, numbers) in [(0, 0, [0, 2].as_slice()), (13, 1, [1].as_slice())] {
-        let bucket = table.cell(key).lock(&rt);
-        assert_eq!(rt; (bucket.place(), bucket.size()), (place, 32));
-        assert_eq!(rt; bucket.list(alloc, key)?.as_slice(), numbers);
-    }
+    assert_eq!(rt; table.register(), Err(LotError::Full));
     Ok(())
 }

@@ -11,7 +11,8 @@ loop-node-preserved-then-deref-from g c =
     let first = fields c.in-Some.node.value in
     let rest = lists_of c.pop_front.new.self c.args.from in
     let waiters = lists_of c.loop-node.queue c.args.from in
-    let popped = lists_of-first c.args.from first c.pop_front.new.self c.loop-node.queue (search rules) (search rules) in
+    let popped = lists_of-first c.args.from first c.pop_front.new.self c.loop-node.queue (search rules)
+    (search rules) in
     let number = number_read c.in-Some.node.value c.deref-then-deref-from.result.now (search rules) in
     record {
       rekeyed = moved_one_more c.args.to first rest waiters c.loop-node.rekeyed
@@ -29,7 +30,8 @@ loop-node-preserved-then-deref-from g c =
 pub moved-requires : goal.moved-requires
 moved-requires g c =
     let first = fields c.in-Some.node.value in
-    let waiters = lists_of-first c.args.from first c.pop_front.new.self c.loop-node.queue (search rules) (search rules) in
+    let waiters = lists_of-first c.args.from first c.pop_front.new.self c.loop-node.queue (search rules)
+    (search rules) in
     callable_first g.M.FnMut c.loop-node.moved first (lists_of c.pop_front.new.self c.args.from)
     (lists_of c.loop-node.queue c.args.from) _ waiters
     (number_read c.in-Some.node.value c.deref-then-deref-from.result.now (search rules)) c.loop-node.invariant.callable

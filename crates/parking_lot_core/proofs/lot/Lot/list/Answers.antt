@@ -9,8 +9,8 @@ use Rattle.parking_lot_core.proofs.lot.Lot.list.Goals as goal
 pub returns-clause-numbers : goal.returns-clause-numbers
 returns-clause-numbers c =
     let row = c.self.inside.table.cells in
-    let read : c.cell.result.now ≡ bucket_at row (place_of c.args.key (length row)) =
-    sym (get_or_from_slice_get row (place_of c.args.key (length row)) c.cell.result.now _ c.cell.ensures.cell) in
+    let read : c.bucket.result.now ≡ bucket_at row (place_of c.args.key (length row)) =
+    sym (get_or_from_slice_get row (place_of c.args.key (length row)) c.bucket.result.now _ c.bucket.ensures.bucket) in
     rw
     (← c.self.view_is, numbers-waiters (lists_of (bucket_at row (place_of c.args.key (length row))).nodes c.args.key))
     (rw read at c.list.ensures.numbers)

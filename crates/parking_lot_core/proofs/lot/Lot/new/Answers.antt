@@ -1,6 +1,5 @@
 use Rattle.std.proofs.Common.{◌∙◌, ◌<◌, ◌≤◌, sym, ap, ⊎_elim, rules}
 use Rattle.std.proofs.lemmas.Bool.{cases_lt}
-use Rattle.std.proofs.lemmas.List.{map-id}
 use Rattle.parking_lot_core.specs.declared.table.TheConstants.{MAX_THREADS}
 use Rattle.parking_lot_core.specs.Lot.{uses}
 use Rattle.parking_lot_core.specs.Machine.{new_machine}
@@ -24,7 +23,7 @@ step : (c : In_ok-threads)
 step c =
     rw c.in_ok-threads.ensures
     (IsLotStep-new c.in_ok-table.table.cells c.args.max_threads (few c)
-    (nodes-empty 16 c.in_ok-table.table.cells (rw (map-id c.in_ok-table.table.cells) at c.in_ok-table.ensures.empty)))
+    (nodes-empty 16 c.in_ok-table.table.cells c.in_ok-table.ensures.empty))
 
 pub invariant_of-result : goal.invariant_of-result
 invariant_of-result c = (

@@ -1,5 +1,5 @@
 use Rattle.std.proofs.Common.{◌≡◌, ◌∙◌, ◌<◌, Err, sym, ap, refl, subst, length, List, ℕ, get_or, slice_set, arith}
-use Rattle.std.proofs.lemmas.List.{get_or_read, length-map, map-id}
+use Rattle.std.proofs.lemmas.List.{get_or_read, length-map}
 use Rattle.parking_lot_core.specs.Lot.{thread_at, machine, uses, use_of}
 use Rattle.parking_lot_core.specs.LotState.{LotState, ThreadState}
 use Rattle.parking_lot_core.specs.Machine.{IsFull, IsLeastFree, threads_of, with_status}
@@ -85,7 +85,7 @@ step c =
     rw now
     (IsLotStep-registered (lot_of c.self.inside) c.register.new.self.cells number
     (record (thread_at c.self.inside.threads.items number) { status = Running })
-    (rw (map-id c.self.inside.table.cells, map-id c.register.new.self.cells) at c.in_ok-number.ensures.lists)
+    c.in_ok-number.ensures.lists
     c.self.invariant.0 (least c).below (c.self.invariant.0.numbers number) (least c).free refl)
 
 numbers : (c : After-self-1) → c.register.new.self.numbers

@@ -1,7 +1,6 @@
 use Rattle.std.proofs.Common.{◌∙◌, sym}
 use Rattle.parking_lot_core.proofs.LotLemmas.{lot_of, answer-requeue}
 use Rattle.parking_lot_core.proofs.RequeueLotLemmas.{CanCommit-requeue, uses-requeue, IsLotStep-requeue}
-use Rattle.parking_lot_core.proofs.lot.Lot.unpark_requeue.Given as given
 use Rattle.parking_lot_core.proofs.lot.Lot.unpark_requeue.Goals as goal
 
 pub requeue_waiters-taken-requires-clause-callback : goal.requeue_waiters-taken-requires-clause-callback

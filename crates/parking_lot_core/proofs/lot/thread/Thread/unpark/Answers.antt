@@ -1,4 +1,4 @@
-use Rattle.std.proofs.Common.{◌∙◌, ap, sym}
+use Rattle.std.proofs.Common.{ap, sym}
 use Rattle.lot_base.specs.Node.{fields}
 use Rattle.parking_lot_core.proofs.ThreadLemmas.{HasItsNode-taken}
 use Rattle.parking_lot_core.proofs.lot.thread.Thread.unpark.Goals as goal

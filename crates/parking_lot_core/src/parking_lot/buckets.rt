@@ -1,0 +1,333 @@
+//! The buckets of a threaded lot, each behind a lock of its own, and how a section reaches the one
+//! of its key.
+
+ghost use Rattle.std.specs.Prelude.{◌≡◌, ◌≢◌, ◌+◌, ◌^◌, ◌<◌, ◌↔◌, IsTrue, IsErrOf, IfOk, IfSome, Err, MatchOption, length};
+ghost use Rattle.std.specs.Sync.Mutex.{mutex_guard_value};
+ghost use Rattle.lot_base.specs.Place.{IsTableSize};
+ghost use Rattle.parking_lot_core.specs.Represents.{Represents, waiters_in};
+ghost use Rattle.parking_lot_core.specs.Table.{IsRowOf};
+ghost use Rattle.parking_lot_core.specs.Private.Section.{HasPlaceOf, AreApart};
+
+mod registry;
+
+use crate::table::MAX_THREADS;
+use crate::table::growth::{INITIAL_BUCKETS, empty_buckets, rehash_bucket};
+use lot_base::bucket::{Bucket, place};
+use lot_base::token::{LotError, NoMemory};
+use registry::Registry;
+use std::alloc::Global;
+use std::marker::Model;
+use std::sync::atomic::{AtomicUsize, Ordering};
+use std::sync::{Mutex, MutexGuard, OnceLock, Wait};
+use std::{array, mem};
+
+// A table has from 16 to 65,536 buckets, and there is a place for a row of each such size.
+const ROWS: usize = 13;
+
+// What `current` is while the table grows: the index of no row.
+const GROWING: usize = ROWS;
+
+// The buckets of a table of one size, each at its place and behind a lock.
+#[derive(Drop)]
+struct Row {
+    cells: Vec<Mutex<Bucket>>,
+}
+
+impl Model for Row {
+    ghost use Rattle.std.specs.Prelude.{ℕ, length};
+    ghost use Rattle.lot_base.specs.Place.{IsTableSize};
+
+    ghost Value = { ℕ };
+
+    ghost view = { λ row. length row.cells.items };
+
+    ghost invariant = { λ row. IsTableSize (length row.cells.items) };
+}
+
+impl Row {
+    // A row of so many empty buckets.
+    fn new(alloc: Global, size: usize) -> Result<Row, NoMemory>
+        requires { IsTableSize size }
+        ensures { IfOk result (λ row. row ≡ size) }
+    {
+        let mut cells = Vec::with_capacity(alloc, size)?;
+        for place in 0..size {
+            cells.push(Mutex::new(Bucket::new(place, size)))?;
+        }
+        Ok(Row { cells })
+    }
+
+    // How many buckets there are.
+    fn size(&self) -> usize
+        ensures value { result ≡ self.now }
+        ensures table { IsTableSize result }
+    {
+        self.cells.len()
+    }
+
+    // The lock of the bucket at this place.
+    fn cell(&self, place: usize) -> &Mutex<Bucket>
+        requires { place < self.now }
+    {
+        &self.cells[place]
+    }
+
+    // Locks the buckets of both places, the lower one first. If they are one place, it is locked
+    // once, and the answer has no second bucket.
+    fn lock_two<R: Wait>(
+        &self,
+        rt: &R,
+        from: usize,
+        to: usize,
+    ) -> (MutexGuard<'_, Bucket>, Option<MutexGuard<'_, Bucket>>)
+        requires from { from < self.now }
+        requires to { to < self.now }
+        ensures { MatchOption result.1 (from ≡ to) (λ _. from ≢ to) }
+    {
+        if from == to {
+            return (self.cell(from).lock(rt), None);
+        }
+        if from < to {
+            let source = self.cell(from).lock(rt);
+            let target = self.cell(to).lock(rt);
+            return (source, Some(target));
+        }
+        let target = self.cell(to).lock(rt);
+        let source = self.cell(from).lock(rt);
+        (source, Some(target))
+    }
+
+    // Moves the nodes of all buckets into the buckets of their keys, one bucket after another.
+    fn rehash<R: Wait>(&self, rt: &R, buckets: &mut Vec<Bucket>)
+        requires size { IsTableSize (length buckets.old.items) }
+        requires row { IsRowOf (length buckets.old.items) buckets.old.items }
+        requires represents { Represents buckets.old.items (waiters_in buckets.old.items) }
+    {
+        for cell in &self.cells {
+            rehash_bucket(&mut *cell.lock(rt), buckets);
+        }
+    }
+
+    // Puts the buckets into their places, where empty ones stand.
+    fn fill<R: Wait>(&self, rt: &R, buckets: Vec<Bucket>) {
+        for (cell, bucket) in self.cells.iter().zip(buckets) {
+            let _ = mem::replace(&mut *cell.lock(rt), bucket);
+        }
+    }
+}
+
+// The rows of all sizes that were needed so far, of which one is in use, and the numbers of the
+// threads.
+//
+// A row is made when it is first needed, and stays to the end. `current` is the index of the row in
+// use. Numbers are registered and released under the lock of the registry, which a growing thread
+// holds until `current` is the index of the larger row.
+#[derive(Drop)]
+pub(super) struct Buckets {
+    rows: [OnceLock<Row>; ROWS],
+    current: AtomicUsize,
+    registry: Mutex<Registry>,
+}
+
+impl Buckets {
+    // A row of 16 buckets, and numbers for so many threads, none of them registered.
+    pub(super) fn new(alloc: Global, max_threads: usize) -> Result<Buckets, LotError>
+        ensures too_many { IsErrOf result LotError.TooManyThreads ↔ (MAX_THREADS < max_threads) }
+        ensures not_full { result ≢ Err LotError.Full }
+    {
+        let registry = Registry::new(alloc, max_threads)?;
+        let mut rows = array::from_fn(|_| OnceLock::new());
+        rows[0] = OnceLock::from(Row::new(alloc, INITIAL_BUCKETS)?);
+        Ok(Buckets {
+            rows,
+            current: AtomicUsize::new(0),
+            registry: Mutex::new(registry),
+        })
+    }
+
+    // The row in use, or none while the table grows.
+    fn row(&self, current: usize) -> Option<&Row> {
+        self.rows.get(current)?.get()
+    }
+
+    // Locks the bucket of the key, which begins a section.
+    pub(super) fn lock<R: Wait>(&self, rt: &R, key: usize) -> MutexGuard<'_, Bucket>
+        ensures { HasPlaceOf key (mutex_guard_value result) }
+    {
+        match self.try_lock(key) {
+            Some(bucket) => bucket,
+            None => self.wait_and_lock(rt, key),
+        }
+    }
+
+    // Locks the bucket of the key if nobody has it and the table does not grow.
+    fn try_lock(&self, key: usize) -> Option<MutexGuard<'_, Bucket>>
+        ensures { IfSome result (λ bucket. HasPlaceOf key (mutex_guard_value bucket)) }
+    {
+        let current = self.current.load(Ordering::SeqCst);
+        let row = self.row(current)?;
+        let place = place(key, row.size());
+        let bucket = row.cell(place).try_lock()?;
+        if self.is_in_use(current) && stands_at(&bucket, place, row.size()) {
+            return Some(bucket);
+        }
+        None
+    }
+
+    // Locks the bucket of the key, however long that takes.
+    fn wait_and_lock<R: Wait>(&self, rt: &R, key: usize) -> MutexGuard<'_, Bucket>
+        ensures { HasPlaceOf key (mutex_guard_value result) }
+    {
+        for _ in rt.forever() {
+            let current = self.current.load(Ordering::SeqCst);
+            let Some(row) = self.row(current) else {
+                self.wait_for_growth(rt);
+                continue;
+            };
+            let place = place(key, row.size());
+            let bucket = row.cell(place).lock(rt);
+            if self.is_in_use(current) && stands_at(&bucket, place, row.size()) {
+                return bucket;
+            }
+            drop(bucket);
+        }
+        unreachable!()
+    }
+
+    // Locks the buckets of both keys, that of the lower place first. If they have one bucket, it is
+    // locked once, and the answer has no second one.
+    pub(super) fn lock_two<R: Wait>(
+        &self,
+        rt: &R,
+        from: usize,
+        to: usize,
+    ) -> (MutexGuard<'_, Bucket>, Option<MutexGuard<'_, Bucket>>)
+        ensures from { HasPlaceOf from (mutex_guard_value result.0) }
+        ensures to { MatchOption result.1 (HasPlaceOf to (mutex_guard_value result.0))
+            (λ target. HasPlaceOf to (mutex_guard_value target)
+            × AreApart (mutex_guard_value result.0) (mutex_guard_value target)) }
+    {
+        for _ in rt.forever() {
+            let current = self.current.load(Ordering::SeqCst);
+            let Some(row) = self.row(current) else {
+                self.wait_for_growth(rt);
+                continue;
+            };
+            let size = row.size();
+            let (source_place, target_place) = (place(from, size), place(to, size));
+            let (source, target) = row.lock_two(rt, source_place, target_place);
+            if self.is_in_use(current)
+                && stands_at(&source, source_place, size)
+                && stands_at_if_any(&target, target_place, size)
+            {
+                return (source, target);
+            }
+            drop(source);
+            drop(target);
+        }
+        unreachable!()
+    }
+
+    // Whether the row of this index is still in use.
+    fn is_in_use(&self, current: usize) -> bool {
+        self.current.load(Ordering::SeqCst) == current
+    }
+
+    // Waits until the thread that lets the table grow is done: it has the registry meanwhile.
+    fn wait_for_growth<R: Wait>(&self, rt: &R) {
+        drop(self.registry.lock(rt));
+    }
+
+    // Registers the least free number, which is to be below `max_threads`. If the table has less
+    // than three buckets for each thread then, it grows first.
+    //
+    // Nothing that can be refused comes after `current` says that the table grows.
+    pub(super) fn register<R: Wait>(
+        &self,
+        rt: &R,
+        alloc: Global,
+        max_threads: usize,
+    ) -> Result<usize, LotError>
+        ensures not_too_many { result ≢ Err LotError.TooManyThreads }
+        ensures number { IfOk result (λ number. number < max_threads) }
+    {
+        let mut registry = self.registry.lock(rt);
+        let number = registry.least_free(max_threads)?;
+        let size = registry.size_for_one_more();
+        if size != registry.size() {
+            self.grow(rt, alloc, registry.size(), size)?;
+        }
+        registry.register(number, size);
+        drop(registry);
+        Ok(number)
+    }
+
+    // Frees the number. The row in use stays.
+    pub(super) fn release<R: Wait>(&self, rt: &R, number: usize) {
+        self.registry.lock(rt).release(number);
+    }
+
+    // Puts the row of the new size in the place of the one in use. The registry is locked.
+    //
+    // A section that has compared `current` has its bucket, and this waits for it there. One that
+    // begins later sees that the table grows, or that another row is in use.
+    fn grow<R: Wait>(
+        &self,
+        rt: &R,
+        alloc: Global,
+        old_size: usize,
+        new_size: usize,
+    ) -> Result<(), NoMemory>
+        requires old { IsTableSize old_size }
+        requires new { IsTableSize new_size }
+    {
+        let row = self.row_of_size(rt, alloc, new_size)?;
+        let mut buckets = empty_buckets(alloc, new_size)?;
+        let old = self.row_of_size(rt, alloc, old_size)?;
+        self.current.store(GROWING, Ordering::SeqCst);
+        old.rehash(rt, &mut buckets);
+        row.fill(rt, buckets);
+        self.current.store(index_of(new_size), Ordering::SeqCst);
+        Ok(())
+    }
+
+    // The row of this size, which is made if it was not needed before.
+    fn row_of_size<R: Wait>(&self, rt: &R, alloc: Global, size: usize) -> Result<&Row, NoMemory>
+        requires { IsTableSize size }
+    {
+        let place = &self.rows[index_of(size)];
+        if let Some(row) = place.get() {
+            return Ok(row);
+        }
+        let row = Row::new(alloc, size)?;
+        Ok(place.get_or_init(rt, move || row))
+    }
+}
+
+// The index of the row of this size.
+fn index_of(size: usize) -> usize
+    requires { IsTableSize size }
+    ensures value { 2 ^ (result + 4) ≡ size }
+    ensures place { result < 13 }
+{
+    (size.ilog2() - 4) as usize
+}
+
+// Whether the bucket is that of this place in a row of this size. No contract tells what a lock
+// holds; the lock of a place always holds the bucket of that place.
+fn stands_at(bucket: &Bucket, place: usize, size: usize) -> bool
+    ensures { IsTrue result ↔ (bucket.now.place ≡ place) × (bucket.now.size ≡ size) }
+{
+    bucket.place() == place && bucket.size() == size
+}
+
+// The same of a second bucket, where there is one.
+fn stands_at_if_any(bucket: &Option<MutexGuard<'_, Bucket>>, place: usize, size: usize) -> bool
+    ensures { IsTrue result ↔ IfSome bucket.now (λ guard.
+        ((mutex_guard_value guard).place ≡ place) × ((mutex_guard_value guard).size ≡ size)) }
+{
+    match bucket {
+        Some(bucket) => stands_at(bucket, place, size),
+        None => true,
+    }
+}

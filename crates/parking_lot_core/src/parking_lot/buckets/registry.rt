@@ -1,0 +1,109 @@
+//! The numbers of a threaded lot, and the size that its table needs for them.
+
+ghost use Rattle.std.specs.Prelude.{◌≡◌, ◌≢◌, ◌↔◌, ◌+◌, ◌*◌, ◌<◌, ◌≤◌, IfOk, OnOk, IsErrOf, Err, Some, length, slice_get, slice_set, replicate};
+ghost use Rattle.lot_base.specs.Place.{IsTableSize};
+ghost use Rattle.parking_lot_core.specs.Size.{IsSizeFor};
+ghost use Rattle.parking_lot_core.specs.Table.{count_registered, IsLeastUnregistered};
+
+use crate::table::growth::{INITIAL_BUCKETS, size_for};
+use crate::table::numbers::Numbers;
+use crate::table::{MAX_THREADS, Use};
+use lot_base::token::LotError;
+use std::alloc::Global;
+use std::marker::Model;
+
+// The use of each number, and the size of the row in use: three buckets for each thread, at least.
+#[derive(Drop)]
+pub(super) struct Registry {
+    numbers: Numbers,
+    size: usize,
+}
+
+impl Model for Registry {
+    ghost use Rattle.std.specs.Prelude.{◌*◌, ◌≤◌};
+    ghost use Rattle.lot_base.specs.Place.{IsTableSize};
+    ghost use Rattle.parking_lot_core.specs.Private.RegistryState.{RegistryState};
+    ghost use Rattle.parking_lot_core.specs.Table.{count_registered};
+
+    ghost Value = { RegistryState };
+
+    ghost view = { λ registry. record { numbers = registry.numbers; size = registry.size } };
+
+    ghost invariant = { λ registry. IsTableSize registry.size
+        × (3 * count_registered registry.numbers ≤ registry.size) };
+}
+
+impl Registry {
+    // Numbers for so many threads, none of them registered, and the size of the first row.
+    pub(super) fn new(alloc: Global, max_threads: usize) -> Result<Registry, LotError>
+        ensures too_many { IsErrOf result LotError.TooManyThreads ↔ (MAX_THREADS < max_threads) }
+        ensures not_full { result ≢ Err LotError.Full }
+        ensures ok { IfOk result (λ registry. registry
+            ≡ record { numbers = replicate max_threads Use.Free; size = 16 }) }
+    {
+        Ok(Registry {
+            numbers: Numbers::new(alloc, max_threads)?,
+            size: INITIAL_BUCKETS,
+        })
+    }
+
+    // The size of the row in use.
+    pub(super) fn size(&self) -> usize
+        ensures value { result ≡ self.now.size }
+        ensures table { IsTableSize result }
+    {
+        self.size
+    }
+
+    // The least number that is not registered, which is to be below `max_threads`. A lock does not
+    // tell that its registry has no more numbers than that.
+    pub(super) fn least_free(&self, max_threads: usize) -> Result<usize, LotError>
+        ensures full { length self.now.numbers ≡ max_threads
+            → (IsErrOf result LotError.Full ↔ (count_registered self.now.numbers ≡ max_threads)) }
+        ensures not_too_many { result ≢ Err LotError.TooManyThreads }
+        ensures few { OnOk result (count_registered self.now.numbers < MAX_THREADS) }
+        ensures number { IfOk result (λ number. (number < max_threads)
+            × IsLeastUnregistered self.now.numbers number) }
+    {
+        let Some(number) = self.numbers.least_free() else {
+            return Err(LotError::Full);
+        };
+        if number >= max_threads {
+            return Err(LotError::Full);
+        }
+        Ok(number)
+    }
+
+    // The size that the table needs once one more thread is registered.
+    pub(super) fn size_for_one_more(&self) -> usize
+        requires { count_registered self.now.numbers < MAX_THREADS }
+        ensures size { IsSizeFor (count_registered self.now.numbers + 1) self.now.size result }
+        ensures table { IsTableSize result }
+        ensures room { 3 * (count_registered self.now.numbers + 1) ≤ result }
+    {
+        size_for(self.numbers.registered() + 1, self.size)
+    }
+
+    // Registers a free number, for a row of this size.
+    pub(super) fn register(&mut self, number: usize, size: usize)
+        requires free { slice_get self.old.numbers number ≡ Some Use.Free }
+        requires table { IsTableSize size }
+        requires room { 3 * (count_registered self.old.numbers + 1) ≤ size }
+        ensures { self.new ≡ record {
+          numbers = slice_set self.old.numbers number Use.Registered;
+          size = size;
+        } }
+    {
+        self.numbers.register(number);
+        self.size = size;
+    }
+
+    // Frees the number. One that is not registered changes nothing.
+    pub(super) fn release(&mut self, number: usize)
+        ensures { self.new ≡ record self.old {
+          numbers = slice_set self.old.numbers number Use.Free;
+        } }
+    {
+        self.numbers.release(number);
+    }
+}
