@@ -1,1 +1,2 @@
 pub mod SemaphoreState
+pub mod KeyedState

@@ -1,7 +1,11 @@
-//! Callers of an exclusive lot, as a user would write them: a semaphore and a timeout for the tasks
-//! of a simulation, and simulations of two tasks.
+//! Callers of both lots, as a user would write them. Of the exclusive lot: a semaphore and a
+//! timeout for the tasks of a simulation, and simulations of two tasks. Of the threaded lot: a
+//! mutex, an event and a semaphore for threads.
 #![tactic(auto)]
 
+pub mod byte_mutex;
+pub mod event;
 pub mod semaphore;
 pub mod simulation;
+pub mod thread_semaphore;
 pub mod timeout;

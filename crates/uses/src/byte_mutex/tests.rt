@@ -1,0 +1,138 @@
+use super::*;
+use parking_lot_core::ThreadParker;
+use std::alloc::Global;
+use std::sync::Arc;
+use std::sync::atomic::AtomicUsize;
+use std::test::Fail;
+use std::thread;
+use std::thread::{JoinHandle, Threads};
+
+const KEY: usize = 7;
+
+const THREADS: usize = 4;
+
+const ROUNDS: usize = 1_000;
+
+const TURNS: usize = 10_000_000;
+
+// Two counters that only the holder of the mutex changes, one after the other.
+#[derive(Drop)]
+struct Shared<P: ThreadParkerT> {
+    lot: ParkingLot<P>,
+    mutex: ByteMutex,
+    first: AtomicUsize,
+    second: AtomicUsize,
+}
+
+impl<P: ThreadParkerT> Shared<P> {
+    fn new(lot: ParkingLot<P>) -> Shared<P> {
+        Shared {
+            lot,
+            mutex: ByteMutex::new(KEY),
+            first: AtomicUsize::new(0),
+            second: AtomicUsize::new(0),
+        }
+    }
+
+    fn counts(&self) -> (usize, usize) {
+        let first = self.first.load(Ordering::SeqCst);
+        let second = self.second.load(Ordering::SeqCst);
+        (first, second)
+    }
+
+    // Adds one to both counters, in steps between which other threads may come. Tells whether the
+    // counters were equal before.
+    fn count(&self) -> bool {
+        let (first, second) = self.counts();
+        self.first.store(first.wrapping_add(1), Ordering::SeqCst);
+        thread::yield_now();
+        self.second.store(second.wrapping_add(1), Ordering::SeqCst);
+        first == second
+    }
+}
+
+// Counts under the mutex in rounds, and tells whether the counters were always equal. Data of
+// another lot answers false.
+fn count_in_rounds<P: ThreadParkerT, R: Wait + Clock>(
+    rt: &R,
+    shared: &Shared<P>,
+    mut data: ThreadData,
+) -> bool {
+    let mut all_equal = true;
+    for _ in 0..ROUNDS {
+        if !shared.lot.accepts(&data) {
+            return false;
+        }
+        let held = shared.mutex.lock(rt, &shared.lot, &mut data);
+        let equal = shared.count();
+        shared.mutex.unlock(rt, &shared.lot, held);
+        all_equal = all_equal && equal;
+    }
+    all_equal
+}
+
+// Starts a thread that counts in rounds.
+fn start_counting<P, R>(
+    rt: &R,
+    shared: Arc<Shared<P>, Global>,
+    data: ThreadData,
+) -> Option<JoinHandle<bool>>
+where
+    P: ThreadParkerT + Send + Sync + 'static,
+    P::UnparkHandle: 'static,
+    R: Threads + Wait + Clock + Copy + Send + 'static,
+{
+    let runtime = *rt;
+    thread::spawn(rt, move || count_in_rounds(&runtime, &shared, data)).ok()
+}
+
+// It refuses an `unlock` that forgets the waiters who are left, and one that hands the mutex over
+// and unlocks it too.
+#[test]
+fn threads_count_in_turn(rt: HostRuntime) -> Result<(), Fail> {
+    let lot = ParkingLot::<ThreadParker>::new(rt.alloc(), THREADS)?;
+    let shared = Arc::new(rt.alloc(), Shared::new(lot))?;
+    let mut counting = Vec::new(rt.alloc());
+    for _ in 0..THREADS {
+        let data = shared.lot.thread_data(&rt, rt.alloc())?;
+        let started = start_counting(&rt, Arc::try_clone(&shared)?, data);
+        counting.push(started.expect(&rt, "a thread"))?;
+    }
+    for thread in counting {
+        assert!(rt; thread.join(&rt));
+    }
+    assert_eq!(rt; shared.counts(), (THREADS * ROUNDS, THREADS * ROUNDS));
+    Ok(())
+}
+
+// Waits until a thread waits for the mutex, and tells whether one came.
+fn come_by_turns<P: ThreadParkerT, R: Wait>(rt: &R, alloc: Global, lot: &ParkingLot<P>) -> bool {
+    for _ in 0..TURNS {
+        if lot
+            .list(rt, alloc, KEY)
+            .is_ok_and(|numbers| numbers.len() == 1)
+        {
+            return true;
+        }
+        thread::yield_now();
+    }
+    false
+}
+
+// It refuses a `lock` that does not wait, and an `unlock` that wakes nobody.
+#[test]
+fn a_waiter_is_handed_the_mutex(rt: HostRuntime) -> Result<(), Fail> {
+    let lot = ParkingLot::<ThreadParker>::new(rt.alloc(), 1)?;
+    let shared = Arc::new(rt.alloc(), Shared::new(lot))?;
+    let data = shared.lot.thread_data(&rt, rt.alloc())?;
+    let theirs = Arc::try_clone(&shared)?;
+    let held = shared.mutex.try_lock().expect(&rt, "nobody holds it");
+    let started = start_counting(&rt, theirs, data);
+    let came = come_by_turns(&rt, rt.alloc(), &shared.lot);
+    let counts = shared.counts();
+    let handed = shared.mutex.unlock(&rt, &shared.lot, held);
+    assert_eq!(rt; (came, counts, handed), (true, (0, 0), true));
+    assert!(rt; started.expect(&rt, "a thread").join(&rt));
+    assert_eq!(rt; shared.counts(), (ROUNDS, ROUNDS));
+    Ok(())
+}

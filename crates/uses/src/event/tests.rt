@@ -1,0 +1,89 @@
+use super::*;
+use parking_lot_core::ThreadParker;
+use std::alloc::Global;
+use std::sync::Arc;
+use std::test::Fail;
+use std::thread;
+use std::thread::{JoinHandle, Threads};
+
+const KEY: usize = 7;
+
+const THREADS: usize = 3;
+
+const TURNS: usize = 10_000_000;
+
+#[derive(Drop)]
+struct Shared<P: ThreadParkerT> {
+    lot: ParkingLot<P>,
+    event: Event,
+}
+
+// Waits for the event, and tells whether it was set then. Data of another lot answers false.
+fn see_it_set<P: ThreadParkerT, R: Wait + Clock>(
+    rt: &R,
+    shared: &Shared<P>,
+    mut data: ThreadData,
+) -> bool {
+    if !shared.lot.accepts(&data) {
+        return false;
+    }
+    shared.event.wait(rt, &shared.lot, &mut data, None) && shared.event.is_set()
+}
+
+// Starts a thread that waits for the event.
+fn start_waiter<P, R>(
+    rt: &R,
+    shared: Arc<Shared<P>, Global>,
+    data: ThreadData,
+) -> Option<JoinHandle<bool>>
+where
+    P: ThreadParkerT + Send + Sync + 'static,
+    P::UnparkHandle: 'static,
+    R: Threads + Wait + Clock + Copy + Send + 'static,
+{
+    let runtime = *rt;
+    thread::spawn(rt, move || see_it_set(&runtime, &shared, data)).ok()
+}
+
+// Waits until all threads wait for the event, and tells whether they came.
+fn come_by_turns<P: ThreadParkerT, R: Wait>(
+    rt: &R,
+    alloc: Global,
+    lot: &ParkingLot<P>,
+) -> Option<()> {
+    for _ in 0..TURNS {
+        if lot.list(rt, alloc, KEY).ok()?.len() == THREADS {
+            return Some(());
+        }
+        thread::yield_now();
+    }
+    None
+}
+
+// It refuses a `set` that wakes one thread alone, and a `wait` that does not look at the event.
+#[test]
+fn the_event_wakes_every_thread(rt: HostRuntime) -> Result<(), Fail> {
+    let shared = Shared {
+        lot: ParkingLot::<ThreadParker>::new(rt.alloc(), THREADS + 1)?,
+        event: Event::new(KEY),
+    };
+    let shared = Arc::new(rt.alloc(), shared)?;
+    let mut waiters = Vec::new(rt.alloc());
+    for _ in 0..THREADS {
+        let data = shared.lot.thread_data(&rt, rt.alloc())?;
+        let started = start_waiter(&rt, Arc::try_clone(&shared)?, data);
+        waiters.push(started.expect(&rt, "a thread"))?;
+    }
+    come_by_turns(&rt, rt.alloc(), &shared.lot).expect(&rt, "the waiters");
+    assert!(rt; !shared.event.is_set());
+    assert_eq!(rt; shared.event.set(&rt, &shared.lot), THREADS);
+    for waiter in waiters {
+        assert!(rt; waiter.join(&rt));
+    }
+
+    // Who comes after the event does not sleep.
+    let mut data = shared.lot.thread_data(&rt, rt.alloc())?;
+    assert!(rt; shared.event.wait(&rt, &shared.lot, &mut data, None));
+    assert_eq!(rt; shared.event.set(&rt, &shared.lot), 0);
+    Ok(())
+}

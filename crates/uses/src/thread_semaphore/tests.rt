@@ -1,0 +1,94 @@
+use super::*;
+use parking_lot_core::ThreadParker;
+use std::alloc::Global;
+use std::sync::Arc;
+use std::test::Fail;
+use std::thread;
+use std::thread::{JoinHandle, Threads};
+
+const KEY: usize = 7;
+
+const PERMITS: usize = 2;
+
+const THREADS: usize = 4;
+
+const ROUNDS: usize = 1_000;
+
+// How many threads are inside, and how many came.
+#[derive(Drop)]
+struct Shared<P: ThreadParkerT> {
+    lot: ParkingLot<P>,
+    semaphore: ThreadSemaphore,
+    inside: AtomicUsize,
+    came: AtomicUsize,
+}
+
+impl<P: ThreadParkerT> Shared<P> {
+    // Goes inside and out again, and tells whether there was room.
+    fn visit(&self) -> bool {
+        let others = self.inside.fetch_add(1, Ordering::SeqCst);
+        thread::yield_now();
+        self.inside.fetch_sub(1, Ordering::SeqCst);
+        self.came.fetch_add(1, Ordering::SeqCst);
+        others < PERMITS
+    }
+}
+
+// Visits with a permit in rounds, and tells whether there was always room. Data of another lot
+// answers false.
+fn visit_in_rounds<P: ThreadParkerT, R: Wait + Clock>(
+    rt: &R,
+    shared: &Shared<P>,
+    mut data: ThreadData,
+) -> bool {
+    let mut always_room = true;
+    for _ in 0..ROUNDS {
+        if !shared.lot.accepts(&data) {
+            return false;
+        }
+        let free = shared.semaphore.acquire(rt, &shared.lot, &mut data);
+        let room = shared.visit();
+        shared.semaphore.release(rt, &shared.lot);
+        always_room = always_room && room && free <= PERMITS;
+    }
+    always_room
+}
+
+// Starts a thread that visits in rounds.
+fn start_visits<P, R>(
+    rt: &R,
+    shared: Arc<Shared<P>, Global>,
+    data: ThreadData,
+) -> Option<JoinHandle<bool>>
+where
+    P: ThreadParkerT + Send + Sync + 'static,
+    P::UnparkHandle: 'static,
+    R: Threads + Wait + Clock + Copy + Send + 'static,
+{
+    let runtime = *rt;
+    thread::spawn(rt, move || visit_in_rounds(&runtime, &shared, data)).ok()
+}
+
+// It refuses an `acquire` that takes no permit, and a `release` that wakes nobody.
+#[test]
+fn as_many_threads_are_inside_as_there_are_permits(rt: HostRuntime) -> Result<(), Fail> {
+    let shared = Shared {
+        lot: ParkingLot::<ThreadParker>::new(rt.alloc(), THREADS)?,
+        semaphore: ThreadSemaphore::new(KEY, PERMITS),
+        inside: AtomicUsize::new(0),
+        came: AtomicUsize::new(0),
+    };
+    let shared = Arc::new(rt.alloc(), shared)?;
+    let mut visiting = Vec::new(rt.alloc());
+    for _ in 0..THREADS {
+        let data = shared.lot.thread_data(&rt, rt.alloc())?;
+        let started = start_visits(&rt, Arc::try_clone(&shared)?, data);
+        visiting.push(started.expect(&rt, "a thread"))?;
+    }
+    for thread in visiting {
+        assert!(rt; thread.join(&rt));
+    }
+    assert_eq!(rt; shared.came.load(Ordering::SeqCst), THREADS * ROUNDS);
+    assert_eq!(rt; shared.semaphore.permits.load(Ordering::SeqCst), PERMITS);
+    Ok(())
+}
