@@ -1,0 +1,541 @@
+//! The rows of `lot_bench`, measured of upstream's `parking_lot_core`.
+//!
+//! `upstream_bench ROW` measures one row and prints its name and the nanoseconds per operation;
+//! without a word it prints the rows' names. Each row does what the row of that name does there:
+//! the same calls, counts, threads and medians.
+
+use parking_lot_core::{
+    DEFAULT_PARK_TOKEN, DEFAULT_UNPARK_TOKEN, ParkResult, RequeueOp, park, unpark_all, unpark_one,
+    unpark_requeue,
+};
+use std::hint;
+use std::process::ExitCode;
+use std::sync::atomic::Ordering::SeqCst;
+use std::sync::atomic::{AtomicBool, AtomicU8, AtomicU64};
+use std::sync::{Arc, Barrier};
+use std::thread;
+use std::time::{Duration, Instant};
+
+/// Keys with a bucket of their own each, in a table of any size.
+const KEYS: [usize; 4] = [1, 2, 3, 4];
+
+const TURNS: usize = 10_000_000;
+
+type Row = (&'static str, fn() -> Option<f64>);
+
+const ROWS: [Row; 14] = [
+    ("unpark_one_nobody", unpark_one_nobody),
+    ("unpark_one_four_keys", || unpark_one_of_four(KEYS)),
+    ("unpark_one_one_key", || unpark_one_of_four([KEYS[0]; 4])),
+    ("park_invalid", park_invalid),
+    ("park_past_deadline", park_past_deadline),
+    ("turns_strict", || median_of(5, turns_strict)),
+    ("turns_by_word", || median_of(5, turns_by_word)),
+    ("unpark_all_call", || unpark_all_of_them(false)),
+    ("unpark_all_awake", || unpark_all_of_them(true)),
+    ("requeue_all", requeue_all),
+    ("mutex_alone", || mutex(1)),
+    ("mutex_two", || mutex(2)),
+    ("mutex_four", || mutex(4)),
+    ("thousand_threads", thousand_threads),
+];
+
+fn main() -> ExitCode {
+    let words: Vec<String> = std::env::args().skip(1).collect();
+    match words.as_slice() {
+        [] => {
+            for (name, _) in ROWS {
+                println!("{name}");
+            }
+            ExitCode::SUCCESS
+        }
+        [word] => match ROWS.iter().find(|(name, _)| name == word) {
+            Some((name, measure)) => print_cost(name, measure()),
+            None => usage(),
+        },
+        _ => usage(),
+    }
+}
+
+fn usage() -> ExitCode {
+    eprintln!("usage: upstream_bench [ROW]");
+    ExitCode::from(2)
+}
+
+fn print_cost(name: &str, cost: Option<f64>) -> ExitCode {
+    match cost {
+        Some(cost) => {
+            println!("{name} {cost:.2}");
+            ExitCode::SUCCESS
+        }
+        None => {
+            eprintln!("{name} failed");
+            ExitCode::FAILURE
+        }
+    }
+}
+
+/// The median of so many runs, after one more that is not counted.
+fn median_of(runs: usize, run: impl Fn() -> Option<f64>) -> Option<f64> {
+    run()?;
+    let mut costs = Vec::new();
+    for _ in 0..runs {
+        costs.push(run()?);
+    }
+    Some(median(costs))
+}
+
+fn median(mut costs: Vec<f64>) -> f64 {
+    costs.sort_by(f64::total_cmp);
+    costs[costs.len() / 2]
+}
+
+fn since(start: Instant, operations: u64) -> f64 {
+    start.elapsed().as_nanos() as f64 / operations as f64
+}
+
+/// Waits by turns until the word has this value.
+fn comes_to(word: &AtomicU64, value: u64) -> bool {
+    for _ in 0..TURNS {
+        if word.load(SeqCst) == value {
+            return true;
+        }
+        thread::yield_now();
+    }
+    false
+}
+
+// One thread.
+
+const CALLS_ALONE: u64 = 1_000_000;
+
+fn unpark_one_nobody() -> Option<f64> {
+    median_of(7, || {
+        let start = Instant::now();
+        let unparked = unparked_in_vain(KEYS[0], CALLS_ALONE);
+        (unparked == 0).then(|| since(start, CALLS_ALONE))
+    })
+}
+
+fn unparked_in_vain(key: usize, calls: u64) -> usize {
+    let mut unparked = 0;
+    for _ in 0..calls {
+        unparked += unpark(key);
+    }
+    unparked
+}
+
+fn unpark(key: usize) -> usize {
+    unsafe { unpark_one(key, |_| DEFAULT_UNPARK_TOKEN) }.unparked_threads
+}
+
+fn park_invalid() -> Option<f64> {
+    let is_valid = AtomicBool::new(hint::black_box(false));
+    median_of(7, || cost_of_parks(&is_valid, None, ParkResult::Invalid))
+}
+
+fn park_past_deadline() -> Option<f64> {
+    let is_valid = AtomicBool::new(hint::black_box(true));
+    let past = Instant::now();
+    median_of(7, || {
+        cost_of_parks(&is_valid, Some(past), ParkResult::TimedOut)
+    })
+}
+
+fn cost_of_parks(
+    is_valid: &AtomicBool,
+    timeout: Option<Instant>,
+    expected: ParkResult,
+) -> Option<f64> {
+    let start = Instant::now();
+    let mut ended = 0;
+    for _ in 0..CALLS_ALONE {
+        ended +=
+            u64::from(park_with(KEYS[0], || is_valid.load(SeqCst), || (), timeout) == expected);
+    }
+    let cost = since(start, CALLS_ALONE);
+    (ended == CALLS_ALONE).then_some(cost)
+}
+
+fn park_with(
+    key: usize,
+    validate: impl FnOnce() -> bool,
+    before_sleep: impl FnOnce(),
+    timeout: Option<Instant>,
+) -> ParkResult {
+    unsafe {
+        park(
+            key,
+            validate,
+            before_sleep,
+            |_, _| (),
+            DEFAULT_PARK_TOKEN,
+            timeout,
+        )
+    }
+}
+
+// Threads that begin together.
+
+/// The time from the first start to the last end of so many threads that begin together.
+fn together(threads: usize, work: impl Fn(usize) -> bool + Sync) -> Option<Duration> {
+    let barrier = Barrier::new(threads);
+    let spans: Vec<(Instant, Instant, bool)> = thread::scope(|scope| {
+        let (barrier, work) = (&barrier, &work);
+        let handles: Vec<_> = (0..threads)
+            .map(|thread| {
+                scope.spawn(move || {
+                    barrier.wait();
+                    let start = Instant::now();
+                    let done = work(thread);
+                    (start, Instant::now(), done)
+                })
+            })
+            .collect();
+        handles.into_iter().map(|h| h.join().unwrap()).collect()
+    });
+    let start = spans.iter().map(|span| span.0).min()?;
+    let end = spans.iter().map(|span| span.1).max()?;
+    spans.iter().all(|span| span.2).then(|| end - start)
+}
+
+fn unpark_one_of_four(keys: [usize; 4]) -> Option<f64> {
+    const CALLS: u64 = 300_000;
+    median_of(7, || {
+        let spent = together(4, |thread| unparked_in_vain(keys[thread], CALLS) == 0)?;
+        Some(spent.as_nanos() as f64 / CALLS as f64)
+    })
+}
+
+// Two threads that hand a turn to each other.
+
+const STRICT_ROUNDS: u64 = 1_000;
+const WORD_ROUNDS: u64 = 5_000;
+
+fn turns_strict() -> Option<f64> {
+    let gave_up = AtomicBool::new(false);
+    let parks = |key| park_with(key, || !gave_up.load(SeqCst), || (), None) != ParkResult::Invalid;
+    let unparks = |key| unpark_surely(key, &gave_up);
+    let start = Instant::now();
+    let (led, followed) = both(
+        || (0..STRICT_ROUNDS).all(|_| unparks(KEYS[1]) && parks(KEYS[0])),
+        || (0..STRICT_ROUNDS).all(|_| parks(KEYS[1]) && unparks(KEYS[0])),
+    );
+    (led && followed).then(|| since(start, STRICT_ROUNDS))
+}
+
+fn unpark_surely(key: usize, gave_up: &AtomicBool) -> bool {
+    for _ in 0..TURNS {
+        if unpark(key) == 1 {
+            return true;
+        }
+        hint::spin_loop();
+    }
+    gave_up.store(true, SeqCst);
+    unsafe { unpark_all(key, DEFAULT_UNPARK_TOKEN) };
+    false
+}
+
+/// Calls the first in a new thread and the second in this one.
+fn both(first: impl FnOnce() -> bool + Send, second: impl FnOnce() -> bool) -> (bool, bool) {
+    thread::scope(|scope| {
+        let first = scope.spawn(first);
+        let second = second();
+        (first.join().unwrap(), second)
+    })
+}
+
+fn turns_by_word() -> Option<f64> {
+    let turn = AtomicU64::new(0);
+    let start = Instant::now();
+    let (one, other) = both(|| takes_turns(&turn, 0), || takes_turns(&turn, 1));
+    (one && other).then(|| since(start, WORD_ROUNDS))
+}
+
+fn takes_turns(turn: &AtomicU64, side: u64) -> bool {
+    const NOBODY: u64 = 2;
+    let other = 1 - side;
+    (0..WORD_ROUNDS).all(|_| {
+        let has_turn = awaits_turn(turn, side);
+        turn.store(if has_turn { other } else { NOBODY }, SeqCst);
+        unpark(KEYS[other as usize]);
+        has_turn
+    })
+}
+
+fn awaits_turn(turn: &AtomicU64, side: u64) -> bool {
+    let other = 1 - side;
+    for _ in 0..TURNS {
+        let whose = turn.load(SeqCst);
+        if whose != other {
+            return whose == side;
+        }
+        park_with(
+            KEYS[side as usize],
+            || turn.load(SeqCst) == other,
+            || (),
+            None,
+        );
+    }
+    false
+}
+
+// A hundred threads that wait on one key.
+
+const WAITERS: u64 = 100;
+
+struct Board {
+    parked: AtomicU64,
+    awake: AtomicU64,
+    is_over: AtomicBool,
+}
+
+/// Starts the waiters, each of which parks so often, and answers what `lead` measured.
+fn gather(parks: usize, lead: impl FnOnce(&Board) -> Option<f64> + Send) -> Option<f64> {
+    let board = Board {
+        parked: AtomicU64::new(0),
+        awake: AtomicU64::new(0),
+        is_over: AtomicBool::new(false),
+    };
+    thread::scope(|scope| {
+        let waiters: Vec<_> = (0..WAITERS)
+            .map(|_| scope.spawn(|| (0..parks).all(|_| waits_once(&board))))
+            .collect();
+        let cost = lead(&board);
+        board.is_over.store(true, SeqCst);
+        for key in [KEYS[0], KEYS[1]] {
+            unsafe { unpark_all(key, DEFAULT_UNPARK_TOKEN) };
+        }
+        let mut waited = true;
+        for waiter in waiters {
+            waited &= waiter.join().unwrap();
+        }
+        cost.filter(|_| waited)
+    })
+}
+
+fn waits_once(board: &Board) -> bool {
+    let comes = || {
+        board.parked.fetch_add(1, SeqCst);
+    };
+    let result = park_with(KEYS[0], || !board.is_over.load(SeqCst), comes, None);
+    board.awake.fetch_add(1, SeqCst);
+    matches!(result, ParkResult::Unparked(_))
+}
+
+fn unpark_all_of_them(until_awake: bool) -> Option<f64> {
+    const WAKES: usize = 15;
+    gather(WAKES, |board| {
+        let mut costs = Vec::new();
+        for _ in 0..WAKES {
+            costs.push(cost_of_wake(board, until_awake)?);
+        }
+        Some(median(costs))
+    })
+}
+
+fn cost_of_wake(board: &Board, until_awake: bool) -> Option<f64> {
+    await_sleepers(board)?;
+    board.parked.store(0, SeqCst);
+    board.awake.store(0, SeqCst);
+    let start = Instant::now();
+    let unparked = unsafe { unpark_all(KEYS[0], DEFAULT_UNPARK_TOKEN) };
+    let answered = since(start, 1);
+    if unparked as u64 != WAITERS || !comes_to(&board.awake, WAITERS) {
+        return None;
+    }
+    Some(if until_awake {
+        since(start, 1)
+    } else {
+        answered
+    })
+}
+
+/// Waits until all have come, and then some time.
+fn await_sleepers(board: &Board) -> Option<()> {
+    if !comes_to(&board.parked, WAITERS) {
+        return None;
+    }
+    thread::sleep(Duration::from_millis(20));
+    Some(())
+}
+
+fn requeue_all() -> Option<f64> {
+    const MOVES: u64 = 1_000;
+    gather(1, |board| {
+        await_sleepers(board)?;
+        let mut costs = Vec::new();
+        for _ in 0..7 {
+            let start = Instant::now();
+            let mut moved = 0;
+            for _ in 0..MOVES {
+                moved += moved_to(KEYS[0], KEYS[1]) + moved_to(KEYS[1], KEYS[0]);
+            }
+            costs.push(since(start, 2 * MOVES));
+            if moved as u64 != 2 * MOVES * WAITERS {
+                return None;
+            }
+        }
+        Some(median(costs))
+    })
+}
+
+fn moved_to(from: usize, to: usize) -> usize {
+    let validate = || RequeueOp::RequeueAll;
+    let result = unsafe { unpark_requeue(from, to, validate, |_, _| DEFAULT_UNPARK_TOKEN) };
+    result.requeued_threads
+}
+
+// A mutex of one byte.
+
+const FREE: u8 = 0;
+const LOCKED: u8 = 1;
+const PARKED: u8 = 2;
+const CONTENDED: u8 = 3;
+
+const SPINS: u32 = 3;
+const YIELDS: u32 = 7;
+
+struct ByteMutex {
+    state: AtomicU8,
+}
+
+impl ByteMutex {
+    #[inline]
+    fn lock(&self) -> bool {
+        self.exchange(FREE, LOCKED).is_ok() || self.lock_slowly()
+    }
+
+    #[inline]
+    fn unlock(&self) {
+        if self.exchange(LOCKED, FREE).is_err() {
+            self.unlock_slowly();
+        }
+    }
+
+    #[inline]
+    fn exchange(&self, current: u8, new: u8) -> Result<u8, u8> {
+        self.state.compare_exchange(current, new, SeqCst, SeqCst)
+    }
+
+    #[cold]
+    fn lock_slowly(&self) -> bool {
+        let mut spun = 0;
+        for _ in 0..TURNS {
+            let state = self.state.load(SeqCst);
+            if state == FREE || state == PARKED {
+                if self.exchange(state, state | LOCKED).is_ok() {
+                    return true;
+                }
+            } else if state == LOCKED && spun < SPINS + YIELDS {
+                spun += 1;
+                spin(spun);
+            } else if state == CONTENDED || self.exchange(LOCKED, CONTENDED).is_ok() {
+                park_with(
+                    KEYS[0],
+                    || self.state.load(SeqCst) == CONTENDED,
+                    || (),
+                    None,
+                );
+                spun = 0;
+            }
+        }
+        false
+    }
+
+    #[cold]
+    fn unlock_slowly(&self) {
+        let callback = |answer: parking_lot_core::UnparkResult| {
+            let state = if answer.have_more_threads {
+                PARKED
+            } else {
+                FREE
+            };
+            self.state.store(state, SeqCst);
+            DEFAULT_UNPARK_TOKEN
+        };
+        unsafe { unpark_one(KEYS[0], callback) };
+    }
+}
+
+fn spin(spun: u32) {
+    if spun > SPINS {
+        thread::yield_now();
+        return;
+    }
+    for _ in 0..(2 << spun) / 2 {
+        hint::spin_loop();
+    }
+}
+
+fn mutex(threads: usize) -> Option<f64> {
+    const PAIRS: u64 = 300_000;
+    let pairs = PAIRS * threads as u64;
+    let count = AtomicU64::new(0);
+    let mutex = ByteMutex {
+        state: AtomicU8::new(FREE),
+    };
+    together(threads, |_| {
+        (0..PAIRS).all(|_| {
+            let locked = mutex.lock();
+            count.store(count.load(SeqCst) + 1, SeqCst);
+            mutex.unlock();
+            locked
+        })
+    })?;
+    if count.load(SeqCst) != pairs {
+        return None;
+    }
+    median_of(7, || {
+        let spent = together(threads, |_| {
+            let mut locked = 0;
+            for _ in 0..PAIRS {
+                locked += u64::from(pair(&mutex));
+            }
+            locked == PAIRS
+        })?;
+        Some(spent.as_nanos() as f64 / pairs as f64)
+    })
+}
+
+#[inline]
+fn pair(mutex: &ByteMutex) -> bool {
+    let locked = mutex.lock();
+    mutex.unlock();
+    locked
+}
+
+// A thousand threads.
+
+fn thousand_threads() -> Option<f64> {
+    const THREADS: usize = 1_000;
+    let parked = Arc::new(AtomicU64::new(0));
+    let start = Instant::now();
+    let mut threads = Vec::with_capacity(THREADS);
+    for key in 0..THREADS {
+        let parked = parked.clone();
+        let comes = move || {
+            parked.fetch_add(1, SeqCst);
+        };
+        let waits = move || {
+            matches!(
+                park_with(key, || true, comes, None),
+                ParkResult::Unparked(_)
+            )
+        };
+        let builder = thread::Builder::new().stack_size(64 * 1024);
+        threads.push(builder.spawn(waits).ok()?);
+    }
+    if !comes_to(&parked, THREADS as u64) {
+        return None;
+    }
+    let mut woken = 0;
+    for key in 0..THREADS {
+        woken += unsafe { unpark_all(key, DEFAULT_UNPARK_TOKEN) };
+    }
+    let mut all = woken == THREADS;
+    for thread in threads {
+        all &= thread.join().unwrap();
+    }
+    all.then(|| since(start, THREADS as u64))
+}

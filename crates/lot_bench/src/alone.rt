@@ -1,0 +1,124 @@
+//! The rows of one thread.
+
+use crate::cost::{Cost, median_of};
+use crate::waiting::{KEYS, Lot};
+use parking_lot_core::{
+    DEFAULT_PARK_TOKEN, DEFAULT_UNPARK_TOKEN, ParkResult, ThreadData, park, unpark_one,
+};
+use std::alloc::Global;
+use std::sync::Wait;
+use std::sync::atomic::{AtomicBool, Ordering};
+use std::time::{Clock, Instant};
+
+const CALLS: u64 = 1_000_000;
+
+const RUNS: usize = 7;
+
+/// Unparks one where nobody waits.
+pub fn unpark_one_nobody<R: Wait + Clock>(rt: &R, alloc: Global) -> Option<Cost> {
+    let lot = Lot::new(alloc, 1).ok()?;
+    median_of(alloc, RUNS, || cost_of_unparks(rt, &lot))
+}
+
+fn cost_of_unparks<R: Wait + Clock>(rt: &R, lot: &Lot) -> Option<Cost> {
+    let start = Instant::now(rt).ok()?;
+    if unparked_in_vain(rt, lot, KEYS[0], CALLS) != 0 {
+        return None;
+    }
+    Cost::since(rt, start, CALLS)
+}
+
+/// Unparks one on the key so often, and answers how many threads it unparked.
+pub fn unparked_in_vain<R: Wait>(rt: &R, lot: &Lot, key: usize, calls: u64) -> usize {
+    let mut unparked = 0usize;
+    for _ in 0..calls {
+        unparked = unparked.wrapping_add(unparked_once(rt, lot, key));
+    }
+    unparked
+}
+
+fn unparked_once<R: Wait>(rt: &R, lot: &Lot, key: usize) -> usize {
+    unpark_one(rt, lot, key, |_| DEFAULT_UNPARK_TOKEN).unparked_threads
+}
+
+/// Parks, where the validation answers false.
+pub fn park_invalid<R: Wait + Clock>(rt: &R, alloc: Global) -> Option<Cost> {
+    let lot = Lot::new(alloc, 1).ok()?;
+    let is_valid = AtomicBool::new(false);
+    median_of(
+        alloc,
+        RUNS,
+        || cost_of_parks(rt, alloc, &lot, &is_valid, None, ParkResult::Invalid),
+    )
+}
+
+/// Parks with a deadline that has passed.
+pub fn park_past_deadline<R: Wait + Clock>(rt: &R, alloc: Global) -> Option<Cost> {
+    let lot = Lot::new(alloc, 1).ok()?;
+    let is_valid = AtomicBool::new(true);
+    let past = Instant::now(rt).ok();
+    median_of(
+        alloc,
+        RUNS,
+        || cost_of_parks(rt, alloc, &lot, &is_valid, past, ParkResult::TimedOut),
+    )
+}
+
+// Registers, parks so often that each park ends by itself with this result, and retires.
+fn cost_of_parks<R: Wait + Clock>(
+    rt: &R,
+    alloc: Global,
+    lot: &Lot,
+    is_valid: &AtomicBool,
+    timeout: Option<Instant>,
+    expected: ParkResult,
+) -> Option<Cost> {
+    let mut data = lot.thread_data(rt, alloc).ok()?;
+    let start = Instant::now(rt).ok()?;
+    let ended = count_parks(rt, lot, &mut data, is_valid, timeout, expected);
+    let cost = Cost::since(rt, start, CALLS);
+    lot.retire(rt, data);
+    if ended == CALLS { cost } else { None }
+}
+
+// How many of the calls end with this result.
+fn count_parks<R: Wait + Clock>(
+    rt: &R,
+    lot: &Lot,
+    data: &mut ThreadData,
+    is_valid: &AtomicBool,
+    timeout: Option<Instant>,
+    expected: ParkResult,
+) -> u64 {
+    let mut ended = 0u64;
+    for _ in 0..CALLS {
+        ended = ended.wrapping_add(park_once(rt, lot, data, is_valid, timeout, expected));
+    }
+    ended
+}
+
+// 1 if the park ends with this result.
+fn park_once<R: Wait + Clock>(
+    rt: &R,
+    lot: &Lot,
+    data: &mut ThreadData,
+    is_valid: &AtomicBool,
+    timeout: Option<Instant>,
+    expected: ParkResult,
+) -> u64 {
+    if !lot.accepts(data) {
+        return 0;
+    }
+    let result = park(
+        rt,
+        lot,
+        data,
+        KEYS[0],
+        || is_valid.load(Ordering::SeqCst),
+        || (),
+        |_, _| (),
+        DEFAULT_PARK_TOKEN,
+        timeout,
+    );
+    u64::from(result == expected)
+}
