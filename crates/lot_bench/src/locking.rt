@@ -1,9 +1,9 @@
-//! The rows of the mutex of one byte.
+//! The rows of the mutex of one word.
 
-use crate::byte_mutex::ByteMutex;
 use crate::cost::{Cost, median_of};
 use crate::together::{Span, whole_time};
 use crate::waiting::Lot;
+use crate::word_mutex::WordMutex;
 use parking_lot_core::ThreadData;
 use std::alloc::Global;
 use std::sync::atomic::{AtomicU64, Ordering};
@@ -43,7 +43,7 @@ fn counted_by_all<R: Threads + Wait + Clock + Sync>(
     lot: &Lot,
     threads: usize,
 ) -> Option<u64> {
-    let mutex = ByteMutex::new();
+    let mutex = WordMutex::new();
     let count = AtomicU64::new(0);
     let counted = thread::map_indices(
         rt,
@@ -62,7 +62,7 @@ fn count_pairs<R: Wait + Clock>(
     rt: &R,
     alloc: Global,
     lot: &Lot,
-    mutex: &ByteMutex,
+    mutex: &WordMutex,
     count: &AtomicU64,
 ) -> Option<()> {
     let mut data = lot.thread_data(rt, alloc).ok()?;
@@ -77,7 +77,7 @@ fn count_pairs<R: Wait + Clock>(
 fn count_one<R: Wait + Clock>(
     rt: &R,
     lot: &Lot,
-    mutex: &ByteMutex,
+    mutex: &WordMutex,
     data: &mut ThreadData,
     count: &AtomicU64,
 ) {
@@ -95,7 +95,7 @@ fn cost_of_pairs<R: Threads + Wait + Clock + Sync>(
     threads: usize,
     pairs: u64,
 ) -> Option<Cost> {
-    let mutex = ByteMutex::new();
+    let mutex = WordMutex::new();
     let barrier = Barrier::new(threads);
     let spans = thread::map_indices(
         rt,
@@ -112,7 +112,7 @@ fn time_of_pairs<R: Wait + Clock>(
     rt: &R,
     alloc: Global,
     lot: &Lot,
-    mutex: &ByteMutex,
+    mutex: &WordMutex,
     barrier: &Barrier,
 ) -> Option<Span> {
     let data = lot.thread_data(rt, alloc).ok();
@@ -133,7 +133,7 @@ fn time_of_pairs<R: Wait + Clock>(
 fn lock_and_unlock<R: Wait + Clock>(
     rt: &R,
     lot: &Lot,
-    mutex: &ByteMutex,
+    mutex: &WordMutex,
     data: &mut ThreadData,
 ) -> u64 {
     let mut locked = 0u64;
@@ -145,7 +145,7 @@ fn lock_and_unlock<R: Wait + Clock>(
 
 // 1 if it locked the mutex.
 #[inline]
-fn pair<R: Wait + Clock>(rt: &R, lot: &Lot, mutex: &ByteMutex, data: &mut ThreadData) -> u64 {
+fn pair<R: Wait + Clock>(rt: &R, lot: &Lot, mutex: &WordMutex, data: &mut ThreadData) -> u64 {
     if !mutex.lock(rt, lot, data) {
         return 0;
     }

@@ -2,7 +2,6 @@
 #![tactic(auto)]
 
 mod alone;
-mod byte_mutex;
 mod cost;
 mod crowd;
 mod locking;
@@ -12,6 +11,7 @@ mod thousand;
 mod together;
 mod turns;
 mod waiting;
+mod word_mutex;
 
 use std::process::ExitCode;
 

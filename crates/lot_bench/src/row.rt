@@ -33,7 +33,7 @@ pub enum Row {
     /// A hundred threads are requeued to another key, or back.
     RequeueAll,
 
-    /// One thread locks and unlocks a mutex of one byte.
+    /// One thread locks and unlocks a mutex of one word.
     MutexAlone,
 
     /// Two threads lock and unlock one such mutex.

@@ -1,21 +1,21 @@
-//! A mutex of one byte, whose threads wait in a lot.
+//! A mutex of one word, whose threads wait in a lot.
 
 use crate::waiting::{KEYS, Lot, TURNS};
 use parking_lot_core::{DEFAULT_PARK_TOKEN, DEFAULT_UNPARK_TOKEN, ThreadData, park, unpark_one};
 use std::sync::Wait;
-use std::sync::atomic::{AtomicU8, Ordering};
+use std::sync::atomic::{AtomicU64, Ordering};
 use std::time::Clock;
 use std::{hint, thread};
 
-const FREE: u8 = 0;
+const FREE: u64 = 0;
 
-const LOCKED: u8 = 1;
+const LOCKED: u64 = 1;
 
 // Free, but a thread waits in the lot.
-const PARKED: u8 = 2;
+const PARKED: u64 = 2;
 
 // Locked, and a thread waits in the lot.
-const CONTENDED: u8 = 3;
+const CONTENDED: u64 = 3;
 
 // How often a thread spins, and how often more it yields, before it parks.
 const SPINS: u32 = 3;
@@ -23,16 +23,18 @@ const SPINS: u32 = 3;
 const YIELDS: u32 = 7;
 
 /// The mutex. The lot keeps those who wait for it in the queue of one key.
+///
+/// An `AtomicU8` takes a word too, and its exchange reads that word first; so this is a whole word.
 #[derive(Drop)]
-pub struct ByteMutex {
-    state: AtomicU8,
+pub struct WordMutex {
+    state: AtomicU64,
 }
 
-impl ByteMutex {
+impl WordMutex {
     /// A mutex that is free.
-    pub fn new() -> ByteMutex {
-        ByteMutex {
-            state: AtomicU8::new(FREE),
+    pub fn new() -> WordMutex {
+        WordMutex {
+            state: AtomicU64::new(FREE),
         }
     }
 
@@ -51,7 +53,7 @@ impl ByteMutex {
     }
 
     #[inline]
-    fn exchange(&self, current: u8, new: u8) -> Result<u8, u8> {
+    fn exchange(&self, current: u64, new: u64) -> Result<u64, u64> {
         self.state
             .compare_exchange(current, new, Ordering::SeqCst, Ordering::SeqCst)
     }
