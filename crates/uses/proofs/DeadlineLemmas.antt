@@ -1,5 +1,6 @@
 -- What a thread may do once its deadline was tried.
-use Rattle.std.proofs.Common.{◌≡◌, ◌≢◌, ◌⊎◌, ◌↔◌, ℕ, true, false, ◌||◌, Result, Ok, Err, IsOk, OnOk, OnErr, inl, inr, refl, sym, ap, subst, ◌∙◌, ⊎_elim}
+use Rattle.std.proofs.Common.{◌≡◌, ◌≢◌, ◌⊎◌, ◌↔◌, ℕ, true, false, ◌||◌, Result, Ok, Err}
+use Rattle.std.proofs.Common.{IsOk, OnOk, OnErr, inl, inr, refl, sym, ap, subst, ◌∙◌, ⊎_elim}
 use Rattle.lot_base.proofs.ValueLemmas.{with_value-same}
 use Rattle.parking_lot_core.specs.declared.lot.Status.{Status}
 use Rattle.parking_lot_core.specs.declared.lot.Status.TheVariants.{Free, Running, Waiting, Late, Taken}

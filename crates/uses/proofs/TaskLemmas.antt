@@ -1,5 +1,6 @@
 -- Two tasks on a new lot: they register, one acquires and the other waits.
-use Rattle.std.proofs.Common.{◌≡◌, ◌≢◌, ◌↔◌, ℕ, ◌<◌, true, List, [], ◌∷◌, ◌++◌, take, Result, Ok, Err, IsOk, IfOk, IsErrAnd, OnErr, refl, sym, ap, subst, ◌∙◌, ⊎_elim, arith}
+use Rattle.std.proofs.Common.{◌≡◌, ◌≢◌, ◌↔◌, ℕ, ◌<◌, true, List, [], ◌∷◌, ◌++◌, take, Result}
+use Rattle.std.proofs.Common.{Ok, Err, IsOk, IfOk, IsErrAnd, OnErr, refl, sym, ap, subst, ◌∙◌, ⊎_elim, arith}
 use Rattle.std.proofs.lemmas.Bool.{cases_eq}
 use Rattle.lot_base.specs.declared.token.LotError.{LotError}
 use Rattle.lot_base.specs.declared.token.LotError.TheVariants.{TooManyThreads, Full, NoMemory}
