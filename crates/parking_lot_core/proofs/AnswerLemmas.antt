@@ -19,32 +19,34 @@ use Rattle.parking_lot_core.specs.declared.schedule.Op.{Op}
 use Rattle.parking_lot_core.specs.declared.schedule.Op.TheVariants.{One, All, Filter, Requeue}
 use Rattle.parking_lot_core.specs.declared.schedule.Step.{Step}
 use Rattle.parking_lot_core.specs.declared.schedule.Step.TheVariants.{Register, Retire, Enter, Unpark, Deadline}
-use Rattle.parking_lot_core.specs.declared.schedule.Step.TheVariants.{Resolve, Return}
+use Rattle.parking_lot_core.specs.declared.schedule.Step.TheVariants.{Resolve, Return, Acquire, Release}
 use Rattle.parking_lot_core.specs.Status.{is_registered, is_running, is_queued, awaits_deadline}
 use Rattle.parking_lot_core.specs.Machine.{Machine, Waiter, IsConsistent, IsFull, IsLeastFree}
 use Rattle.parking_lot_core.specs.Machine.{StandsAt, times_in, threads_of, statuses_with_taken, with_status}
-use Rattle.parking_lot_core.specs.Machine.{after_enter, after_unpark, after_requeue, after_timeout, is_last}
+use Rattle.parking_lot_core.specs.Machine.{after_retire, after_acquire, after_enter, after_unpark, after_requeue}
+use Rattle.parking_lot_core.specs.Machine.{after_timeout, is_last}
 use Rattle.parking_lot_core.specs.Size.{threads_after}
-use Rattle.parking_lot_core.specs.Steps.{Gives, IsRegister, IsUnpark, IsReturn, IsResolve, IsStep}
+use Rattle.parking_lot_core.specs.Steps.{Gives, IsMisfit, IsRegister, IsUnpark, IsReturn, IsResolve, IsAcquire, IsStep}
 use Rattle.parking_lot_core.specs.Laws.{EachStepHasAnAnswer, NoOtherAnswer, OnlyMemoryIsOpen, AbortChangesNothing}
-use Rattle.parking_lot_core.specs.Laws.{ListsAreShort, AnswersCountThreads}
+use Rattle.parking_lot_core.specs.Laws.{MayWantMemory, ListsAreShort, AnswersCountThreads}
 use Rattle.parking_lot_core.proofs.CountLemmas.{count_by-alike, count_by-one_more}
-use Rattle.parking_lot_core.proofs.MachineLemmas.{same_machine, is_queued-standing, below_max_threads}
-use Rattle.parking_lot_core.proofs.MachineLemmas.{length-le_from_QueuesMatchStatus}
+use Rattle.parking_lot_core.proofs.LawLemmas.{MatchBool-both}
+use Rattle.parking_lot_core.proofs.MachineLemmas.{same_machine, is_queued-standing, below_max_threads, MatchBool-from}
+use Rattle.parking_lot_core.proofs.MachineLemmas.{length-le_from_MatchesStatus}
 use Rattle.parking_lot_core.proofs.SplitLemmas.{AreParts, AreParts-first, AreParts-all, AreParts-filter, AreParts-by}
 use Rattle.parking_lot_core.proofs.StepLemmas.{MatchBool-either, Running-from, Waiting-from}
 use Rattle.parking_lot_core.proofs.WaiterLemmas.{statuses_with_taken-other, statuses_with_taken-among}
 
 pub length-le-lists : ListsAreShort
-length-le-lists m key (keys, right) = length-le_from_QueuesMatchStatus keys m key right
+length-le-lists m key (keys, right) = length-le_from_MatchesStatus keys m key right
 
 pub after_requeue-aborted : AbortChangesNothing
-after_requeue-aborted m from to token = same_machine _ _ (lists-aborted m.lists from to) (λ j. refl) refl
+after_requeue-aborted m from to token = same_machine _ _ (lists-aborted m.lists from to) (λ j. refl) (λ j. refl) refl
 
 pub after_requeue-to_itself : (m : Machine) (key : ℕ) (token : UnparkToken)
     → after_requeue m key key (split_by RequeueAll (m.lists key)) token ≡ m
 after_requeue-to_itself m key token =
-    same_machine _ _ (lists_after_requeue-to_itself Waiter m.lists key) (λ j. refl) refl
+    same_machine _ _ (lists_after_requeue-to_itself Waiter m.lists key) (λ j. refl) (λ j. refl) refl
 
 -- so at an abort the token does not matter
 pub after_requeue-token : (m : Machine) (from to : ℕ) (op : RequeueOp) (waiters : List Waiter)
@@ -140,6 +142,14 @@ HasAnswer-unpark m (All key token) = (_, (λ same. cc), _, (refl, refl))
 HasAnswer-unpark m (Filter key decisions token) = (_, (λ same. cc), _, (refl, refl))
 HasAnswer-unpark m (Requeue from to op token) = (_, (λ same. cc), _, (refl, refl))
 
+HasAnswer-acquire : (m : Machine) (thread key : ℕ) (b : Bool)
+    → ((given : Answer) (new : Machine) → MatchBool b (IsAcquire m thread key given new) (IsMisfit m given new)
+    → IsStep m (Acquire thread key) given new) → HasAnswer m (Acquire thread key)
+HasAnswer-acquire m thread key true steps =
+    let new = after_acquire m thread key in (answer.Recorded, (λ same. cc), new, steps answer.Recorded new refl)
+HasAnswer-acquire m thread key false steps =
+    (answer.Misfit, (λ same. cc), m, steps answer.Misfit m (refl, refl))
+
 pub HasAnswer-step : EachStepHasAnAnswer
 HasAnswer-step m Register consistent = HasAnswer-register m
 HasAnswer-step m (Retire thread) consistent =
@@ -157,6 +167,11 @@ HasAnswer-step m (Deadline thread) consistent =
     (λ g new does. does)
 HasAnswer-step m (Resolve thread) consistent = HasAnswer-resolve m thread (m.status thread) refl consistent
 HasAnswer-step m (Return thread) consistent = HasAnswer-return m thread (m.status thread)
+HasAnswer-step m (Acquire thread key) consistent =
+    HasAnswer-acquire m thread key (is_running (m.status thread)) (λ given new does. does)
+HasAnswer-step m (Release thread key) consistent =
+    HasAnswer-either m (Release thread key) (is_running (m.status thread)) _ _ _ _ (λ same. cc) (λ same. cc)
+    (λ g new does. does)
 
 -- two answers to one step
 Gives-same_answer : {after after' new left : Machine} {expected given other : Answer} → Gives after expected given new
@@ -217,6 +232,15 @@ IsUnpark-same_answer m (All key token) given other new left = Gives-same_answer
 IsUnpark-same_answer m (Filter key decisions token) given other new left = Gives-same_answer
 IsUnpark-same_answer m (Requeue from to op token) given other new left = Gives-same_answer
 
+IsAcquire-same_answer : (m : Machine) (thread key : ℕ) (given other : Answer) (new left : Machine)
+    → IsAcquire m thread key given new → IsAcquire m thread key other left → given ≢ answer.NoMemory
+    → other ≢ answer.NoMemory → given ≡ other
+IsAcquire-same_answer m thread key answer.Recorded answer.Recorded new left _ _ _ _ = refl
+IsAcquire-same_answer m thread key answer.NoMemory _ new left _ _ memory _ = absurd (memory refl)
+IsAcquire-same_answer m thread key _ answer.NoMemory new left _ _ _ memory = absurd (memory refl)
+IsAcquire-same_answer m thread key answer.Recorded _ new left _ none _ _ = absurd none
+IsAcquire-same_answer m thread key _ _ new left none _ _ _ = absurd none
+
 pub IsStep-same_answer : NoOtherAnswer
 IsStep-same_answer m Register given other new left consistent does also memory more =
     IsRegister-same_answer m given other new left does also memory more
@@ -234,8 +258,14 @@ IsStep-same_answer m (Resolve thread) given other new left consistent does also 
     IsResolve-same_answer m thread (m.status thread) given other new left does also
 IsStep-same_answer m (Return thread) given other new left consistent does also _ _ =
     IsReturn-same_answer m thread (m.status thread) given other new left does also
+IsStep-same_answer m (Acquire thread key) given other new left consistent does also memory more =
+    MatchBool-both (is_running (m.status thread))
+    (λ acquires too. IsAcquire-same_answer m thread key given other new left acquires too memory more)
+    Gives-same_answer does also
+IsStep-same_answer m (Release thread key) given other new left consistent does also _ _ =
+    Gives-either (is_running (m.status thread)) _ _ new left _ _ given other does also
 
--- memory is wanting at a registration alone
+-- memory is wanting at a registration and at an acquire alone
 Gives-not_memory : {after new : Machine} {expected : Answer} → expected ≢ answer.NoMemory
     → Gives after expected answer.NoMemory new → ⊥
 Gives-not_memory other (is, _) = other (sym is)
@@ -263,10 +293,10 @@ IsUnpark-not_memory m (Filter key decisions token) new = Gives-not_memory (λ sa
 IsUnpark-not_memory m (Requeue from to op token) new = Gives-not_memory (λ same. cc)
 
 abbrev IsOpen : Machine → Step → Machine → Type 0
-IsOpen m step new = (step ≡ Register) × (IsFull m → ⊥) × (new ≡ m)
+IsOpen m step new = MayWantMemory m step × (new ≡ m)
 
 IsOpen-from : (m : Machine) (step : Step) (new : Machine) → IsStep m step answer.NoMemory new → IsOpen m step new
-IsOpen-from m Register new (free, same) = (refl, free, same)
+IsOpen-from m Register new opens = opens
 IsOpen-from m (Retire thread) new does =
     absurd (Gives-neither (is_running (m.status thread)) _ _ new _ _ (λ same. cc) (λ same. cc) does)
 IsOpen-from m (Enter thread key true park_token timed) new does =
@@ -278,12 +308,21 @@ IsOpen-from m (Deadline thread) new does =
     absurd (Gives-neither (awaits_deadline (m.status thread)) _ _ new _ _ (λ same. cc) (λ same. cc) does)
 IsOpen-from m (Resolve thread) new does = absurd (IsResolve-not_memory m thread (m.status thread) new does)
 IsOpen-from m (Return thread) new does = absurd (IsReturn-not_memory m thread (m.status thread) new does)
+IsOpen-from m (Acquire thread key) new does =
+    MatchBool-either (is_running (m.status thread)) (λ runs same. (Running-from (m.status thread) runs, same))
+    (λ _ gives. absurd (Gives-not_memory (λ same. cc) gives)) does
+IsOpen-from m (Release thread key) new does =
+    absurd (Gives-neither (is_running (m.status thread)) _ _ new _ _ (λ same. cc) (λ same. cc) does)
+
+IsStep-open : (m : Machine) (step : Step) (new : Machine) → IsOpen m step new → IsStep m step answer.NoMemory new
+IsStep-open m Register new opens = opens
+IsStep-open m (Acquire thread key) new (runs, same) =
+    MatchBool-from (is_running (m.status thread)) _ _ (λ _. same)
+    (λ stands. absurd (false≢true (sym stands ∙ ap is_running runs)))
+IsStep-open m _ new (none, _) = absurd none
 
 pub memory-open : OnlyMemoryIsOpen
-memory-open m step new = (
-  IsOpen-from m step new,
-  λ (registers, free, same). subst (λ s. IsStep m s answer.NoMemory new) (sym registers) (free, same),
-)
+memory-open m step new = (IsOpen-from m step new, IsStep-open m step new)
 
 -- the threads that are registered after a step
 
@@ -379,11 +418,11 @@ module _ (m : Machine) (consistent : IsConsistent m) (given : Answer) (new : Mac
       (registered-alike m thread status.Running (ap is_registered (sym is)))) gives
   IsResolve-counts thread s is = IsReturn-counts thread s is
 
-  retired : (thread : ℕ) → m.status thread ≡ status.Running → Counts (with_status m thread status.Free) answer.Retired
+  retired : (thread : ℕ) → m.status thread ≡ status.Running → Counts (after_retire m thread) answer.Retired
   retired thread runs =
       let below : thread < m.max_threads = below_max_threads consistent.0 m thread consistent.1
       (λ free. let same : status.Running ≡ status.Free = sym runs ∙ free in absurd cc) in
-      let left = with_status m thread status.Free in
+      let left = after_retire m thread in
       let more = threads_of-one_more left m thread refl below
       (ap is_registered (with_value-same m.status thread status.Free thread refl)) (ap is_registered runs)
       (registered-with_status m thread status.Free) in
@@ -398,6 +437,11 @@ module _ (m : Machine) (consistent : IsConsistent m) (given : Answer) (new : Mac
   IsRegister-counts answer.Full (_, new_is) = ap threads_of new_is
   IsRegister-counts answer.NoMemory (_, new_is) = ap threads_of new_is
   IsRegister-counts _ none = absurd none
+
+  IsAcquire-counts : (thread key : ℕ) (given : Answer) → IsAcquire m thread key given new → Counts new given
+  IsAcquire-counts thread key answer.Recorded new_is = ap threads_of new_is
+  IsAcquire-counts thread key answer.NoMemory new_is = ap threads_of new_is
+  IsAcquire-counts thread key _ none = absurd none
 
   IsStep-counts : (step : Step) → IsStep m step given new → Counts new given
   IsStep-counts Register = IsRegister-counts given
@@ -420,6 +464,10 @@ module _ (m : Machine) (consistent : IsConsistent m) (given : Answer) (new : Mac
       (Waiting-from (m.status thread) timed) refl refl)) (λ _. Counts-gives refl)
   IsStep-counts (Resolve thread) = IsResolve-counts thread (m.status thread) refl
   IsStep-counts (Return thread) = IsReturn-counts thread (m.status thread) refl
+  IsStep-counts (Acquire thread key) =
+      MatchBool-either (is_running (m.status thread)) (λ _. IsAcquire-counts thread key given) (λ _. Counts-gives refl)
+  IsStep-counts (Release thread key) =
+      MatchBool-either (is_running (m.status thread)) (λ _. Counts-gives refl) (λ _. Counts-gives refl)
 
 pub threads_of-step : AnswersCountThreads
 threads_of-step m step given new consistent does = IsStep-counts m consistent given new step does

@@ -12,12 +12,13 @@ use Rattle.parking_lot_core.specs.declared.lot.Status.{Status}
 use Rattle.parking_lot_core.specs.declared.lot.Status.TheVariants as status
 use Rattle.parking_lot_core.specs.declared.table.Use.TheVariants.{Registered}
 use Rattle.parking_lot_core.specs.Private.Committed.{taken_with, committed, CanCommit}
-use Rattle.parking_lot_core.specs.Lot.{thread_at, free_thread, statuses, thread_keys, use_of, uses}
+use Rattle.parking_lot_core.specs.Lot.{thread_at, free_thread, statuses, thread_keys, thread_records, use_of, uses}
 use Rattle.parking_lot_core.specs.LotState.{ThreadState}
+use Rattle.parking_lot_core.specs.Records.{times_recorded}
 use Rattle.parking_lot_core.specs.Status.{is_queued}
 use Rattle.parking_lot_core.specs.Machine.{times_in, statuses_with_taken}
 use Rattle.parking_lot_core.specs.Represents.{waiter_of}
-use Rattle.lot_base.proofs.ValueLemmas.{with_value-same, with_value-other}
+use Rattle.lot_base.proofs.ValueLemmas.{with_value-same, with_value-other, with_value-same_value}
 use Rattle.parking_lot_core.proofs.WaiterLemmas.{statuses_with_taken-other, statuses_with_taken-among, times_in-own}
 use Rattle.parking_lot_core.proofs.WaiterLemmas.{times_in-not_own, times_in-append}
 
@@ -31,17 +32,37 @@ thread_at-set threads number thread below j =
     ∙ sym (with_value-other (thread_at threads) number thread j other))
     (cases_eq j number)
 
--- and so its status and its key
+-- and so what is read of it: its status, its records and its key
+part-set : {A : Type 0} (part : ThreadState → A) (threads : List ThreadState) (number : ℕ) (thread : ThreadState)
+    → number < length threads → (j : ℕ)
+    → part (thread_at (slice_set threads number thread) j)
+    ≡ with_value (λ k. part (thread_at threads k)) number (part thread) j
+part-set part threads number thread below j =
+    ⊎_elim (λ (same : j ≡ number). ap part
+    (thread_at-set threads number thread below j ∙ with_value-same (thread_at threads) number thread j same)
+    ∙ sym (with_value-same (λ k. part (thread_at threads k)) number (part thread) j same))
+    (λ (other : j ≢ number). ap part
+    (thread_at-set threads number thread below j ∙ with_value-other (thread_at threads) number thread j other)
+    ∙ sym (with_value-other (λ k. part (thread_at threads k)) number (part thread) j other))
+    (cases_eq j number)
+
 pub statuses-set : (threads : List ThreadState) (number : ℕ) (thread : ThreadState) → number < length threads → (j : ℕ)
     → statuses (slice_set threads number thread) j ≡ with_value (statuses threads) number thread.status j
-statuses-set threads number thread below j =
-    ⊎_elim (λ (same : j ≡ number). ap (λ t. t.status)
-    (thread_at-set threads number thread below j ∙ with_value-same (thread_at threads) number thread j same)
-    ∙ sym (with_value-same (statuses threads) number thread.status j same))
-    (λ (other : j ≢ number). ap (λ t. t.status)
-    (thread_at-set threads number thread below j ∙ with_value-other (thread_at threads) number thread j other)
-    ∙ sym (with_value-other (statuses threads) number thread.status j other))
-    (cases_eq j number)
+statuses-set threads number thread below j = part-set (λ t. t.status) threads number thread below j
+
+pub records-set : (threads : List ThreadState) (number : ℕ) (thread : ThreadState) → number < length threads → (j : ℕ)
+    → thread_records (slice_set threads number thread) j
+    ≡ with_value (thread_records threads) number (times_recorded thread.records) j
+records-set threads number thread below j =
+    part-set (λ t. times_recorded t.records) threads number thread below j
+
+-- where the thread has the records that were there
+pub records-kept : (threads : List ThreadState) (number : ℕ) (thread : ThreadState) → number < length threads
+    → thread.records ≡ (thread_at threads number).records → (j : ℕ)
+    → thread_records (slice_set threads number thread) j ≡ thread_records threads j
+records-kept threads number thread below same j =
+    records-set threads number thread below j
+    ∙ with_value-same_value (thread_records threads) number (times_recorded thread.records) (ap times_recorded same) j
 
 pub keys-set_other : (threads : List ThreadState) (number : ℕ) (thread : ThreadState) (j : ℕ) → j ≢ number
     → thread_keys (slice_set threads number thread) j ≡ thread_keys threads j
@@ -108,7 +129,7 @@ length-committed [] threads = refl
 length-committed (node ∷ nodes) threads = length-committed nodes (taken_with node threads)
     ∙ length-set threads node.number _
 
--- a commit keeps each number, its key and its use
+-- a commit keeps each number, its key, its use and its records
 pub numbers-committed : (nodes : List NodeFields) (threads : List ThreadState) → CanCommit nodes threads
     → ((j : ℕ) → (thread_at threads j).number ≡ j) → (j : ℕ) → (thread_at (committed nodes threads) j).number ≡ j
 numbers-committed [] threads can numbers = numbers
@@ -130,6 +151,13 @@ uses-committed [] threads can = refl
 uses-committed (node ∷ nodes) threads can =
     uses-committed nodes (taken_with node threads) can.3
     ∙ uses-same threads node.number _ (sym (use_of-queued (statuses threads node.number) can.2))
+
+pub records-committed : (nodes : List NodeFields) (threads : List ThreadState) → CanCommit nodes threads → (j : ℕ)
+    → thread_records (committed nodes threads) j ≡ thread_records threads j
+records-committed [] threads can j = refl
+records-committed (node ∷ nodes) threads can j =
+    records-committed nodes (taken_with node threads) can.3 j
+    ∙ records-kept threads node.number _ can.0 refl j
 
 -- the committed threads are those of the waiters, and they have the token
 pub statuses-committed : (token : UnparkToken) (nodes : List NodeFields) (threads : List ThreadState)

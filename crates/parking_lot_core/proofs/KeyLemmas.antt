@@ -5,11 +5,12 @@ use Rattle.std.proofs.lemmas.List.{length-set, set_past}
 use Rattle.lot_base.specs.NodeFields.{NodeFields}
 use Rattle.lot_base.specs.Requeue.{numbers}
 use Rattle.parking_lot_core.specs.Private.Committed.{threads_with_key, threads_with_keys}
-use Rattle.parking_lot_core.specs.Lot.{thread_at, statuses, thread_keys, uses}
+use Rattle.parking_lot_core.specs.Lot.{thread_at, statuses, thread_keys, thread_records, uses}
 use Rattle.parking_lot_core.specs.LotState.{ThreadState}
 use Rattle.parking_lot_core.specs.Machine.{times_in}
 use Rattle.parking_lot_core.specs.Represents.{waiter_of}
 use Rattle.parking_lot_core.proofs.CommitLemmas.{statuses-set, keys-set_other, keys-set_same, numbers-set, uses-same}
+use Rattle.parking_lot_core.proofs.CommitLemmas.{records-kept}
 use Rattle.lot_base.proofs.ValueLemmas.{with_value-same, with_value-other}
 use Rattle.parking_lot_core.proofs.WaiterLemmas.{times_in-append, times_in-own, times_in-not_own}
 
@@ -18,7 +19,7 @@ threads_with_key-past : (threads : List ThreadState) (number key : ℕ) → leng
     → threads_with_key threads number key ≡ threads
 threads_with_key-past threads number key past = set_past threads number _ past
 
--- one thread's key leaves its number, its status and its use
+-- one thread's key leaves its number, its status, its use and its records
 numbers-threads_with_key : (threads : List ThreadState) (number key : ℕ) → ((j : ℕ) → (thread_at threads j).number ≡ j)
     → (j : ℕ) → (thread_at (threads_with_key threads number key) j).number ≡ j
 numbers-threads_with_key threads number key own =
@@ -35,6 +36,14 @@ statuses-threads_with_key threads number key j =
     ∙ ap (statuses threads) (sym same)) (with_value-other (statuses threads) number (statuses threads number) j)
     (cases_eq j number))
     (λ (past : length threads ≤ number). ap (λ all. statuses all j) (threads_with_key-past threads number key past))
+    (cases_lt number (length threads))
+
+records-threads_with_key : (threads : List ThreadState) (number key j : ℕ)
+    → thread_records (threads_with_key threads number key) j ≡ thread_records threads j
+records-threads_with_key threads number key j =
+    ⊎_elim (λ (low : number < length threads). records-kept threads number _ low refl j)
+    (λ (past : length threads ≤ number). ap (λ all. thread_records all j)
+    (threads_with_key-past threads number key past))
     (cases_lt number (length threads))
 
 module _ (to : ℕ) where
@@ -61,6 +70,13 @@ module _ (to : ℕ) where
   statuses-moved (node ∷ moved) threads j =
       statuses-moved moved (threads_with_key threads node.number to) j
       ∙ statuses-threads_with_key threads node.number to j
+
+  pub records-moved : (moved : List NodeFields) (threads : List ThreadState) (j : ℕ)
+      → thread_records (moved_threads moved threads) j ≡ thread_records threads j
+  records-moved [] threads j = refl
+  records-moved (node ∷ moved) threads j =
+      records-moved moved (threads_with_key threads node.number to) j
+      ∙ records-threads_with_key threads node.number to j
 
   pub uses-moved : (moved : List NodeFields) (threads : List ThreadState)
       → uses (moved_threads moved threads) ≡ uses threads

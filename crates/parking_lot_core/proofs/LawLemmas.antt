@@ -1,7 +1,7 @@
 -- The laws of `specs/Laws`.
 use Rattle.std.proofs.Common.{◌≡◌, ◌≢◌, ℕ, ◌==◌, Bool, true, false, MatchBool, [], ◌∷◌, refl, sym, ap, ◌∙◌, subst}
-use Rattle.std.proofs.Common.{⊎_elim, arith}
-use Rattle.std.proofs.lemmas.Bool.{cases_eq, eqb-true, eqb-false, false≢true}
+use Rattle.std.proofs.Common.{◌+◌, ◌-◌, ⊎_elim, arith}
+use Rattle.std.proofs.lemmas.Bool.{cases_eq, eqb-true, eqb-false, false≢true, MatchBool-at_true}
 use Rattle.lot_base.specs.Waiting.{with_value, split_first, split_all, split_filter, split_by, Split}
 use Rattle.lot_base.specs.declared.token.UnparkToken.{UnparkToken}
 use Rattle.parking_lot_core.specs.declared.lot.Status.{Status}
@@ -12,22 +12,25 @@ use Rattle.parking_lot_core.specs.declared.schedule.Op.{Op}
 use Rattle.parking_lot_core.specs.declared.schedule.Op.TheVariants.{One, All, Filter, Requeue}
 use Rattle.parking_lot_core.specs.declared.schedule.Step.{Step}
 use Rattle.parking_lot_core.specs.declared.schedule.Step.TheVariants.{Register, Retire, Enter, Unpark, Deadline}
-use Rattle.parking_lot_core.specs.declared.schedule.Step.TheVariants.{Resolve, Return}
+use Rattle.parking_lot_core.specs.declared.schedule.Step.TheVariants.{Resolve, Return, Acquire, Release}
 use Rattle.parking_lot_core.specs.Status.{is_queued}
 use Rattle.parking_lot_core.specs.Machine.{Machine, Waiter, IsConsistent, times_in, statuses_with_taken, after_timeout}
+use Rattle.parking_lot_core.specs.Machine.{after_acquire, after_release}
+use Rattle.parking_lot_core.specs.Records.{one_more, one_less}
 use Rattle.parking_lot_core.specs.Status.{is_running, awaits_deadline, is_parked}
-use Rattle.parking_lot_core.specs.Steps.{Gives, IsRegister, IsUnpark, IsReturn, IsResolve, IsStep, IsRun, parks}
-use Rattle.parking_lot_core.specs.Steps.{ends_park, OutcomesAlternate}
+use Rattle.parking_lot_core.specs.Steps.{Gives, IsRegister, IsUnpark, IsReturn, IsResolve, IsAcquire, IsStep, IsRun}
+use Rattle.parking_lot_core.specs.Steps.{parks, ends_park, OutcomesAlternate}
 use Rattle.parking_lot_core.specs.Laws.{StepAndAnswerFixTheState, AnswersFixTheRun, ParksAndOutcomesAlternate}
+use Rattle.parking_lot_core.specs.Laws.{ReleaseUndoesAcquire}
 use Rattle.lot_base.proofs.ValueLemmas.{with_value-same, with_value-other}
-use Rattle.parking_lot_core.proofs.MachineLemmas.{is_queued-standing, MatchBool-from}
+use Rattle.parking_lot_core.proofs.MachineLemmas.{same_machine, is_queued-standing, MatchBool-from}
 use Rattle.parking_lot_core.proofs.WaiterLemmas.{statuses_with_taken-other, statuses_with_taken-among}
 use Rattle.parking_lot_core.proofs.SplitLemmas.{AreParts, AreParts-first, AreParts-all, AreParts-filter, AreParts-by}
 use Rattle.parking_lot_core.proofs.StepLemmas.{MatchBool-either, Running-from, Waiting-from, IsConsistent-step}
 
 -- of two facts that one test chooses, both are of one case
-MatchBool-both : (b : Bool) {P Q P' Q' R : Type 0} → (P → P' → R) → (Q → Q' → R) → MatchBool b P Q → MatchBool b P' Q'
-    → R
+pub MatchBool-both : (b : Bool) {P Q P' Q' R : Type 0} → (P → P' → R) → (Q → Q' → R) → MatchBool b P Q
+    → MatchBool b P' Q' → R
 MatchBool-both true f g p p' = f p p'
 MatchBool-both false f g q q' = g q q'
 
@@ -47,6 +50,12 @@ IsRegister-fixes m (answer.Registered number) new other (_, new_is) (_, other_is
 IsRegister-fixes m answer.Full new other (_, new_is) (_, other_is) = new_is ∙ sym other_is
 IsRegister-fixes m answer.NoMemory new other (_, new_is) (_, other_is) = new_is ∙ sym other_is
 IsRegister-fixes m _ new other none _ = absurd none
+
+IsAcquire-fixes : (m : Machine) (thread key : ℕ) (given : Answer) (new other : Machine)
+    → IsAcquire m thread key given new → IsAcquire m thread key given other → new ≡ other
+IsAcquire-fixes m thread key answer.Recorded new other new_is other_is = new_is ∙ sym other_is
+IsAcquire-fixes m thread key answer.NoMemory new other new_is other_is = new_is ∙ sym other_is
+IsAcquire-fixes m thread key _ new other none _ = absurd none
 
 module _ (m : Machine) (given : Answer) (new other : Machine) where
   IsUnpark-fixes : (op : Op) → IsUnpark m op given new → IsUnpark m op given other → new ≡ other
@@ -77,6 +86,9 @@ module _ (m : Machine) (given : Answer) (new other : Machine) where
   IsStep-fix (Deadline thread) = MatchBool-both (awaits_deadline (m.status thread)) Gives-fixes Gives-fixes
   IsStep-fix (Resolve thread) = IsResolve-fixes thread (m.status thread)
   IsStep-fix (Return thread) = IsReturn-fixes thread (m.status thread)
+  IsStep-fix (Acquire thread key) =
+      MatchBool-both (is_running (m.status thread)) (IsAcquire-fixes m thread key given new other) Gives-fixes
+  IsStep-fix (Release thread key) = MatchBool-both (is_running (m.status thread)) Gives-fixes Gives-fixes
 
 pub IsStep-fixes : StepAndAnswerFixTheState
 IsStep-fixes m step given new other = IsStep-fix m given new other step
@@ -88,6 +100,50 @@ IsRun-fixes m (_ ∷ _) [] last other none _ = absurd none
 IsRun-fixes m (step ∷ steps) (given ∷ answers) last other (next, does, ran) (other_next, other_does, other_ran) =
     let same : next ≡ other_next = IsStep-fixes m step given next other_next does other_does in
     IsRun-fixes other_next steps answers last other (subst (λ n. IsRun n steps answers last) same ran) other_ran
+
+-- one more of a key, and then one less
+one_less-one_more : (times : ℕ → ℕ) (key : ℕ) → one_less (one_more times key) key ≡ times
+one_less-one_more times key = λ i k. back k i
+  where
+    more : ℕ → ℕ
+    more = one_more times key
+
+    back : (k : ℕ) → one_less more key k ≡ times k
+    back k =
+        let fewer : (times key + 1) - 1 ≡ times key = omega arith in
+        ⊎_elim (λ (same : k ≡ key). with_value-same more key (more key - 1) k same
+        ∙ ap (λ n. n - 1) (with_value-same times key (times key + 1) key refl) ∙ fewer ∙ ap times (sym same))
+        (λ (other : k ≢ key). with_value-other more key (more key - 1) k other
+        ∙ with_value-other times key (times key + 1) k other)
+        (cases_eq k key)
+
+pub after_release-after_acquire : (m : Machine) (thread key : ℕ)
+    → after_release (after_acquire m thread key) thread key ≡ m
+after_release-after_acquire m thread key = same_machine _ _ (λ k. refl) (λ j. refl) records refl
+  where
+    more : ℕ → ℕ
+    more = one_more (m.records thread) key
+
+    now : ℕ → ℕ → ℕ
+    now = with_value m.records thread more
+
+    records : (j : ℕ) → with_value now thread (one_less (now thread) key) j ≡ m.records j
+    records j =
+        ⊎_elim (λ (same : j ≡ thread). with_value-same now thread (one_less (now thread) key) j same
+        ∙ ap (λ times. one_less times key) (with_value-same m.records thread more thread refl)
+        ∙ one_less-one_more (m.records thread) key ∙ ap m.records (sym same))
+        (λ (other : j ≢ thread). with_value-other now thread (one_less (now thread) key) j other
+        ∙ with_value-other m.records thread more j other)
+        (cases_eq j thread)
+
+pub IsStep-undone : ReleaseUndoesAcquire
+IsStep-undone m thread key given between last =
+    MatchBool-either (is_running (m.status thread))
+    (λ runs between_is released.
+    let gives = MatchBool-at_true _ _ runs
+    (subst (λ b. IsStep b (Release thread key) given last) between_is released) in
+    (gives.0, gives.1 ∙ after_release-after_acquire m thread key))
+    (λ _ (misfit, _) _. absurd (let other = misfit in cc))
 
 module _ (m : Machine) (number : ℕ) where
   -- a step turns a thread to a status that is parked as the one before
@@ -188,6 +244,12 @@ module _ (m : Machine) (number : ℕ) (given : Answer) (new : Machine) where
   IsRegister-turns answer.NoMemory (_, new_is) = ap (λ (left : Machine). is_parked (left.status number)) new_is
   IsRegister-turns _ none = absurd none
 
+  IsAcquire-turns : (thread key : ℕ) (given : Answer) → IsAcquire m thread key given new
+      → is_parked (new.status number) ≡ is_parked (m.status number)
+  IsAcquire-turns thread key answer.Recorded new_is = ap (λ (left : Machine). is_parked (left.status number)) new_is
+  IsAcquire-turns thread key answer.NoMemory new_is = ap (λ (left : Machine). is_parked (left.status number)) new_is
+  IsAcquire-turns thread key _ none = absurd none
+
   -- each step's answer says what became of each thread's park
   IsStep-turn : (step : Step) → IsConsistent m → IsStep m step given new → Turns step new given
   IsStep-turn Register consistent = IsRegister-turns given
@@ -212,6 +274,12 @@ module _ (m : Machine) (number : ℕ) (given : Answer) (new : Machine) where
       (λ _. Turns-gives (Deadline thread) refl)
   IsStep-turn (Resolve thread) consistent = IsResolve-turns thread (m.status thread) refl
   IsStep-turn (Return thread) consistent = IsReturn-turns thread (m.status thread) refl
+  IsStep-turn (Acquire thread key) consistent =
+      MatchBool-either (is_running (m.status thread)) (λ _. IsAcquire-turns thread key given)
+      (λ _. Turns-gives (Acquire thread key) refl)
+  IsStep-turn (Release thread key) consistent =
+      MatchBool-either (is_running (m.status thread)) (λ _. Turns-gives (Release thread key) refl)
+      (λ _. Turns-gives (Release thread key) refl)
 
 -- what holds from the state after a step, told from the one before
 from_before : (parks ends before after : Bool) (Next : Bool → Type 0)

@@ -1,4 +1,5 @@
 pub mod ThreadLemmas
+pub mod RecordLemmas
 pub mod CountLemmas
 pub mod WaiterLemmas
 pub mod SplitLemmas

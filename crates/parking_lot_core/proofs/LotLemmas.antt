@@ -29,11 +29,13 @@ use Rattle.parking_lot_core.specs.declared.lot.Status.{Status}
 use Rattle.parking_lot_core.specs.declared.lot.Status.TheVariants.{Free, Running, Waiting}
 use Rattle.parking_lot_core.specs.declared.table.TheConstants.{MAX_THREADS}
 use Rattle.parking_lot_core.specs.Status.{is_queued, is_timed}
-use Rattle.parking_lot_core.specs.Machine.{Waiter, Machine, QueuesMatchStatus, StandsAt, new_machine, times_in}
+use Rattle.parking_lot_core.specs.Machine.{Waiter, Machine, MatchesStatus, StandsAt, new_machine, times_in}
 use Rattle.parking_lot_core.specs.Machine.{statuses_with_taken, with_status, after_enter, after_unpark, after_requeue}
-use Rattle.parking_lot_core.specs.Machine.{after_timeout}
+use Rattle.parking_lot_core.specs.Machine.{after_timeout, after_retire, after_acquire, after_release, with_records}
+use Rattle.parking_lot_core.specs.Records.{times_recorded, one_more, one_less}
 use Rattle.parking_lot_core.specs.LotState.{LotState, ThreadState}
-use Rattle.parking_lot_core.specs.Lot.{thread_at, free_thread, statuses, thread_keys, machine, use_of, uses, IsLot}
+use Rattle.parking_lot_core.specs.Lot.{thread_at, free_thread, statuses, thread_keys, thread_records, machine, use_of}
+use Rattle.parking_lot_core.specs.Lot.{uses, IsLot}
 use Rattle.parking_lot_core.specs.Represents.{bucket_at, with_node, waiter_of, waiters_in, Represents}
 use Rattle.parking_lot_core.specs.Table.{IsRowStep, KeepsLists}
 use Rattle.parking_lot_core.specs.Represents.{nodes_in}
@@ -42,10 +44,12 @@ use Rattle.parking_lot_core.proofs.CommitLemmas.{statuses-set, uses-same, use_of
 use Rattle.parking_lot_core.proofs.CommitLemmas.{numbers-set, below_from_status, ne-free-queued, ne-free-running}
 use Rattle.parking_lot_core.proofs.CommitLemmas.{length-committed, numbers-committed, keys-committed}
 use Rattle.parking_lot_core.proofs.CommitLemmas.{statuses-committed, uses-committed, CanCommit-standing}
+use Rattle.parking_lot_core.proofs.CommitLemmas.{records-set, records-kept, records-committed}
 use Rattle.parking_lot_core.proofs.MachineLemmas.{same_machine, is_queued-standing, StandsAt-standing}
-use Rattle.parking_lot_core.proofs.MachineLemmas.{QueuesMatchStatus-with_status, QueuesMatchStatus-after_enter}
-use Rattle.parking_lot_core.proofs.MachineLemmas.{QueuesMatchStatus-after_requeue, QueuesMatchStatus-after_timeout}
-use Rattle.parking_lot_core.proofs.MachineLemmas.{after_requeue-after_unpark, length-le_from_QueuesMatchStatus}
+use Rattle.parking_lot_core.proofs.MachineLemmas.{with_thread, with_thread-status, with_thread-records}
+use Rattle.parking_lot_core.proofs.MachineLemmas.{MatchesStatus-with_thread, MatchesStatus-after_enter}
+use Rattle.parking_lot_core.proofs.MachineLemmas.{MatchesStatus-after_requeue, MatchesStatus-after_timeout}
+use Rattle.parking_lot_core.proofs.MachineLemmas.{after_requeue-after_unpark, length-le_from_MatchesStatus}
 use Rattle.parking_lot_core.proofs.RemovalLemmas.{without_first-map}
 use Rattle.parking_lot_core.proofs.RowLemmas.{IsRowStep-with_node, IsRowStep-put, All-nodes_in}
 use Rattle.parking_lot_core.proofs.SplitLemmas.{AreParts, AreParts-first, AreParts-all, AreParts-filter, split_of}
@@ -66,34 +70,36 @@ pub record IsLotStep (new : LotState) (m : Machine) : Type 0 where
 -- a row of buckets and threads that mean a machine which a rule left
 IsLotStep-from : (lot new : LotState) (m : Machine) → IsLot lot → Represents new.buckets (waiters_in new.buckets)
     → ((number : ℕ) → (thread_at new.threads number).number ≡ number) → machine new ≡ m
-    → m.max_threads ≡ length lot.threads → QueuesMatchStatus (thread_keys new.threads) m → IsLotStep new m
+    → m.max_threads ≡ length lot.threads → MatchesStatus (thread_keys new.threads) m → IsLotStep new m
 IsLotStep-from lot new m is represents numbers means as_many consistent = record {
   is_lot = record {
     represents = represents;
     numbers = numbers;
-    consistent = subst (QueuesMatchStatus (thread_keys new.threads)) (sym means) consistent;
+    consistent = subst (MatchesStatus (thread_keys new.threads)) (sym means) consistent;
     count = let same : length new.threads ≡ length lot.threads = ap (λ (n : Machine). n.max_threads) means ∙ as_many in
         omega (arith, same, is.count);
   };
   means = means;
 }
 
--- one thread has another status, with which it stands and is timed as before
-pub IsLotStep-with_status : (lot : LotState) (number : ℕ) (thread : ThreadState) → IsLot lot
+-- one thread has another status, with which it stands and is timed as before, and other records
+pub IsLotStep-with_thread : (lot : LotState) (number : ℕ) (thread : ThreadState) → IsLot lot
     → number < length lot.threads → thread.number ≡ number
     → is_queued thread.status ≡ is_queued (statuses lot.threads number)
     → is_timed thread.status ≡ is_timed (statuses lot.threads number)
     → thread.key ≡ thread_keys lot.threads number ⊎ is_queued thread.status ≡ false
+    → (thread.status ≡ Free → (key : ℕ) → times_recorded thread.records key ≡ 0)
     → IsLotStep (record lot { threads = slice_set lot.threads number thread })
-    (with_status (machine lot) number thread.status)
-IsLotStep-with_status lot number thread is below own queued timed key =
+    (with_thread (machine lot) number thread.status (times_recorded thread.records))
+IsLotStep-with_thread lot number thread is below own queued timed key none =
     IsLotStep-from lot (record lot { threads = threads }) _ is is.represents
     (numbers-set lot.threads number thread below own is.numbers)
-    (same_machine _ _ (λ k. refl) (statuses-set lot.threads number thread below) (length-set lot.threads number thread))
+    (same_machine _ _ (λ k. refl) (statuses-set lot.threads number thread below)
+    (records-set lot.threads number thread below) (length-set lot.threads number thread))
     refl
-    (QueuesMatchStatus-with_status (thread_keys lot.threads) (thread_keys threads)
-    (machine lot) number thread.status below queued timed
-    (keys-set_other lot.threads number thread) stays is.consistent)
+    (MatchesStatus-with_thread (thread_keys lot.threads) (thread_keys threads)
+    (machine lot) number thread.status (times_recorded thread.records) below queued timed
+    (keys-set_other lot.threads number thread) stays none is.consistent)
   where
     threads : List ThreadState
     threads = slice_set lot.threads number thread
@@ -105,6 +111,63 @@ IsLotStep-with_status lot number thread is below own queued timed key =
         (λ (none : is_queued thread.status ≡ false). inr none)
         key
 
+-- one thread has the records that it had, and another status that is not free
+pub IsLotStep-with_status : (lot : LotState) (number : ℕ) (thread : ThreadState) → IsLot lot
+    → number < length lot.threads → thread.number ≡ number
+    → is_queued thread.status ≡ is_queued (statuses lot.threads number)
+    → is_timed thread.status ≡ is_timed (statuses lot.threads number)
+    → thread.key ≡ thread_keys lot.threads number ⊎ is_queued thread.status ≡ false → thread.status ≢ Free
+    → thread.records ≡ (thread_at lot.threads number).records
+    → IsLotStep (record lot { threads = slice_set lot.threads number thread })
+    (with_status (machine lot) number thread.status)
+IsLotStep-with_status lot number thread is below own queued timed key registered kept =
+    subst (IsLotStep (record lot { threads = slice_set lot.threads number thread }))
+    (ap (λ records. with_thread (machine lot) number thread.status (times_recorded records)) kept
+    ∙ with_thread-status (machine lot) number thread.status)
+    (IsLotStep-with_thread lot number thread is below own queued timed key (λ free. absurd (registered free)))
+
+-- a running thread, as it was read, has other records
+pub IsLotStep-with_records : (lot : LotState) (number : ℕ) (thread after : ThreadState) (records : ℕ → ℕ) → IsLot lot
+    → number < length lot.threads → thread ≡ thread_at lot.threads number
+    → after ≡ record thread { records = after.records } → times_recorded after.records ≡ records
+    → Running ≡ thread.status
+    → IsLotStep (record lot { threads = slice_set lot.threads number after })
+    (with_records (machine lot) number records)
+IsLotStep-with_records lot number thread after records is below read kept recorded runs =
+    subst (IsLotStep (record lot { threads = slice_set lot.threads number after }))
+    ((λ i. with_thread (machine lot) number (status i) (recorded i)) ∙ with_thread-records (machine lot) number records)
+    (IsLotStep-with_thread lot number after is below
+    (ap (λ t. t.number) kept ∙ ap (λ t. t.number) read ∙ is.numbers number) (ap is_queued status) (ap is_timed status)
+    (inl (ap (λ t. t.key) kept ∙ ap (λ t. t.key) read))
+    (λ free. absurd (ne-free-running (runs ∙ sym (ap (λ t. t.status) kept) ∙ free))))
+  where
+    status : after.status ≡ statuses lot.threads number
+    status = ap (λ t. t.status) kept ∙ ap (λ t. t.status) read
+
+-- so it has where it recorded a key, or released one
+module _ (lot : LotState) (number key : ℕ) (thread after : ThreadState) (is : IsLot lot)
+    (below : number < length lot.threads) (read : thread ≡ thread_at lot.threads number)
+    (kept : after ≡ record thread { records = after.records }) where
+  pub IsLotStep-acquired : times_recorded after.records ≡ one_more (times_recorded thread.records) key
+      → Running ≡ thread.status → IsLotStep (record lot { threads = slice_set lot.threads number after })
+      (after_acquire (machine lot) number key)
+  IsLotStep-acquired recorded =
+      IsLotStep-with_records lot number thread after (one_more (thread_records lot.threads number) key) is below read
+      kept (recorded ∙ ap (λ (t : ThreadState). one_more (times_recorded t.records) key) read)
+
+  pub IsLotStep-released : times_recorded after.records ≡ one_less (times_recorded thread.records) key
+      → Running ≡ thread.status → IsLotStep (record lot { threads = slice_set lot.threads number after })
+      (after_release (machine lot) number key)
+  IsLotStep-released recorded =
+      IsLotStep-with_records lot number thread after (one_less (thread_records lot.threads number) key) is below read
+      kept (recorded ∙ ap (λ (t : ThreadState). one_less (times_recorded t.records) key) read)
+
+pub uses-recorded : (lot : LotState) (number : ℕ) (thread after : ThreadState) → thread ≡ thread_at lot.threads number
+    → after ≡ record thread { records = after.records } → uses (slice_set lot.threads number after) ≡ uses lot.threads
+uses-recorded lot number thread after read kept =
+    uses-same lot.threads number after
+    (ap (λ (t : ThreadState). use_of t.status) kept ∙ ap (λ (t : ThreadState). use_of t.status) read)
+
 -- the thread of a number, as it was read, has another status
 module _ (lot : LotState) (number : ℕ) (thread after : ThreadState) (status : Status) (is : IsLot lot)
     (below : number < length lot.threads) (read : thread ≡ thread_at lot.threads number)
@@ -113,19 +176,39 @@ module _ (lot : LotState) (number : ℕ) (thread after : ThreadState) (status : 
   now = set ∙ ap (λ (t : ThreadState). record t { status = status }) read
 
   pub IsLotStep-status : is_queued status ≡ is_queued thread.status → is_timed status ≡ is_timed thread.status
-      → IsLotStep (record lot { threads = slice_set lot.threads number after })
+      → status ≢ Free → IsLotStep (record lot { threads = slice_set lot.threads number after })
       (with_status (machine lot) number status)
-  IsLotStep-status queued timed =
+  IsLotStep-status queued timed registered =
       subst (λ (t : ThreadState). IsLotStep (record lot { threads = slice_set lot.threads number t })
       (with_status (machine lot) number status)) (sym now)
       (IsLotStep-with_status lot number (record (thread_at lot.threads number) { status = status }) is below
       (is.numbers number) (queued ∙ ap (λ (t : ThreadState). is_queued t.status) read)
-      (timed ∙ ap (λ (t : ThreadState). is_timed t.status) read) (inl refl))
+      (timed ∙ ap (λ (t : ThreadState). is_timed t.status) read) (inl refl) registered refl)
 
   pub uses-status : use_of status ≡ use_of thread.status → uses (slice_set lot.threads number after) ≡ uses lot.threads
   uses-status used =
       ap (λ (t : ThreadState). uses (slice_set lot.threads number t)) now
       ∙ uses-same lot.threads number _ (used ∙ ap (λ (t : ThreadState). use_of t.status) read)
+
+-- a running thread, as it was read, retires
+pub IsLotStep-after_retire : (lot : LotState) (number : ℕ) (thread after : ThreadState) → IsLot lot
+    → number < length lot.threads → thread ≡ thread_at lot.threads number
+    → after ≡ record thread { status = Free; records = [] } → Running ≡ thread.status
+    → IsLotStep (record lot { threads = slice_set lot.threads number after }) (after_retire (machine lot) number)
+IsLotStep-after_retire lot number thread after is below read set runs =
+    subst (λ (t : ThreadState). IsLotStep (record lot { threads = slice_set lot.threads number t })
+    (after_retire (machine lot) number)) (sym now)
+    (IsLotStep-with_thread lot number free is below (is.numbers number) (ap is_queued ran) (ap is_timed ran) (inl refl)
+    (λ _ key. refl))
+  where
+    free : ThreadState
+    free = record (thread_at lot.threads number) { status = Free; records = [] }
+
+    now : after ≡ free
+    now = set ∙ ap (λ (t : ThreadState). record t { status = Free; records = [] }) read
+
+    ran : Running ≡ statuses lot.threads number
+    ran = runs ∙ ap (λ t. t.status) read
 
 -- a running thread enters the list of a key
 pub IsLotStep-after_enter : (lot : LotState) (number key : ℕ) (park_token : ParkToken) (unpark_token : UnparkToken)
@@ -135,14 +218,16 @@ pub IsLotStep-after_enter : (lot : LotState) (number key : ℕ) (park_token : Pa
     (record {
       buckets = with_node lot.buckets
           (record { number = number; key = key; park_token = park_token; unpark_token = unpark_token; timed = timed });
-      threads = slice_set lot.threads number (record { number = number; key = key; status = Waiting timed });
+      threads = slice_set lot.threads number
+          (record (thread_at lot.threads number) { key = key; status = Waiting timed });
     }) (after_enter (machine lot) number key park_token timed)
 IsLotStep-after_enter lot number key park_token unpark_token timed is table running =
     IsLotStep-from lot (record { buckets = with_node lot.buckets node; threads = threads }) _ is row.represents
-    (numbers-set lot.threads number thread below refl is.numbers)
-    (same_machine _ _ lists (statuses-set lot.threads number thread below) (length-set lot.threads number thread))
+    (numbers-set lot.threads number thread below (is.numbers number) is.numbers)
+    (same_machine _ _ lists (statuses-set lot.threads number thread below)
+    (records-kept lot.threads number thread below refl) (length-set lot.threads number thread))
     refl
-    (QueuesMatchStatus-after_enter (thread_keys lot.threads) (thread_keys threads)
+    (MatchesStatus-after_enter (thread_keys lot.threads) (thread_keys threads)
     (machine lot) number key park_token timed running (keys-set_other lot.threads number thread)
     (keys-set_same lot.threads number thread below) is.consistent)
   where
@@ -150,7 +235,7 @@ IsLotStep-after_enter lot number key park_token unpark_token timed is table runn
     node = record { number = number; key = key; park_token = park_token; unpark_token = unpark_token; timed = timed }
 
     thread : ThreadState
-    thread = record { number = number; key = key; status = Waiting timed }
+    thread = record (thread_at lot.threads number) { key = key; status = Waiting timed }
 
     threads : List ThreadState
     threads = slice_set lot.threads number thread
@@ -175,6 +260,7 @@ pub record AreMoved (lot : LotState) (moved : List Waiter) (to : ℕ) (threads :
   pub count : length threads ≡ length lot.threads
   pub numbers : (j : ℕ) → (thread_at threads j).number ≡ j
   pub status : (j : ℕ) → statuses threads j ≡ statuses lot.threads j
+  pub records : (j : ℕ) → thread_records threads j ≡ thread_records lot.threads j
   pub others : (j : ℕ) → times_in j moved ≡ 0 → thread_keys threads j ≡ thread_keys lot.threads j
   pub own : (j : ℕ) → times_in j moved ≢ 0 → thread_keys threads j ≡ to
 
@@ -184,6 +270,7 @@ AreMoved-nobody lot to is =
       count = refl;
       numbers = is.numbers;
       status = λ j. refl;
+      records = λ j. refl;
       others = λ j none. refl;
       own = λ j some. absurd (some refl);
     }
@@ -213,9 +300,10 @@ IsLotStep-after_requeue lot from to split token row threads is parts moved step 
     (numbers-committed taken threads can moved.numbers)
     (same_machine _ _ lists (λ j. statuses-committed token split.taken threads can j
     ∙ (λ i. statuses_with_taken token (map waiter_of split.taken) (λ k. moved.status k i) j))
+    (λ j. records-committed taken threads can j ∙ moved.records j)
     (length-committed taken threads ∙ moved.count))
     refl
-    (QueuesMatchStatus-after_requeue (thread_keys lot.threads) (thread_keys after) (machine lot) from to
+    (MatchesStatus-after_requeue (thread_keys lot.threads) (thread_keys after) (machine lot) from to
     (split_of split) token parts (λ j none. keys-committed taken threads can j ∙ moved.others j none)
     (λ j some. keys-committed taken threads can j ∙ moved.own j some) is.consistent)
   where
@@ -276,7 +364,7 @@ IsLotStep-grown lot row keeps is =
     IsLotStep-from lot (record lot { buckets = row }) _ is
     (record { in_place = (keeps.represents (waiters_in lot.buckets) is.represents).in_place; in_order = λ key. refl })
     is.numbers
-    (same_machine _ _ (λ k. ap (map waiter_of) (keeps.nodes k)) (λ j. refl) refl)
+    (same_machine _ _ (λ k. ap (map waiter_of) (keeps.nodes k)) (λ j. refl) (λ j. refl) refl)
     refl
     is.consistent
 
@@ -378,9 +466,10 @@ pub IsLotStepOfUse-after_timeout : (lot : LotState) (number key : ℕ) (before e
 IsLotStepOfUse-after_timeout lot number key before empty after is queued stands taking = record {
   step = IsLotStep-from lot (record { buckets = put_row; threads = threads_with_status lot.threads number Running }) _
       is row.represents (numbers-set lot.threads number thread below (is.numbers number) is.numbers)
-      (same_machine _ _ lists (statuses-set lot.threads number thread below) (length-set lot.threads number thread))
+      (same_machine _ _ lists (statuses-set lot.threads number thread below)
+      (records-kept lot.threads number thread below refl) (length-set lot.threads number thread))
       refl
-      (QueuesMatchStatus-after_timeout (thread_keys lot.threads)
+      (MatchesStatus-after_timeout (thread_keys lot.threads)
       (thread_keys (threads_with_status lot.threads number Running)) (machine lot) number key queued stands
       (keys-set_other lot.threads number thread) is.consistent);
   uses = uses-same lot.threads number thread (sym (use_of-queued (statuses lot.threads number) queued));
@@ -432,8 +521,13 @@ IsLotStep-new row max_threads few empty = record {
       in_order = λ key. refl;
     };
     numbers = λ j. ap (λ t. t.number) (thread_at-free max_threads j);
-    consistent = subst (QueuesMatchStatus (thread_keys threads)) (sym means)
-        (record { standing = λ number k. refl; timing = λ key. All-nil _; others_free = λ number high. refl });
+    consistent = subst (MatchesStatus (thread_keys threads)) (sym means)
+        (record {
+          standing = λ number k. refl;
+          timing = λ key. All-nil _;
+          others_free = λ number high. refl;
+          free_of_records = λ number key free. refl;
+        });
     count = omega (arith, few, length-map-range_with_len free_thread 0 max_threads);
   };
   means = means;
@@ -447,6 +541,7 @@ IsLotStep-new row max_threads few empty = record {
         same_machine _ _
         (λ k. ap (λ nodes. map waiter_of (lists_of nodes k)) (empty (place_of k (length row))))
         (λ j. ap (λ t. t.status) (thread_at-free max_threads j))
+        (λ j. ap (λ t. times_recorded t.records) (thread_at-free max_threads j))
         (length-map-range_with_len free_thread 0 max_threads)
 
 -- the numbers of the waiters of a key are those of its nodes
@@ -455,37 +550,41 @@ pub numbers-waiters : (nodes : List NodeFields)
 numbers-waiters [] = refl
 numbers-waiters (node ∷ nodes) = ap (λ rest. node.number ∷ rest) (numbers-waiters nodes)
 
--- one thread has another key and the status that it had
+-- one thread has another key and the status and records that it had
 pub IsLotStep-stayed : (lot : LotState) (number : ℕ) (thread : ThreadState) → IsLot lot → thread.number ≡ number
     → statuses lot.threads number ≡ Running → thread.status ≡ Running
+    → thread.records ≡ (thread_at lot.threads number).records
     → IsLotStep (record lot { threads = slice_set lot.threads number thread }) (machine lot)
-IsLotStep-stayed lot number thread is own ran runs =
+IsLotStep-stayed lot number thread is own ran runs kept =
     subst (IsLotStep (record lot { threads = slice_set lot.threads number thread })) same
     (IsLotStep-with_status lot number thread is
     (below_from_status lot.threads number (λ free. ne-free-running (sym ran ∙ free))) own
-    (ap is_queued (runs ∙ sym ran)) (ap is_timed (runs ∙ sym ran)) (inr (ap is_queued runs)))
+    (ap is_queued (runs ∙ sym ran)) (ap is_timed (runs ∙ sym ran)) (inr (ap is_queued runs))
+    (λ free. ne-free-running (sym runs ∙ free)) kept)
   where
     same : with_status (machine lot) number thread.status ≡ machine lot
     same = same_machine _ _ (λ k. refl)
-        (with_value-same_value (statuses lot.threads) number thread.status (runs ∙ sym ran)) refl
+        (with_value-same_value (statuses lot.threads) number thread.status (runs ∙ sym ran)) (λ j. refl) refl
 
 -- a growth, and a free number that is registered in it
 pub IsLotStep-registered : (lot : LotState) (row : List BucketState) (number : ℕ) (thread : ThreadState)
     → KeepsLists lot.buckets row → IsLot lot → number < length lot.threads → thread.number ≡ number
     → statuses lot.threads number ≡ Free → thread.status ≡ Running
+    → thread.records ≡ (thread_at lot.threads number).records
     → IsLotStep (record { buckets = row; threads = slice_set lot.threads number thread })
     (with_status (machine lot) number Running)
-IsLotStep-registered lot row number thread keeps is below own was runs =
+IsLotStep-registered lot row number thread keeps is below own was runs kept =
     let grown = IsLotStep-grown lot row keeps is in
     subst (IsLotStep (record { buckets = row; threads = slice_set lot.threads number thread }))
     (ap (λ m. with_status m number thread.status) grown.means ∙ ap (with_status (machine lot) number) runs)
     (IsLotStep-with_status (record lot { buckets = row }) number thread grown.is_lot below own
-    (ap is_queued runs ∙ ap is_queued (sym was)) (ap is_timed runs ∙ ap is_timed (sym was)) (inr (ap is_queued runs)))
+    (ap is_queued runs ∙ ap is_queued (sym was)) (ap is_timed runs ∙ ap is_timed (sym was)) (inr (ap is_queued runs))
+    (λ free. ne-free-running (sym runs ∙ free)) kept)
 
 -- a bucket counts the waiters of a lot exactly: no list is so long that a `usize` could not tell it
 module _ (lot : LotState) (is : IsLot lot) (key : ℕ) where
   few : length (waiters_in lot.buckets key) ≤ 2 ^ 64 - 1
-  few = let short = length-le_from_QueuesMatchStatus (thread_keys lot.threads) (machine lot) key is.consistent in
+  few = let short = length-le_from_MatchesStatus (thread_keys lot.threads) (machine lot) key is.consistent in
       omega (arith, short, is.count)
 
   pub saturated-all : saturated (length (nodes_in lot.buckets key)) ≡ length (waiters_in lot.buckets key)

@@ -1,6 +1,6 @@
 -- The machine's states, and that each rule keeps them consistent.
 use Rattle.std.proofs.Common.{◌≡◌, ◌≢◌, ℕ, ◌==◌, ◌+◌, ◌<◌, ◌≤◌, Bool, true, false, MatchBool, IsTrue, List, [], ◌∷◌}
-use Rattle.std.proofs.Common.{◌++◌, length, get_or, All, append-nil, refl, sym, ap, ◌∙◌, subst, ⊎_elim, ◌⊎◌, arith}
+use Rattle.std.proofs.Common.{◌++◌, length, get_or, All, append-nil, refl, sym, ap, ◌∙◌, subst, ⊎_elim, ◌⊎◌, inl, arith}
 use Rattle.std.proofs.lemmas.Bool.{cases_eq, cases_lt, cases_Bool, MatchBool-at_true, MatchBool-at_false, true≢false}
 use Rattle.std.proofs.lemmas.Bool.{false≢true}
 use Rattle.std.proofs.lemmas.List.Elements.{All-append, All-nil, All-cons}
@@ -8,12 +8,12 @@ use Rattle.lot_base.specs.declared.token.ParkToken.{ParkToken}
 use Rattle.lot_base.specs.declared.token.UnparkToken.{UnparkToken}
 use Rattle.lot_base.specs.Waiting.{with_value, Split}
 use Rattle.lot_base.proofs.RemoveLemmas.{All-without_first}
-use Rattle.lot_base.proofs.ValueLemmas.{with_value-same, with_value-other}
+use Rattle.lot_base.proofs.ValueLemmas.{with_value-same, with_value-other, with_value-same_value}
 use Rattle.parking_lot_core.specs.declared.lot.Status.{Status}
 use Rattle.parking_lot_core.specs.declared.lot.Status.TheVariants.{Free, Running, Waiting}
 use Rattle.parking_lot_core.specs.Status.{is_queued, is_timed}
-use Rattle.parking_lot_core.specs.Machine.{Waiter, Machine, StandsAt, StandsByStatus, QueuesMatchStatus, times_in}
-use Rattle.parking_lot_core.specs.Machine.{with_status, after_enter, after_requeue, after_unpark}
+use Rattle.parking_lot_core.specs.Machine.{Waiter, Machine, StandsAt, StandsByStatus, MatchesStatus, times_in}
+use Rattle.parking_lot_core.specs.Machine.{with_status, with_records, after_enter, after_requeue, after_unpark}
 use Rattle.parking_lot_core.specs.Machine.{list_without, after_timeout}
 use Rattle.parking_lot_core.proofs.SplitLemmas.{AreParts}
 use Rattle.parking_lot_core.proofs.WaiterLemmas.{times_in-append, times_in-own, times_in-not_own, times_in-without_own}
@@ -22,9 +22,27 @@ use Rattle.parking_lot_core.proofs.WaiterLemmas.{statuses_with_taken-among, All-
 
 -- two machines that agree are one
 pub same_machine : (m n : Machine) → ((k : ℕ) → m.lists k ≡ n.lists k) → ((j : ℕ) → m.status j ≡ n.status j)
-    → m.max_threads ≡ n.max_threads → m ≡ n
-same_machine m n lists status max_threads =
-    λ i. record { lists = λ k. lists k i; status = λ j. status j i; max_threads = max_threads i }
+    → ((j : ℕ) → m.records j ≡ n.records j) → m.max_threads ≡ n.max_threads → m ≡ n
+same_machine m n lists status records max_threads =
+    λ i.
+    record { lists = λ k. lists k i; status = λ j. status j i; records = λ j. records j i; max_threads = max_threads i }
+
+-- a number with another status and other records
+abbrev pub with_thread : Machine → ℕ → Status → (ℕ → ℕ) → Machine
+with_thread m number status records = with_records (with_status m number status) number records
+
+-- one of them may be as it was
+pub with_thread-status : (m : Machine) (number : ℕ) (status : Status)
+    → with_thread m number status (m.records number) ≡ with_status m number status
+with_thread-status m number status =
+    same_machine _ _ (λ k. refl) (λ j. refl)
+    (with_value-same_value m.records number (m.records number) refl) refl
+
+pub with_thread-records : (m : Machine) (number : ℕ) (records : ℕ → ℕ)
+    → with_thread m number (m.status number) records ≡ with_records m number records
+with_thread-records m number records =
+    same_machine _ _ (λ k. refl)
+    (with_value-same_value m.status number (m.status number) refl) (λ j. refl) refl
 
 -- where every thread stands
 abbrev pub Standing : (ℕ → ℕ) → Machine → Type 0
@@ -254,7 +272,7 @@ Standing-after_timeout keys after m number key stands others right j =
 -- an unpark moves nobody
 pub after_requeue-after_unpark : (m : Machine) (key : ℕ) (split : Split Waiter) (token : UnparkToken) → split.moved ≡ []
     → after_requeue m key key split token ≡ after_unpark m key split token
-after_requeue-after_unpark m key split token none = same_machine _ _ lists (λ j. refl) refl
+after_requeue-after_unpark m key split token none = same_machine _ _ lists (λ j. refl) (λ j. refl) refl
   where
     kept : ℕ → List Waiter
     kept = with_value m.lists key split.left
@@ -267,7 +285,7 @@ after_requeue-after_unpark m key split token none = same_machine _ _ lists (λ j
         (cases_eq k key)
 
 -- a number that is not free is below the greatest number of threads
-pub below_max_threads : (keys : ℕ → ℕ) (m : Machine) (number : ℕ) → QueuesMatchStatus keys m → m.status number ≢ Free
+pub below_max_threads : (keys : ℕ → ℕ) (m : Machine) (number : ℕ) → MatchesStatus keys m → m.status number ≢ Free
     → number < m.max_threads
 below_max_threads keys m number right registered =
     ⊎_elim (λ (low : number < m.max_threads). low)
@@ -294,22 +312,40 @@ All-with_value P lists key list all here k =
     (λ (other : k ≢ key). subst (All P) (sym (with_value-other lists key list k other)) (all k))
     (cases_eq k key)
 
--- a number has another status, with which it stands and is timed as before
-pub QueuesMatchStatus-with_status : (keys after : ℕ → ℕ) (m : Machine) (number : ℕ) (status : Status)
-    → number < m.max_threads → is_queued status ≡ is_queued (m.status number)
+-- a number that is free once one has another status was free before
+free_before : (before : ℕ → Status) (number : ℕ) (status : Status) (j : ℕ) → status ≢ Free
+    → with_value before number status j ≡ Free → before j ≡ Free
+free_before before number status j other free =
+    ⊎_elim (λ (same : j ≡ number). absurd (other (sym (with_value-same before number status j same) ∙ free)))
+    (λ (apart : j ≢ number). sym (with_value-other before number status j apart) ∙ free)
+    (cases_eq j number)
+
+-- a number has another status, with which it stands and is timed as before, and other records
+pub MatchesStatus-with_thread : (keys after : ℕ → ℕ) (m : Machine) (number : ℕ) (status : Status)
+    (records : ℕ → ℕ) → number < m.max_threads → is_queued status ≡ is_queued (m.status number)
     → is_timed status ≡ is_timed (m.status number) → ((j : ℕ) → j ≢ number → after j ≡ keys j)
-    → after number ≡ keys number ⊎ is_queued status ≡ false → QueuesMatchStatus keys m
-    → QueuesMatchStatus after (with_status m number status)
-QueuesMatchStatus-with_status keys after m number status below queued timed others own right = record {
+    → after number ≡ keys number ⊎ is_queued status ≡ false → (status ≡ Free → (key : ℕ) → records key ≡ 0)
+    → MatchesStatus keys m → MatchesStatus after (with_thread m number status records)
+MatchesStatus-with_thread keys after m number status records below queued timed others own none right = record {
   standing = standing;
-  timing = λ k. All-timed after (with_status m number status) m.status (with_value m.status number status) standing
+  timing = λ k. All-timed after new m.status (with_value m.status number status) standing
       (λ j _. still j) k (right.timing k);
   others_free = λ j high. with_value-other m.status number status j (λ same. absurd (omega (arith, same, below, high)))
       ∙ right.others_free j high;
+  free_of_records = λ j key free.
+      ⊎_elim (λ (same : j ≡ number). ap (λ times. times key) (with_value-same m.records number records j same)
+      ∙ none (sym (with_value-same m.status number status j same) ∙ free) key)
+      (λ (other : j ≢ number). ap (λ times. times key) (with_value-other m.records number records j other)
+      ∙ right.free_of_records j key (sym (with_value-other m.status number status j other) ∙ free))
+      (cases_eq j number);
 }
   where
-    standing : Standing after (with_status m number status)
-    standing = Standing-with_status keys after m number status queued others own right.standing
+    new : Machine
+    new = with_thread m number status records
+
+    standing : Standing after new
+    standing j = StandsByStatus-same (with_status m number status) new (after j) j refl (λ k. refl)
+        (Standing-with_status keys after m number status queued others own right.standing j)
 
     still : (j : ℕ) → is_timed (m.status j) ≡ is_timed (with_value m.status number status j)
     still j =
@@ -318,11 +354,32 @@ QueuesMatchStatus-with_status keys after m number status below queued timed othe
         (λ (other : j ≢ number). ap is_timed (sym (with_value-other m.status number status j other)))
         (cases_eq j number)
 
+-- a registered number has another status, with which it stands and is timed as before
+pub MatchesStatus-with_status : (keys : ℕ → ℕ) (m : Machine) (number : ℕ) (status : Status) → number < m.max_threads
+    → is_queued status ≡ is_queued (m.status number) → is_timed status ≡ is_timed (m.status number) → status ≢ Free
+    → MatchesStatus keys m → MatchesStatus keys (with_status m number status)
+MatchesStatus-with_status keys m number status below queued timed registered right =
+    subst (MatchesStatus keys) (with_thread-status m number status)
+    (MatchesStatus-with_thread keys keys m number status (m.records number) below queued timed (λ j other. refl)
+    (inl refl) (λ free. absurd (registered free)) right)
+
+-- a running thread has other records
+pub MatchesStatus-with_records : (keys : ℕ → ℕ) (m : Machine) (number : ℕ) (records : ℕ → ℕ)
+    → m.status number ≡ Running → MatchesStatus keys m → MatchesStatus keys (with_records m number records)
+MatchesStatus-with_records keys m number records running right =
+    subst (MatchesStatus keys) (with_thread-records m number records)
+    (MatchesStatus-with_thread keys keys m number (m.status number) records
+    (below_max_threads keys m number right registered) refl refl (λ j other. refl) (inl refl)
+    (λ free. absurd (registered free)) right)
+  where
+    registered : m.status number ≢ Free
+    registered free = let same : Running ≡ Free = sym running ∙ free in cc
+
 -- a running thread enters the list of a key
-pub QueuesMatchStatus-after_enter : (keys after : ℕ → ℕ) (m : Machine) (number key : ℕ) (park_token : ParkToken)
+pub MatchesStatus-after_enter : (keys after : ℕ → ℕ) (m : Machine) (number key : ℕ) (park_token : ParkToken)
     (timed : Bool) → m.status number ≡ Running → ((j : ℕ) → j ≢ number → after j ≡ keys j) → after number ≡ key
-    → QueuesMatchStatus keys m → QueuesMatchStatus after (after_enter m number key park_token timed)
-QueuesMatchStatus-after_enter keys after m number key park_token timed running others own right = record {
+    → MatchesStatus keys m → MatchesStatus after (after_enter m number key park_token timed)
+MatchesStatus-after_enter keys after m number key park_token timed running others own right = record {
   standing = Standing-after_enter keys after m number key park_token timed
       (ap is_queued running) others own right.standing;
   timing = All-with_value (IsTimedAs status) m.lists key (m.lists key ++ waiter ∷ []) kept
@@ -331,6 +388,8 @@ QueuesMatchStatus-after_enter keys after m number key park_token timed running o
       (ap is_timed (sym (with_value-same m.status number (Waiting timed) number refl))) (All-nil (IsTimedAs status))));
   others_free = λ j high. with_value-other m.status number (Waiting timed) j
       (λ same. absurd (omega (arith, same, below, high))) ∙ right.others_free j high;
+  free_of_records = λ j key free. right.free_of_records j key
+      (free_before m.status number (Waiting timed) j (λ same. cc) free);
 }
   where
     waiter : Waiter
@@ -351,15 +410,16 @@ QueuesMatchStatus-after_enter keys after m number key park_token timed running o
         k (right.timing k)
 
 -- waiters that left a list are taken or stand behind those of another key
-pub QueuesMatchStatus-after_requeue : (keys after : ℕ → ℕ) (m : Machine) (from to : ℕ) (split : Split Waiter)
+pub MatchesStatus-after_requeue : (keys after : ℕ → ℕ) (m : Machine) (from to : ℕ) (split : Split Waiter)
     (token : UnparkToken) → AreParts split (m.lists from) → ((j : ℕ) → times_in j split.moved ≡ 0 → after j ≡ keys j)
-    → ((j : ℕ) → times_in j split.moved ≢ 0 → after j ≡ to) → QueuesMatchStatus keys m
-    → QueuesMatchStatus after (after_requeue m from to split token)
-QueuesMatchStatus-after_requeue keys after m from to split token parts others own right = record {
+    → ((j : ℕ) → times_in j split.moved ≢ 0 → after j ≡ to) → MatchesStatus keys m
+    → MatchesStatus after (after_requeue m from to split token)
+MatchesStatus-after_requeue keys after m from to split token parts others own right = record {
   standing = standing;
   timing = λ k. All-timed after new m.status new.status standing still k (lists k);
   others_free = λ j high. statuses_with_taken-other token split.taken m.status j (untaken j (right.others_free j high))
       ∙ right.others_free j high;
+  free_of_records = λ j key free. right.free_of_records j key (was_free j free);
 }
   where
     new : Machine
@@ -386,29 +446,39 @@ QueuesMatchStatus-after_requeue keys after m from to split token parts others ow
         (All-append (IsTimedAs m.status) (with_value m.lists from split.left to) split.moved (kept to)
         (parts.moved (IsTimedAs m.status) (right.timing from)))
 
+    was_free : (j : ℕ) → new.status j ≡ Free → m.status j ≡ Free
+    was_free j free =
+        ⊎_elim (λ (none : times_in j split.taken ≡ 0). sym (statuses_with_taken-other token split.taken m.status j none)
+        ∙ free)
+        (λ (some : times_in j split.taken ≢ 0). absurd
+        (let taken = sym (statuses_with_taken-among token split.taken m.status j some) ∙ free in cc))
+        (cases_eq (times_in j split.taken) 0)
+
     untaken : (j : ℕ) → m.status j ≡ Free → times_in j split.taken ≡ 0
     untaken j free =
         let nowhere = MatchBool-at_false _ _ (ap is_queued free) (right.standing j) from in
         omega (arith, parts.counts j)
 
 -- some are taken, and the others are left
-pub QueuesMatchStatus-after_unpark : (keys : ℕ → ℕ) (m : Machine) (key : ℕ) (split : Split Waiter) (token : UnparkToken)
-    → split.moved ≡ [] → AreParts split (m.lists key) → QueuesMatchStatus keys m
-    → QueuesMatchStatus keys (after_unpark m key split token)
-QueuesMatchStatus-after_unpark keys m key split token none parts right =
-    subst (QueuesMatchStatus keys) (after_requeue-after_unpark m key split token none)
-    (QueuesMatchStatus-after_requeue keys keys m key key split token parts (λ j _. refl)
+pub MatchesStatus-after_unpark : (keys : ℕ → ℕ) (m : Machine) (key : ℕ) (split : Split Waiter) (token : UnparkToken)
+    → split.moved ≡ [] → AreParts split (m.lists key) → MatchesStatus keys m
+    → MatchesStatus keys (after_unpark m key split token)
+MatchesStatus-after_unpark keys m key split token none parts right =
+    subst (MatchesStatus keys) (after_requeue-after_unpark m key split token none)
+    (MatchesStatus-after_requeue keys keys m key key split token parts (λ j _. refl)
     (λ j some. absurd (some (ap (times_in j) none))) right)
 
 -- a late thread leaves the list where it stands, and runs
-pub QueuesMatchStatus-after_timeout : (keys after : ℕ → ℕ) (m : Machine) (number key : ℕ)
+pub MatchesStatus-after_timeout : (keys after : ℕ → ℕ) (m : Machine) (number key : ℕ)
     → is_queued (m.status number) ≡ true → StandsAt m number key → ((j : ℕ) → j ≢ number → after j ≡ keys j)
-    → QueuesMatchStatus keys m → QueuesMatchStatus after (after_timeout m number key)
-QueuesMatchStatus-after_timeout keys after m number key queued stands others right = record {
+    → MatchesStatus keys m → MatchesStatus after (after_timeout m number key)
+MatchesStatus-after_timeout keys after m number key queued stands others right = record {
   standing = standing;
   timing = λ k. All-timed after new m.status new.status standing still k (lists k);
   others_free = λ j high. with_value-other m.status number Running j (λ same. absurd (omega (arith, same, below, high)))
       ∙ right.others_free j high;
+  free_of_records = λ j key free. right.free_of_records j key
+      (free_before m.status number Running j (λ same. cc) free);
 }
   where
     new : Machine
@@ -433,9 +503,9 @@ QueuesMatchStatus-after_timeout keys after m number key queued stands others rig
         (All-without_first (IsTimedAs m.status) (λ waiter. waiter.number == number) (m.lists key) (right.timing key))
 
 -- no list is longer than there are threads
-pub length-le_from_QueuesMatchStatus : (keys : ℕ → ℕ) (m : Machine) (key : ℕ) → QueuesMatchStatus keys m
+pub length-le_from_MatchesStatus : (keys : ℕ → ℕ) (m : Machine) (key : ℕ) → MatchesStatus keys m
     → length (m.lists key) ≤ m.max_threads
-length-le_from_QueuesMatchStatus keys m key right = length-le_from_numbers m.max_threads (m.lists key) once none
+length-le_from_MatchesStatus keys m key right = length-le_from_numbers m.max_threads (m.lists key) once none
   where
     none : (j : ℕ) → m.max_threads ≤ j → times_in j (m.lists key) ≡ 0
     none j high = MatchBool-at_false _ _ (ap is_queued (right.others_free j high)) (right.standing j) key

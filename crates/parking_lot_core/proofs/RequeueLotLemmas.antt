@@ -16,7 +16,7 @@ use Rattle.parking_lot_core.specs.Represents.{nodes_in}
 use Rattle.parking_lot_core.specs.Private.Committed.{threads_with_keys, committed, CanCommit}
 use Rattle.parking_lot_core.proofs.CommitLemmas.{below_from_status, ne-free-queued, uses-committed}
 use Rattle.parking_lot_core.proofs.KeyLemmas.{length-moved, numbers-moved, statuses-moved, uses-moved, keys-not_moved}
-use Rattle.parking_lot_core.proofs.KeyLemmas.{keys-moved}
+use Rattle.parking_lot_core.proofs.KeyLemmas.{keys-moved, records-moved}
 use Rattle.parking_lot_core.proofs.LotLemmas.{AreMoved, CanCommit-split, IsLotStep, IsLotStep-after_requeue}
 use Rattle.parking_lot_core.proofs.MachineLemmas.{is_queued-standing}
 use Rattle.parking_lot_core.proofs.SplitLemmas.{AreParts, AreParts-by, split_of, split_by-map}
@@ -39,6 +39,7 @@ module _ (lot : LotState) (from to : ℕ) (is : IsLot lot) (op : RequeueOp) wher
     count = length-moved to split.moved lot.threads;
     numbers = numbers-moved to split.moved lot.threads is.numbers;
     status = statuses-moved to split.moved lot.threads;
+    records = records-moved to split.moved lot.threads;
     others = keys-not_moved to split.moved lot.threads;
     own = keys-moved to split.moved lot.threads below;
   }

@@ -1,6 +1,6 @@
 -- Each step keeps a machine consistent.
-use Rattle.std.proofs.Common.{◌≡◌, ℕ, ◌<◌, ◌==◌, Bool, true, false, MatchBool, if◌then◌else◌, [], refl, sym, ap, ◌∙◌}
-use Rattle.std.proofs.Common.{subst, inl}
+use Rattle.std.proofs.Common.{◌≡◌, ◌≢◌, ℕ, ◌<◌, ◌==◌, Bool, true, false, MatchBool, if◌then◌else◌, [], refl, sym, ap}
+use Rattle.std.proofs.Common.{◌∙◌, subst, inl}
 use Rattle.std.proofs.lemmas.Bool.{eq-eqb, ne_eqb, cond-true, cond-false, false≢true}
 use Rattle.std.proofs.lemmas.List.Elements.{All-nil}
 use Rattle.lot_base.proofs.FilterLemmas.{split_filter-moves_nobody}
@@ -16,16 +16,19 @@ use Rattle.parking_lot_core.specs.declared.schedule.Op.{Op}
 use Rattle.parking_lot_core.specs.declared.schedule.Op.TheVariants.{One, All, Filter, Requeue}
 use Rattle.parking_lot_core.specs.declared.schedule.Step.{Step}
 use Rattle.parking_lot_core.specs.declared.schedule.Step.TheVariants.{Register, Retire, Enter, Unpark, Deadline}
-use Rattle.parking_lot_core.specs.declared.schedule.Step.TheVariants.{Resolve, Return}
+use Rattle.parking_lot_core.specs.declared.schedule.Step.TheVariants.{Resolve, Return, Acquire, Release}
+use Rattle.parking_lot_core.specs.Records.{one_more, one_less}
 use Rattle.parking_lot_core.specs.Status.{is_registered, is_running, is_queued, is_timed, awaits_deadline}
-use Rattle.parking_lot_core.specs.Machine.{Machine, Waiter, StandsAt, QueuesMatchStatus, IsConsistent, times_in}
-use Rattle.parking_lot_core.specs.Machine.{with_status, after_enter, after_unpark, after_requeue, after_timeout}
-use Rattle.parking_lot_core.specs.Steps.{IsRegister, IsUnpark, IsReturn, IsResolve, IsStep}
+use Rattle.parking_lot_core.specs.Machine.{Machine, Waiter, StandsAt, MatchesStatus, IsConsistent, times_in}
+use Rattle.parking_lot_core.specs.Machine.{with_status, with_records, after_retire, after_enter, after_unpark}
+use Rattle.parking_lot_core.specs.Machine.{after_requeue, after_timeout}
+use Rattle.parking_lot_core.specs.Steps.{IsRegister, IsUnpark, IsReturn, IsResolve, IsAcquire, IsStep}
 use Rattle.parking_lot_core.specs.Laws.{NewMachinesAreConsistent, StepsKeepConsistency}
 use Rattle.parking_lot_core.proofs.SplitLemmas.{AreParts, AreParts-first, AreParts-all, AreParts-filter, AreParts-by}
-use Rattle.parking_lot_core.proofs.MachineLemmas.{QueuesMatchStatus-with_status, QueuesMatchStatus-after_enter}
-use Rattle.parking_lot_core.proofs.MachineLemmas.{QueuesMatchStatus-after_requeue, QueuesMatchStatus-after_unpark}
-use Rattle.parking_lot_core.proofs.MachineLemmas.{QueuesMatchStatus-after_timeout, below_max_threads}
+use Rattle.parking_lot_core.proofs.MachineLemmas.{MatchesStatus-with_status, MatchesStatus-with_records}
+use Rattle.parking_lot_core.proofs.MachineLemmas.{MatchesStatus-with_thread, MatchesStatus-after_enter}
+use Rattle.parking_lot_core.proofs.MachineLemmas.{MatchesStatus-after_requeue, MatchesStatus-after_unpark}
+use Rattle.parking_lot_core.proofs.MachineLemmas.{MatchesStatus-after_timeout, below_max_threads}
 
 -- a fact that a test chooses, in each case
 pub MatchBool-either : (b : Bool) {P Q R : Type 0} → (b ≡ true → P → R) → (b ≡ false → Q → R) → MatchBool b P Q → R
@@ -47,26 +50,42 @@ Waiting-from status.Running is = absurd (false≢true is)
 Waiting-from status.Late is = absurd (false≢true is)
 Waiting-from (status.Taken token) is = absurd (false≢true is)
 
-module _ (m : Machine) (keys : ℕ → ℕ) (right : QueuesMatchStatus keys m) where
+module _ (m : Machine) (keys : ℕ → ℕ) (right : MatchesStatus keys m) where
   -- where these rules lead, lists and statuses agree
   with_status-keeps : (number : ℕ) (s : Status) → number < m.max_threads → is_queued s ≡ is_queued (m.status number)
-      → is_timed s ≡ is_timed (m.status number) → IsConsistent (with_status m number s)
-  with_status-keeps number s below queued timed =
-      (keys, QueuesMatchStatus-with_status keys keys m number s below queued timed (λ j other. refl) (inl refl) right)
+      → is_timed s ≡ is_timed (m.status number) → s ≢ status.Free → IsConsistent (with_status m number s)
+  with_status-keeps number s below queued timed registered =
+      (keys, MatchesStatus-with_status keys m number s below queued timed registered right)
 
-  -- so it is where a registered thread goes from one status to another
+  -- so it is where a registered thread goes from one status to another, with which it is registered
   registered-keeps : (number : ℕ) (was s : Status) → m.status number ≡ was → is_registered was ≡ true
-      → is_queued s ≡ is_queued was → is_timed s ≡ is_timed was → IsConsistent (with_status m number s)
-  registered-keeps number was s is registered queued timed =
+      → is_queued s ≡ is_queued was → is_timed s ≡ is_timed was → s ≢ status.Free
+      → IsConsistent (with_status m number s)
+  registered-keeps number was s is registered queued timed still =
       with_status-keeps number s
       (below_max_threads keys m number right (λ free. false≢true (ap is_registered (sym (sym is ∙ free)) ∙ registered)))
-      (queued ∙ ap is_queued (sym is)) (timed ∙ ap is_timed (sym is))
+      (queued ∙ ap is_queued (sym is)) (timed ∙ ap is_timed (sym is)) still
+
+  -- a running thread retires, or has other records
+  after_retire-keeps : (number : ℕ) → m.status number ≡ status.Running → IsConsistent (after_retire m number)
+  after_retire-keeps number running = (
+    keys,
+    MatchesStatus-with_thread keys keys m number status.Free (λ _. 0)
+        (below_max_threads keys m number right
+        (λ free. false≢true (ap is_registered (sym (sym running ∙ free)))))
+        (ap is_queued (sym running)) (ap is_timed (sym running)) (λ j other. refl) (inl refl) (λ _ key. refl) right,
+  )
+
+  with_records-keeps : (number : ℕ) (records : ℕ → ℕ) → m.status number ≡ status.Running
+      → IsConsistent (with_records m number records)
+  with_records-keeps number records running =
+      (keys, MatchesStatus-with_records keys m number records running right)
 
   after_enter-keeps : (number key : ℕ) (park_token : ParkToken) (timed : Bool) → m.status number ≡ status.Running
       → IsConsistent (after_enter m number key park_token timed)
   after_enter-keeps number key park_token timed running = (
     with_value keys number key,
-    QueuesMatchStatus-after_enter keys (with_value keys number key) m number key park_token timed running
+    MatchesStatus-after_enter keys (with_value keys number key) m number key park_token timed running
         (with_value-other keys number key) (with_value-same keys number key number refl) right,
   )
 
@@ -74,7 +93,7 @@ module _ (m : Machine) (keys : ℕ → ℕ) (right : QueuesMatchStatus keys m) w
       → IsConsistent (after_requeue m from to split token)
   after_requeue-keeps from to split token parts = (
     after,
-    QueuesMatchStatus-after_requeue keys after m from to split token parts
+    MatchesStatus-after_requeue keys after m from to split token parts
         (λ j none. cond-true (times_in j split.moved == 0) (keys j) to (eq-eqb (times_in j split.moved) 0 none))
         (λ j some. cond-false (times_in j split.moved == 0) (keys j) to (ne_eqb (times_in j split.moved) 0 some)) right,
   )
@@ -85,12 +104,12 @@ module _ (m : Machine) (keys : ℕ → ℕ) (right : QueuesMatchStatus keys m) w
   after_unpark-keeps : (key : ℕ) (split : Split Waiter) (token : UnparkToken) → split.moved ≡ []
       → AreParts split (m.lists key) → IsConsistent (after_unpark m key split token)
   after_unpark-keeps key split token none parts =
-      (keys, QueuesMatchStatus-after_unpark keys m key split token none parts right)
+      (keys, MatchesStatus-after_unpark keys m key split token none parts right)
 
   after_timeout-keeps : (number key : ℕ) → m.status number ≡ status.Late → StandsAt m number key
       → IsConsistent (after_timeout m number key)
   after_timeout-keeps number key late stands =
-      (keys, QueuesMatchStatus-after_timeout keys keys m number key (ap is_queued late) stands (λ j other. refl) right)
+      (keys, MatchesStatus-after_timeout keys keys m number key (ap is_queued late) stands (λ j other. refl) right)
 
   module _ (given : Answer) (new : Machine) where
     -- so it does where a step leads to what such a rule says
@@ -114,7 +133,7 @@ module _ (m : Machine) (keys : ℕ → ℕ) (right : QueuesMatchStatus keys m) w
 
     IsReturn-keeps : (thread : ℕ) (s : Status) → m.status thread ≡ s → IsReturn m thread s given new → IsConsistent new
     IsReturn-keeps thread (status.Taken token) is (_, new_is) =
-        becomes (registered-keeps thread (status.Taken token) status.Running is refl refl refl) new_is
+        becomes (registered-keeps thread (status.Taken token) status.Running is refl refl refl (λ same. cc)) new_is
     IsReturn-keeps thread _ is (_, new_is) = unchanged new_is
 
     IsResolve-keeps : (thread : ℕ) (s : Status) → m.status thread ≡ s → IsResolve m thread s given new
@@ -126,18 +145,23 @@ module _ (m : Machine) (keys : ℕ → ℕ) (right : QueuesMatchStatus keys m) w
     IsRegister-keeps : (given : Answer) → IsRegister m given new → IsConsistent new
     IsRegister-keeps (answer.Registered number) (least, new_is) =
         becomes (with_status-keeps number status.Running least.below (ap is_queued (sym least.free))
-        (ap is_timed (sym least.free))) new_is
+        (ap is_timed (sym least.free)) (λ same. cc)) new_is
     IsRegister-keeps answer.Full (_, new_is) = unchanged new_is
     IsRegister-keeps answer.NoMemory (_, new_is) = unchanged new_is
     IsRegister-keeps _ none = absurd none
+
+    IsAcquire-keeps : (thread key : ℕ) (given : Answer) → m.status thread ≡ status.Running
+        → IsAcquire m thread key given new → IsConsistent new
+    IsAcquire-keeps thread key answer.Recorded runs new_is =
+        becomes (with_records-keeps thread (one_more (m.records thread) key) runs) new_is
+    IsAcquire-keeps thread key answer.NoMemory runs new_is = unchanged new_is
+    IsAcquire-keeps thread key _ runs none = absurd none
 
     IsStep-keep : (step : Step) → IsStep m step given new → IsConsistent new
     IsStep-keep Register = IsRegister-keeps given
     IsStep-keep (Retire thread) =
         MatchBool-either (is_running (m.status thread))
-        (λ runs (_, new_is). becomes
-        (registered-keeps thread status.Running status.Free (Running-from (m.status thread) runs) refl refl refl)
-        new_is)
+        (λ runs (_, new_is). becomes (after_retire-keeps thread (Running-from (m.status thread) runs)) new_is)
         (λ _ (_, new_is). unchanged new_is)
     IsStep-keep (Enter thread key valid park_token timed) =
         MatchBool-either (is_running (m.status thread))
@@ -150,14 +174,30 @@ module _ (m : Machine) (keys : ℕ → ℕ) (right : QueuesMatchStatus keys m) w
         MatchBool-either (awaits_deadline (m.status thread))
         (λ timed (_, new_is). becomes
         (registered-keeps thread (status.Waiting true) status.Late
-        (Waiting-from (m.status thread) timed) refl refl refl) new_is)
+        (Waiting-from (m.status thread) timed) refl refl refl (λ same. cc)) new_is)
         (λ _ (_, new_is). unchanged new_is)
     IsStep-keep (Resolve thread) = IsResolve-keeps thread (m.status thread) refl
     IsStep-keep (Return thread) = IsReturn-keeps thread (m.status thread) refl
+    IsStep-keep (Acquire thread key) =
+        MatchBool-either (is_running (m.status thread))
+        (λ runs. IsAcquire-keeps thread key given (Running-from (m.status thread) runs))
+        (λ _ (_, new_is). unchanged new_is)
+    IsStep-keep (Release thread key) =
+        MatchBool-either (is_running (m.status thread))
+        (λ runs (_, new_is). becomes
+        (with_records-keeps thread (one_less (m.records thread) key) (Running-from (m.status thread) runs)) new_is)
+        (λ _ (_, new_is). unchanged new_is)
 
 pub IsConsistent-new : NewMachinesAreConsistent
-IsConsistent-new max_threads =
-    (λ _. 0, record { standing = λ _ _. refl; timing = λ _. All-nil _; others_free = λ _ _. refl })
+IsConsistent-new max_threads = (
+  λ _. 0,
+  record {
+    standing = λ _ _. refl;
+    timing = λ _. All-nil _;
+    others_free = λ _ _. refl;
+    free_of_records = λ _ _ _. refl;
+  },
+)
 
 pub IsConsistent-step : StepsKeepConsistency
 IsConsistent-step m step given new (keys, right) = IsStep-keep m keys right given new step

@@ -1,5 +1,5 @@
 -- Where the node of a thread is.
-use Rattle.std.proofs.Common.{◌≡◌, ℕ, IsTrue, [], ◌∷◌, ◌++◌, sym, ap, ◌∙◌}
+use Rattle.std.proofs.Common.{◌≡◌, ℕ, IsTrue, List, [], ◌∷◌, ◌++◌, sym, ap, ◌∙◌}
 use Rattle.std.proofs.lemmas.Bool.{false≢true}
 use Rattle.lot_base.specs.NodeFields.{NodeFields}
 use Rattle.lot_base.specs.SlotState.{SlotState}
@@ -21,11 +21,12 @@ nodes-queued (Taken _) slot has queued = absurd (false≢true queued)
 
 -- an unpark puts the node of a waiting thread alone into its slot
 pub HasItsNode-taken : (state : State) (slot after : SlotState) (node : NodeFields) (before : ThreadState) (key : ℕ)
-    (token : UnparkToken) → record { number = slot.owner; key = key; status = status_of state } ≡ before
+    (records : List ℕ) (token : UnparkToken)
+    → record { number = slot.owner; key = key; status = status_of state; records = records } ≡ before
     → HasItsNode state slot → node.number ≡ before.number → IsTrue (is_queued before.status)
     → after ≡ record slot { nodes = slot.nodes ++ node ∷ [] } → node.unpark_token ≡ token
     → HasItsNode (Taken token) after
-HasItsNode-taken state slot after node before key token view has number queued put handed =
+HasItsNode-taken state slot after node before key records token view has number queued put handed =
     let waits : IsTrue (is_queued (status_of state)) = rw (← view) at queued in
     let nodes : after.nodes ≡ node ∷ [] = ap (λ s. s.nodes) put
     ∙ ap (λ held. held ++ node ∷ []) (nodes-queued state slot has waits) in

@@ -3,10 +3,11 @@ use Rattle.std.specs.Prelude.{◌≡◌, ◌≢◌, ◌↔◌, ℕ, ◌≤◌, L
 use Rattle.lot_base.specs.declared.token.UnparkToken.{UnparkToken}
 use Rattle.lot_base.specs.declared.token.RequeueOp.TheVariants.{Abort}
 use Rattle.lot_base.specs.Waiting.{split_by}
+use Rattle.parking_lot_core.specs.declared.lot.Status.TheVariants.{Running}
 use Rattle.parking_lot_core.specs.declared.schedule.Answer.{Answer}
-use Rattle.parking_lot_core.specs.declared.schedule.Answer.TheVariants.{NoMemory}
+use Rattle.parking_lot_core.specs.declared.schedule.Answer.TheVariants.{NoMemory, Recorded, Released}
 use Rattle.parking_lot_core.specs.declared.schedule.Step.{Step}
-use Rattle.parking_lot_core.specs.declared.schedule.Step.TheVariants.{Register}
+use Rattle.parking_lot_core.specs.declared.schedule.Step.TheVariants.{Register, Acquire, Release}
 use Rattle.parking_lot_core.specs.Status.{is_parked}
 use Rattle.parking_lot_core.specs.Machine.{Machine, IsConsistent, IsFull, new_machine, threads_of, after_requeue}
 use Rattle.parking_lot_core.specs.Size.{threads_after}
@@ -32,15 +33,27 @@ abbrev pub NoOtherAnswer : Type 0
 NoOtherAnswer = (m : Machine) (step : Step) (given other : Answer) (new left : Machine) → IsConsistent m
     → IsStep m step given new → IsStep m step other left → given ≢ NoMemory → other ≢ NoMemory → given ≡ other
 
--- memory may be wanting at a registration where a number is free, and nowhere else
+-- where memory may be wanting: at a registration if a number is free, and at an acquire of a running thread
+abbrev pub MayWantMemory : Machine → Step → Type 0
+MayWantMemory m Register = IsFull m → ⊥
+MayWantMemory m (Acquire thread _) = m.status thread ≡ Running
+MayWantMemory m _ = ⊥
+
+-- there, and nowhere else, a step may be answered by `NoMemory`, and then it changes nothing
 abbrev pub OnlyMemoryIsOpen : Type 0
 OnlyMemoryIsOpen = (m : Machine) (step : Step) (new : Machine)
-    → IsStep m step NoMemory new ↔ ((step ≡ Register) × (IsFull m → ⊥) × (new ≡ m))
+    → IsStep m step NoMemory new ↔ (MayWantMemory m step × (new ≡ m))
 
 -- a requeue that aborts changes nothing
 abbrev pub AbortChangesNothing : Type 0
 AbortChangesNothing = (m : Machine) (from to : ℕ) (token : UnparkToken)
     → after_requeue m from to (split_by Abort (m.lists from)) token ≡ m
+
+-- an acquire that is recorded, and then a release of the key: the release is done, and all is as it was before
+abbrev pub ReleaseUndoesAcquire : Type 0
+ReleaseUndoesAcquire = (m : Machine) (thread key : ℕ) (given : Answer) (between last : Machine)
+    → IsStep m (Acquire thread key) Recorded between → IsStep between (Release thread key) given last
+    → (given ≡ Released) × (last ≡ m)
 
 -- new machines are consistent, and each step keeps that
 abbrev pub NewMachinesAreConsistent : Type 0

@@ -1,8 +1,9 @@
 -- In the order of reading, after the types of lot_base's src/token.rt, `Status` of src/lot.rt, and `Op`, `Step` and
--- `Answer` of src/schedule.rt. The promise first: what becomes of the waiters of a key (`Waiting` of lot_base), the
--- machine, its steps and runs, and how the table's size follows them.
+-- `Answer` of src/schedule.rt. The promise first: what becomes of the waiters of a key (`Waiting` of lot_base) and of a
+-- thread's records, the machine, its steps and runs, and how the table's size follows them.
 pub use Rattle.lot_base.specs.Waiting
 pub mod Status
+pub mod Records
 pub mod Machine
 pub mod Steps
 pub mod Size

@@ -3,11 +3,12 @@ use Rattle.std.specs.Prelude.{◌≡◌, ℕ, List, length}
 use Rattle.lot_base.specs.BucketState.{BucketState}
 use Rattle.parking_lot_core.specs.declared.lot.Status.{Status}
 
--- a thread: its number, the key that it waits on or waited on last, and its status
+-- a thread: its number, the key that it waits on or waited on last, its status, and the keys that it recorded
 pub record ThreadState : Type 0 where
   pub number : ℕ
   pub key : ℕ
   pub status : Status
+  pub records : List ℕ
 
 -- the row of buckets, and the threads by their numbers
 pub record LotState : Type 0 where

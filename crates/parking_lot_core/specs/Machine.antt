@@ -8,6 +8,7 @@ use Rattle.lot_base.specs.declared.token.UnparkToken.{UnparkToken}
 use Rattle.lot_base.specs.Waiting.{with_value, lists_after_requeue, without_first, has_any, Split}
 use Rattle.parking_lot_core.specs.declared.lot.Status.{Status}
 use Rattle.parking_lot_core.specs.declared.lot.Status.TheVariants.{Free, Running, Waiting, Taken}
+use Rattle.parking_lot_core.specs.Records.{one_more, one_less}
 use Rattle.parking_lot_core.specs.Status.{is_registered, is_queued, is_timed}
 
 -- a thread that stands in a list, since it waits or is late
@@ -16,16 +17,18 @@ pub record Waiter : Type 0 where
   pub park_token : ParkToken
   pub timed : Bool
 
--- the waiters of each key, first in first; the status of each thread number; for how many threads it is, whose
--- numbers are those below that
+-- the waiters of each key, first in first; the status of each thread number; how often each number's thread has
+-- recorded each key; for how many threads it is, whose numbers are those below that
 pub record Machine : Type 0 where
   pub lists : ℕ → List Waiter
   pub status : ℕ → Status
+  pub records : ℕ → ℕ → ℕ
   pub max_threads : ℕ
 
--- nobody is registered and nobody waits
+-- nobody is registered, nobody waits and nothing is recorded
 abbrev pub new_machine : ℕ → Machine
-new_machine max_threads = record { lists = λ _. []; status = λ _. Free; max_threads = max_threads }
+new_machine max_threads =
+    record { lists = λ _. []; status = λ _. Free; records = λ _ _. 0; max_threads = max_threads }
 
 -- how many threads are registered
 abbrev pub threads_of : Machine → ℕ
@@ -45,7 +48,7 @@ pub record StandsAt (m : Machine) (number key : ℕ) : Type 0 where
 
 -- what each step makes of a machine
 
--- a number with another status, and every list as it was
+-- a number with another status, and every list and all records as they were
 abbrev pub with_status : Machine → ℕ → Status → Machine
 with_status m number status = record m { status = with_value m.status number status }
 
@@ -58,6 +61,21 @@ pub record IsLeastFree (m : Machine) (number : ℕ) : Type 0 where
 -- Register is refused: no number is free
 abbrev pub IsFull : Machine → Type 0
 IsFull m = (k : ℕ) → k < m.max_threads → m.status k ≢ Free
+
+-- a number with other records, and all else as it was
+abbrev pub with_records : Machine → ℕ → (ℕ → ℕ) → Machine
+with_records m number records = record m { records = with_value m.records number records }
+
+-- Retire: the number is free, and its records go
+abbrev pub after_retire : Machine → ℕ → Machine
+after_retire m number = with_records (with_status m number Free) number (λ _. 0)
+
+-- Acquire and Release: the key is recorded once more, or once less if it was recorded
+abbrev pub after_acquire : Machine → ℕ → ℕ → Machine
+after_acquire m number key = with_records m number (one_more (m.records number) key)
+
+abbrev pub after_release : Machine → ℕ → ℕ → Machine
+after_release m number key = with_records m number (one_less (m.records number) key)
 
 -- Enter, where the validation answered true: the thread stands last in the list of the key, and waits
 abbrev pub after_enter : Machine → ℕ → ℕ → ParkToken → Bool → Machine
@@ -102,12 +120,13 @@ abbrev pub StandsByStatus : Machine → ℕ → ℕ → Type 0
 StandsByStatus m number key = MatchBool (is_queued (m.status number)) (StandsAt m number key)
     ((k : ℕ) → times_in number (m.lists k) ≡ 0)
 
--- lists and statuses agree, where `keys` tells the key at which each thread stands
-pub record QueuesMatchStatus (keys : ℕ → ℕ) (m : Machine) : Type 0 where
+-- lists and records match the statuses, where `keys` tells the key at which each thread stands
+pub record MatchesStatus (keys : ℕ → ℕ) (m : Machine) : Type 0 where
   pub standing : (number : ℕ) → StandsByStatus m number (keys number)
   pub timing : (key : ℕ) → All (λ waiter. waiter.timed ≡ is_timed (m.status waiter.number)) (m.lists key)
   pub others_free : (number : ℕ) → m.max_threads ≤ number → m.status number ≡ Free
+  pub free_of_records : (number key : ℕ) → m.status number ≡ Free → m.records number key ≡ 0
 
 -- there are such keys
 abbrev pub IsConsistent : Machine → Type 0
-IsConsistent m = (keys : ℕ → ℕ) × QueuesMatchStatus keys m
+IsConsistent m = (keys : ℕ → ℕ) × MatchesStatus keys m

@@ -10,10 +10,11 @@ use Rattle.parking_lot_core.specs.declared.schedule.Op.{Op}
 use Rattle.parking_lot_core.specs.declared.schedule.Op.TheVariants.{One, All, Filter, Requeue}
 use Rattle.parking_lot_core.specs.declared.schedule.Step.{Step}
 use Rattle.parking_lot_core.specs.declared.schedule.Step.TheVariants.{Register, Retire, Enter, Unpark, Deadline}
-use Rattle.parking_lot_core.specs.declared.schedule.Step.TheVariants.{Resolve, Return}
+use Rattle.parking_lot_core.specs.declared.schedule.Step.TheVariants.{Resolve, Return, Acquire, Release}
 use Rattle.parking_lot_core.specs.Status.{is_running, awaits_deadline}
 use Rattle.parking_lot_core.specs.Machine.{Machine, Waiter, IsLeastFree, IsFull, StandsAt, is_last, with_status}
-use Rattle.parking_lot_core.specs.Machine.{after_enter, after_unpark, after_requeue, after_timeout}
+use Rattle.parking_lot_core.specs.Machine.{after_retire, after_acquire, after_release, after_enter, after_unpark}
+use Rattle.parking_lot_core.specs.Machine.{after_requeue, after_timeout}
 
 -- the step should give the answer `expected` and leave the machine `after`: it gave `given` and left `new`
 abbrev pub Gives : Machine → Answer → Answer → Machine → Type 0
@@ -23,7 +24,8 @@ Gives after expected given new = (given ≡ expected) × (new ≡ after)
 abbrev pub IsMisfit : Machine → Answer → Machine → Type 0
 IsMisfit m given new = Gives m answer.Misfit given new
 
--- Register: the least free number, or that there is none; memory may be refused only where there is one
+-- Register: the least free number, whose thread has no records, since a free number has none; or that there is no free
+-- number; memory may be refused only where there is one
 abbrev pub IsRegister : Machine → Answer → Machine → Type 0
 IsRegister m (answer.Registered number) new = IsLeastFree m number × (new ≡ with_status m number status.Running)
 IsRegister m answer.Full new = IsFull m × (new ≡ m)
@@ -60,11 +62,17 @@ IsResolve m thread status.Late given new =
     (answer.TimedOut key (is_last m thread key)) given new
 IsResolve m thread s given new = IsReturn m thread s given new
 
+-- Acquire, of a running thread: it is recorded, or memory is wanting
+abbrev pub IsAcquire : Machine → ℕ → ℕ → Answer → Machine → Type 0
+IsAcquire m thread key answer.Recorded new = new ≡ after_acquire m thread key
+IsAcquire m thread key answer.NoMemory new = new ≡ m
+IsAcquire m thread key _ new = ⊥
+
 -- one step: the state before, the step, its answer and the state after
 abbrev pub IsStep : Machine → Step → Answer → Machine → Type 0
 IsStep m Register given new = IsRegister m given new
 IsStep m (Retire thread) given new =
-    MatchBool (is_running (m.status thread)) (Gives (with_status m thread status.Free) answer.Retired given new)
+    MatchBool (is_running (m.status thread)) (Gives (after_retire m thread) answer.Retired given new)
     (IsMisfit m given new)
 IsStep m (Enter thread key valid park_token timed) given new =
     MatchBool (is_running (m.status thread))
@@ -77,6 +85,11 @@ IsStep m (Deadline thread) given new =
     (IsMisfit m given new)
 IsStep m (Resolve thread) given new = IsResolve m thread (m.status thread) given new
 IsStep m (Return thread) given new = IsReturn m thread (m.status thread) given new
+IsStep m (Acquire thread key) given new =
+    MatchBool (is_running (m.status thread)) (IsAcquire m thread key given new) (IsMisfit m given new)
+IsStep m (Release thread key) given new =
+    MatchBool (is_running (m.status thread)) (Gives (after_release m thread key) answer.Released given new)
+    (IsMisfit m given new)
 
 -- a run: a list of steps with an answer each, in which each step begins where the one before ended
 abbrev pub IsRun : Machine → List Step → List Answer → Machine → Type 0

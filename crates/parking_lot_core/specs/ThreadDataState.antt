@@ -1,6 +1,7 @@
 -- The data of a registered thread as contracts see it.
-use Rattle.std.specs.Prelude.{ℕ}
+use Rattle.std.specs.Prelude.{ℕ, List}
 
--- the number of the thread
+-- the number of the thread, and the keys that it recorded, whose order says nothing
 pub record ThreadDataState : Type 0 where
   pub number : ℕ
+  pub records : List ℕ

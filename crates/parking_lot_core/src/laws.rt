@@ -2,15 +2,17 @@
 //! calls that stand on them. The functions without an argument do nothing: their contract is the
 //! law, over the definitions that the contracts of the lot and of `run` cite.
 
-ghost use Rattle.std.specs.Prelude.{◌≡◌, false, length};
+ghost use Rattle.std.specs.Prelude.{◌≡◌, ◌≢◌, ◌↔◌, Err, false, length};
 ghost use Rattle.lot_base.specs.Waiting.{split_all, result_of};
 ghost use Rattle.parking_lot_core.specs.LotState.{KeepsSize};
 ghost use Rattle.parking_lot_core.specs.Lot.{machine};
 ghost use Rattle.parking_lot_core.specs.Machine.{after_unpark};
-ghost use Rattle.parking_lot_core.specs.Laws.{StepAndAnswerFixTheState, AnswersFixTheRun, EachStepHasAnAnswer, NoOtherAnswer, OnlyMemoryIsOpen, AbortChangesNothing, NewMachinesAreConsistent, StepsKeepConsistency, ListsAreShort, AnswersCountThreads, ParksAndOutcomesAlternate};
+ghost use Rattle.parking_lot_core.specs.Laws.{StepAndAnswerFixTheState, AnswersFixTheRun, EachStepHasAnAnswer, NoOtherAnswer, OnlyMemoryIsOpen, AbortChangesNothing, ReleaseUndoesAcquire, NewMachinesAreConsistent, StepsKeepConsistency, ListsAreShort, AnswersCountThreads, ParksAndOutcomesAlternate};
 
-use crate::lot::Lot;
-use lot_base::token::{DEFAULT_UNPARK_TOKEN, FilterOp, RequeueOp, UnparkResult, UnparkToken};
+use crate::lot::{Lot, Status};
+use lot_base::token::{
+    DEFAULT_UNPARK_TOKEN, FilterOp, RequeueOp, StepError, UnparkResult, UnparkToken,
+};
 
 /// A step and its answer leave nothing open about the state after it: two lots that mean the same
 /// machine, take the same steps and give the same answers mean the same machine afterwards.
@@ -21,7 +23,8 @@ pub fn answers_fix_the_run()
 {}
 
 /// In a consistent machine, such as that of every lot, each step has an answer, and just one: but
-/// that a registration, where a number is free, may be answered by `NoMemory` too.
+/// that a registration, where a number is free, and an acquire of a running thread may be answered
+/// by `NoMemory` too.
 pub fn each_step_has_one_answer()
     ensures some { EachStepHasAnAnswer }
     ensures one { NoOtherAnswer }
@@ -31,6 +34,12 @@ pub fn each_step_has_one_answer()
 /// A requeue that aborts changes nothing.
 pub fn abort_changes_nothing()
     ensures { AbortChangesNothing }
+{}
+
+/// An acquire that is recorded, and then a release of the key by the same thread, leave the records
+/// and all else as they were. The release is never refused.
+pub fn release_undoes_acquire()
+    ensures { ReleaseUndoesAcquire }
 {}
 
 /// The machine of a new lot is consistent, and each step keeps it so. In a consistent machine no
@@ -80,4 +89,21 @@ pub fn requeue_all_to_itself(lot: &mut Lot, key: usize) -> UnparkResult
         || RequeueOp::RequeueAll,
         |_, _| DEFAULT_UNPARK_TOKEN,
     )
+}
+
+/// Records the key for the thread and releases it again, so that the lot means what it meant. It
+/// costs what `Lot::acquire` and `Lot::release` cost.
+///
+/// # Errors
+///
+/// Those of `Lot::acquire`.
+pub fn acquire_and_release(lot: &mut Lot, number: usize, key: usize) -> Result<(), StepError>
+    ensures fits { result ≢ Err StepError.Misfit
+        ↔ ((machine lot.old).status number ≡ Status.Running) }
+    ensures unchanged { machine lot.new ≡ machine lot.old }
+    ensures size { KeepsSize lot.old lot.new }
+{
+    lot.acquire(number, key)?;
+    lot.release(number, key).unwrap();
+    Ok(())
 }

@@ -2,9 +2,11 @@
 //! schedulers.
 #![tactic(auto)]
 
+pub mod deadlock;
 pub mod laws;
 pub mod lot;
 pub mod parking_lot;
+mod records;
 pub mod schedule;
 pub mod table;
 

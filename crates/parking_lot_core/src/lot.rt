@@ -7,7 +7,7 @@ ghost use Rattle.lot_base.specs.Place.{IsTableSize};
 ghost use Rattle.lot_base.specs.declared.token.RequeueOp.{RequeueOp};
 ghost use Rattle.lot_base.specs.Waiting.{split_first, split_all, split_filter, split_by, result_of, requeue_result, has_any};
 ghost use Rattle.parking_lot_core.specs.Status.{is_taken, can_resolve};
-ghost use Rattle.parking_lot_core.specs.Machine.{new_machine, threads_of, with_status, IsLeastFree, IsFull, after_enter, after_unpark, after_requeue, is_last, after_timeout, StandsAt, IsConsistent};
+ghost use Rattle.parking_lot_core.specs.Machine.{new_machine, threads_of, with_status, IsLeastFree, IsFull, after_retire, after_acquire, after_release, after_enter, after_unpark, after_requeue, is_last, after_timeout, StandsAt, IsConsistent};
 ghost use Rattle.parking_lot_core.specs.Lot.{waiter_park_tokens};
 ghost use Rattle.parking_lot_core.specs.Size.{IsSizeFor};
 ghost use Rattle.parking_lot_core.specs.LotState.{KeepsSize};
@@ -20,8 +20,8 @@ mod thread;
 use crate::table::{MAX_THREADS, Table};
 use lot_base::queue::Node;
 use lot_base::token::{
-    FilterOp, LotError, Misfit, NoMemory, ParkResult, ParkToken, RequeueOp, UnparkResult,
-    UnparkToken,
+    FilterOp, LotError, Misfit, NoMemory, ParkResult, ParkToken, RequeueOp, StepError,
+    UnparkResult, UnparkToken,
 };
 use requeue::requeue_waiters;
 use std::alloc::Global;
@@ -55,8 +55,8 @@ pub enum Status {
 ///
 /// Threads go by their numbers. What each step does is told by the machine that the lot means,
 /// which has one list of waiters for each key. A step that does not fit the status of its thread
-/// answers `Misfit`, changes nothing and calls no closure. Only `new`, `register` and `list` ask
-/// for memory. No call takes a lock.
+/// answers `Misfit`, changes nothing and calls no closure. Only `new`, `register`, `acquire` and
+/// `list` ask for memory. No call takes a lock.
 ///
 /// Upstream has no such type. Its `park` is `enter`, and after the sleep `resolve`.
 #[derive(Drop)]
@@ -100,9 +100,9 @@ impl Lot {
         Ok(Lot { table, threads })
     }
 
-    /// Registers a thread under the least free number; it is running then. This asks for all the
-    /// memory that the thread will ever need: its node, and what the table needs to grow, so that
-    /// it has three buckets for each thread.
+    /// Registers a thread under the least free number; it is running then, and has no records. This
+    /// asks for all the memory that the thread's parks will ever need: its node, and what the table
+    /// needs to grow, so that it has three buckets for each thread.
     ///
     /// It is one `Table::register`. Upstream's `park` does it at a thread's first use.
     ///
@@ -130,7 +130,8 @@ impl Lot {
         Ok(number)
     }
 
-    /// Frees the number of a running thread. It drops the thread's node, and allocates nothing.
+    /// Frees the number of a running thread. It drops the thread's node and its records, and
+    /// allocates nothing.
     ///
     /// Upstream does it at the end of a thread.
     ///
@@ -140,7 +141,7 @@ impl Lot {
     pub fn retire(&mut self, number: usize) -> Result<(), Misfit>
         ensures fits { IsOk result ↔ ((machine self.old).status number ≡ Status.Running) }
         ensures ok { OnOk result (machine self.new
-            ≡ with_status (machine self.old) number Status.Free) }
+            ≡ after_retire (machine self.old) number) }
         ensures size { KeepsSize self.old self.new }
         ensures err { OnErr result (self.new ≡ self.old) }
     {
@@ -418,6 +419,64 @@ impl Lot {
         answer
     }
 
+    /// Records that a running thread holds the resource of this key. A key that is recorded again
+    /// counts once more.
+    ///
+    /// It may ask for memory, for the records alone. Upstream's `deadlock::acquire_resource` does
+    /// it for the thread that runs.
+    ///
+    /// # Errors
+    ///
+    /// `Misfit` exactly if the thread is not running, and else `NoMemory` if memory cannot be had.
+    /// Nothing changed then.
+    pub fn acquire(&mut self, number: usize, key: usize) -> Result<(), StepError>
+        ensures fits { result ≢ Err StepError.Misfit
+            ↔ ((machine self.old).status number ≡ Status.Running) }
+        ensures ok { OnOk result (machine self.new
+            ≡ after_acquire (machine self.old) number key) }
+        ensures size { KeepsSize self.old self.new }
+        ensures err { OnErr result (self.new ≡ self.old) }
+    {
+        let Some(thread) = self.threads.get_mut(number) else {
+            return Err(StepError::Misfit);
+        };
+        thread.acquire(key)?;
+        Ok(())
+    }
+
+    /// Records one less of this key for a running thread. Where the key is not recorded, it changes
+    /// nothing.
+    ///
+    /// It searches the thread's records from the last one, and allocates nothing. Upstream's
+    /// `deadlock::release_resource` does it for the thread that runs.
+    ///
+    /// # Errors
+    ///
+    /// `Misfit` exactly if the thread is not running. Nothing changed then.
+    pub fn release(&mut self, number: usize, key: usize) -> Result<(), Misfit>
+        ensures fits { IsOk result ↔ ((machine self.old).status number ≡ Status.Running) }
+        ensures ok { OnOk result (machine self.new
+            ≡ after_release (machine self.old) number key) }
+        ensures size { KeepsSize self.old self.new }
+        ensures err { OnErr result (self.new ≡ self.old) }
+    {
+        let Some(thread) = self.threads.get_mut(number) else {
+            return Err(Misfit);
+        };
+        thread.release(key)?;
+        Ok(())
+    }
+
+    /// How often the thread of this number has recorded the key. One that is free has recorded
+    /// nothing. It visits the thread's records.
+    pub fn records(&self, number: usize, key: usize) -> usize
+        ensures { result ≡ (machine self.now).records number key }
+    {
+        self.threads
+            .get(number)
+            .map_or(0, |thread| thread.records(key))
+    }
+
     /// The numbers of the threads that wait on the key, in order. It is one `Bucket::list`.
     ///
     /// # Errors
@@ -442,7 +501,8 @@ impl Lot {
 
     /// Does nothing. Its contract tells what the lot's type keeps: each thread that waits or is
     /// late stands in one list, once, and any other in none; each waiter is timed as its thread
-    /// waits; and a number that is not below the greatest number of threads is free.
+    /// waits; a number that is not below the greatest number of threads is free; and a free number
+    /// has no records.
     pub fn consistency(&self)
         ensures { IsConsistent (machine self.now) }
     {

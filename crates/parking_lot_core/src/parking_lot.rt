@@ -1,6 +1,6 @@
 //! The threaded lot, which threads share by reference: each parks itself, and any may unpark it.
 
-ghost use Rattle.std.specs.Prelude.{◌≡◌, ◌≢◌, ◌↔◌, ◌<◌, Bool, true, length, map, None, Err, IsTrue, IsErrOf, IfOk, IfErr, MatchBool, is_ok};
+ghost use Rattle.std.specs.Prelude.{◌≡◌, ◌≢◌, ◌↔◌, ◌<◌, Bool, true, [], length, map, None, Err, IsTrue, IsErrOf, IfOk, IfErr, MatchBool, is_ok};
 ghost use Rattle.std.specs.List.{range_with_len};
 ghost use Rattle.lot_base.specs.Node.{fields};
 ghost use Rattle.lot_base.specs.Requeue.{IsCallableAtEach};
@@ -10,6 +10,7 @@ ghost use Rattle.parking_lot_core.specs.Threaded.{IsCallableForOne, IsUnparkOfOn
 mod buckets;
 mod handles;
 
+use crate::records::Records;
 use crate::table::MAX_THREADS;
 use buckets::Buckets;
 use handles::{HANDLES, Handles, Room};
@@ -25,8 +26,9 @@ use std::sync::Wait;
 use std::sync::atomic::{AtomicUsize, Ordering};
 use std::time::{Clock, Instant};
 
-/// A registered thread: its number, and its node while it does not wait. It belongs to the lot that
-/// gave it. With another lot's data every call is safe, and nothing else is said.
+/// A registered thread: its number, its node while it does not wait, and the records of what it
+/// holds, which `deadlock` changes. It belongs to the lot that gave it. With another lot's data
+/// every call is safe, and nothing else is said.
 ///
 /// Data that is only dropped leaves its number registered; `ParkingLot::retire` frees it.
 ///
@@ -35,6 +37,7 @@ use std::time::{Clock, Instant};
 pub struct ThreadData {
     number: usize,
     node: Option<Box<Node>>,
+    pub(crate) records: Records,
 }
 
 impl Model for ThreadData {
@@ -44,7 +47,7 @@ impl Model for ThreadData {
 
     ghost Value = { ThreadDataState };
 
-    ghost view = { λ thread. record { number = thread.number } };
+    ghost view = { λ thread. record { number = thread.number; records = thread.records } };
 
     ghost invariant = { λ thread. IsSomeAnd thread.node
         (λ node. (fields node.value).number ≡ thread.number) };
@@ -133,7 +136,7 @@ impl<P: ThreadParkerT> ParkingLot<P> {
         thread_data.number < self.threads.len()
     }
 
-    /// Registers a thread under the least free number.
+    /// Registers a thread under the least free number. It has no records.
     ///
     /// It allocates the thread's node, then takes the lock of the numbers, and allocates what the
     /// table needs to grow. Growth waits for each section of the old buckets in turn. From then on
@@ -146,6 +149,7 @@ impl<P: ThreadParkerT> ParkingLot<P> {
     pub fn thread_data<R: Wait>(&self, rt: &R, alloc: Global) -> Result<ThreadData, LotError>
         ensures not_too_many { result ≢ Err LotError.TooManyThreads }
         ensures number { IfOk result (λ thread. thread.number < self.now.max_threads) }
+        ensures records { IfOk result (λ thread. thread.records ≡ []) }
     {
         let mut node = Node::new(alloc, 0)?;
         let number = self.buckets.register(rt, alloc, self.threads.len())?;
@@ -153,6 +157,7 @@ impl<P: ThreadParkerT> ParkingLot<P> {
         Ok(ThreadData {
             number,
             node: Some(node),
+            records: Records::new(alloc),
         })
     }
 

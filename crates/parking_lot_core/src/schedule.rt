@@ -13,7 +13,8 @@ ghost use Rattle.parking_lot_core.specs.Steps.{IsRegister, IsUnpark, IsStep, IsR
 
 use crate::lot::{Lot, Status};
 use lot_base::token::{
-    FilterOp, LotError, Misfit, NoMemory, ParkToken, RequeueOp, UnparkResult, UnparkToken,
+    FilterOp, LotError, Misfit, NoMemory, ParkToken, RequeueOp, StepError, UnparkResult,
+    UnparkToken,
 };
 
 /// An unpark, with what its closures answer.
@@ -104,6 +105,22 @@ pub enum Step {
         /// The number of the thread.
         thread: usize,
     },
+
+    /// `Lot::acquire`.
+    Acquire {
+        /// The number of the thread.
+        thread: usize,
+        /// The key that it records.
+        key: usize,
+    },
+
+    /// `Lot::release`.
+    Release {
+        /// The number of the thread.
+        thread: usize,
+        /// The key that it records once less.
+        key: usize,
+    },
 }
 
 /// What a step answers.
@@ -147,6 +164,12 @@ pub enum Answer {
     /// The thread was unparked with this token.
     Unparked(UnparkToken),
 
+    /// The thread has recorded the key once more.
+    Recorded,
+
+    /// The thread has recorded the key once less, if it had recorded it.
+    Released,
+
     /// The step does not fit the status of its thread.
     Misfit,
 }
@@ -174,6 +197,8 @@ impl Lot {
             Step::Deadline { thread } => apply_deadline(self, *thread),
             Step::Resolve { thread } => apply_resolve(self, *thread),
             Step::Return { thread } => apply_return(self, *thread),
+            Step::Acquire { thread, key } => apply_acquire(self, *thread, *key),
+            Step::Release { thread, key } => apply_release(self, *thread, *key),
         }
     }
 }
@@ -250,6 +275,27 @@ fn apply_return(lot: &mut Lot, thread: usize) -> Answer
     }
 }
 
+fn apply_acquire(lot: &mut Lot, thread: usize, key: usize) -> Answer
+    ensures step { IsStep (machine lot.old) (Step.Acquire thread key) result (machine lot.new) }
+    ensures size { KeepsSize lot.old lot.new }
+{
+    match lot.acquire(thread, key) {
+        Ok(()) => Answer::Recorded,
+        Err(StepError::NoMemory) => Answer::NoMemory,
+        Err(StepError::Misfit) => Answer::Misfit,
+    }
+}
+
+fn apply_release(lot: &mut Lot, thread: usize, key: usize) -> Answer
+    ensures step { IsStep (machine lot.old) (Step.Release thread key) result (machine lot.new) }
+    ensures size { KeepsSize lot.old lot.new }
+{
+    match lot.release(thread, key) {
+        Ok(()) => Answer::Released,
+        Err(Misfit) => Answer::Misfit,
+    }
+}
+
 fn apply_unpark(lot: &mut Lot, op: &Op) -> Answer
     ensures step { IsUnpark (machine lot.old) op.now result (machine lot.new) }
     ensures size { KeepsSize lot.old lot.new }
@@ -318,7 +364,7 @@ fn apply_filter(
 /// The answers are those of a run of the machine with one list of waiters for each key: from what
 /// the lot meant before, by these steps, to what it means after. `Lot::new` says what a new lot
 /// means. A step that does not fit, as every step of a number that is free, is answered by
-/// `Misfit`. A registration that finds no memory is answered by `NoMemory`.
+/// `Misfit`. A registration or a recording that finds no memory is answered by `NoMemory`.
 ///
 /// Each thread's parks and outcomes take turns in these answers, so no park has two outcomes; an
 /// outcome comes first only for a thread that was parked before. This follows from the run, by

@@ -68,7 +68,7 @@ module _ (m new : Machine) (thread : ℕ) where
       ⊎_elim (λ (w : (m.status thread ≡ Waiting true) × (new ≡ with_status m thread Late)).
       ap (λ (n : Machine). after_timeout n thread key) w.1
       ∙ same_machine (after_timeout (with_status m thread Late) thread key) (after_timeout m thread key)
-      (λ k. refl) (with_value-twice m.status thread Late Running) refl)
+      (λ k. refl) (with_value-twice m.status thread Late Running) (λ j. refl) refl)
       (λ (w : (m.status thread ≢ Waiting true) × (new ≡ m)). ap (λ (n : Machine). after_timeout n thread key) w.1)
       tried
 

@@ -75,7 +75,7 @@ module _ (m : Machine) (thread key : ℕ) (park_token : ParkToken) (consistent :
       (λ j. with_value-twice entered.status thread Late Running j
       ∙ with_value-twice m.status thread (Waiting true) Running j
       ∙ with_value-same_value m.status thread Running (sym running) j)
-      refl
+      (λ j. refl) refl
 
   at_key : (k : ℕ) → StandsAt late thread k → k ≡ key
   at_key k stands =

@@ -1,4 +1,5 @@
 use super::*;
+use crate::laws::acquire_and_release;
 use lot_base::token::DEFAULT_PARK_TOKEN;
 use std::process::Abort;
 use std::test::Fail;
@@ -453,4 +454,75 @@ fn a_refused_registration_leaves_the_list_of_each_key(rt: HostRuntime) -> Result
     assert_eq!(rt; (lot.registered(), lot.size()), (6, 32));
     expect_list(&rt, &lot, 1, &[0])?;
     Ok(())
+}
+
+// It refuses an `acquire` that answers `NoMemory` at each call.
+#[test]
+fn a_thread_has_records_of_what_it_holds(rt: HostRuntime) -> Result<(), Fail> {
+    let mut lot = lot_with(rt.alloc(), 1)?;
+    for key in [5, 5, 7] {
+        assert_eq!(rt; lot.acquire(0, key), Ok(()));
+    }
+    for key in [5, 9] {
+        assert_eq!(rt; lot.release(0, key), Ok(()));
+    }
+    let entered = lot.enter(0, 1, || false, DEFAULT_PARK_TOKEN, false);
+    assert_eq!(rt; entered, Ok(false));
+    enter(&rt, &mut lot, 0, 1);
+    assert_eq!(rt; lot.acquire(0, 5), Err(StepError::Misfit));
+    assert_eq!(rt; lot.release(0, 5), Err(Misfit));
+    let again = lot.enter(0, 1, || false, DEFAULT_PARK_TOKEN, false);
+    assert_eq!(rt; again, Err(Misfit));
+    for (key, times) in [(5, 1), (7, 1), (9, 0)] {
+        assert_eq!(rt; lot.records(0, key), times, "key {key}");
+    }
+    assert_eq!(rt; lot.records(6, 5), 0);
+    Ok(())
+}
+
+// It refuses an `acquire_and_release` that answers `NoMemory` at each call.
+#[test]
+fn a_record_that_is_released_again_leaves_the_others(rt: HostRuntime) -> Result<(), Fail> {
+    let mut lot = lot_with(rt.alloc(), 1)?;
+    assert_eq!(rt; lot.acquire(0, 5), Ok(()));
+    assert_eq!(rt; acquire_and_release(&mut lot, 0, 5), Ok(()));
+    assert_eq!(rt; lot.records(0, 5), 1);
+    assert_eq!(rt; acquire_and_release(&mut lot, 1, 5), Err(StepError::Misfit));
+    Ok(())
+}
+
+// It refuses a `retire` that leaves its records to the next thread of the number.
+#[test]
+fn records_go_when_the_thread_retires(rt: HostRuntime) -> Result<(), Fail> {
+    let mut lot = lot_with(rt.alloc(), 2)?;
+    for number in 0..2 {
+        assert_eq!(rt; lot.acquire(number, 5), Ok(()));
+    }
+    assert_eq!(rt; lot.retire(0), Ok(()));
+    assert_eq!(rt; (lot.records(0, 5), lot.records(1, 5)), (0, 1));
+    assert_eq!(rt; lot.register(), Ok(0));
+    assert_eq!(rt; (lot.records(0, 5), lot.records(1, 5)), (0, 1));
+    Ok(())
+}
+
+// It ends well whichever one of its requests for memory is refused, as `rt try --test --fail-alloc
+// N` refuses the Nth: a recording that is refused leaves the records, and a release asks for none.
+#[test]
+fn a_refused_recording_changes_no_records(rt: HostRuntime) {
+    let Ok(mut lot) = lot_with(rt.alloc(), 1) else {
+        return;
+    };
+    let mut times: usize = 0;
+    for _ in 0..20 {
+        match lot.acquire(0, 5) {
+            Ok(()) => times = times.wrapping_add(1),
+            Err(refused) => assert_eq!(rt; refused, StepError::NoMemory),
+        }
+        assert_eq!(rt; lot.records(0, 5), times);
+    }
+    assert!(rt; times >= 19);
+    for left in (0..times).rev() {
+        assert_eq!(rt; lot.release(0, 5), Ok(()));
+        assert_eq!(rt; lot.records(0, 5), left);
+    }
 }

@@ -1,16 +1,18 @@
 //! What an exclusive lot keeps for each thread number, and where the thread's node is.
 
-ghost use Rattle.std.specs.Prelude.{◌≡◌, ◌↔◌, true, IsTrue, IsOk, IfOk, OnOk, OnErr, map, slice_set};
+ghost use Rattle.std.specs.Prelude.{◌≡◌, ◌≢◌, ◌↔◌, true, [], Err, IsTrue, IsOk, IfOk, OnOk, OnErr, map, slice_set};
 ghost use Rattle.std.specs.List.{range_with_len};
 ghost use Rattle.lot_base.specs.Node.{fields};
 ghost use Rattle.parking_lot_core.specs.Lot.{statuses, thread_at, free_thread};
+ghost use Rattle.parking_lot_core.specs.Records.{times_recorded, one_more, one_less};
 ghost use Rattle.parking_lot_core.specs.Status.{is_queued, is_taken};
 ghost use Rattle.parking_lot_core.specs.Private.Committed.{threads_with_key, committed, CanCommit};
 
 use super::Status;
+use crate::records::Records;
 use lot_base::queue::{Node, Queue};
 use lot_base::thread_parker::Slot;
-use lot_base::token::{Misfit, NoMemory, UnparkToken};
+use lot_base::token::{Misfit, NoMemory, StepError, UnparkToken};
 use std::alloc::Global;
 use std::marker::Model;
 use std::mem;
@@ -27,12 +29,13 @@ enum State {
 
 // What the lot keeps for a thread number. The node of a registered thread is in its state while it
 // runs, in a bucket while it waits, and in its slot from the unpark on. The key is the one that the
-// thread waits on, or waited on last.
+// thread waits on, or waited on last. The records are of what the thread holds.
 #[derive(Drop)]
 pub(super) struct Thread {
     key: usize,
     state: State,
     slot: Slot,
+    records: Records,
 }
 
 impl Model for Thread {
@@ -46,19 +49,21 @@ impl Model for Thread {
       number = thread.slot.owner;
       key = thread.key;
       status = status_of thread.state;
+      records = thread.records;
     } };
 
     ghost invariant = { λ thread. HasItsNode thread.state thread.slot };
 }
 
 impl Thread {
-    fn new(number: usize) -> Thread
-        ensures { result ≡ record { number = number; key = 0; status = Status.Free } }
+    fn new(alloc: Global, number: usize) -> Thread
+        ensures { result ≡ free_thread number }
     {
         Thread {
             key: 0,
             state: State::Free,
             slot: Slot::new(number),
+            records: Records::new(alloc),
         }
     }
 
@@ -95,14 +100,18 @@ impl Thread {
         self.state = State::Running(node);
     }
 
-    // Drops the node of a running thread.
+    // Drops the node and the records of a running thread.
     pub(super) fn retire(&mut self) -> Result<(), Misfit>
         ensures fits { IsOk result ↔ (self.old.status ≡ Status.Running) }
-        ensures ok { OnOk result (self.new ≡ record self.old { status = Status.Free }) }
+        ensures ok { OnOk result (self.new
+            ≡ record self.old { status = Status.Free; records = [] }) }
         ensures err { OnErr result (self.new ≡ self.old) }
     {
         match mem::replace(&mut self.state, State::Free) {
-            State::Running(_) => Ok(()),
+            State::Running(_) => {
+                self.records.clear();
+                Ok(())
+            }
             state => {
                 self.state = state;
                 Err(Misfit)
@@ -164,6 +173,45 @@ impl Thread {
         Ok(())
     }
 
+    // How often the key is recorded.
+    pub(super) fn records(&self, key: usize) -> usize
+        ensures { result ≡ times_recorded self.now.records key }
+    {
+        self.records.times(key)
+    }
+
+    // Records the key once more for a running thread.
+    pub(super) fn acquire(&mut self, key: usize) -> Result<(), StepError>
+        ensures fits { result ≢ Err StepError.Misfit ↔ (self.old.status ≡ Status.Running) }
+        ensures kept { self.new ≡ record self.old { records = self.new.records } }
+        ensures ok { OnOk result (times_recorded self.new.records
+            ≡ one_more (times_recorded self.old.records) key) }
+        ensures err { OnErr result (self.new ≡ self.old) }
+    {
+        let State::Running(_) = &self.state else {
+            return Err(StepError::Misfit);
+        };
+        match self.records.acquire(key) {
+            Ok(()) => Ok(()),
+            Err(NoMemory) => Err(StepError::NoMemory),
+        }
+    }
+
+    // Records the key once less for a running thread, if it was recorded.
+    pub(super) fn release(&mut self, key: usize) -> Result<(), Misfit>
+        ensures fits { IsOk result ↔ (self.old.status ≡ Status.Running) }
+        ensures kept { self.new ≡ record self.old { records = self.new.records } }
+        ensures ok { OnOk result (times_recorded self.new.records
+            ≡ one_less (times_recorded self.old.records) key) }
+        ensures err { OnErr result (self.new ≡ self.old) }
+    {
+        let State::Running(_) = &self.state else {
+            return Err(Misfit);
+        };
+        self.records.release(key);
+        Ok(())
+    }
+
     pub(super) fn give_back(&mut self) -> Result<UnparkToken, Misfit>
         ensures fits { IsOk result ↔ IsTrue (is_taken self.old.status) }
         ensures ok { IfOk result (λ token. (self.old.status ≡ Status.Taken token)
@@ -186,7 +234,7 @@ pub(super) fn free_threads(alloc: Global, max_threads: usize) -> Result<Vec<Thre
 {
     let mut threads = Vec::with_capacity(alloc, max_threads)?;
     for number in 0..max_threads {
-        threads.push(Thread::new(number))?;
+        threads.push(Thread::new(alloc, number))?;
     }
     Ok(threads)
 }
@@ -202,8 +250,10 @@ pub(super) fn start_waiting(
     ensures fits { IsOk result ↔ (statuses threads.old.items number ≡ Status.Running) }
     ensures node { IfOk result (λ node. (fields node.value).number ≡ number) }
     ensures ok { OnOk result (threads.new.items
-        ≡ slice_set threads.old.items number
-        (record { number = number; key = key; status = Status.Waiting timed })) }
+        ≡ slice_set threads.old.items number (record (thread_at threads.old.items number) {
+          key = key;
+          status = Status.Waiting timed;
+        })) }
     ensures err { OnErr result (threads.new.items ≡ threads.old.items) }
 {
     let Some(thread) = threads.get_mut(number) else {

@@ -10,7 +10,7 @@ use super::*;
 use std::alloc::Global;
 use std::process::Abort;
 use std::test::Fail;
-use steps::{all, enter, enter_invalid, filter, one, requeue, unparked};
+use steps::{acquire, all, enter, enter_invalid, filter, one, release, requeue, unparked};
 
 const A: usize = 0;
 
@@ -316,11 +316,46 @@ fn no_step_fits_a_free_number(rt: HostRuntime) -> Result<(), Fail> {
             Step::Deadline { thread },
             Step::Resolve { thread },
             Step::Return { thread },
+            acquire(thread, 1),
+            release(thread, 1),
         ];
-        expect(&rt, rt.alloc(), &mut lot, &steps, &[Answer::Misfit; 6])?;
+        expect(&rt, rt.alloc(), &mut lot, &steps, &[Answer::Misfit; 8])?;
         assert_eq!(rt; lot.status(thread), Status::Free);
     }
     expect_lists(&rt, &lot, &[], &[])?;
+    Ok(())
+}
+
+// It refuses an `apply` that answers `NoMemory` to each acquire.
+#[test]
+fn records_are_counted_while_the_thread_runs(rt: HostRuntime) -> Result<(), Fail> {
+    let mut lot = lot_of(rt.alloc(), &[])?;
+    let steps = [
+        acquire(A, 5),
+        acquire(A, 5),
+        acquire(A, 7),
+        release(A, 5),
+        release(A, 9),
+        enter_invalid(A, 1),
+        enter(A, 1, false),
+        acquire(A, 5),
+        enter(A, 1, false),
+    ];
+    let answers = [
+        Answer::Recorded,
+        Answer::Recorded,
+        Answer::Recorded,
+        Answer::Released,
+        Answer::Released,
+        Answer::Invalid,
+        Answer::Entered,
+        Answer::Misfit,
+        Answer::Misfit,
+    ];
+    expect(&rt, rt.alloc(), &mut lot, &steps, &answers)?;
+    for (key, times) in [(5, 1), (7, 1), (9, 0)] {
+        assert_eq!(rt; lot.records(A, key), times, "key {key}");
+    }
     Ok(())
 }
 
@@ -342,22 +377,32 @@ fn answers_stand_behind_those_that_are_there(rt: HostRuntime) -> Result<(), Fail
 
 // It ends well whichever one of its requests for memory is refused, as the command
 // `rt try --test --fail-alloc N` refuses the Nth: a run that has no room for its answers leaves all
-// as it was, and a registration that is refused is answered so.
+// as it was, and a registration or a recording that is refused is answered so.
 #[test]
 fn a_run_without_room_for_its_answers_changes_nothing(rt: HostRuntime) {
     let Ok(mut lot) = Lot::new(rt.alloc(), 2) else {
         return;
     };
-    let steps = [Step::Register, enter(A, 7, false)];
+    let steps = [Step::Register, acquire(A, 5), enter(A, 7, false)];
     let mut answers = Vec::new(rt.alloc());
     if run(&mut lot, &steps, &mut answers).is_err() {
         assert_eq!(rt; (answers.len(), lot.registered()), (0, 0));
         assert!(rt; run(&mut lot, &steps, &mut answers).is_ok());
         assert_eq!(rt; lot.status(A), WAITS);
     }
-    let (expected, status) = match lot.registered() {
-        0 => ([Answer::NoMemory, Answer::Misfit], Status::Free),
-        _ => ([Answer::Registered(0), Answer::Entered], WAITS),
+    let (expected, status) = match (lot.registered(), lot.records(A, 5)) {
+        (0, _) => (
+            [Answer::NoMemory, Answer::Misfit, Answer::Misfit],
+            Status::Free,
+        ),
+        (_, 0) => (
+            [Answer::Registered(0), Answer::NoMemory, Answer::Entered],
+            WAITS,
+        ),
+        _ => (
+            [Answer::Registered(0), Answer::Recorded, Answer::Entered],
+            WAITS,
+        ),
     };
     assert_eq!(rt; answers.as_slice(), expected.as_slice());
     assert_eq!(rt; lot.status(A), status);

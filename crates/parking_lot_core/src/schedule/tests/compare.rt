@@ -2,7 +2,9 @@
 
 use crate::lot::Lot;
 use crate::schedule::tests::plain::Plain;
-use crate::schedule::tests::steps::{all, enter, enter_invalid, filter, one, requeue};
+use crate::schedule::tests::steps::{
+    acquire, all, enter, enter_invalid, filter, one, release, requeue,
+};
 use crate::schedule::{Answer, Step, run};
 use lot_base::token::{FilterOp, LotError, NoMemory, RequeueOp};
 use std::alloc::Global;
@@ -13,7 +15,7 @@ use std::test::Fail;
 const LONGEST: usize = 4;
 
 // The steps that the short lists are made of. The keys 0 and 13 have place 0 of 16.
-const KINDS: usize = 27;
+const KINDS: usize = 29;
 
 fn alphabet(alloc: Global) -> Result<Vec<Step>, NoMemory> {
     let mut steps = Vec::new(alloc);
@@ -42,6 +44,8 @@ fn alphabet(alloc: Global) -> Result<Vec<Step>, NoMemory> {
     steps.push(one(13, 108))?;
     steps.push(all(13, 109))?;
     steps.push(enter_invalid(0, 0))?;
+    steps.push(acquire(1, 13))?;
+    steps.push(release(1, 13))?;
     steps.push(Step::Retire { thread: 1 })?;
     steps.push(Step::Register)?;
     Ok(steps)
@@ -69,7 +73,8 @@ impl Pair {
         Ok(())
     }
 
-    // Compares the statuses of the numbers below the bound, and the lists of the keys.
+    // Compares the statuses of the numbers below the bound, their records of the keys, and the
+    // lists of the keys.
     fn compare(&self, rt: &impl Abort, bound: usize, keys: &[usize]) -> Result<(), NoMemory> {
         for number in 0..bound {
             assert_eq!(rt;
@@ -77,6 +82,13 @@ impl Pair {
                 self.plain.status(number),
                 "{number}"
             );
+            for key in keys {
+                assert_eq!(rt;
+                    self.lot.records(number, *key),
+                    self.plain.records(number, *key),
+                    "{number} of {key}"
+                );
+            }
         }
         for key in keys {
             let found = self.lot.list(*key)?;
@@ -109,7 +121,7 @@ fn check_list(
     Ok(())
 }
 
-// There are 1 + 27 + 729 + 19_683 + 531_441 = 551_881 lists of up to four steps of 27 kinds.
+// There are 1 + 29 + 841 + 24_389 + 707_281 = 732_541 lists of up to four steps of 29 kinds.
 #[test]
 fn short_lists_of_steps_are_those_of_the_plain_machine(rt: HostRuntime) -> Result<(), Fail> {
     let steps = alphabet(rt.alloc())?;
@@ -123,7 +135,7 @@ fn short_lists_of_steps_are_those_of_the_plain_machine(rt: HostRuntime) -> Resul
         }
         count = count.wrapping_mul(KINDS);
     }
-    assert_eq!(rt; lists, 551_881);
+    assert_eq!(rt; lists, 732_541);
     Ok(())
 }
 
@@ -172,21 +184,23 @@ impl Arbitrary {
         filter(alloc, self.key(), decisions.as_slice(), self.below(1_000))
     }
 
-    // A step of one of 40 threads. Two of 64 are registrations, and one is a retirement.
+    // A step of one of 40 threads. Three of 80 are registrations, and one is a retirement.
     fn step(&mut self, alloc: Global) -> Result<Step, NoMemory> {
         let thread = self.below(40);
-        Ok(match self.below(64) {
-            0..=1 => Step::Register,
-            2 => Step::Retire { thread },
-            3 => enter_invalid(thread, self.key()),
-            4..=12 => enter(thread, self.key(), false),
+        Ok(match self.below(80) {
+            0..=2 => Step::Register,
+            3 => Step::Retire { thread },
+            4 => enter_invalid(thread, self.key()),
+            5..=12 => enter(thread, self.key(), false),
             13..=23 => enter(thread, self.key(), true),
             24..=27 => one(self.key(), self.below(1_000)),
             28 => all(self.key(), self.below(1_000)),
             29..=31 => self.filter(alloc)?,
             32..=39 => requeue((self.key(), self.key()), self.op(), self.below(1_000)),
-            40..=47 => Step::Deadline { thread },
-            48..=55 => Step::Resolve { thread },
+            40..=49 => Step::Deadline { thread },
+            50..=59 => Step::Resolve { thread },
+            60..=66 => acquire(thread, self.key()),
+            67..=72 => release(thread, self.key()),
             _ => Step::Return { thread },
         })
     }
@@ -200,8 +214,8 @@ impl Arbitrary {
     }
 }
 
-// Notes that an answer of this kind was given. There are eleven kinds beside a refusal of memory.
-fn note(seen: &mut [bool; 12], answer: Answer) {
+// Notes that an answer of this kind was given. There are thirteen kinds beside a refusal of memory.
+fn note(seen: &mut [bool; 14], answer: Answer) {
     let kind = match answer {
         Answer::Registered(_) => 0,
         Answer::Full => 1,
@@ -214,7 +228,9 @@ fn note(seen: &mut [bool; 12], answer: Answer) {
         Answer::TimedOut { .. } => 8,
         Answer::Unparked(_) => 9,
         Answer::Misfit => 10,
-        Answer::NoMemory => 11,
+        Answer::Recorded => 11,
+        Answer::Released => 12,
+        Answer::NoMemory => 13,
     };
     seen[kind] = true;
 }
@@ -225,7 +241,7 @@ fn check_run(
     alloc: Global,
     pair: &mut Pair,
     steps: &[Step],
-    seen: &mut [bool; 12],
+    seen: &mut [bool; 14],
 ) -> Result<(), NoMemory> {
     let mut answers = Vec::new(alloc);
     run(&mut pair.lot, steps, &mut answers)?;
@@ -241,12 +257,12 @@ fn check_run(
 // 21 are registered, and every kind of answer comes up but that of no memory.
 #[test]
 fn long_lists_of_steps_are_those_of_the_plain_machine(rt: HostRuntime) -> Result<(), Fail> {
-    let mut expected = [true; 12];
-    expected[11] = false;
+    let mut expected = [true; 14];
+    expected[13] = false;
     for seed in [1, 2, 3, 4, 5] {
         let mut arbitrary = Arbitrary { state: seed };
         let mut pair = Pair::new(rt.alloc(), 40)?;
-        let mut seen = [false; 12];
+        let mut seen = [false; 14];
         for _ in 0..60 {
             let steps = arbitrary.steps(rt.alloc(), 50)?;
             check_run(&rt, rt.alloc(), &mut pair, steps.as_slice(), &mut seen)?;

@@ -1,5 +1,6 @@
 //! The machine of docs/MODEL.md, as slow and plain as it is told there: a list of thread numbers
-//! for each key, a status for each number, and the greatest number of threads.
+//! for each key, a status for each number, what the threads have recorded, and the greatest number
+//! of threads.
 //!
 //! It knows no bucket, no node and no place, and no lot.
 
@@ -14,6 +15,13 @@ use std::alloc::Global;
 struct List {
     key: usize,
     waiters: Vec<usize>,
+}
+
+// A thread has recorded a key.
+#[derive(Copy, Clone, Eq, PartialEq)]
+struct Record {
+    thread: usize,
+    key: usize,
 }
 
 // The numbers without this one.
@@ -33,6 +41,7 @@ pub struct Plain {
     alloc: Global,
     lists: Vec<List>,
     statuses: Vec<Status>,
+    records: Vec<Record>,
 }
 
 impl Plain {
@@ -46,6 +55,7 @@ impl Plain {
             alloc,
             lists: Vec::new(alloc),
             statuses,
+            records: Vec::new(alloc),
         })
     }
 
@@ -64,11 +74,22 @@ impl Plain {
         self.statuses.get(number).copied().unwrap_or(Status::Free)
     }
 
+    /// How often the thread of this number has recorded the key.
+    pub fn records(&self, thread: usize, key: usize) -> usize {
+        let mut times: usize = 0;
+        for record in &self.records {
+            if *record == (Record { thread, key }) {
+                times = times.wrapping_add(1);
+            }
+        }
+        times
+    }
+
     /// Does the step by its rule.
     pub fn step(&mut self, step: &Step) -> Result<Answer, NoMemory> {
         match step {
             Step::Register => Ok(self.register()),
-            Step::Retire { thread } => Ok(self.retire(*thread)),
+            Step::Retire { thread } => self.retire(*thread),
             Step::Enter {
                 thread,
                 key,
@@ -80,6 +101,8 @@ impl Plain {
             Step::Deadline { thread } => Ok(self.deadline(*thread)),
             Step::Resolve { thread } => self.resolve(*thread),
             Step::Return { thread } => Ok(self.give_back(*thread)),
+            Step::Acquire { thread, key } => self.acquire(*thread, *key),
+            Step::Release { thread, key } => Ok(self.release(*thread, *key)),
         }
     }
 
@@ -122,12 +145,39 @@ impl Plain {
         Answer::Full
     }
 
-    fn retire(&mut self, number: usize) -> Answer {
+    fn retire(&mut self, number: usize) -> Result<Answer, NoMemory> {
         if self.status(number) != Status::Running {
-            return Answer::Misfit;
+            return Ok(Answer::Misfit);
         }
         self.set_status(number, Status::Free);
-        Answer::Retired
+        let mut others = Vec::new(self.alloc);
+        for record in &self.records {
+            if record.thread != number {
+                others.push(*record)?;
+            }
+        }
+        self.records = others;
+        Ok(Answer::Retired)
+    }
+
+    fn acquire(&mut self, thread: usize, key: usize) -> Result<Answer, NoMemory> {
+        if self.status(thread) != Status::Running {
+            return Ok(Answer::Misfit);
+        }
+        self.records.push(Record { thread, key })?;
+        Ok(Answer::Recorded)
+    }
+
+    // Only the first record of the thread and the key goes.
+    fn release(&mut self, thread: usize, key: usize) -> Answer {
+        if self.status(thread) != Status::Running {
+            return Answer::Misfit;
+        }
+        let released = Record { thread, key };
+        if let Some(index) = self.records.iter().position(|record| *record == released) {
+            self.records.remove(index);
+        }
+        Answer::Released
     }
 
     fn enter(

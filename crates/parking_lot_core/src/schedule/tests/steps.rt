@@ -15,6 +15,14 @@ pub fn unparked(taken: usize, moved: usize, more: bool) -> Answer {
     })
 }
 
+pub fn acquire(thread: usize, key: usize) -> Step {
+    Step::Acquire { thread, key }
+}
+
+pub fn release(thread: usize, key: usize) -> Step {
+    Step::Release { thread, key }
+}
+
 /// An entry whose validation answers true.
 pub fn enter(thread: usize, key: usize, timed: bool) -> Step {
     Step::Enter {

@@ -20,7 +20,7 @@ step : (c : In_ok-deadline)
 step c =
     IsLotStep-status (lot_of c.self.inside) c.args.number c.in-Some.thread.now c.deadline.new.self Late
     c.self.invariant.0 c.in-Some.ensures.item.3.0 (c.in-Some.ensures.item.3.1 _) c.in_ok-deadline.ensures.ok
-    (ap is_queued (waited c)) (ap is_timed (waited c))
+    (ap is_queued (waited c)) (ap is_timed (waited c)) (λ same. cc)
 
 pub invariant_of-self-2 : goal.invariant_of-self-2
 invariant_of-self-2 c = (

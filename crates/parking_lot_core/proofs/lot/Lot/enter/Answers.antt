@@ -3,7 +3,7 @@ use Rattle.std.proofs.lemmas.List.{get_or-set_same}
 use Rattle.lot_base.specs.Node.{fields}
 use Rattle.lot_base.specs.NodeFields.{NodeFields}
 use Rattle.parking_lot_core.specs.Represents.{with_node}
-use Rattle.parking_lot_core.specs.Lot.{machine, use_of}
+use Rattle.parking_lot_core.specs.Lot.{machine, thread_at, use_of}
 use Rattle.parking_lot_core.specs.LotState.{ThreadState}
 use Rattle.parking_lot_core.specs.Machine.{after_enter}
 use Rattle.parking_lot_core.specs.declared.lot.Status.TheVariants.{Running, Waiting}
@@ -47,7 +47,10 @@ step g c =
     (record {
       buckets = with_node (lot_of c.self.inside).buckets node;
       threads = slice_set c.self.inside.threads.items c.args.number
-          (record { number = c.args.number; key = c.args.key; status = Waiting c.args.timed });
+          (record (thread_at c.self.inside.threads.items c.args.number) {
+            key = c.args.key;
+            status = Waiting c.args.timed;
+          });
     })
     (after_enter (machine (lot_of c.self.inside)) c.args.number c.args.key c.args.park_token c.args.timed))
     (sym (prepared g c))
@@ -69,10 +72,14 @@ returns-in-Ok-clause-entered g c = rw (← c.self.view_is) (step g c).means
 
 -- the thread as it stops waiting
 stopped : (g : given.Over) (c : After-stop_waiting g)
-    → c.stop_waiting.new.self ≡ record { number = c.args.number; key = c.args.key; status = Running }
+    → c.stop_waiting.new.self
+    ≡ record (thread_at c.self.inside.threads.items c.args.number) { key = c.args.key; status = Running }
 stopped g c =
     let threads = c.self.inside.threads.items in
-    let waiting : ThreadState = record { number = c.args.number; key = c.args.key; status = Waiting c.args.timed } in
+    let waiting : ThreadState = record (thread_at threads c.args.number) {
+      key = c.args.key;
+      status = Waiting c.args.timed;
+    } in
     let running = c.in_ok-node.ensures.fits.0 refl in
     c.stop_waiting.ensures
     ∙ ap (λ (thread : ThreadState). record thread { status = Running })
@@ -85,7 +92,7 @@ stopped g c =
 threads_after : (g : given.Over) (c : After-stop_waiting g)
     → slice_set c.start_waiting.new.threads.items c.args.number c.stop_waiting.new.self
     ≡ slice_set c.self.inside.threads.items c.args.number
-    (record { number = c.args.number; key = c.args.key; status = Running })
+    (record (thread_at c.self.inside.threads.items c.args.number) { key = c.args.key; status = Running })
 threads_after g c =
     ap (λ items. slice_set items c.args.number c.stop_waiting.new.self) c.in_ok-node.ensures.ok
     ∙ set-set c.self.inside.threads.items c.args.number _ c.stop_waiting.new.self
@@ -101,8 +108,8 @@ stayed : (g : given.Over) (c : After-stop_waiting g)
 stayed g c =
     rw (c.in-Err.ensures.refused, threads_after g c)
     (IsLotStep-stayed (lot_of c.self.inside) c.args.number
-    (record { number = c.args.number; key = c.args.key; status = Running }) c.self.invariant.0 refl
-    (c.in_ok-node.ensures.fits.0 refl) refl)
+    (record (thread_at c.self.inside.threads.items c.args.number) { key = c.args.key; status = Running })
+    c.self.invariant.0 (c.self.invariant.0.numbers c.args.number) (c.in_ok-node.ensures.fits.0 refl) refl refl)
 
 pub invariant_of-self-in-Err : goal.invariant_of-self-in-Err
 invariant_of-self-in-Err g c =

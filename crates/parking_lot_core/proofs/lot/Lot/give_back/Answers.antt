@@ -20,7 +20,7 @@ step : (c : In_ok-token)
 step c =
     IsLotStep-status (lot_of c.self.inside) c.args.number c.in-Some.thread.now c.give_back.new.self Running
     c.self.invariant.0 c.in-Some.ensures.item.3.0 (c.in-Some.ensures.item.3.1 _) c.in_ok-token.ensures.ok.1
-    (ap is_queued (was_taken c)) (ap is_timed (was_taken c))
+    (ap is_queued (was_taken c)) (ap is_timed (was_taken c)) (λ same. cc)
 
 pub invariant_of-self-2 : goal.invariant_of-self-2
 invariant_of-self-2 c = (

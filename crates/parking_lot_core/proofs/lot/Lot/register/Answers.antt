@@ -86,7 +86,7 @@ step c =
     (IsLotStep-registered (lot_of c.self.inside) c.register.new.self.cells number
     (record (thread_at c.self.inside.threads.items number) { status = Running })
     c.in_ok-number.ensures.lists
-    c.self.invariant.0 (least c).below (c.self.invariant.0.numbers number) (least c).free refl)
+    c.self.invariant.0 (least c).below (c.self.invariant.0.numbers number) (least c).free refl refl)
 
 numbers : (c : After-self-1) → c.register.new.self.numbers
     ≡ uses (slice_set c.self.inside.threads.items c.in_ok-number.number c.register-2.new.self)

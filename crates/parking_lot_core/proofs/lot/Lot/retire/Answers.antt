@@ -1,12 +1,11 @@
 use Rattle.std.proofs.Common.{◌≡◌, ◌∙◌, sym, ap, refl, slice_set}
-use Rattle.parking_lot_core.specs.declared.lot.Status.TheVariants.{Running, Free}
+use Rattle.parking_lot_core.specs.declared.lot.Status.TheVariants.{Running}
 use Rattle.parking_lot_core.specs.declared.table.Use.TheVariants as use_is
-use Rattle.parking_lot_core.specs.Status.{is_queued, is_timed}
-use Rattle.parking_lot_core.specs.Machine.{with_status}
+use Rattle.parking_lot_core.specs.Machine.{after_retire}
 use Rattle.parking_lot_core.specs.LotState.{ThreadState}
 use Rattle.parking_lot_core.specs.Lot.{machine, use_of, uses}
 use Rattle.parking_lot_core.proofs.CommitLemmas.{uses-set}
-use Rattle.parking_lot_core.proofs.LotLemmas.{lot_of, IsLotStep, IsLotStep-status}
+use Rattle.parking_lot_core.proofs.LotLemmas.{lot_of, IsLotStep, IsLotStep-after_retire}
 use Rattle.parking_lot_core.proofs.lot.Lot.retire.Goals as goal
 use Rattle.parking_lot_core.proofs.lot.Lot.retire.Goals.{After-release}
 
@@ -19,12 +18,11 @@ step : (c : After-release)
     (record {
       buckets = c.release.new.self.cells;
       threads = slice_set c.self.inside.threads.items c.args.number c.retire.new.self;
-    }) (with_status (machine (lot_of c.self.inside)) c.args.number Free)
+    }) (after_retire (machine (lot_of c.self.inside)) c.args.number)
 step c =
     rw c.release.ensures.cells
-    (IsLotStep-status (lot_of c.self.inside) c.args.number c.in-Some.thread.now c.retire.new.self Free
-    c.self.invariant.0 c.in-Some.ensures.item.3.0 (c.in-Some.ensures.item.3.1 _) c.in_ok-retire.ensures.ok
-    (ap is_queued (ran c)) (ap is_timed (ran c)))
+    (IsLotStep-after_retire (lot_of c.self.inside) c.args.number c.in-Some.thread.now c.retire.new.self
+    c.self.invariant.0 c.in-Some.ensures.item.3.0 (c.in-Some.ensures.item.3.1 _) c.in_ok-retire.ensures.ok (ran c))
 
 pub invariant_of-self-2 : goal.invariant_of-self-2
 invariant_of-self-2 c = (

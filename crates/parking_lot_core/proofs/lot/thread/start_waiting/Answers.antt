@@ -1,5 +1,6 @@
 use Rattle.std.proofs.Common.{◌≡◌, ◌∙◌, ap, slice_set}
 use Rattle.parking_lot_core.specs.declared.lot.Status.TheVariants.{Waiting}
+use Rattle.parking_lot_core.specs.LotState.{ThreadState}
 use Rattle.parking_lot_core.proofs.lot.thread.start_waiting.Goals as goal
 use Rattle.parking_lot_core.proofs.lot.thread.start_waiting.Goals.{In_ok-node}
 
@@ -13,4 +14,5 @@ pub returns-clause-ok : goal.returns-clause-ok
 returns-clause-ok c =
     ap (λ thread. slice_set c.args.threads.now.items c.args.number thread)
     (c.in_ok-node.ensures.ok.1
-    ∙ ap (λ number. record { number = number; key = c.args.key; status = Waiting c.args.timed }) (number_of_thread c))
+    ∙ ap (λ (thread : ThreadState). record thread { key = c.args.key; status = Waiting c.args.timed })
+    (c.in-Some.ensures.item.3.1 _))

@@ -1,0 +1,54 @@
+use super::*;
+use crate::{ParkingLot, ThreadParker};
+use std::process::Abort;
+use std::test::Fail;
+
+type Lot = ParkingLot<ThreadParker>;
+
+fn expect(rt: &impl Abort, data: &ThreadData, times: [(usize, usize); 3]) {
+    for (key, expected) in times {
+        assert_eq!(rt; data.records(key), expected, "key {key}");
+    }
+}
+
+// It refuses an `acquire_resource` that answers `NoMemory` at each call, and a `release_resource`
+// that forgets a key that was not released.
+#[test]
+fn a_thread_records_each_key_as_often_as_it_holds_it(rt: HostRuntime) -> Result<(), Fail> {
+    let lot = Lot::new(rt.alloc(), 1)?;
+    let mut data = lot.thread_data(&rt, rt.alloc())?;
+    expect(&rt, &data, [(5, 0), (7, 0), (9, 0)]);
+    for key in [5, 5, 7] {
+        assert_eq!(rt; acquire_resource(&mut data, key), Ok(()));
+    }
+    expect(&rt, &data, [(5, 2), (7, 1), (9, 0)]);
+    release_resource(&mut data, 5);
+    release_resource(&mut data, 9);
+    expect(&rt, &data, [(5, 1), (7, 1), (9, 0)]);
+    assert_eq!(rt; data.number(), 0);
+    Ok(())
+}
+
+// It ends well whichever one of its requests for memory is refused, as `rt try --test --fail-alloc
+// N` refuses the Nth. It refuses an `acquire_resource` that answers `Ok` where it recorded nothing.
+#[test]
+fn a_recording_that_is_refused_leaves_the_records(rt: HostRuntime) {
+    let Ok(lot) = Lot::new(rt.alloc(), 1) else {
+        return;
+    };
+    let Ok(mut data) = lot.thread_data(&rt, rt.alloc()) else {
+        return;
+    };
+    let refused = acquire_resource(&mut data, 5).is_err();
+    expect(
+        &rt,
+        &data,
+        [(5, if refused { 0 } else { 1 }), (7, 0), (9, 0)],
+    );
+    if refused {
+        assert_eq!(rt; acquire_resource(&mut data, 5), Ok(()));
+    }
+    expect(&rt, &data, [(5, 1), (7, 0), (9, 0)]);
+    release_resource(&mut data, 5);
+    expect(&rt, &data, [(5, 0), (7, 0), (9, 0)]);
+}
