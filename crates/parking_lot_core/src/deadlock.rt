@@ -51,6 +51,3 @@ impl ThreadData {
         self.records.times(key)
     }
 }
-
-#[cfg(test)]
-mod tests;

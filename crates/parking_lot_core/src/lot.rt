@@ -548,6 +548,3 @@ fn enter_bucket<V: FnOnce() -> bool>(
     table.put(bucket);
     entered
 }
-
-#[cfg(test)]
-mod tests;

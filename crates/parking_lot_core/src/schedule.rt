@@ -401,6 +401,3 @@ pub fn run(lot: &mut Lot, steps: &[Step], answers: &mut Vec<Answer>) -> Result<(
     }
     Ok(())
 }
-
-#[cfg(test)]
-mod tests;

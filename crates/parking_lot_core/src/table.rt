@@ -187,6 +187,3 @@ impl Table {
         }
     }
 }
-
-#[cfg(test)]
-mod tests;

@@ -4,18 +4,20 @@ mod buckets;
 mod latch;
 mod pair;
 mod single;
+#[cfg(test)]
+mod tests;
 mod turns;
 mod wake;
 
 use latch::Plan;
 use pair::Pair;
-use parking_lot_core::{ParkingLot, ThreadParker, UnparkToken};
+use parking_lot_core::{ThreadParker, ThreadParkerT, UnparkToken};
 use std::alloc::Global;
 use std::process::ExitCode;
 use std::rt::Env;
 use std::sync::Wait;
 use std::thread::Threads;
-use std::time::Clock;
+use std::time::{Clock, Duration};
 use std::{env, io};
 
 const USAGE_STATUS: u8 = 2;
@@ -27,7 +29,8 @@ const KEY: usize = 7;
 
 const TOKEN: UnparkToken = UnparkToken(42);
 
-type Lot = ParkingLot<ThreadParker>;
+// How long a round of single unparks waits first.
+const DELAY_MICROS: u64 = 10_000;
 
 enum Command {
     Threads,
@@ -77,6 +80,7 @@ impl Test {
             latches,
             threads,
             single_unparks,
+            delay: Duration::from_micros(DELAY_MICROS),
         })
     }
 }
@@ -116,7 +120,7 @@ fn run_all<R: Print + AllocGlobal + Threads + Wait + Clock + Copy + Send + 'stat
 ) -> io::Result<bool> {
     let mut passed = run_pair(rt)?;
     for (name, test) in all_tests() {
-        if run_test(rt, rt.alloc(), test).is_some() {
+        if run_test::<ThreadParker, _>(rt, rt.alloc(), test).is_some() {
             println!(rt; "{name} ok")?;
         } else {
             println!(rt; "{name} failed")?;
@@ -141,18 +145,20 @@ fn run_pair<R: Print + AllocGlobal + Threads + Wait + Clock + Copy + Send + 'sta
     }
 }
 
-// Runs a test on a lot of its own. `None` says that it failed, or that a call was refused.
-fn run_test<R: Threads + Wait + Clock + Copy + Send + 'static>(
-    rt: &R,
-    alloc: Global,
-    test: Test,
-) -> Option<()> {
+// Runs a test on a lot of its own, with parkers of this type. `None` says that it failed, or that a
+// call was refused.
+fn run_test<P, R>(rt: &R, alloc: Global, test: Test) -> Option<()>
+where
+    P: ThreadParkerT + Send + Sync + 'static,
+    P::UnparkHandle: 'static,
+    R: Threads + Wait + Clock + Copy + Send + 'static,
+{
     match test {
-        Test::Timeout => single::time_out(rt, alloc),
-        Test::UnparkBeforeSleep => single::unpark_before_sleep(rt, alloc),
-        Test::OneThenAll => wake::one_then_all(rt, alloc),
-        Test::FilterThenAll => wake::filter_then_all(rt, alloc),
-        Test::Latches(plan) => latch::run(rt, alloc, plan),
-        Test::TwoBuckets => buckets::run(rt, alloc),
+        Test::Timeout => single::time_out::<P, _>(rt, alloc),
+        Test::UnparkBeforeSleep => single::unpark_before_sleep::<P, _>(rt, alloc),
+        Test::OneThenAll => wake::one_then_all::<P, _>(rt, alloc),
+        Test::FilterThenAll => wake::filter_then_all::<P, _>(rt, alloc),
+        Test::Latches(plan) => latch::run::<P, _>(rt, alloc, plan),
+        Test::TwoBuckets => buckets::run::<P, _>(rt, alloc),
     }
 }

@@ -48,8 +48,9 @@ fn owners_node(alloc: Global, token: UnparkToken) -> Result<Box<Node>, NoMemory>
     Ok(node)
 }
 
-// No clause says when a slot is full. This refuses a parker whose `timed_out` has one answer
-// always, or whose `unpark_lock` drops the node, so that the first `park` does not end.
+// No clause says when a slot is full, nor which of two nodes comes first. This refuses a parker
+// whose `timed_out` has one answer always, whose `park` gives the second node first, or whose
+// `unpark_lock` drops the node, so that the first `park` does not end.
 fn commits_take_turns<P: ThreadParkerT, R: Wait + Abort>(
     rt: &R,
     alloc: Global,
@@ -65,8 +66,11 @@ fn commits_take_turns<P: ThreadParkerT, R: Wait + Abort>(
     late.unpark(&parker);
     assert!(rt; parker.timed_out(rt), "a late unpark fills no slot");
     let second = parker.unpark_lock(rt, owners_node(alloc, UnparkToken(43))?);
+    let third = parker.unpark_lock(rt, owners_node(alloc, UnparkToken(44))?);
     assert_eq!(rt; parker.park(rt).unpark_token, UnparkToken(43));
+    assert_eq!(rt; parker.park(rt).unpark_token, UnparkToken(44));
     drop(second);
+    drop(third);
     Ok(())
 }
 
@@ -94,16 +98,19 @@ fn waits_for_no_clock<P: ThreadParkerT, R: Wait + Clock + Abort>(rt: &R) -> Resu
 }
 
 // No clause says that a node in the slot is found. This refuses a `park_until` that answers `None`
-// at a deadline without a look.
+// at a deadline without a look, or gives the second of two nodes first.
 fn looks_after_the_deadline<P: ThreadParkerT, R: Wait + Clock + Abort>(
     rt: &R,
     alloc: Global,
 ) -> Result<(), Fail> {
     let parker = P::new(OWNER)?;
     let late = parker.unpark_lock(rt, owners_node(alloc, UnparkToken(42))?);
-    let node = parker.park_until(rt, Instant::now(rt)?);
-    let token = node.expect(rt, "the node was put before").unpark_token;
-    assert_eq!(rt; token, UnparkToken(42));
+    drop(parker.unpark_lock(rt, owners_node(alloc, UnparkToken(43))?));
+    for token in [UnparkToken(42), UnparkToken(43)] {
+        let node = parker.park_until(rt, Instant::now(rt)?);
+        let found = node.expect(rt, "the node was put before").unpark_token;
+        assert_eq!(rt; found, token);
+    }
     late.unpark(&parker);
     assert!(rt; parker.timed_out(rt), "a late unpark fills no slot");
     Ok(())

@@ -1,66 +1,30 @@
-//! Threads that park and unpark.
+//! What of the threaded lot no public call shows.
 
-mod alone;
-mod latch;
-mod races;
-mod together;
+mod sections;
+mod watched;
 
 use super::*;
 use lot_base::thread_parker::{ThreadParker, YieldParker};
 use lot_base::token::{DEFAULT_PARK_TOKEN, DEFAULT_UNPARK_TOKEN};
+use std::cell::Cell;
 use std::process::Abort;
-use std::sync::Arc;
+use std::sync::atomic::{AtomicBool, Ordering};
 use std::test::Fail;
 use std::thread;
-use std::thread::{JoinHandle, Threads};
-use std::time::Duration;
+use std::thread::Threads;
 
 type Lot = ParkingLot<ThreadParker>;
 
 const KEY: usize = 7;
 
+const OTHER_KEY: usize = 8;
+
 const TURNS: usize = 10_000_000;
 
-// The instant that comes so long from now.
-fn from_now<R: Clock + Abort>(rt: &R, duration: Duration) -> Result<Instant, Fail> {
-    let now = Instant::now(rt)?;
-    Ok(now.checked_add(duration).expect(rt, "a time of the clock"))
-}
-
-// Parks on the key until another thread unparks this one, and shows filters the thread's number.
-// `None` says that the data is of another lot.
-fn wait<P: ThreadParkerT, R: Wait + Clock>(
-    rt: &R,
-    lot: &ParkingLot<P>,
-    mut data: ThreadData,
-    key: usize,
-) -> Option<ParkResult> {
-    if !lot.accepts(&data) {
-        return None;
-    }
-    let park_token = ParkToken(data.number());
-    Some(park(
-        rt,
-        lot,
-        &mut data,
-        key,
-        || true,
-        || (),
-        |_, _| (),
-        park_token,
-        None,
-    ))
-}
-
-// Unparks one thread of the key as soon as one waits there, and tells whether one did.
-fn unpark_by_turns<P: ThreadParkerT, R: Wait>(
-    rt: &R,
-    lot: &ParkingLot<P>,
-    key: usize,
-    token: UnparkToken,
-) -> bool {
+// Waits until the flag is raised, and tells whether it was.
+fn raised_by_turns(flag: &AtomicBool) -> bool {
     for _ in 0..TURNS {
-        if unpark_one(rt, lot, key, |_| token).unparked_threads == 1 {
+        if flag.load(Ordering::SeqCst) {
             return true;
         }
         thread::yield_now();
@@ -68,223 +32,63 @@ fn unpark_by_turns<P: ThreadParkerT, R: Wait>(
     false
 }
 
-// Waits until so many threads wait on the key, and tells whether they did.
-fn come_by_turns<P: ThreadParkerT, R: Wait>(
-    rt: &R,
-    alloc: Global,
-    lot: &ParkingLot<P>,
-    key: usize,
-    threads: usize,
-) -> Result<bool, NoMemory> {
-    for _ in 0..TURNS {
-        if lot.list(rt, alloc, key)?.len() == threads {
-            return Ok(true);
-        }
-        thread::yield_now();
-    }
-    Ok(false)
-}
-
-// Registers four threads, whose data it drops, and tells their numbers.
-fn register_four<P: ThreadParkerT, R: Wait>(
-    rt: &R,
-    alloc: Global,
-    lot: &ParkingLot<P>,
-) -> Result<Vec<usize>, LotError> {
-    let mut numbers = Vec::new(alloc);
-    for _ in 0..4 {
-        numbers.push(lot.thread_data(rt, alloc)?.number())?;
-    }
-    Ok(numbers)
-}
-
-// Two threads register four each at the same time. It tells their numbers in order.
-fn register_eight<P: ThreadParkerT + Send + Sync, R: Threads + Wait + Sync>(
-    rt: &R,
-    alloc: Global,
-    lot: &ParkingLot<P>,
-) -> Result<Vec<usize>, LotError> {
-    let (left, right) = thread::join(
-        rt,
-        || register_four(rt, alloc, lot),
-        || register_four(rt, alloc, lot),
-    );
-    let mut numbers = left?;
-    for number in right? {
-        numbers.push(number)?;
-    }
-    numbers.sort()?;
-    Ok(numbers)
-}
-
-// Starts a thread that parks on the key.
-fn start_waiter<P, R>(
-    rt: &R,
-    lot: Arc<ParkingLot<P>, Global>,
-    data: ThreadData,
-    key: usize,
-) -> Option<JoinHandle<Option<ParkResult>>>
-where
-    P: ThreadParkerT + Send + Sync + 'static,
-    P::UnparkHandle: 'static,
-    R: Threads + Wait + Clock + Copy + Send + 'static,
+// Unparks those waiters of the key that the filter chooses.
+fn unpark_by<
+    P: ThreadParkerT,
+    R: Wait,
+    F: FnMut(ParkToken) -> FilterOp,
+    C: FnOnce(UnparkResult) -> UnparkToken,
+>(rt: &R, lot: &ParkingLot<P>, key: usize, filter: F, callback: C) -> UnparkResult
+    requires filter { (state : F) (park_token : _) → F.pre state park_token }
+    requires callback { (answer : _) → C.pre callback answer }
 {
-    let runtime = *rt;
-    thread::spawn(rt, move || wait(&runtime, &lot, data, key)).ok()
+    unpark_filter(rt, lot, key, filter, callback)
 }
 
-// It refuses an `unpark_one` that wakes nobody.
+// Three buckets for each thread, by the rule of the table's size. It refuses a `thread_data` that
+// registers one more number and frees it again, and so lets the table grow early.
 #[test]
-fn two_threads_park_and_unpark(rt: HostRuntime) -> Result<(), Fail> {
-    let lot = Arc::new(rt.alloc(), Lot::new(rt.alloc(), 1)?)?;
-    let data = lot.thread_data(&rt, rt.alloc())?;
-    let waiter = start_waiter(&rt, Arc::try_clone(&lot)?, data, KEY).expect(&rt, "a thread");
-    assert!(rt;
-        unpark_by_turns(&rt, &lot, KEY, UnparkToken(42)),
-        "nobody parked"
-    );
-    assert_eq!(rt;
-        waiter.join(&rt),
-        Some(ParkResult::Unparked(UnparkToken(42)))
-    );
+fn the_table_grows_at_the_sixth_and_the_eleventh_thread(rt: HostRuntime) -> Result<(), Fail> {
+    let lot = Lot::new(rt.alloc(), 11)?;
+    for size in [16, 16, 16, 16, 16, 32, 32, 32, 32, 32, 64] {
+        drop(lot.thread_data(&rt, rt.alloc())?);
+        assert_eq!(rt; lot.buckets.lock(&rt, KEY).size(), size);
+    }
     Ok(())
 }
 
-// It refuses a `park` that leaves the thread in its queue although `validate` answered false.
+// The key word of the thread 0.
+fn key_word<P: ThreadParkerT>(lot: &ParkingLot<P>) -> Option<usize> {
+    let thread = lot.threads.first()?;
+    Some(thread.key.load(Ordering::SeqCst))
+}
+
+// It refuses a requeue that notes where the thread went only after it called back.
 #[test]
-fn a_park_that_is_not_valid_ends_at_once(rt: HostRuntime) -> Result<(), Fail> {
+fn a_requeue_calls_back_once_the_thread_is_moved(rt: HostRuntime) -> Result<(), Fail> {
     let lot = Lot::new(rt.alloc(), 1)?;
     let mut data = lot.thread_data(&rt, rt.alloc())?;
-    let mut validations = 0;
+    let noted = Cell::new(None);
     let result = park(
         &rt,
         &lot,
         &mut data,
         KEY,
+        || true,
         || {
-            validations += 1;
-            false
+            let op = || RequeueOp::RequeueAll;
+            let requeued = unpark_requeue(&rt, &lot, KEY, OTHER_KEY, op, |_, _| {
+                noted.set(key_word(&lot));
+                DEFAULT_UNPARK_TOKEN
+            });
+            assert_eq!(rt; requeued.requeued_threads, 1);
+            assert_eq!(rt; unpark_all(&rt, &lot, OTHER_KEY, UnparkToken(42)), 1);
         },
-        || assert!(rt; false, "it must not come to sleep"),
-        |_, _| assert!(rt; false, "it must not time out"),
+        |_, _| (),
         DEFAULT_PARK_TOKEN,
         None,
     );
-    assert_eq!(rt; result, ParkResult::Invalid);
-    assert_eq!(rt; validations, 1);
-    assert_eq!(rt; data.number(), 0);
-    assert!(rt; lot.list(&rt, rt.alloc(), KEY)?.is_empty());
-    Ok(())
-}
-
-// It refuses an `unpark_one` that answers one thread where nobody waits.
-#[test]
-fn an_unpark_of_nobody_calls_back_with_the_default_result(rt: HostRuntime) -> Result<(), Fail> {
-    let lot = Lot::new(rt.alloc(), 1)?;
-    let mut told = None;
-    let result = unpark_one(&rt, &lot, KEY, |answer| {
-        told = Some(answer);
-        DEFAULT_UNPARK_TOKEN
-    });
-    assert_eq!(rt; result, UnparkResult::default());
-    assert_eq!(rt; told, Some(UnparkResult::default()));
-    Ok(())
-}
-
-// It refuses a `retire` that does nothing, and a `thread_data` that answers `NoMemory` at each call
-// or gives a number twice.
-#[test]
-fn dropped_data_keeps_its_number_and_retired_data_frees_it(rt: HostRuntime) -> Result<(), Fail> {
-    let lot = Lot::new(rt.alloc(), 2)?;
-    assert_eq!(rt; lot.max_threads(), 2);
-    let first = lot.thread_data(&rt, rt.alloc())?;
-    let second = lot.thread_data(&rt, rt.alloc())?;
-    assert_eq!(rt; (first.number(), second.number()), (0, 1));
-    drop(first);
-    assert!(rt; matches!(&lot.thread_data(&rt, rt.alloc()), Err(LotError::Full)));
-    assert!(rt; lot.accepts(&second));
-    lot.retire(&rt, second);
-    assert_eq!(rt; lot.thread_data(&rt, rt.alloc())?.number(), 1);
-    Ok(())
-}
-
-// It refuses a `thread_data` that gives one number always.
-#[test]
-fn a_lot_accepts_no_number_that_only_a_larger_lot_has(rt: HostRuntime) -> Result<(), Fail> {
-    let (lot, larger) = (Lot::new(rt.alloc(), 2)?, Lot::new(rt.alloc(), 3)?);
-    for number in 0..3 {
-        let data = larger.thread_data(&rt, rt.alloc())?;
-        assert!(rt; larger.accepts(&data));
-        assert_eq!(rt; lot.accepts(&data), number < 2, "{number}");
-    }
-    Ok(())
-}
-
-// It refuses a `new` that answers `NoMemory` always.
-#[test]
-fn a_lot_is_for_at_most_1024_threads(rt: HostRuntime) -> Result<(), Fail> {
-    let refused = Lot::new(rt.alloc(), 1_025);
-    assert!(rt; matches!(&refused, Err(LotError::TooManyThreads)));
-    assert_eq!(rt; Lot::new(rt.alloc(), 1_024)?.max_threads(), 1_024);
-    let without_threads = Lot::new(rt.alloc(), 0)?;
-    assert!(rt;
-        matches!(
-            &without_threads.thread_data(&rt, rt.alloc()),
-            Err(LotError::Full)
-        )
-    );
-    Ok(())
-}
-
-// The keys 0 and 13 have place 0 in a table of 16, and the places 0 and 1 in one of 32, as six
-// threads need it. Twelve threads need one of 64.
-//
-// It refuses a `list` that is always empty, and a growth that drops the nodes in the locks.
-#[test]
-fn waiters_stay_where_the_table_grows_twice_under_them(rt: HostRuntime) -> Result<(), Fail> {
-    let lot = Arc::new(rt.alloc(), Lot::new(rt.alloc(), 12)?)?;
-    let mut waiters = Vec::new(rt.alloc());
-    for number in 0..4 {
-        let data = lot.thread_data(&rt, rt.alloc())?;
-        let key = if number % 2 == 0 { 0 } else { 13 };
-        let started = start_waiter(&rt, Arc::try_clone(&lot)?, data, key);
-        waiters.push(started.expect(&rt, "a thread"))?;
-        assert!(rt; come_by_turns(&rt, rt.alloc(), &lot, key, number / 2 + 1)?);
-    }
-    let numbers = register_eight(&rt, rt.alloc(), &lot)?;
-    assert_eq!(rt; numbers.as_slice(), &[4, 5, 6, 7, 8, 9, 10, 11][..]);
-    assert_eq!(rt; lot.list(&rt, rt.alloc(), 0)?.as_slice(), &[0, 2][..]);
-    assert_eq!(rt; lot.list(&rt, rt.alloc(), 13)?.as_slice(), &[1, 3][..]);
-    for (key, number) in [(0, 0), (13, 1), (0, 2), (13, 3)] {
-        let result = unpark_one(&rt, &lot, key, |_| UnparkToken(10 + number));
-        assert_eq!(rt; result.unparked_threads, 1);
-        assert_eq!(rt; result.have_more_threads, number < 2);
-    }
-    for (number, waiter) in waiters.into_iter().enumerate() {
-        let token = UnparkToken(10 + number);
-        assert_eq!(rt; waiter.join(&rt), Some(ParkResult::Unparked(token)));
-    }
-    Ok(())
-}
-
-// It ends well whichever one of its requests for memory is refused, as `rt try --test --fail-alloc
-// N` refuses the Nth: the call that was refused does what it should when it is made again.
-#[test]
-fn a_refused_request_for_memory_leaves_the_lot_as_it_was(rt: HostRuntime) -> Result<(), Fail> {
-    let Ok(lot) = Lot::new(rt.alloc(), 6) else {
-        return Ok(());
-    };
-    for number in 0..6 {
-        let data = match lot.thread_data(&rt, rt.alloc()) {
-            Ok(data) => data,
-            Err(error) => {
-                assert_eq!(rt; error, LotError::NoMemory);
-                lot.thread_data(&rt, rt.alloc())?
-            }
-        };
-        assert_eq!(rt; data.number(), number);
-    }
-    let seventh = lot.thread_data(&rt, rt.alloc());
-    assert!(rt; matches!(&seventh, Err(LotError::Full | LotError::NoMemory)));
+    assert_eq!(rt; result, ParkResult::Unparked(UnparkToken(42)));
+    assert_eq!(rt; noted.get(), Some(OTHER_KEY));
     Ok(())
 }

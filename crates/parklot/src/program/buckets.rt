@@ -1,8 +1,10 @@
 //! A test that a call on one key does not wait for a section of a key in another bucket.
 
 use super::turns::by_turns;
-use super::{Lot, MAX_THREADS, TOKEN};
-use parking_lot_core::{DEFAULT_PARK_TOKEN, ParkResult, ThreadData, park, unpark_all};
+use super::{MAX_THREADS, TOKEN};
+use parking_lot_core::{
+    DEFAULT_PARK_TOKEN, ParkResult, ParkingLot, ThreadData, ThreadParkerT, park, unpark_all,
+};
 use std::alloc::Global;
 use std::sync::atomic::{AtomicBool, Ordering};
 use std::sync::{Arc, Wait};
@@ -16,9 +18,14 @@ const PARK_KEY: usize = 1;
 const UNPARK_KEY: usize = 2;
 
 /// A thread is in the section of a park, and stays in it until an unpark of another key is over.
-pub fn run<R: Threads + Wait + Clock + Copy + Send + 'static>(rt: &R, alloc: Global) -> Option<()> {
+pub fn run<P, R>(rt: &R, alloc: Global) -> Option<()>
+where
+    P: ThreadParkerT + Send + Sync + 'static,
+    P::UnparkHandle: 'static,
+    R: Threads + Wait + Clock + Copy + Send + 'static,
+{
     let meeting = Meeting {
-        lot: Lot::new(alloc, MAX_THREADS).ok()?,
+        lot: ParkingLot::<P>::new(alloc, MAX_THREADS).ok()?,
         is_inside: AtomicBool::new(false),
         is_over: AtomicBool::new(false),
     };
@@ -43,13 +50,13 @@ struct Parked {
 
 // A lot, and two flags by which its threads meet.
 #[derive(Drop)]
-struct Meeting {
-    lot: Lot,
+struct Meeting<P: ThreadParkerT> {
+    lot: ParkingLot<P>,
     is_inside: AtomicBool,
     is_over: AtomicBool,
 }
 
-impl Meeting {
+impl<P: ThreadParkerT> Meeting<P> {
     // Parks with a validation that waits and then answers false. `None` says that the data is of
     // another lot.
     fn park<R: Wait + Clock>(&self, rt: &R, mut data: ThreadData) -> Option<Parked> {
@@ -76,11 +83,16 @@ impl Meeting {
     }
 }
 
-fn start_park<R: Threads + Wait + Clock + Copy + Send + 'static>(
+fn start_park<P, R>(
     rt: &R,
-    meeting: Arc<Meeting, Global>,
+    meeting: Arc<Meeting<P>, Global>,
     data: ThreadData,
-) -> Option<JoinHandle<Option<Parked>>> {
+) -> Option<JoinHandle<Option<Parked>>>
+where
+    P: ThreadParkerT + Send + Sync + 'static,
+    P::UnparkHandle: 'static,
+    R: Threads + Wait + Clock + Copy + Send + 'static,
+{
     let runtime = *rt;
     thread::spawn(rt, move || meeting.park(&runtime, data)).ok()
 }

@@ -1,9 +1,10 @@
 //! Tests of latches, on which threads park until they are let through.
 
+use super::MAX_THREADS;
 use super::turns::{by_turns, comes_to};
-use super::{Lot, MAX_THREADS};
 use parking_lot_core::{
-    DEFAULT_PARK_TOKEN, DEFAULT_UNPARK_TOKEN, ThreadData, park, unpark_all, unpark_one,
+    DEFAULT_PARK_TOKEN, DEFAULT_UNPARK_TOKEN, ParkingLot, ThreadData, ThreadParkerT, park,
+    unpark_all, unpark_one,
 };
 use std::alloc::Global;
 use std::sync::atomic::{AtomicIsize, AtomicUsize, Ordering};
@@ -14,28 +15,27 @@ use std::time::{Clock, Duration};
 
 const FIRST_KEY: usize = 100;
 
-// How long a round of single unparks waits first.
-const DELAY_MICROS: u64 = 10_000;
-
-/// How many latches there are, how many threads each has, and how many of these are let through one
-/// by one before all others are.
+/// How many latches there are, how many threads each has, how many of these are let through one by
+/// one before all others are, and how long a round of single unparks waits first.
 #[derive(Copy, Clone)]
 pub struct Plan {
     pub latches: u8,
     pub threads: u8,
     pub single_unparks: u8,
+    pub delay: Duration,
 }
 
 /// Lets all threads of all latches through. A single unpark wakes the first that waits, an unpark
 /// of all wakes all that wait, and in the end nobody waits.
-pub fn run<R: Threads + Wait + Clock + Copy + Send + 'static>(
-    rt: &R,
-    alloc: Global,
-    plan: Plan,
-) -> Option<()> {
-    let groups = start_groups(rt, alloc, plan)?;
+pub fn run<P, R>(rt: &R, alloc: Global, plan: Plan) -> Option<()>
+where
+    P: ThreadParkerT + Send + Sync + 'static,
+    P::UnparkHandle: 'static,
+    R: Threads + Wait + Clock + Copy + Send + 'static,
+{
+    let groups = start_groups::<P, _>(rt, alloc, plan)?;
     for _ in 0..plan.single_unparks {
-        thread::sleep(rt, Duration::from_micros(DELAY_MICROS));
+        thread::sleep(rt, plan.delay);
         let_one_through_each(rt, alloc, groups.as_slice())?;
     }
     for group in groups {
@@ -49,16 +49,16 @@ pub fn run<R: Threads + Wait + Clock + Copy + Send + 'static>(
 
 // A latch: a semaphore that is taken at first, and what its threads note.
 #[derive(Drop)]
-struct Latch {
-    lot: Arc<Lot, Global>,
+struct Latch<P: ThreadParkerT> {
+    lot: Arc<ParkingLot<P>, Global>,
     key: usize,
     permits: AtomicIsize,
     awake: AtomicUsize,
     last_awake: AtomicUsize,
 }
 
-impl Latch {
-    fn new(lot: Arc<Lot, Global>, key: usize) -> Latch {
+impl<P: ThreadParkerT> Latch<P> {
+    fn new(lot: Arc<ParkingLot<P>, Global>, key: usize) -> Latch<P> {
         Latch {
             lot,
             key,
@@ -138,12 +138,12 @@ impl Latch {
 
 // A latch with its threads.
 #[derive(Drop)]
-struct Group {
-    latch: Arc<Latch, Global>,
+struct Group<P: ThreadParkerT> {
+    latch: Arc<Latch<P>, Global>,
     threads: Vec<JoinHandle<()>>,
 }
 
-impl Group {
+impl<P: ThreadParkerT> Group<P> {
     fn join<R: Threads>(self, rt: &R) {
         for thread in self.threads {
             thread.join(rt);
@@ -152,12 +152,13 @@ impl Group {
 }
 
 // Starts all threads of all latches, on one lot.
-fn start_groups<R: Threads + Wait + Clock + Copy + Send + 'static>(
-    rt: &R,
-    alloc: Global,
-    plan: Plan,
-) -> Option<Vec<Group>> {
-    let lot = Arc::new(alloc, Lot::new(alloc, MAX_THREADS).ok()?).ok()?;
+fn start_groups<P, R>(rt: &R, alloc: Global, plan: Plan) -> Option<Vec<Group<P>>>
+where
+    P: ThreadParkerT + Send + Sync + 'static,
+    P::UnparkHandle: 'static,
+    R: Threads + Wait + Clock + Copy + Send + 'static,
+{
+    let lot = Arc::new(alloc, ParkingLot::<P>::new(alloc, MAX_THREADS).ok()?).ok()?;
     let mut groups = Vec::new(alloc);
     for index in 0..plan.latches {
         let latch = Latch::new(Arc::try_clone(&lot).ok()?, FIRST_KEY + usize::from(index));
@@ -167,12 +168,12 @@ fn start_groups<R: Threads + Wait + Clock + Copy + Send + 'static>(
     Some(groups)
 }
 
-fn start_group<R: Threads + Wait + Clock + Copy + Send + 'static>(
-    rt: &R,
-    alloc: Global,
-    latch: Latch,
-    count: u8,
-) -> Option<Group> {
+fn start_group<P, R>(rt: &R, alloc: Global, latch: Latch<P>, count: u8) -> Option<Group<P>>
+where
+    P: ThreadParkerT + Send + Sync + 'static,
+    P::UnparkHandle: 'static,
+    R: Threads + Wait + Clock + Copy + Send + 'static,
+{
     let latch = Arc::new(alloc, latch).ok()?;
     let mut threads = Vec::new(alloc);
     for _ in 0..count {
@@ -182,11 +183,16 @@ fn start_group<R: Threads + Wait + Clock + Copy + Send + 'static>(
     Some(Group { latch, threads })
 }
 
-fn start_thread<R: Threads + Wait + Clock + Copy + Send + 'static>(
+fn start_thread<P, R>(
     rt: &R,
     alloc: Global,
-    latch: &Arc<Latch, Global>,
-) -> Option<JoinHandle<()>> {
+    latch: &Arc<Latch<P>, Global>,
+) -> Option<JoinHandle<()>>
+where
+    P: ThreadParkerT + Send + Sync + 'static,
+    P::UnparkHandle: 'static,
+    R: Threads + Wait + Clock + Copy + Send + 'static,
+{
     let data = latch.lot.thread_data(rt, alloc).ok()?;
     let latch = Arc::try_clone(latch).ok()?;
     let runtime = *rt;
@@ -194,7 +200,11 @@ fn start_thread<R: Threads + Wait + Clock + Copy + Send + 'static>(
 }
 
 // One round of single unparks, one for each latch.
-fn let_one_through_each<R: Wait>(rt: &R, alloc: Global, groups: &[Group]) -> Option<()> {
+fn let_one_through_each<P: ThreadParkerT, R: Wait>(
+    rt: &R,
+    alloc: Global,
+    groups: &[Group<P>],
+) -> Option<()> {
     for group in groups {
         group.latch.let_one_through(rt, alloc)?;
     }

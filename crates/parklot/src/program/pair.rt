@@ -1,13 +1,18 @@
 //! A pair of threads, of which one parks and the other unparks it.
 
 use super::turns::by_turns;
-use super::{KEY, Lot, TOKEN};
-use parking_lot_core::{DEFAULT_PARK_TOKEN, ParkResult, ThreadData, UnparkToken, park, unpark_one};
+use super::{KEY, TOKEN};
+use parking_lot_core::{
+    DEFAULT_PARK_TOKEN, ParkResult, ParkingLot, ThreadData, ThreadParker, UnparkToken, park,
+    unpark_one,
+};
 use std::alloc::Global;
 use std::sync::{Arc, Wait};
 use std::thread;
 use std::thread::{JoinHandle, Threads};
 use std::time::Clock;
+
+type Lot = ParkingLot<ThreadParker>;
 
 /// What the unpark and the park of a pair of threads answered.
 #[derive(Copy, Clone)]

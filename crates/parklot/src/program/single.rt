@@ -1,8 +1,11 @@
 //! Tests of one thread alone, which times out or unparks itself.
 
 use super::turns::{by_turns, comes_to};
-use super::{KEY, Lot, MAX_THREADS, TOKEN};
-use parking_lot_core::{DEFAULT_PARK_TOKEN, ParkResult, ThreadData, park, unpark_all, unpark_one};
+use super::{KEY, MAX_THREADS, TOKEN};
+use parking_lot_core::{
+    DEFAULT_PARK_TOKEN, ParkResult, ParkingLot, ThreadData, ThreadParkerT, park, unpark_all,
+    unpark_one,
+};
 use std::alloc::Global;
 use std::sync::atomic::{AtomicUsize, Ordering};
 use std::sync::{Arc, Wait};
@@ -12,8 +15,8 @@ use std::time::{Clock, Duration, Instant};
 
 /// A park with a deadline that nobody unparks: it ends after the deadline, tells its callback of
 /// it, and leaves nobody on the key.
-pub fn time_out<R: Wait + Clock>(rt: &R, alloc: Global) -> Option<()> {
-    let lot = Lot::new(alloc, MAX_THREADS).ok()?;
+pub fn time_out<P: ThreadParkerT, R: Wait + Clock>(rt: &R, alloc: Global) -> Option<()> {
+    let lot = ParkingLot::<P>::new(alloc, MAX_THREADS).ok()?;
     let mut data = lot.thread_data(rt, alloc).ok()?;
     let deadline = Instant::now(rt)
         .ok()?
@@ -37,27 +40,30 @@ pub fn time_out<R: Wait + Clock>(rt: &R, alloc: Global) -> Option<()> {
 }
 
 /// A park whose thread unparks itself before it sleeps: it ends with the token, without a deadline
-/// and with one.
-pub fn unpark_before_sleep<R: Threads + Wait + Clock + Copy + Send + 'static>(
-    rt: &R,
-    alloc: Global,
-) -> Option<()> {
-    unpark_oneself(rt, alloc, None)?;
+/// and before one.
+pub fn unpark_before_sleep<P, R>(rt: &R, alloc: Global) -> Option<()>
+where
+    P: ThreadParkerT + Send + Sync + 'static,
+    P::UnparkHandle: 'static,
+    R: Threads + Wait + Clock + Copy + Send + 'static,
+{
+    unpark_oneself::<P, _>(rt, alloc, None)?;
     let deadline = Instant::now(rt).ok()?.checked_add(Duration::from_secs(5))?;
-    unpark_oneself(rt, alloc, Some(deadline))
+    unpark_oneself::<P, _>(rt, alloc, Some(deadline))?;
+    (Instant::now(rt).ok()? < deadline).then_some(())
 }
 
 // A thread that unparks itself, and how far it came.
 #[derive(Drop)]
-struct Sleeper {
-    lot: Lot,
+struct Sleeper<P: ThreadParkerT> {
+    lot: ParkingLot<P>,
     // 0 before the unpark, and then 1 more than it answered.
     told: AtomicUsize,
     // 1 once it is back from the park.
     is_back: AtomicUsize,
 }
 
-impl Sleeper {
+impl<P: ThreadParkerT> Sleeper<P> {
     // Parks, and unparks itself before it sleeps. `None` says that the data is of another lot.
     fn sleep<R: Wait + Clock>(
         &self,
@@ -96,13 +102,14 @@ impl Sleeper {
 }
 
 // Starts a thread that unparks itself, and waits for it by turns.
-fn unpark_oneself<R: Threads + Wait + Clock + Copy + Send + 'static>(
-    rt: &R,
-    alloc: Global,
-    deadline: Option<Instant>,
-) -> Option<()> {
+fn unpark_oneself<P, R>(rt: &R, alloc: Global, deadline: Option<Instant>) -> Option<()>
+where
+    P: ThreadParkerT + Send + Sync + 'static,
+    P::UnparkHandle: 'static,
+    R: Threads + Wait + Clock + Copy + Send + 'static,
+{
     let sleeper = Sleeper {
-        lot: Lot::new(alloc, MAX_THREADS).ok()?,
+        lot: ParkingLot::<P>::new(alloc, MAX_THREADS).ok()?,
         told: AtomicUsize::new(0),
         is_back: AtomicUsize::new(0),
     };
@@ -116,12 +123,17 @@ fn unpark_oneself<R: Threads + Wait + Clock + Copy + Send + 'static>(
     (thread.join(rt)? == ParkResult::Unparked(TOKEN)).then_some(())
 }
 
-fn start_sleep<R: Threads + Wait + Clock + Copy + Send + 'static>(
+fn start_sleep<P, R>(
     rt: &R,
-    sleeper: Arc<Sleeper, Global>,
+    sleeper: Arc<Sleeper<P>, Global>,
     data: ThreadData,
     deadline: Option<Instant>,
-) -> Option<JoinHandle<Option<ParkResult>>> {
+) -> Option<JoinHandle<Option<ParkResult>>>
+where
+    P: ThreadParkerT + Send + Sync + 'static,
+    P::UnparkHandle: 'static,
+    R: Threads + Wait + Clock + Copy + Send + 'static,
+{
     let runtime = *rt;
     thread::spawn(rt, move || sleeper.sleep(&runtime, data, deadline)).ok()
 }

@@ -1,9 +1,10 @@
 //! Tests of two workers, which are woken one by one.
 
 use super::turns::comes_to;
-use super::{KEY, Lot, MAX_THREADS, TOKEN};
+use super::{KEY, MAX_THREADS, TOKEN};
 use parking_lot_core::{
-    FilterOp, ParkResult, ParkToken, ThreadData, park, unpark_all, unpark_filter, unpark_one,
+    FilterOp, ParkResult, ParkToken, ParkingLot, ThreadData, ThreadParkerT, park, unpark_all,
+    unpark_filter, unpark_one,
 };
 use std::alloc::Global;
 use std::sync::atomic::{AtomicUsize, Ordering};
@@ -13,11 +14,13 @@ use std::thread::{JoinHandle, Threads};
 use std::time::{Clock, Duration, Instant};
 
 /// An unpark of one wakes one of two workers, and an unpark of all the other.
-pub fn one_then_all<R: Threads + Wait + Clock + Copy + Send + 'static>(
-    rt: &R,
-    alloc: Global,
-) -> Option<()> {
-    let workers = start_two(rt, alloc)?;
+pub fn one_then_all<P, R>(rt: &R, alloc: Global) -> Option<()>
+where
+    P: ThreadParkerT + Send + Sync + 'static,
+    P::UnparkHandle: 'static,
+    R: Threads + Wait + Clock + Copy + Send + 'static,
+{
+    let workers = start_two::<P, _>(rt, alloc)?;
     if unpark_one(rt, &workers.place.lot, KEY, |_| TOKEN).unparked_threads != 1 {
         return None;
     }
@@ -25,11 +28,13 @@ pub fn one_then_all<R: Threads + Wait + Clock + Copy + Send + 'static>(
 }
 
 /// A filter wakes the worker with the park token 0, and an unpark of all the other.
-pub fn filter_then_all<R: Threads + Wait + Clock + Copy + Send + 'static>(
-    rt: &R,
-    alloc: Global,
-) -> Option<()> {
-    let workers = start_two(rt, alloc)?;
+pub fn filter_then_all<P, R>(rt: &R, alloc: Global) -> Option<()>
+where
+    P: ThreadParkerT + Send + Sync + 'static,
+    P::UnparkHandle: 'static,
+    R: Threads + Wait + Clock + Copy + Send + 'static,
+{
+    let workers = start_two::<P, _>(rt, alloc)?;
     if unpark_chosen(rt, &workers.place.lot, ParkToken(0)) != 1 {
         return None;
     }
@@ -37,7 +42,11 @@ pub fn filter_then_all<R: Threads + Wait + Clock + Copy + Send + 'static>(
 }
 
 // Unparks the workers with this park token, and answers how many there were.
-fn unpark_chosen<R: Wait>(rt: &R, lot: &Lot, chosen: ParkToken) -> usize {
+fn unpark_chosen<P: ThreadParkerT, R: Wait>(
+    rt: &R,
+    lot: &ParkingLot<P>,
+    chosen: ParkToken,
+) -> usize {
     let filter = |token| {
         if token == chosen {
             FilterOp::Unpark
@@ -50,14 +59,14 @@ fn unpark_chosen<R: Wait>(rt: &R, lot: &Lot, chosen: ParkToken) -> usize {
 
 // Where workers park, and how many of them are about to sleep.
 #[derive(Drop)]
-struct Place {
-    lot: Lot,
+struct Place<P: ThreadParkerT> {
+    lot: ParkingLot<P>,
     ready: AtomicUsize,
 }
 
-impl Place {
-    // Parks for at most 5 seconds. `None` says that the data is of another lot, or that there is no
-    // such deadline.
+impl<P: ThreadParkerT> Place<P> {
+    // Parks for at most 5 seconds. `None` says that the data is of another lot, or that the thread
+    // was not back before the deadline.
     fn work<R: Wait + Clock>(
         &self,
         rt: &R,
@@ -68,7 +77,7 @@ impl Place {
         if !self.lot.accepts(&data) {
             return None;
         }
-        Some(park(
+        let result = park(
             rt,
             &self.lot,
             &mut data,
@@ -80,7 +89,8 @@ impl Place {
             |_, _| (),
             token,
             Some(deadline),
-        ))
+        );
+        (Instant::now(rt).ok()? < deadline).then_some(result)
     }
 }
 
@@ -88,13 +98,13 @@ type Worker = JoinHandle<Option<ParkResult>>;
 
 // Two workers that have parked.
 #[derive(Drop)]
-struct Workers {
-    place: Arc<Place, Global>,
+struct Workers<P: ThreadParkerT> {
+    place: Arc<Place<P>, Global>,
     first: Worker,
     second: Worker,
 }
 
-impl Workers {
+impl<P: ThreadParkerT> Workers<P> {
     // Wakes the one of them that is left, and joins both.
     fn wake_other<R: Threads + Wait>(self, rt: &R) -> Option<()> {
         if unpark_all(rt, &self.place.lot, KEY, TOKEN) != 1 {
@@ -108,12 +118,14 @@ impl Workers {
 }
 
 // Starts two workers, and waits until both are about to sleep.
-fn start_two<R: Threads + Wait + Clock + Copy + Send + 'static>(
-    rt: &R,
-    alloc: Global,
-) -> Option<Workers> {
+fn start_two<P, R>(rt: &R, alloc: Global) -> Option<Workers<P>>
+where
+    P: ThreadParkerT + Send + Sync + 'static,
+    P::UnparkHandle: 'static,
+    R: Threads + Wait + Clock + Copy + Send + 'static,
+{
     let place = Place {
-        lot: Lot::new(alloc, MAX_THREADS).ok()?,
+        lot: ParkingLot::<P>::new(alloc, MAX_THREADS).ok()?,
         ready: AtomicUsize::new(0),
     };
     let place = Arc::new(alloc, place).ok()?;
@@ -127,12 +139,17 @@ fn start_two<R: Threads + Wait + Clock + Copy + Send + 'static>(
     })
 }
 
-fn start<R: Threads + Wait + Clock + Copy + Send + 'static>(
+fn start<P, R>(
     rt: &R,
     alloc: Global,
-    place: &Arc<Place, Global>,
+    place: &Arc<Place<P>, Global>,
     token: ParkToken,
-) -> Option<Worker> {
+) -> Option<Worker>
+where
+    P: ThreadParkerT + Send + Sync + 'static,
+    P::UnparkHandle: 'static,
+    R: Threads + Wait + Clock + Copy + Send + 'static,
+{
     let data = place.lot.thread_data(rt, alloc).ok()?;
     let place = Arc::try_clone(place).ok()?;
     let runtime = *rt;

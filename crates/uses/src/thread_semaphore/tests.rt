@@ -1,10 +1,9 @@
 use super::*;
 use parking_lot_core::ThreadParker;
-use std::alloc::Global;
-use std::sync::Arc;
+use std::alloc::AllocError;
 use std::test::Fail;
 use std::thread;
-use std::thread::{JoinHandle, Threads};
+use std::thread::Threads;
 
 const KEY: usize = 7;
 
@@ -54,19 +53,18 @@ fn visit_in_rounds<P: ThreadParkerT, R: Wait + Clock>(
     always_room
 }
 
-// Starts a thread that visits in rounds.
-fn start_visits<P, R>(
+// Visits in rounds by a thread for each data, and tells whether there was always room.
+fn visit_together<P, R>(
     rt: &R,
-    shared: Arc<Shared<P>, Global>,
-    data: ThreadData,
-) -> Option<JoinHandle<bool>>
+    shared: &Shared<P>,
+    data: Vec<ThreadData>,
+) -> Result<bool, AllocError>
 where
-    P: ThreadParkerT + Send + Sync + 'static,
-    P::UnparkHandle: 'static,
-    R: Threads + Wait + Clock + Copy + Send + 'static,
+    P: ThreadParkerT + Send + Sync,
+    R: Threads + Wait + Clock + Sync,
 {
-    let runtime = *rt;
-    thread::spawn(rt, move || visit_in_rounds(&runtime, &shared, data)).ok()
+    let visits = thread::map_vec(rt, data, &|data| visit_in_rounds(rt, shared, data))?;
+    Ok(visits.into_iter().all(|always_room| always_room))
 }
 
 // It refuses an `acquire` that takes no permit, and a `release` that wakes nobody.
@@ -78,16 +76,11 @@ fn as_many_threads_are_inside_as_there_are_permits(rt: HostRuntime) -> Result<()
         inside: AtomicUsize::new(0),
         came: AtomicUsize::new(0),
     };
-    let shared = Arc::new(rt.alloc(), shared)?;
-    let mut visiting = Vec::new(rt.alloc());
+    let mut data = Vec::new(rt.alloc());
     for _ in 0..THREADS {
-        let data = shared.lot.thread_data(&rt, rt.alloc())?;
-        let started = start_visits(&rt, Arc::try_clone(&shared)?, data);
-        visiting.push(started.expect(&rt, "a thread"))?;
+        data.push(shared.lot.thread_data(&rt, rt.alloc())?)?;
     }
-    for thread in visiting {
-        assert!(rt; thread.join(&rt));
-    }
+    assert!(rt; visit_together(&rt, &shared, data)?);
     assert_eq!(rt; shared.came.load(Ordering::SeqCst), THREADS * ROUNDS);
     assert_eq!(rt; shared.semaphore.permits.load(Ordering::SeqCst), PERMITS);
     Ok(())

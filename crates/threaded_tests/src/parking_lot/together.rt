@@ -1,18 +1,6 @@
 //! Threads that meet: in one queue, in two, and across two buckets.
 
 use super::*;
-use std::sync::atomic::AtomicBool;
-
-// Waits until the flag is raised, and tells whether it was.
-fn raised_by_turns(flag: &AtomicBool) -> bool {
-    for _ in 0..TURNS {
-        if flag.load(Ordering::SeqCst) {
-            return true;
-        }
-        thread::yield_now();
-    }
-    false
-}
 
 // Starts so many threads, each of which parks on the key once the one before it waits there.
 fn start_row<P, R>(
@@ -35,19 +23,6 @@ where
         assert!(rt; come_by_turns(rt, alloc, lot, key, number + 1)?);
     }
     Ok(waiters)
-}
-
-// Unparks those waiters of the key that the filter chooses.
-fn unpark_by<P: ThreadParkerT, R: Wait, F: FnMut(ParkToken) -> FilterOp>(
-    rt: &R,
-    lot: &ParkingLot<P>,
-    key: usize,
-    filter: F,
-    token: UnparkToken,
-) -> UnparkResult
-    requires { (state : F) (park_token : _) → F.pre state park_token }
-{
-    unpark_filter(rt, lot, key, filter, |_| token)
 }
 
 // Unparks the first waiter of key 1 with token 9 and moves the others to key 2; there it unparks
@@ -77,7 +52,7 @@ fn unpark_three<P: ThreadParkerT, R: Wait + Abort>(
     } else {
         FilterOp::Unpark
     };
-    let filtered = unpark_by(rt, lot, 2, filter, UnparkToken(5));
+    let filtered = unpark_by(rt, lot, 2, filter, |_| UnparkToken(5));
     assert_eq!(rt;
         (filtered.unparked_threads, filtered.requeued_threads),
         (1, 0)
@@ -164,118 +139,20 @@ fn two_sections_at_once<P: ThreadParkerT + Send + Sync, R: Threads + Wait + Cloc
     )
 }
 
-fn buckets_are_locked_apart<P, R>(rt: &R, alloc: Global, threads: usize) -> Result<(), Fail>
+// With six threads, which have 32 buckets.
+fn buckets_are_locked_apart<P, R>(rt: &R, alloc: Global) -> Result<(), Fail>
 where
     P: ThreadParkerT + Send + Sync,
     R: Threads + Wait + Clock + Abort + Sync,
 {
-    let lot = ParkingLot::<P>::new(alloc, threads)?;
+    let lot = ParkingLot::<P>::new(alloc, 6)?;
     let data = lot.thread_data(rt, alloc)?;
-    for _ in 1..threads {
+    for _ in 1..6 {
         drop(lot.thread_data(rt, alloc)?);
     }
     let (parked, unparked) = two_sections_at_once(rt, &lot, data);
     assert_eq!(rt; parked, Some((ParkResult::Invalid, true)));
     assert_eq!(rt; unparked, Some(0));
-    Ok(())
-}
-
-// Registers and parks on `KEY` with this park token, and counts itself before it sleeps.
-fn sleep_counted<P: ThreadParkerT, R: Wait + Clock>(
-    rt: &R,
-    alloc: Global,
-    lot: &ParkingLot<P>,
-    token: ParkToken,
-    deadline: Instant,
-    asleep: &AtomicUsize,
-) -> Result<ParkResult, LotError> {
-    let mut data = lot.thread_data(rt, alloc)?;
-    Ok(park(
-        rt,
-        lot,
-        &mut data,
-        KEY,
-        || true,
-        || {
-            asleep.fetch_add(1, Ordering::SeqCst);
-        },
-        |_, _| (),
-        token,
-        Some(deadline),
-    ))
-}
-
-// Once both others are about to sleep, unparks one of them, by a filter or as the first, and then
-// all. It tells how many there were.
-fn wake_both<P: ThreadParkerT, R: Wait>(
-    rt: &R,
-    lot: &ParkingLot<P>,
-    by_filter: bool,
-    asleep: &AtomicUsize,
-) -> (usize, usize) {
-    for _ in 0..TURNS {
-        if asleep.load(Ordering::SeqCst) == 2 {
-            break;
-        }
-        thread::yield_now();
-    }
-    let one = if by_filter {
-        let filter = |token: ParkToken| if token.0 == 0 {
-            FilterOp::Unpark
-        } else {
-            FilterOp::Skip
-        };
-        unpark_by(rt, lot, KEY, filter, UnparkToken(42))
-    } else {
-        unpark_one(rt, lot, KEY, |_| UnparkToken(42))
-    };
-    let all = unpark_all(rt, lot, KEY, UnparkToken(42));
-    (one.unparked_threads, all)
-}
-
-fn two_sleep_and_one_wakes<P, R>(
-    rt: &R,
-    alloc: Global,
-    lot: &ParkingLot<P>,
-    deadline: Instant,
-    by_filter: bool,
-) -> (
-    (Result<ParkResult, LotError>, Result<ParkResult, LotError>),
-    (usize, usize),
-)
-where
-    P: ThreadParkerT + Send + Sync,
-    R: Threads + Wait + Clock + Sync,
-{
-    let asleep = AtomicUsize::new(0);
-    thread::join(
-        rt,
-        || {
-            thread::join(
-                rt,
-                || sleep_counted(rt, alloc, lot, ParkToken(0), deadline, &asleep),
-                || sleep_counted(rt, alloc, lot, ParkToken(1), deadline, &asleep),
-            )
-        },
-        || wake_both(rt, lot, by_filter, &asleep),
-    )
-}
-
-fn both_are_woken<P, R>(rt: &R, alloc: Global, by_filter: bool) -> Result<(), Fail>
-where
-    P: ThreadParkerT + Send + Sync,
-    R: Threads + Wait + Clock + Abort + Sync,
-{
-    let lot = ParkingLot::<P>::new(alloc, 2)?;
-    let deadline = from_now(rt, Duration::from_secs(5))?;
-    let ((first, second), woken) = two_sleep_and_one_wakes(rt, alloc, &lot, deadline, by_filter);
-    assert_eq!(rt; woken, (1, 1));
-    assert_eq!(rt; first?, ParkResult::Unparked(UnparkToken(42)));
-    assert_eq!(rt; second?, ParkResult::Unparked(UnparkToken(42)));
-    assert!(rt;
-        Instant::now(rt)? < deadline,
-        "no thread slept to its deadline"
-    );
     Ok(())
 }
 
@@ -374,32 +251,12 @@ fn yield_parkers_are_unparked_by_requeue_by_filter_and_all(rt: HostRuntime) -> R
     three_threads_are_unparked_in_three_ways::<YieldParker, _>(&rt, rt.alloc())
 }
 
-// It refuses one lock round all buckets: the second section then waits for the first.
-#[test]
-fn two_buckets(rt: HostRuntime) -> Result<(), Fail> {
-    buckets_are_locked_apart::<ThreadParker, _>(&rt, rt.alloc(), 1)?;
-    buckets_are_locked_apart::<YieldParker, _>(&rt, rt.alloc(), 1)
-}
-
-// Six threads have 32 buckets. It refuses a growth after which all buckets have one lock.
+// It refuses a growth after which all buckets have one lock: the second section then waits for the
+// first.
 #[test]
 fn two_buckets_of_a_table_that_has_grown(rt: HostRuntime) -> Result<(), Fail> {
-    buckets_are_locked_apart::<ThreadParker, _>(&rt, rt.alloc(), 6)?;
-    buckets_are_locked_apart::<YieldParker, _>(&rt, rt.alloc(), 6)
-}
-
-// It refuses an `unpark_one` that takes all waiters, and an `unpark_all` that wakes nobody.
-#[test]
-fn wake_one_then_all(rt: HostRuntime) -> Result<(), Fail> {
-    both_are_woken::<ThreadParker, _>(&rt, rt.alloc(), false)?;
-    both_are_woken::<YieldParker, _>(&rt, rt.alloc(), false)
-}
-
-// It refuses an `unpark_filter` that takes threads and wakes none.
-#[test]
-fn wake_filter_then_all(rt: HostRuntime) -> Result<(), Fail> {
-    both_are_woken::<ThreadParker, _>(&rt, rt.alloc(), true)?;
-    both_are_woken::<YieldParker, _>(&rt, rt.alloc(), true)
+    buckets_are_locked_apart::<ThreadParker, _>(&rt, rt.alloc())?;
+    buckets_are_locked_apart::<YieldParker, _>(&rt, rt.alloc())
 }
 
 // Keys 1 and 2 have buckets of their own, 0 and 13 have one. It refuses a requeue that does not

@@ -1,12 +1,10 @@
 //! The lot beside the plain machine: all short lists of steps, and long lists of arbitrary ones.
 
-use crate::lot::Lot;
-use crate::schedule::tests::plain::Plain;
-use crate::schedule::tests::steps::{
-    acquire, all, enter, enter_invalid, filter, one, release, requeue,
-};
-use crate::schedule::{Answer, Step, run};
+use crate::schedule::plain::Plain;
+use crate::schedule::steps::{acquire, all, enter, enter_invalid, filter, one, release, requeue};
 use lot_base::token::{FilterOp, LotError, NoMemory, RequeueOp};
+use parking_lot_core::lot::Lot;
+use parking_lot_core::schedule::{Answer, Step, run};
 use std::alloc::Global;
 use std::process::Abort;
 use std::test::Fail;

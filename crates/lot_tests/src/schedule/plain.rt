@@ -4,10 +4,10 @@
 //!
 //! It knows no bucket, no node and no place, and no lot.
 
-use crate::lot::Status;
-use crate::schedule::tests::split::{Split, split_all, split_by, split_filter, split_first};
-use crate::schedule::{Answer, Op, Step};
+use crate::schedule::split::{Split, split_all, split_by, split_filter, split_first};
 use lot_base::token::{NoMemory, RequeueOp, UnparkResult, UnparkToken};
+use parking_lot_core::lot::Status;
+use parking_lot_core::schedule::{Answer, Op, Step};
 use std::alloc::Global;
 
 // The numbers of the threads that wait on a key, in order.

@@ -1,6 +1,12 @@
-use super::*;
-use crate::laws::acquire_and_release;
-use lot_base::token::DEFAULT_PARK_TOKEN;
+//! Worked rows of the exclusive lot, by its own calls.
+
+use lot_base::token::{
+    DEFAULT_PARK_TOKEN, FilterOp, LotError, Misfit, NoMemory, ParkResult, ParkToken, RequeueOp,
+    StepError, UnparkResult, UnparkToken,
+};
+use parking_lot_core::laws::acquire_and_release;
+use parking_lot_core::lot::{Lot, Status};
+use std::alloc::Global;
 use std::process::Abort;
 use std::test::Fail;
 

@@ -1,5 +1,7 @@
-use super::*;
-use crate::{ParkingLot, ThreadParker};
+//! The records of a thread, in its own data.
+
+use parking_lot_core::deadlock::{acquire_resource, release_resource};
+use parking_lot_core::{ParkingLot, ThreadData, ThreadParker};
 use std::process::Abort;
 use std::test::Fail;
 

@@ -1,10 +1,10 @@
 //! Worked rows of the table. The threads a, b and c are 0, 1 and 2, and the keys 0 and 13 have
 //! place 0 in a table of 16.
-#![tactic(auto)]
 
-use super::*;
 use lot_base::queue::Node;
-use lot_base::token::{NoMemory, ParkToken};
+use lot_base::token::{LotError, NoMemory, ParkToken};
+use parking_lot_core::table::Table;
+use std::alloc::Global;
 use std::test::Fail;
 
 // Lets a thread wait on a key.

@@ -1,7 +1,7 @@
 use Rattle.lot_base.proofs.FilterLemmas.{IsFilterCallable-always}
 use Rattle.parking_lot_core.specs.Lot.{machine}
 use Rattle.parking_lot_core.specs.Lot.{waiter_park_tokens}
-use Rattle.parking_lot_core.proofs.lot.tests.unpark_by.Goals as goal
+use Rattle.lot_tests.proofs.lot.unpark_by.Goals as goal
 
 pub unpark_filter-result-requires-clause-filter : goal.unpark_filter-result-requires-clause-filter
 unpark_filter-result-requires-clause-filter g c =

@@ -1,12 +1,15 @@
 //! Worked rows of `run`. The threads a, b, c and d are 0, 1, 2 and 3.
-#![tactic(auto)]
 
 mod compare;
 mod plain;
 mod split;
 mod steps;
 
-use super::*;
+use lot_base::token::{
+    FilterOp, LotError, NoMemory, ParkToken, RequeueOp, UnparkResult, UnparkToken,
+};
+use parking_lot_core::lot::{Lot, Status};
+use parking_lot_core::schedule::{Answer, Op, Step, run};
 use std::alloc::Global;
 use std::process::Abort;
 use std::test::Fail;

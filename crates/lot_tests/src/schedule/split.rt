@@ -1,8 +1,8 @@
 //! What each step makes of the waiters of a key: the table of docs/MODEL.md, on lists of thread
 //! numbers.
 
-use crate::schedule::Answer;
 use lot_base::token::{FilterOp, NoMemory, RequeueOp, UnparkResult};
+use parking_lot_core::schedule::Answer;
 use std::alloc::Global;
 
 /// What becomes of the waiters of a key.

@@ -1,0 +1,10 @@
+//! Tests of the exclusive lot, of its table and of schedules, by their public calls alone. A crate's
+//! tests are proved with all of it, so the long ones are crates of their own.
+#![tactic(auto)]
+
+#[cfg(test)]
+mod lot;
+#[cfg(test)]
+mod schedule;
+#[cfg(test)]
+mod table;

@@ -1,0 +1,123 @@
+//! One thread alone, which parks and unparks itself before it sleeps.
+
+use super::*;
+use std::cell::Cell;
+
+const OTHER_KEY: usize = 8;
+
+// A requeue that aborts, and whether its closures were called.
+fn abort_a_requeue<P: ThreadParkerT, R: Wait>(
+    rt: &R,
+    lot: &ParkingLot<P>,
+) -> (UnparkResult, bool, bool) {
+    let (asked, told) = (Cell::new(false), Cell::new(false));
+    let result = unpark_requeue(
+        rt,
+        lot,
+        KEY,
+        OTHER_KEY,
+        || {
+            asked.set(true);
+            RequeueOp::Abort
+        },
+        |_, _| {
+            told.set(true);
+            UnparkToken(1)
+        },
+    );
+    (result, asked.get(), told.get())
+}
+
+// It refuses a requeue that moves the waiters or takes one of them although `validate` aborts.
+#[test]
+fn a_requeue_that_aborts_does_nothing(rt: HostRuntime) -> Result<(), Fail> {
+    let lot = Lot::new(rt.alloc(), 1)?;
+    let mut data = lot.thread_data(&rt, rt.alloc())?;
+    let result = park(
+        &rt,
+        &lot,
+        &mut data,
+        KEY,
+        || true,
+        || {
+            let (result, asked, told) = abort_a_requeue(&rt, &lot);
+            assert_eq!(rt; result, UnparkResult::default());
+            assert!(rt; asked && !told);
+            let result = unpark_one(&rt, &lot, KEY, |_| UnparkToken(42));
+            assert_eq!(rt; result.unparked_threads, 1);
+        },
+        |_, _| (),
+        DEFAULT_PARK_TOKEN,
+        None,
+    );
+    assert_eq!(rt; result, ParkResult::Unparked(UnparkToken(42)));
+    Ok(())
+}
+
+// It refuses a requeue that calls back only where somebody waits.
+#[test]
+fn a_requeue_of_nobody_calls_back_with_the_default_result(rt: HostRuntime) -> Result<(), Fail> {
+    let lot = Lot::new(rt.alloc(), 1)?;
+    let mut told = None;
+    let result = unpark_requeue(
+        &rt,
+        &lot,
+        KEY,
+        OTHER_KEY,
+        || RequeueOp::RequeueAll,
+        |op, answer| {
+            told = Some((op, answer));
+            DEFAULT_UNPARK_TOKEN
+        },
+    );
+    assert_eq!(rt; result, UnparkResult::default());
+    assert_eq!(rt;
+        told,
+        Some((RequeueOp::RequeueAll, UnparkResult::default()))
+    );
+    Ok(())
+}
+
+// Lists the waiters of the greatest key, and unparks them all by a filter, with the greatest token.
+// It tells who waited, and which park token the filter was shown last.
+fn unpark_the_greatest<R: Wait>(
+    rt: &R,
+    alloc: Global,
+    lot: &Lot,
+) -> Option<(Vec<usize>, ParkToken)> {
+    let waiting = lot.list(rt, alloc, usize::MAX).ok()?;
+    let mut shown = None;
+    let filter = |token| {
+        shown = Some(token);
+        FilterOp::Unpark
+    };
+    unpark_by(rt, lot, usize::MAX, filter, |_| UnparkToken(usize::MAX));
+    Some((waiting, shown?))
+}
+
+// It refuses a `park` that enters under another number or another key, that drops its park token,
+// or that answers another token where the token is large.
+#[test]
+fn the_greatest_key_and_tokens_come_through(rt: HostRuntime) -> Result<(), Fail> {
+    let lot = Lot::new(rt.alloc(), 2)?;
+    drop(lot.thread_data(&rt, rt.alloc())?);
+    let mut data = lot.thread_data(&rt, rt.alloc())?;
+    let result = park(
+        &rt,
+        &lot,
+        &mut data,
+        usize::MAX,
+        || true,
+        || {
+            let unparked = unpark_the_greatest(&rt, rt.alloc(), &lot);
+            let (waiting, shown) = unparked.expect(&rt, "the thread waits");
+            assert_eq!(rt; waiting.as_slice(), &[1][..]);
+            assert_eq!(rt; shown, ParkToken(usize::MAX));
+        },
+        |_, _| (),
+        ParkToken(usize::MAX),
+        None,
+    );
+    assert_eq!(rt; result, ParkResult::Unparked(UnparkToken(usize::MAX)));
+    Ok(())
+}
