@@ -1,9 +1,10 @@
 //! Worked rows of `run`. The threads a, b, c and d are 0, 1, 2 and 3.
 
+pub(crate) mod arbitrary;
 mod compare;
-mod plain;
+pub(crate) mod plain;
 mod split;
-mod steps;
+pub(crate) mod steps;
 
 use lot_base::token::{
     FilterOp, LotError, NoMemory, ParkToken, RequeueOp, UnparkResult, UnparkToken,

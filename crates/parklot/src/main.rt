@@ -1,4 +1,5 @@
-//! The program: `parklot threads` parks and unparks on a lot, and prints what it saw.
+//! The program: `parklot run` answers the steps that it reads, one a line, and `parklot threads`
+//! parks and unparks threads on a lot, and prints what it saw.
 #![tactic(auto)]
 
 mod program;

@@ -3,6 +3,7 @@
 mod buckets;
 mod latch;
 mod pair;
+mod session;
 mod single;
 #[cfg(test)]
 mod tests;
@@ -33,15 +34,17 @@ const TOKEN: UnparkToken = UnparkToken(42);
 const DELAY_MICROS: u64 = 10_000;
 
 enum Command {
+    Run,
     Threads,
 }
 
 /// Runs the command that the arguments name. Any other words, none or too many are answered by the
 /// usage line on the error output and the status 2.
-pub fn run<R: Env + Print + Eprint + AllocGlobal + Threads + Wait + Clock + Copy + Send + 'static>(
-    rt: &R,
-) -> ExitCode {
+pub fn run<
+    R: Env + Input + Print + Eprint + AllocGlobal + Threads + Wait + Clock + Copy + Send + 'static,
+>(rt: &R) -> ExitCode {
     match chosen_command(rt) {
+        Some(Command::Run) => session::run(rt),
         Some(Command::Threads) => threads(rt),
         None => {
             let _ = eprintln!(rt; "usage: parklot run | parklot threads");
@@ -58,6 +61,7 @@ fn chosen_command<R: Env + AllocGlobal>(rt: &R) -> Option<Command> {
         return None;
     }
     match word.as_str() {
+        "run" => Some(Command::Run),
         "threads" => Some(Command::Threads),
         _ => None,
     }

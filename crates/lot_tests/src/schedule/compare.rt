@@ -1,5 +1,6 @@
 //! The lot beside the plain machine: all short lists of steps, and long lists of arbitrary ones.
 
+use crate::schedule::arbitrary::{Arbitrary, KEYS};
 use crate::schedule::plain::Plain;
 use crate::schedule::steps::{acquire, all, enter, enter_invalid, filter, one, release, requeue};
 use lot_base::token::{FilterOp, LotError, NoMemory, RequeueOp};
@@ -71,28 +72,30 @@ impl Pair {
         Ok(())
     }
 
-    // Compares the statuses of the numbers below the bound, their records of the keys, and the
-    // lists of the keys.
+    // Compares the threads whose numbers are below the bound, and the lists of the keys.
     fn compare(&self, rt: &impl Abort, bound: usize, keys: &[usize]) -> Result<(), NoMemory> {
         for number in 0..bound {
-            assert_eq!(rt;
-                self.lot.status(number),
-                self.plain.status(number),
-                "{number}"
-            );
-            for key in keys {
-                assert_eq!(rt;
-                    self.lot.records(number, *key),
-                    self.plain.records(number, *key),
-                    "{number} of {key}"
-                );
-            }
+            self.compare_thread(rt, number, keys);
         }
         for key in keys {
             let found = self.lot.list(*key)?;
             assert_eq!(rt; found.as_slice(), self.plain.list(*key), "key {key}");
         }
         Ok(())
+    }
+
+    // Compares the status of the number, and its records of the keys.
+    fn compare_thread(&self, rt: &impl Abort, number: usize, keys: &[usize]) {
+        let status = self.lot.status(number);
+        assert_eq!(rt; status, self.plain.status(number), "{number}");
+        for key in keys {
+            let records = self.lot.records(number, *key);
+            assert_eq!(rt;
+                records,
+                self.plain.records(number, *key),
+                "{number} of {key}"
+            );
+        }
     }
 }
 
@@ -135,81 +138,6 @@ fn short_lists_of_steps_are_those_of_the_plain_machine(rt: HostRuntime) -> Resul
     }
     assert_eq!(rt; lists, 732_541);
     Ok(())
-}
-
-const KEYS: [usize; 5] = [0, 13, 1, 2, 7];
-
-// Arbitrary numbers: those of a linear congruential generator.
-#[derive(Drop)]
-struct Arbitrary {
-    state: usize,
-}
-
-impl Arbitrary {
-    // A number below the bound.
-    fn below(&mut self, bound: usize) -> usize {
-        self.state = self
-            .state
-            .wrapping_mul(6_364_136_223_846_793_005)
-            .wrapping_add(1_442_695_040_888_963_407);
-        (self.state >> 33).checked_rem(bound).unwrap_or(0)
-    }
-
-    fn key(&mut self) -> usize {
-        KEYS.get(self.below(5)).copied().unwrap_or(0)
-    }
-
-    fn op(&mut self) -> RequeueOp {
-        match self.below(5) {
-            0 => RequeueOp::Abort,
-            1 => RequeueOp::UnparkOneRequeueRest,
-            2 => RequeueOp::RequeueAll,
-            3 => RequeueOp::UnparkOne,
-            _ => RequeueOp::RequeueOne,
-        }
-    }
-
-    // A filter with up to seven decisions.
-    fn filter(&mut self, alloc: Global) -> Result<Step, NoMemory> {
-        let mut decisions = Vec::new(alloc);
-        for _ in 0..self.below(8) {
-            decisions.push(match self.below(8) {
-                0 => FilterOp::Stop,
-                1..=4 => FilterOp::Skip,
-                _ => FilterOp::Unpark,
-            })?;
-        }
-        filter(alloc, self.key(), decisions.as_slice(), self.below(1_000))
-    }
-
-    // A step of one of 40 threads. Three of 80 are registrations, and one is a retirement.
-    fn step(&mut self, alloc: Global) -> Result<Step, NoMemory> {
-        let thread = self.below(40);
-        Ok(match self.below(80) {
-            0..=2 => Step::Register,
-            3 => Step::Retire { thread },
-            4 => enter_invalid(thread, self.key()),
-            5..=12 => enter(thread, self.key(), false),
-            13..=23 => enter(thread, self.key(), true),
-            24..=27 => one(self.key(), self.below(1_000)),
-            28 => all(self.key(), self.below(1_000)),
-            29..=31 => self.filter(alloc)?,
-            32..=39 => requeue((self.key(), self.key()), self.op(), self.below(1_000)),
-            40..=49 => Step::Deadline { thread },
-            50..=59 => Step::Resolve { thread },
-            60..=66 => acquire(thread, self.key()),
-            67..=72 => release(thread, self.key()),
-            _ => Step::Return { thread },
-        })
-    }
-
-    fn steps(&mut self, alloc: Global, count: usize) -> Result<Vec<Step>, NoMemory> {
-        let mut steps = Vec::new(alloc);
-        for _ in 0..count {
-            steps.push(self.step(alloc)?)?;
-        }
-        Ok(steps)
-    }
 }
 
 // Notes that an answer of this kind was given. There are thirteen kinds beside a refusal of memory.
@@ -258,7 +186,7 @@ fn long_lists_of_steps_are_those_of_the_plain_machine(rt: HostRuntime) -> Result
     let mut expected = [true; 14];
     expected[13] = false;
     for seed in [1, 2, 3, 4, 5] {
-        let mut arbitrary = Arbitrary { state: seed };
+        let mut arbitrary = Arbitrary::new(seed, 40);
         let mut pair = Pair::new(rt.alloc(), 40)?;
         let mut seen = [false; 14];
         for _ in 0..60 {

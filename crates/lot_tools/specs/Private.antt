@@ -1,0 +1,3 @@
+-- What only private contracts cite.
+pub mod Parsing
+pub mod Turns

@@ -1,0 +1,48 @@
+-- What a script reads and writes at one line.
+use Rattle.std.specs.Prelude.{◌≡◌, ℕ, ◌<◌, List, [], ◌∷◌, ◌++◌, length, ⊤, Option, Some, IsSome, Result, Ok, Err, MatchResult}
+use Rattle.std.specs.Io.KnownBytes.{Appends}
+use Rattle.lot_tools.specs.declared.script.fault.Cause.{Cause}
+use Rattle.lot_tools.specs.declared.script.fault.Cause.TheVariants as cause
+use Rattle.lot_tools.specs.declared.script.input.Next.{Next}
+use Rattle.lot_tools.specs.declared.script.input.Next.TheVariants as next
+use Rattle.lot_tools.specs.declared.script.input.TheConstants.{MAX_LINE}
+use Rattle.lot_tools.specs.Lines.{lines_of}
+use Rattle.lot_tools.specs.Reply.{State}
+use Rattle.lot_tools.specs.Script.{IsAnswered, MayStop}
+
+-- a beginning of a text was appended
+pub record AppendsFront (old new : Option (List ℕ)) (text : List ℕ) : Type 0 where
+  pub front : List ℕ
+  pub rest : List ℕ
+  pub cut : text ≡ front ++ rest
+  pub appended : Appends old new front
+
+-- all of a text was appended, or at a refusal a beginning of it
+abbrev pub Writes : {E : Type 0} → Option (List ℕ) → Option (List ℕ) → Result (Unit {0}) E → List ℕ → Type 0
+Writes old new result text = MatchResult result (λ _. Appends old new text)
+    (λ _. AppendsFront old new text)
+
+-- of these bytes a line was read, and `left` is left
+abbrev pub IsLineRead : List ℕ → Option (List ℕ) → Result Next Cause → List ℕ → Type 0
+IsLineRead bytes left (Ok next.Line) line =
+    (rest : List ℕ) × (left ≡ Some rest) × (lines_of bytes ≡ line ∷ lines_of rest)
+IsLineRead bytes left (Ok next.End) line = lines_of bytes ≡ []
+IsLineRead bytes left (Err cause.BadStep) line =
+    (long : List ℕ) × (MAX_LINE < length long) × (rest : List (List ℕ)) × (lines_of bytes ≡ long ∷ rest)
+IsLineRead bytes left (Err cause.NoMemory) line = ⊤
+IsLineRead bytes left (Err cause.ReadFailed) line = ⊤
+IsLineRead bytes left (Err _) line = ⊥
+
+-- one line was read and answered, or there was none, or the script may stop so
+abbrev pub IsTurn : Option State → List ℕ → Option (List ℕ) → Result Next Cause → List ℕ → Option State → Type 0
+IsTurn old bytes left (Ok next.Line) written new =
+    (line : List ℕ) × (rest : List ℕ) × (left ≡ Some rest) × (lines_of bytes ≡ line ∷ lines_of rest)
+    × (answer : List ℕ) × IsAnswered old line answer new × (written ≡ answer ++ 10 ∷ [])
+IsTurn old bytes left (Ok next.End) written new =
+    (lines_of bytes ≡ []) × (written ≡ []) × (new ≡ old) × IsSome old
+IsTurn old bytes left (Err refusal) written new = MayStop old (lines_of bytes) refusal written
+
+-- a line was answered, or the script may stop so at it
+abbrev pub Answers : Option State → List ℕ → Result (Unit {0}) Cause → List ℕ → Option State → Type 0
+Answers old line (Ok _) written new = (answer : List ℕ) × IsAnswered old line answer new × (written ≡ answer ++ 10 ∷ [])
+Answers old line (Err refusal) written new = MayStop old (line ∷ []) refusal written

@@ -1,0 +1,4 @@
+//! Tools that stand on an exclusive lot.
+#![tactic(auto)]
+
+pub mod script;
