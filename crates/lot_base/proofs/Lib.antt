@@ -12,3 +12,6 @@ pub mod RemoveLemmas
 pub mod SpreadLemmas
 pub mod LawLemmas
 pub mod TestLemmas
+pub mod WordCounts
+pub mod WordKeeps
+pub mod WordLockHolds

@@ -18,3 +18,12 @@ pub mod Fold
 -- Last what a node shows of itself, and what the type of a queue keeps of its nodes.
 pub mod Node
 pub mod Chain
+-- A word lock: the places of its list, what its callers know, the rule that holds between any two steps, and what
+-- `lock` gives.
+pub mod WordPlaces
+pub mod WordView
+pub mod WordLockInvariant
+pub mod WordLock
+-- Then the same rule as its table keeps it, and what each step tells its caller.
+pub mod WordRule
+pub mod WordSteps

@@ -8,3 +8,4 @@ pub mod queue;
 pub mod spinwait;
 pub mod thread_parker;
 pub mod token;
+pub mod word_lock;

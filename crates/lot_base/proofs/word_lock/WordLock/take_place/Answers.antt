@@ -1,0 +1,35 @@
+use Rattle.std.proofs.Common.{rules, ◌+◌, ◌==◌, [], refl, ap, ◌∙◌, eqb-true, Option}
+use mathlib.Core.Option.{none}
+use prog.Atomic.{either}
+use Rattle.atomic_table.specs.Table.{step, Me}
+use Rattle.lot_base.specs.declared.word_lock.view.View.{View}
+use Rattle.lot_base.specs.WordView.{with_place}
+use Rattle.lot_base.specs.WordSteps.{took_place}
+use Rattle.lot_base.specs.declared.word_lock.view.View.TheVariants.{Trying}
+use Rattle.lot_base.proofs.WordKeeps.{takes_place, at_view}
+use Rattle.lot_base.proofs.word_lock.WordLock.take_place.Goals as goal
+
+pub compare_exchange-requires : goal.compare_exchange-requires
+compare_exchange-requires g c =
+    let place = c.args.place in
+    let id = c.args.caller.now.seat.id in
+    let tries = c.requires.tries in (
+      search rules,
+      search rules,
+      at_view g.T.Fits.fits _ _ id _ (Trying tries.0 0 0, []) (place + 4)
+          (λ x. either (x == 0) 1 x) (λ n m. took_place (step n (place + 4) 0 1 none) m) refl tries.1
+          (takes_place g.T.Fits.fits _ id tries.0 place none c.requires.place),
+    )
+
+pub returns-clause-has : goal.returns-clause-has
+returns-clause-has g c = λ won.
+    let place = c.args.place in
+    let tries = c.requires.tries in
+    let took = c.compare_exchange.ensures.2.0 (eqb-true c.compare_exchange.result 0 won) place refl in (
+      took.0,
+      (
+        tries.0,
+        took.1 ∙ ap (λ m. let r : Me (Option g.row.T.Denot) View =
+            (with_place m.0 place took.0, m.1) in r) tries.1,
+      ),
+    )

@@ -1,0 +1,39 @@
+-- A word lock and its callers as contracts see them.
+use Rattle.std.specs.Prelude.{◌≡◌, ◌+◌, ◌*◌, ◌≤◌, ℕ, Bool, List, ◌∷◌, [], length, Option, None, Some}
+use Rattle.atomic_table.specs.Table.{Me}
+use Rattle.lot_base.specs.declared.word_lock.view.View.{View}
+use Rattle.lot_base.specs.declared.word_lock.view.View.TheVariants.{Trying, Holding}
+use Rattle.lot_base.specs.declared.word_lock.WordLock.{WordLock}
+use Rattle.lot_base.specs.declared.word_lock.Held.{Held}
+use Rattle.lot_base.specs.declared.word_lock.steps.Caller.{Caller}
+use Rattle.lot_base.specs.WordPlaces.{IsPlace}
+
+module _ {T : Type 0} where
+  -- the caller is one of this lock
+  abbrev pub IsCallerOf : WordLock T → Caller T → Type 0
+  IsCallerOf lock caller = caller.seat.table_id ≡ lock.table.shared.table_id
+
+  -- what the caller knows, and the slots that are out with it, each with what is in it
+  abbrev pub seat_of : Caller T → Me (Option T) View
+  seat_of caller = caller.seat.me
+
+  -- it is what `lock` of this lock gave: a caller that holds the lock, whose value is out of the slot
+  abbrev pub IsHeldOf : WordLock T → Held T → Type 0
+  IsHeldOf lock held = IsCallerOf lock held.caller × (seat_of held.caller ≡ (Holding [] [], (0, None) ∷ []))
+
+  -- the caller has this place, or none at 0, whose link says n, and does not wait with it
+  abbrev pub IsTrying : Caller T → ℕ → ℕ → Type 0
+  IsTrying caller p n = (woken : Bool) × (seat_of caller ≡ (Trying woken p n, []))
+
+  -- the slot is out with the caller, and has a value that fits
+  abbrev pub HasHome : (T → Type 0) → Caller T → Type 0
+  HasHome fits caller = (value : T) × ((seat_of caller).1 ≡ (0, Some value) ∷ []) × fits value
+
+  -- the caller holds the lock and has seen the list from these places on
+  abbrev pub Sees : Caller T → List ℕ → Type 0
+  Sees caller places = (seat_of caller).0 ≡ Holding places []
+
+  -- the caller holds the lock and has seen the list from the place on that this word tells, with n or more behind it
+  abbrev pub SeesMore : Caller T → ℕ → ℕ → Type 0
+  SeesMore caller n word = (newest : ℕ) × (older : List ℕ) × Sees caller (newest ∷ older) × (word ≡ 1 + 2 * newest)
+      × IsPlace newest × (n ≤ length older)
