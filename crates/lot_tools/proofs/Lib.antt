@@ -4,3 +4,6 @@ pub mod WordLemmas
 pub mod ParseLemmas
 pub mod ReplyLemmas
 pub mod ScriptLemmas
+pub mod JournalLemmas
+pub mod RecordLemmas
+pub mod JournalTotalLemmas

@@ -1,4 +1,6 @@
 //! Tools that stand on an exclusive lot.
 #![tactic(auto)]
 
+pub mod record;
+pub mod recording_lot;
 pub mod script;

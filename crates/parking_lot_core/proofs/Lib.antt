@@ -21,3 +21,4 @@ pub mod LawLemmas
 pub mod AnswerLemmas
 pub mod GrowthLemmas
 pub mod ParkingLotLemmas
+pub mod TotalLemmas

@@ -63,7 +63,7 @@ module _ {F : Type 0} (calls : Mut F (ParkToken × Unit {0}) FilterOp) (rest : F
           ∙ ap (λ d. split_filter (d ∷ decisions) (waiter ∷ waiters)) same
 
 -- a run, and one step more
-IsRun-push : (m : Machine) (steps : List Step) (answers : List Answer) (now last : Machine) (step : Step)
+pub IsRun-push : (m : Machine) (steps : List Step) (answers : List Answer) (now last : Machine) (step : Step)
     (given : Answer) → IsRun m steps answers now → IsStep now step given last
     → IsRun m (steps ++ step ∷ []) (answers ++ given ∷ []) last
 IsRun-push m [] [] now last step given same next =

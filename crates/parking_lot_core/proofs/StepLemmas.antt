@@ -18,7 +18,7 @@ use Rattle.parking_lot_core.specs.declared.schedule.Step.{Step}
 use Rattle.parking_lot_core.specs.declared.schedule.Step.TheVariants.{Register, Retire, Enter, Unpark, Deadline}
 use Rattle.parking_lot_core.specs.declared.schedule.Step.TheVariants.{Resolve, Return, Acquire, Release}
 use Rattle.parking_lot_core.specs.Records.{one_more, one_less}
-use Rattle.parking_lot_core.specs.Status.{is_registered, is_running, is_queued, is_timed, awaits_deadline}
+use Rattle.parking_lot_core.specs.Status.{is_registered, is_running, is_queued, is_timed, is_taken, awaits_deadline}
 use Rattle.parking_lot_core.specs.Machine.{Machine, Waiter, StandsAt, MatchesStatus, IsConsistent, times_in}
 use Rattle.parking_lot_core.specs.Machine.{with_status, with_records, after_retire, after_enter, after_unpark}
 use Rattle.parking_lot_core.specs.Machine.{after_requeue, after_timeout}
@@ -49,6 +49,14 @@ Waiting-from status.Free is = absurd (false≢true is)
 Waiting-from status.Running is = absurd (false≢true is)
 Waiting-from status.Late is = absurd (false≢true is)
 Waiting-from (status.Taken token) is = absurd (false≢true is)
+
+-- who was taken stands in no list
+pub is_queued-taken : (st : Status) → is_taken st ≡ true → is_queued st ≡ false
+is_queued-taken (status.Taken token) taken = refl
+is_queued-taken status.Free taken = absurd (false≢true taken)
+is_queued-taken status.Running taken = absurd (false≢true taken)
+is_queued-taken (status.Waiting timed) taken = absurd (false≢true taken)
+is_queued-taken status.Late taken = absurd (false≢true taken)
 
 module _ (m : Machine) (keys : ℕ → ℕ) (right : MatchesStatus keys m) where
   -- where these rules lead, lists and statuses agree

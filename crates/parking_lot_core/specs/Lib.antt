@@ -13,6 +13,7 @@ pub mod Represents
 pub mod Lot
 -- Then what follows for every machine and every run.
 pub mod Laws
+pub mod Totals
 -- Then what a table keeps, and the threaded lot as contracts see it.
 pub mod TableState
 pub mod Table

@@ -8,6 +8,7 @@ ghost use Rattle.parking_lot_core.specs.LotState.{KeepsSize};
 ghost use Rattle.parking_lot_core.specs.Lot.{machine};
 ghost use Rattle.parking_lot_core.specs.Machine.{after_unpark};
 ghost use Rattle.parking_lot_core.specs.Laws.{StepAndAnswerFixTheState, AnswersFixTheRun, EachStepHasAnAnswer, NoOtherAnswer, OnlyMemoryIsOpen, AbortChangesNothing, ReleaseUndoesAcquire, NewMachinesAreConsistent, StepsKeepConsistency, ListsAreShort, AnswersCountThreads, ParksAndOutcomesAlternate};
+ghost use Rattle.parking_lot_core.specs.Totals.{UnparkedThreadsComeBack};
 
 use crate::lot::{Lot, Status};
 use lot_base::token::{
@@ -58,6 +59,13 @@ pub fn steps_keep_consistency()
 /// has at most one outcome, and no outcome comes without a park.
 pub fn parks_and_outcomes_alternate()
     ensures { ParksAndOutcomesAlternate }
+{}
+
+/// In every run that begins with a consistent machine the threads that its unparks took, and those
+/// that were taken before, are as many as the answers `Unparked` and those that are taken at its
+/// end.
+pub fn unparked_threads_come_back()
+    ensures { UnparkedThreadsComeBack }
 {}
 
 /// Unparks every waiter of the key by a filter that always answers `Unpark`: it does what

@@ -1,7 +1,9 @@
-//! Tests of the threaded lot by its public calls alone.
+//! Tests of the threaded lot, and of recording lots, by their public calls alone.
 #![tactic(auto)]
 
 #[cfg(test)]
 mod deadlock;
 #[cfg(test)]
 mod parking_lot;
+#[cfg(test)]
+mod recording_lot;

@@ -2,3 +2,4 @@ pub mod ValueLemmas
 pub mod DeadlineLemmas
 pub mod VainLemmas
 pub mod TaskLemmas
+pub mod ReplayLemmas

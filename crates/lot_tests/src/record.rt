@@ -1,0 +1,128 @@
+//! Records: worked rows, and records beside the plain machine.
+
+ghost use Rattle.std.specs.Prelude.{◌≤◌};
+ghost use Rattle.lot_tools.specs.declared.record.TheConstants.{MAX_JOURNAL};
+
+mod plain;
+
+use crate::schedule::arbitrary::Arbitrary;
+use crate::schedule::steps::{enter, filter, one, requeue, unparked};
+use lot_base::token::{FilterOp, LotError, NoMemory, RequeueOp, UnparkToken};
+use lot_tools::record::{Record, RecordError};
+use parking_lot_core::lot::Lot;
+use parking_lot_core::schedule::{Answer, Step};
+use plain::PlainRecord;
+use std::alloc::Global;
+use std::process::Abort;
+use std::test::Fail;
+
+const THREADS: usize = 3;
+
+// How many steps each of the arbitrary lists has.
+const STEPS: usize = 150;
+
+// The greatest room of the journals of arbitrary steps.
+const ROOM: usize = 40;
+
+#[test]
+fn each_refusal_has_its_text(rt: HostRuntime) -> Result<(), Fail> {
+    assert_eq!(&rt;
+        RecordError::JournalFull.to_string(rt.alloc())?.as_str(),
+        "journal is full"
+    );
+    assert_eq!(&rt;
+        RecordError::NoMemory.to_string(rt.alloc())?.as_str(),
+        "no memory"
+    );
+    Ok(())
+}
+
+// The entries of a timed park are set aside for it, and no other step gets them. It refuses a
+// record that tells another kind, number, key or answer than the machine does.
+#[test]
+fn a_full_journal_has_room_for_the_end_of_a_park(rt: HostRuntime) -> Result<(), Fail> {
+    let mut record = Record::new(rt.alloc(), 1, 4)?;
+    assert_eq!(&rt; record.step(Step::Register), Ok(Answer::Registered(0)));
+    assert_eq!(&rt; record.step(enter(0, 1, true)), Ok(Answer::Entered));
+    assert_eq!(&rt; record.step(one(1, 42)), Err(RecordError::JournalFull));
+    assert_eq!(&rt; record.step(Step::Deadline { thread: 0 }), Ok(Answer::Late));
+    let timed_out = Answer::TimedOut { key: 1, last: true };
+    assert_eq!(&rt; record.step(Step::Resolve { thread: 0 }), Ok(timed_out));
+    assert_eq!(&rt; record.step(Step::Register), Err(RecordError::JournalFull));
+    assert_eq!(&rt;
+        record.step(Step::Resolve { thread: 0 }),
+        Ok(Answer::Misfit)
+    );
+    assert_eq!(&rt; record.journal().len(), 4);
+    Ok(())
+}
+
+#[test]
+fn a_skipping_filter_and_a_requeue_to_itself_are_journalled(rt: HostRuntime) -> Result<(), Fail> {
+    let mut record = Record::new(rt.alloc(), 3, 20)?;
+    for _ in 0..3 {
+        record.step(Step::Register).expect(&rt, "room");
+    }
+    for thread in 0..3 {
+        assert_eq!(&rt; record.step(enter(thread, 1, false)), Ok(Answer::Entered));
+    }
+    let decisions = [FilterOp::Skip, FilterOp::Unpark];
+    let filtered = record.step(filter(rt.alloc(), 1, decisions.as_slice(), 5)?);
+    assert_eq!(&rt; filtered, Ok(unparked(1, 0, true)));
+    assert_eq!(&rt; record.lot().list(1)?.as_slice(), &[0, 2][..]);
+    let requeued = record.step(requeue((1, 1), RequeueOp::UnparkOneRequeueRest, usize::MAX));
+    assert_eq!(&rt; requeued, Ok(unparked(1, 1, false)));
+    assert_eq!(&rt; record.lot().list(1)?.as_slice(), &[2][..]);
+    assert_eq!(&rt; record.journal().len(), 8);
+    Ok(())
+}
+
+#[test]
+fn a_journal_without_room_takes_no_step_that_fits(rt: HostRuntime) -> Result<(), Fail> {
+    let mut record = Record::new(rt.alloc(), 0, 0)?;
+    assert_eq!(&rt; record.step(Step::Register), Err(RecordError::JournalFull));
+    assert_eq!(&rt; record.step(Step::Retire { thread: 0 }), Ok(Answer::Misfit));
+    let mut record = Record::new(rt.alloc(), 0, 1)?;
+    assert_eq!(&rt; record.step(Step::Register), Ok(Answer::Full));
+    assert_eq!(&rt; record.step(Step::Register), Err(RecordError::JournalFull));
+    assert_eq!(&rt; record.journal().len(), 1);
+    Ok(())
+}
+
+// Does the journal's steps on a new lot, and compares the answers.
+fn expect_replay(rt: &impl Abort, alloc: Global, record: &Record) -> Result<(), LotError> {
+    let mut lot = Lot::new(alloc, THREADS)?;
+    for (step, answer) in record.journal() {
+        assert_eq!(rt; lot.apply(step), *answer);
+    }
+    Ok(())
+}
+
+// Does so many arbitrary steps on a record with so much room, and on a plain one.
+fn expect_plain(rt: &impl Abort, alloc: Global, capacity: usize) -> Result<(), LotError>
+    requires { capacity ≤ MAX_JOURNAL }
+{
+    let mut record = Record::new(alloc, THREADS, capacity)?;
+    let mut plain = PlainRecord::new(alloc, THREADS, capacity)?;
+    // One number more than the lot has, so that some steps are of nobody.
+    let mut arbitrary = Arbitrary::new(capacity, THREADS + 1);
+    for number in 0..STEPS {
+        let step = arbitrary.step(alloc)?;
+        let expected = plain.step(&step)?;
+        assert_eq!(rt;
+            record.step(step),
+            expected,
+            "step {number} of room {capacity}"
+        );
+    }
+    assert_eq!(rt; record.journal().len(), plain.entries());
+    expect_replay(rt, alloc, &record)
+}
+
+#[test]
+fn records_of_every_small_room_do_as_the_plain_machine(rt: HostRuntime) -> Result<(), Fail> {
+    for capacity in 0..ROOM {
+        expect_plain(&rt, rt.alloc(), capacity)?;
+    }
+    Ok(())
+}

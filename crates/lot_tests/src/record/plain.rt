@@ -1,0 +1,128 @@
+//! The plain machine, with a journal's count of entries and of those that are set aside.
+
+use crate::schedule::plain::Plain;
+use lot_base::token::NoMemory;
+use lot_tools::record::RecordError;
+use parking_lot_core::lot::Status;
+use parking_lot_core::schedule::{Answer, Step};
+use std::alloc::Global;
+
+// What may still come of a thread's park: its end, and with a timeout first its deadline.
+#[derive(Copy, Clone)]
+enum Park {
+    None,
+    End,
+    DeadlineAndEnd,
+}
+
+/// A plain machine, and how many entries its journal has, room for how many, and which are still to
+/// come.
+#[derive(Drop)]
+pub struct PlainRecord {
+    plain: Plain,
+    capacity: usize,
+    entries: usize,
+    parks: Vec<Park>,
+}
+
+impl PlainRecord {
+    pub fn new(
+        alloc: Global,
+        max_threads: usize,
+        capacity: usize,
+    ) -> Result<PlainRecord, NoMemory> {
+        let mut parks = Vec::new(alloc);
+        for _ in 0..max_threads {
+            parks.push(Park::None)?;
+        }
+        Ok(PlainRecord {
+            plain: Plain::new(alloc, max_threads)?,
+            capacity,
+            entries: 0,
+            parks,
+        })
+    }
+
+    /// How many entries the journal has.
+    pub fn entries(&self) -> usize {
+        self.entries
+    }
+
+    /// Does the step by its rule, unless the journal has no room for it.
+    pub fn step(&mut self, step: &Step) -> Result<Result<Answer, RecordError>, NoMemory> {
+        if self.fits(step) && self.is_full_for(step) {
+            return Ok(Err(RecordError::JournalFull));
+        }
+        let answer = self.plain.step(step)?;
+        if answer != Answer::Misfit {
+            self.entries = self.entries.wrapping_add(1);
+            self.note_park(step, answer);
+        }
+        Ok(Ok(answer))
+    }
+
+    fn fits(&self, step: &Step) -> bool {
+        match step {
+            Step::Register | Step::Unpark(_) => true,
+            Step::Retire { thread }
+            | Step::Enter { thread, .. }
+            | Step::Acquire { thread, .. }
+            | Step::Release { thread, .. } => self.plain.status(*thread) == Status::Running,
+            Step::Deadline { .. } | Step::Resolve { .. } | Step::Return { .. } => false,
+        }
+    }
+
+    // Whether the step needs more than there is. Those that end a park, or tell of its deadline,
+    // have their entries set aside.
+    fn is_full_for(&self, step: &Step) -> bool {
+        let needed: usize = match step {
+            Step::Enter {
+                valid: true,
+                timed: true,
+                ..
+            } => 3,
+            Step::Enter { valid: true, .. } => 2,
+            _ => 1,
+        };
+        self.entries.wrapping_add(self.aside()).wrapping_add(needed) > self.capacity
+    }
+
+    // How many entries are set aside.
+    fn aside(&self) -> usize {
+        let mut aside: usize = 0;
+        for park in &self.parks {
+            aside = aside.wrapping_add(match park {
+                Park::None => 0,
+                Park::End => 1,
+                Park::DeadlineAndEnd => 2,
+            });
+        }
+        aside
+    }
+
+    fn note_park(&mut self, step: &Step, answer: Answer) {
+        match (step, answer) {
+            (
+                Step::Enter {
+                    thread,
+                    timed: true,
+                    ..
+                },
+                Answer::Entered,
+            ) => self.set_park(*thread, Park::DeadlineAndEnd),
+            (Step::Enter { thread, .. }, Answer::Entered) | (Step::Deadline { thread }, _) => {
+                self.set_park(*thread, Park::End)
+            }
+            (Step::Resolve { thread } | Step::Return { thread }, _) => {
+                self.set_park(*thread, Park::None)
+            }
+            _ => (),
+        }
+    }
+
+    fn set_park(&mut self, thread: usize, park: Park) {
+        if let Some(old) = self.parks.get_mut(thread) {
+            *old = park;
+        }
+    }
+}

@@ -1,0 +1,111 @@
+-- A record before and after a step.
+use Rattle.std.proofs.Common.{◌≡◌, ◌≢◌, ℕ, ◌+◌, ◌≤◌, ◌<◌, [], ◌∷◌, ◌++◌, length, List, refl, sym, ap, ◌∙◌, subst, arith}
+use Rattle.std.proofs.Common.{replicate, ⊎_elim, length-append}
+use Rattle.std.proofs.lemmas.Bool.{cases_lt}
+use Rattle.std.proofs.lemmas.List.{map-append, length-replicate}
+use Rattle.std.proofs.lemmas.List.Sums.{fold-append}
+use Rattle.std.specs.List.{sum}
+use Rattle.parking_lot_core.specs.declared.schedule.Answer.{Answer}
+use Rattle.parking_lot_core.specs.declared.schedule.Answer.TheVariants as answer
+use Rattle.parking_lot_core.specs.declared.schedule.Step.{Step}
+use Rattle.parking_lot_core.specs.LotState.{LotState}
+use Rattle.parking_lot_core.specs.Lot.{machine}
+use Rattle.parking_lot_core.specs.Machine.{new_machine}
+use Rattle.parking_lot_core.specs.Steps.{IsStep, IsRun}
+use Rattle.parking_lot_core.proofs.ScheduleLemmas.{IsRun-push}
+use Rattle.parking_lot_core.proofs.StepLemmas.{IsConsistent-new}
+use Rattle.lot_tools.specs.Journal.{steps_of, answers_of, Entry, Replays, asides_of, set_aside_by, with_aside, needed}
+use Rattle.lot_tools.specs.RecordState.{RecordState}
+use Rattle.lot_tools.specs.Record.{IsRecord, LacksRoom, IsRecorded, aside, told, entries_for}
+use Rattle.lot_tools.proofs.JournalLemmas.{Backing, Backing-run, Keeps, IsStep-keeps}
+
+pub entries_for-fitting : (step : Step) (given : Answer) → given ≢ answer.Misfit
+    → entries_for step given ≡ (step, given) ∷ []
+entries_for-fitting step answer.Misfit fitting = absurd (fitting refl)
+entries_for-fitting step _ fitting = refl
+
+pub IsRecorded-told : (old : RecordState) (step : Step) (given : Answer) (new : RecordState)
+    → (LacksRoom old step → ⊥) → IsStep (machine old.lot) step given (machine new.lot)
+    → new.journal ≡ old.journal ++ entries_for step given → new.capacity ≡ old.capacity
+    → IsRecorded old step (told given) new
+IsRecorded-told old step answer.NoMemory new roomy does journal capacity =
+    (roomy, answer.NoMemory, refl, does, journal, capacity)
+IsRecorded-told old step given new roomy does journal capacity = (roomy, given, refl, does, journal, capacity)
+
+-- what is set aside for the threads of a record covers what they may still do
+pub IsRecord-backing : (state : RecordState) → IsRecord state
+    → Backing (machine state.lot) (asides_of (machine state.lot).max_threads state.journal)
+IsRecord-backing state is =
+    let max : ℕ = (machine state.lot).max_threads in
+    Backing-run state.journal (new_machine max) (replicate max 0) (machine state.lot) (record {
+      consistent = IsConsistent-new max;
+      long = length-replicate max 0;
+      backed = λ _. tt;
+    }) is.replays
+
+module _ (old : RecordState) (is : IsRecord old) (step : Step) (given : Answer) (lot : LotState)
+    (does : IsStep (machine old.lot) step given (machine lot)) where
+  abbrev backing : Backing (machine old.lot) (asides_of (machine old.lot).max_threads old.journal)
+  backing = IsRecord-backing old is
+
+  pub keeps : Keeps (machine old.lot) (asides_of (machine old.lot).max_threads old.journal) step (machine lot) given
+  keeps = IsStep-keeps (machine old.lot) given (machine lot) (asides_of (machine old.lot).max_threads old.journal)
+      backing.consistent.0 backing.consistent.1 backing.long backing.backed step does
+
+  -- the record with the step's entry
+  abbrev pub pushed : RecordState
+  pushed = record { lot = lot; journal = old.journal ++ (step, given) ∷ []; capacity = old.capacity }
+
+  pub asides_of-pushed : asides_of (machine lot).max_threads pushed.journal
+      ≡ with_aside (asides_of (machine old.lot).max_threads old.journal) (set_aside_by step given)
+  asides_of-pushed =
+      ap (λ max. asides_of max pushed.journal) keeps.max_threads
+      ∙ fold-append (λ now entry. with_aside now (set_aside_by entry.0 entry.1))
+      (replicate (machine old.lot).max_threads 0) old.journal ((step, given) ∷ [])
+
+  pub IsRecord-pushed : (LacksRoom old step → ⊥) → given ≢ answer.Misfit → IsRecord pushed
+  IsRecord-pushed roomy fitting = record {
+    replays = replays;
+    room = room;
+    capacity = is.capacity;
+  }
+    where
+      max : ℕ
+      max = (machine old.lot).max_threads
+
+      replays : Replays (machine lot).max_threads pushed.journal (machine lot)
+      replays =
+          subst (λ n. Replays n pushed.journal (machine lot)) (sym keeps.max_threads)
+          (subst (λ steps. IsRun (new_machine max) steps (answers_of pushed.journal) (machine lot))
+          (sym (map-append (λ entry. entry.0) old.journal ((step, given) ∷ [])))
+          (subst (λ answers. IsRun (new_machine max) (steps_of old.journal ++ step ∷ []) answers (machine lot))
+          (sym (map-append (λ entry. entry.1) old.journal ((step, given) ∷ [])))
+          (IsRun-push (new_machine max) (steps_of old.journal) (answers_of old.journal) (machine old.lot) (machine lot)
+          step given is.replays does)))
+
+      room : length pushed.journal + aside pushed ≤ old.capacity
+      room =
+          let fits : needed step + (length old.journal + aside old) ≤ old.capacity =
+          ⊎_elim (λ (lacks : old.capacity < length old.journal + aside old + needed step).
+          absurd (roomy (keeps.fitting fitting, lacks)))
+          (λ (enough : length old.journal + aside old + needed step ≤ old.capacity). omega (arith, enough))
+          (cases_lt old.capacity (length old.journal + aside old + needed step)) in
+          let longer = length-append old.journal ((step, given) ∷ []) in
+          let taken = keeps.room fitting in
+          let left = ap sum asides_of-pushed in
+          omega (arith, fits, longer, taken, left)
+
+  -- the record that has this journal
+  pub IsRecord-grown : (LacksRoom old step → ⊥) → given ≢ answer.Misfit → (journal : List Entry)
+      → journal ≡ pushed.journal
+      → IsRecord (record { lot = lot; journal = journal; capacity = old.capacity })
+  IsRecord-grown roomy fitting journal same =
+      subst (λ entries. IsRecord (record { lot = lot; journal = entries; capacity = old.capacity })) (sym same)
+      (IsRecord-pushed roomy fitting)
+
+  pub IsRecorded-grown : (LacksRoom old step → ⊥) → given ≢ answer.Misfit → (journal : List Entry)
+      → journal ≡ pushed.journal
+      → IsRecorded old step (told given) (record { lot = lot; journal = journal; capacity = old.capacity })
+  IsRecorded-grown roomy fitting journal same =
+      IsRecorded-told old step given (record { lot = lot; journal = journal; capacity = old.capacity }) roomy does
+      (same ∙ ap (λ entries. old.journal ++ entries) (sym (entries_for-fitting step given fitting))) refl

@@ -1,0 +1,258 @@
+//! Recording lots, alone and among threads.
+
+ghost use Rattle.std.specs.Prelude.{◌≡◌};
+
+use lot_base::token::{DEFAULT_PARK_TOKEN, FilterOp, NoMemory, UnparkResult, UnparkToken};
+use lot_tools::record::{Record, RecordError};
+use lot_tools::recording_lot::{RecordingLot, Ticket};
+use parking_lot_core::lot::Lot;
+use parking_lot_core::schedule::{Answer, Op, Step};
+use std::alloc::Global;
+use std::marker::Brand;
+use std::process::Abort;
+use std::sync::Wait;
+use std::sync::ledger::{Blank, Ledger};
+use std::test::Fail;
+use std::thread;
+use std::thread::Threads;
+
+const THREADS: usize = 6;
+
+// How many steps each of the four threads takes.
+const CALLS: usize = 1_000;
+
+fn enter(thread: usize, key: usize, timed: bool) -> Step {
+    Step::Enter {
+        thread,
+        key,
+        valid: true,
+        park_token: DEFAULT_PARK_TOKEN,
+        timed,
+    }
+}
+
+fn one(key: usize, token: usize) -> Step {
+    Step::Unpark(Op::One {
+        key,
+        token: UnparkToken(token),
+    })
+}
+
+fn unparked(unparked_threads: usize) -> Answer {
+    Answer::Unpark(UnparkResult {
+        unparked_threads,
+        ..UnparkResult::default()
+    })
+}
+
+fn stop(alloc: Global, key: usize) -> Result<Step, NoMemory> {
+    let mut decisions = Vec::new(alloc);
+    decisions.push(FilterOp::Stop)?;
+    Ok(Step::Unpark(Op::Filter {
+        key,
+        decisions,
+        token: UnparkToken(5),
+    }))
+}
+
+// The totals of a ticket.
+fn totals<C: Ledger, W: Ledger, U: Ledger>(ticket: &Ticket<C, W, U>) -> (usize, usize, usize) {
+    (ticket.count(), ticket.woken(), ticket.unparked())
+}
+
+// Two tickets in turn. It refuses a lot that tells one ticket what another was told, counts a step
+// that does not fit, or journals another answer than it tells.
+fn use_two_tickets<C: Ledger, W: Ledger, U: Ledger, R: Wait + Abort>(
+    rt: &R,
+    alloc: Global,
+    blanks: (Blank, Blank, Blank),
+) -> Result<(), Fail>
+    requires names { (blanks.0.name ≡ C.name) × (blanks.1.name ≡ W.name)
+        × (blanks.2.name ≡ U.name) }
+    requires parts { (blanks.0.parts ≡ C.parts) × (blanks.1.parts ≡ W.parts)
+        × (blanks.2.parts ≡ U.parts) }
+    requires workers { (C.parts ≡ 2) × (W.parts ≡ 2) × (U.parts ≡ 2) }
+{
+    let (count, woken, wakes) = blanks;
+    let (lot, mut tickets) = RecordingLot::<C, W, U>::new(alloc, 2, 8, 2, count, woken, wakes)?;
+    let last = UnparkToken(usize::MAX);
+    let (s, t) = (0, 1);
+    let steps = [
+        (s, Step::Register, Answer::Registered(0)),
+        (t, Step::Register, Answer::Registered(1)),
+        (s, enter(0, 1, false), Answer::Entered),
+        (t, one(1, usize::MAX), unparked(1)),
+        (s, Step::Return { thread: 0 }, Answer::Unparked(last)),
+        (s, Step::Return { thread: 0 }, Answer::Misfit),
+        (t, stop(alloc, 1)?, unparked(0)),
+    ];
+    for (ticket, step, answer) in steps {
+        if let Some(ticket) = tickets.get_mut(ticket) {
+            assert_eq!(rt; lot.step(rt, ticket, step), Ok(answer));
+        }
+    }
+    assert_eq!(rt; totals(&tickets[s]), (3, 1, 0));
+    assert_eq!(rt; totals(&tickets[t]), (3, 0, 1));
+    assert_eq!(rt; lot.close(tickets).journal().len(), 6);
+    Ok(())
+}
+
+#[test]
+fn a_ticket_counts_what_its_worker_was_told(rt: HostRuntime) -> Result<(), Fail> {
+    let blanks = (Blank::new(2), Blank::new(2), Blank::new(2));
+    use_two_tickets::<Brand, Brand, Brand, HostRuntime>(&rt, rt.alloc(), blanks)
+}
+
+// One ticket, and a journal with room for four entries. It refuses a lot that always answers that
+// its journal is full, and one that tells another kind, number or key than it journals.
+fn fill_the_journal<C: Ledger, W: Ledger, U: Ledger, R: Wait + Abort>(
+    rt: &R,
+    alloc: Global,
+    blanks: (Blank, Blank, Blank),
+) -> Result<(), Fail>
+    requires names { (blanks.0.name ≡ C.name) × (blanks.1.name ≡ W.name)
+        × (blanks.2.name ≡ U.name) }
+    requires parts { (blanks.0.parts ≡ C.parts) × (blanks.1.parts ≡ W.parts)
+        × (blanks.2.parts ≡ U.parts) }
+    requires workers { (C.parts ≡ 1) × (W.parts ≡ 1) × (U.parts ≡ 1) }
+{
+    let (count, woken, wakes) = blanks;
+    let (lot, mut tickets) = RecordingLot::<C, W, U>::new(alloc, 1, 4, 1, count, woken, wakes)?;
+    let steps = [
+        (Step::Register, Ok(Answer::Registered(0))),
+        (enter(0, 1, true), Ok(Answer::Entered)),
+        (one(1, 42), Err(RecordError::JournalFull)),
+        (Step::Deadline { thread: 0 }, Ok(Answer::Late)),
+        (
+            Step::Resolve { thread: 0 },
+            Ok(Answer::TimedOut { key: 1, last: true }),
+        ),
+        (Step::Register, Err(RecordError::JournalFull)),
+        (Step::Resolve { thread: 0 }, Ok(Answer::Misfit)),
+    ];
+    for (step, expected) in steps {
+        if let Some(ticket) = tickets.get_mut(0) {
+            assert_eq!(rt; lot.step(rt, ticket, step), expected);
+        }
+    }
+    assert_eq!(rt; totals(&tickets[0]), (4, 0, 0));
+    let recorded = lot.close(tickets);
+    expect_replay(rt, alloc, &recorded, 1)?;
+    assert_eq!(rt; recorded.journal().len(), 4);
+    Ok(())
+}
+
+#[test]
+fn a_full_journal_refuses_what_is_not_set_aside(rt: HostRuntime) -> Result<(), Fail> {
+    let blanks = (Blank::new(1), Blank::new(1), Blank::new(1));
+    fill_the_journal::<Brand, Brand, Brand, HostRuntime>(&rt, rt.alloc(), blanks)
+}
+
+// Does the journal's steps on a new lot for so many threads, and compares the answers.
+fn expect_replay<R: Abort>(
+    rt: &R,
+    alloc: Global,
+    recorded: &Record,
+    threads: usize,
+) -> Result<(), Fail> {
+    let mut lot = Lot::new(alloc, threads)?;
+    for (step, answer) in recorded.journal() {
+        assert_eq!(rt; lot.apply(step), *answer);
+    }
+    Ok(())
+}
+
+// A step for the number of the call: parks and unparks of each thread on two keys.
+fn step_of(call: usize) -> Step {
+    let thread = call % THREADS;
+    let key = call / 7 % 2;
+    match call % 11 {
+        0 => Step::Register,
+        1..=3 => enter(thread, key, call % 2 == 0),
+        4 => Step::Deadline { thread },
+        5 => Step::Resolve { thread },
+        6 => one(key, call),
+        7 => Step::Unpark(Op::All {
+            key,
+            token: UnparkToken(call),
+        }),
+        _ => Step::Return { thread },
+    }
+}
+
+// What each of four threads does.
+fn call_often<C: Ledger, W: Ledger, U: Ledger, R: Wait>(
+    rt: &R,
+    lot: &RecordingLot<C, W, U>,
+    tickets: &mut [Ticket<C, W, U>],
+    first: usize,
+) {
+    if let Some(ticket) = tickets.first_mut() {
+        for call in 0..CALLS {
+            let _ = lot.step(rt, ticket, step_of(first.wrapping_add(call)));
+        }
+    }
+}
+
+// It refuses a lot whose journal is not what its threads were told.
+fn call_from_four_threads<C, W, U, R>(
+    rt: &R,
+    alloc: Global,
+    blanks: (Blank, Blank, Blank),
+) -> Result<(), Fail>
+where
+    C: Ledger + Send + Sync,
+    W: Ledger + Send + Sync,
+    U: Ledger + Send + Sync,
+    R: Threads + Wait + Abort + Sync,
+    requires names { (blanks.0.name ≡ C.name) × (blanks.1.name ≡ W.name)
+        × (blanks.2.name ≡ U.name) }
+    requires parts { (blanks.0.parts ≡ C.parts) × (blanks.1.parts ≡ W.parts)
+        × (blanks.2.parts ≡ U.parts) }
+    requires workers { (C.parts ≡ 4) × (W.parts ≡ 4) × (U.parts ≡ 4) }
+{
+    let (count, woken, wakes) = blanks;
+    let (lot, mut tickets) = RecordingLot::<C, W, U>::new(
+        alloc,
+        THREADS,
+        4 * CALLS,
+        4,
+        count,
+        woken,
+        wakes,
+    )?;
+    let (front, back) = tickets.as_mut_slice().split_at_mut(2);
+    let (first, second) = front.split_at_mut(1);
+    let (third, fourth) = back.split_at_mut(1);
+    thread::join(
+        rt,
+        || {
+            thread::join(
+                rt,
+                || call_often(rt, &lot, first, 0),
+                || call_often(rt, &lot, second, 3),
+            )
+        },
+        || {
+            thread::join(
+                rt,
+                || call_often(rt, &lot, third, 5),
+                || call_often(rt, &lot, fourth, 8),
+            )
+        },
+    );
+    let mut counted: usize = 0;
+    for ticket in &tickets {
+        counted = counted.wrapping_add(ticket.count());
+    }
+    let recorded = lot.close(tickets);
+    assert!(rt; counted > CALLS);
+    assert_eq!(rt; recorded.journal().len(), counted);
+    expect_replay(rt, alloc, &recorded, THREADS)
+}
+
+#[test]
+fn what_four_threads_did_replays(rt: HostRuntime) -> Result<(), Fail> {
+    let blanks = (Blank::new(4), Blank::new(4), Blank::new(4));
+    call_from_four_threads::<Brand, Brand, Brand, HostRuntime>(&rt, rt.alloc(), blanks)
+}

@@ -1,0 +1,34 @@
+use super::*;
+use parking_lot_core::lot::Status;
+use std::process::Abort;
+use std::test::Fail;
+
+// What two threads did can be done again by one, and has the same answers; also where the journal
+// has room for a few steps alone.
+#[test]
+fn a_journal_of_two_threads_replays(rt: HostRuntime) -> Result<(), Fail> {
+    for capacity in [1_000, 7] {
+        let recorded = record_two(&rt, rt.alloc(), 7, 100, capacity)?;
+        assert!(&rt; recorded.journal().len() > 2);
+        let mut lot = Lot::new(rt.alloc(), 2)?;
+        for (step, answer) in recorded.journal() {
+            assert_eq!(&rt; lot.apply(step), *answer);
+        }
+        assert_eq!(&rt; lot.list(7)?.as_slice(), recorded.lot().list(7)?.as_slice());
+    }
+    Ok(())
+}
+
+#[test]
+fn a_replay_gives_a_lot_like_the_records(rt: HostRuntime) -> Result<(), Fail> {
+    let mut recorded = Record::new(rt.alloc(), 3, 10)?;
+    for step in [Step::Register, Step::Register, Step::Retire { thread: 0 }] {
+        assert!(&rt; recorded.step(step).is_ok());
+    }
+    let lot = replay(rt.alloc(), &recorded)?;
+    assert_eq!(&rt;
+        (lot.status(0), lot.status(1)),
+        (Status::Free, Status::Running)
+    );
+    Ok(())
+}
