@@ -317,6 +317,57 @@ module _ {T : Type 0} (fits : T → Type 0) where
       ))
       (λ miss. (m.0, keeps, tt, unmoved s o 0 id m.0 me, ((λ hit. absurd (miss hit)), λ _. refl)))
 
+  -- the rule after a caller that tries took or gave back the place p, whose mark says so
+  marks : (s : St T) (o : Orderly fits s) (id : ℕ) (woken : Bool) (p a x b y mark : ℕ) → IsPlace p
+      → get_elem? s.views id ≡ some (Trying woken a x)
+      → mark + one_at p a ≡ get_or s.words (p + 4) 0 + one_at p b → mark ≤ 1
+      → ((q : ℕ) → IsPlace q → q ≢ p → one_at q b ≡ one_at q a) → (0 < b → IsPlace b × (get_or s.words b 0 ≡ y))
+      → Orderly fits (board (set s.words (p + 4) mark) s.homes (set s.views id (Trying woken b y)))
+  marks s o id woken p a x b y mark is me moved few others mine =
+      let low = is.0 in
+      let high = is.1 in
+      let long = o.long in
+      let v : View = Trying woken a x in
+      let w : View = Trying woken b y in
+      let ws : List ℕ = set s.words (p + 4) mark in
+      let here : get_or ws (p + 4) 0 ≡ mark = get_or-set_same s.words (p + 4) mark 0 (omega arith) in
+      let elsewhere : (j : ℕ) → j ≢ p + 4 → get_or ws j 0 ≡ get_or s.words j 0 =
+      λ j ne. get_or-set_other s.words (p + 4) j mark 0 ne in
+      let links : (q : ℕ) → IsPlace q → get_or ws q 0 ≡ get_or s.words q 0 = λ q is-q. let high-q = is-q.1 in
+      elsewhere q (λ e. omega arith) in
+      let ok = o.each_place p is in
+      let marked = ok.marked in
+      let at-p : PlaceOk ws o.list (set s.views id w) p =
+      let h = total-set (has_place p) s.views id v w me in
+      let t = total-set (waits_with p) s.views id v w me in
+      let d = total-set (owes_place p) s.views id v w me in
+      record {
+        marked = omega arith;
+        once = omega arith;
+        removed = λ e. let r = ok.removed (sym (links p is) ∙ e) in omega arith;
+        waiting = λ ne. let r = ok.waiting (λ e. ne (links p is ∙ e)) in omega arith;
+      } in
+      rebuilt s o id v w ws s.homes o.list (total holds_lock s.views) me (length-set s.words (p + 4) mark ∙ long)
+      (omega arith) o.single
+      (elsewhere 0 (λ e. omega arith) ∙ o.word) o.home o.away
+      (chain_kept s.words ws o.list (λ q h. links q (member_place o.list q o.in_places h)) o.chain) o.in_places
+      (λ q is-q ok-q. dite (ℕ_discrete q p) (λ e. subst (λ (z : ℕ). PlaceOk ws o.list (set s.views id w) z)
+      (sym e) at-p)
+      (λ ne. place_kept s.views id v w s.words ws o.list o.list q me (others q is-q ne) refl refl
+      (λ e. sym (links q is-q) ∙ e) (λ some-link e. some-link (links q is-q ∙ e))
+      (elsewhere (q + 4) (λ e. ne (omega arith))) ok-q))
+      (charged_kept o.list s.words ws s.views id v w (total holds_lock s.views) me (λ c. c)
+      (λ j u ne at. charge_same s.words ws o.list u (o.each_seat j u at) (λ q is-q _ e. links q is-q ∙ e))
+      o.charged)
+      (λ j u ne at. seat_kept s.words ws o.list o.list u (λ q is-q _ _. links q is-q) (λ _ _ t. t))
+      (λ pos. let has = mine pos in (has.0, links b has.0 ∙ has.1))
+
+  -- at a place other than p it is all one whether a caller has p or none
+  other_places : (p q : ℕ) → IsPlace q → q ≢ p → one_at q p ≡ one_at q 0
+  other_places p q is ne =
+      let pos = is.0 in
+      one_at-other q p (λ e. ne (sym e)) ∙ sym (one_at-other q 0 (λ e. omega arith))
+
   -- a caller takes a place
   pub takes_place : (n id : ℕ) (woken : Bool) (p : ℕ) (said : maybe.Option (Option T)) → IsPlace p
       → Allows (Orderly fits) n id (Trying woken 0 0, []) (p + 4) (λ y. either (eqb y 0) 1 y)
@@ -327,48 +378,13 @@ module _ {T : Type 0} (fits : T → Type 0) where
       exchanged (get_or s.words i 0) 0 1 (Goes s i id m (took_place (step n i 0 1 said) m))
       (λ hit.
       let low = is.0 in
-      let high = is.1 in
-      let long = o.long in
-      let link : ℕ = get_or s.words p 0 in
-      let w : View = Trying woken p link in
-      let ws : List ℕ = set s.words i 1 in
-      let here : get_or ws i 0 ≡ 1 = get_or-set_same s.words i 1 0 (omega arith) in
-      let elsewhere : (j : ℕ) → j ≢ p + 4 → get_or ws j 0 ≡ get_or s.words j 0 =
-      λ j ne. get_or-set_other s.words i j 1 0 ne in
-      let links : (q : ℕ) → IsPlace q → get_or ws q 0 ≡ get_or s.words q 0 = λ q is-q. let high-q = is-q.1 in
-      elsewhere q (λ e. omega arith) in
-      let ok = o.each_place p is in
-      let marked = ok.marked in
-      let at-p : PlaceOk ws o.list (set s.views id w) p =
-      let h = total-set (has_place p) s.views id m.0 w me in
-      let t = total-set (waits_with p) s.views id m.0 w me in
-      let d = total-set (owes_place p) s.views id m.0 w me in
-      record {
-        marked = omega (arith, one_at-same p, one_at-other p 0 (λ e. omega arith));
-        once = omega arith;
-        removed = λ e. let r = ok.removed (sym (links p is) ∙ e) in omega arith;
-        waiting = λ ne. let r = ok.waiting (λ e. ne (links p is ∙ e)) in omega arith;
-      } in (
-        w,
+      let link : ℕ = get_or s.words p 0 in (
+        Trying woken p link,
         keeps,
         tt,
-        rebuilt s o id m.0 w ws s.homes o.list (total holds_lock s.views) me (length-set s.words i 1 ∙ long)
-            (omega arith) o.single
-            (elsewhere 0 (λ e. omega arith) ∙ o.word) o.home o.away
-            (chain_kept s.words ws o.list (λ q h. links q (member_place o.list q o.in_places h)) o.chain) o.in_places
-            (λ q is-q ok-q. dite (ℕ_discrete q p) (λ e. subst (λ (x : ℕ). PlaceOk ws o.list (set s.views id w) x)
-            (sym e) at-p)
-            (λ ne.
-            let low-q = is-q.0 in
-            place_kept s.views id m.0 w s.words ws o.list o.list q me
-            (one_at-other q p (λ e. ne (sym e)) ∙ sym (one_at-other q 0 (λ e. omega arith))) refl refl
-            (λ e. sym (links q is-q) ∙ e) (λ some-link e. some-link (links q is-q ∙ e))
-            (elsewhere (q + 4) (λ e. ne (omega arith))) ok-q))
-            (charged_kept o.list s.words ws s.views id m.0 w (total holds_lock s.views) me (λ c. c)
-            (λ j u ne at. charge_same s.words ws o.list u (o.each_seat j u at) (λ q is-q _ e. links q is-q ∙ e))
-            o.charged)
-            (λ j u ne at. seat_kept s.words ws o.list o.list u (λ q is-q _ _. links q is-q) (λ _ _ t. t))
-            (λ pos. (is, links p is)),
+        marks s o id woken p 0 0 p link 1 is me
+            (omega (arith, one_at-same p, one_at-other p 0 (λ e. omega arith))) (omega arith)
+            (other_places p) (λ _. (is, refl)),
         (
           (λ _ q e. let same : p ≡ q = omega arith in (
             link,
@@ -385,51 +401,17 @@ module _ {T : Type 0} (fits : T → Type 0) where
       → Allows (Orderly fits) n id (Trying woken p link, []) (p + 4) (λ _. 0)
       (λ _. given_back (step n (p + 4) 0 0 none) (Trying woken p link, []) 0)
   gives_back n id woken p link is s o wide me _ =
-      let m : Me (Option T) View = (Trying woken p link, []) in
-      let i : ℕ = p + 4 in
       let low = is.0 in
-      let high = is.1 in
-      let long = o.long in
-      let w : View = Trying woken 0 0 in
-      let ws : List ℕ = set s.words i 0 in
-      let here : get_or ws i 0 ≡ 0 = get_or-set_same s.words i 0 0 (omega arith) in
-      let elsewhere : (j : ℕ) → j ≢ p + 4 → get_or ws j 0 ≡ get_or s.words j 0 =
-      λ j ne. get_or-set_other s.words i j 0 0 ne in
-      let links : (q : ℕ) → IsPlace q → get_or ws q 0 ≡ get_or s.words q 0 = λ q is-q. let high-q = is-q.1 in
-      elsewhere q (λ e. omega arith) in
       let ok = o.each_place p is in
       let marked = ok.marked in
       let once = ok.once in
-      let at-p : PlaceOk ws o.list (set s.views id w) p =
-      let h = total-set (has_place p) s.views id m.0 w me in
-      let t = total-set (waits_with p) s.views id m.0 w me in
-      let d = total-set (owes_place p) s.views id m.0 w me in
-      record {
-        marked = omega (arith, one_at-same p, one_at-other p 0 (λ e. omega arith));
-        once = omega arith;
-        removed = λ e. let r = ok.removed (sym (links p is) ∙ e) in omega arith;
-        waiting = λ ne. let r = ok.waiting (λ e. ne (links p is ∙ e)) in omega arith;
-      } in (
-        w,
+      let mine = one_term (has_place p) s.views id (Trying woken p link) me in (
+        Trying woken 0 0,
         keeps,
         tt,
-        rebuilt s o id m.0 w ws s.homes o.list (total holds_lock s.views) me (length-set s.words i 0 ∙ long)
-            (omega arith) o.single
-            (elsewhere 0 (λ e. omega arith) ∙ o.word) o.home o.away
-            (chain_kept s.words ws o.list (λ q h. links q (member_place o.list q o.in_places h)) o.chain) o.in_places
-            (λ q is-q ok-q. dite (ℕ_discrete q p) (λ e. subst (λ (x : ℕ). PlaceOk ws o.list (set s.views id w) x)
-            (sym e) at-p)
-            (λ ne.
-            let low-q = is-q.0 in
-            place_kept s.views id m.0 w s.words ws o.list o.list q me
-            (one_at-other q 0 (λ e. omega arith) ∙ sym (one_at-other q p (λ e. ne (sym e)))) refl refl
-            (λ e. sym (links q is-q) ∙ e) (λ some-link e. some-link (links q is-q ∙ e))
-            (elsewhere (q + 4) (λ e. ne (omega arith))) ok-q))
-            (charged_kept o.list s.words ws s.views id m.0 w (total holds_lock s.views) me (λ c. c)
-            (λ j u ne at. charge_same s.words ws o.list u (o.each_seat j u at) (λ q is-q _ e. links q is-q ∙ e))
-            o.charged)
-            (λ j u ne at. seat_kept s.words ws o.list o.list u (λ q is-q _ _. links q is-q) (λ _ _ t. t))
-            (λ pos. absurd (omega arith)),
+        marks s o id woken p p link 0 0 0 is me
+            (omega (arith, one_at-same p, one_at-other p 0 (λ e. omega arith))) (omega arith)
+            (λ q is-q ne. sym (other_places p q is-q ne)) (λ pos. absurd (omega arith)),
         refl,
       )
 
