@@ -4,15 +4,17 @@
 //! without a word it prints the rows' names. Each row does what the row of that name does there:
 //! the same calls, counts, threads and medians.
 
+use parking_lot_core::word_lock::WordLock;
 use parking_lot_core::{
     DEFAULT_PARK_TOKEN, DEFAULT_UNPARK_TOKEN, ParkResult, RequeueOp, park, unpark_all, unpark_one,
     unpark_requeue,
 };
+use std::cell::UnsafeCell;
 use std::hint;
 use std::process::ExitCode;
 use std::sync::atomic::Ordering::SeqCst;
 use std::sync::atomic::{AtomicBool, AtomicU8, AtomicU64};
-use std::sync::{Arc, Barrier};
+use std::sync::{Arc, Barrier, Mutex};
 use std::thread;
 use std::time::{Duration, Instant};
 
@@ -23,7 +25,7 @@ const TURNS: usize = 10_000_000;
 
 type Row = (&'static str, fn() -> Option<f64>);
 
-const ROWS: [Row; 14] = [
+const ROWS: [Row; 24] = [
     ("unpark_one_nobody", unpark_one_nobody),
     ("unpark_one_four_keys", || unpark_one_of_four(KEYS)),
     ("unpark_one_one_key", || unpark_one_of_four([KEYS[0]; 4])),
@@ -37,6 +39,16 @@ const ROWS: [Row; 14] = [
     ("mutex_alone", || mutex(1)),
     ("mutex_two", || mutex(2)),
     ("mutex_four", || mutex(4)),
+    ("word_lock_alone", || word_lock(1, SHORT)),
+    ("word_lock_two", || word_lock(2, SHORT)),
+    ("word_lock_four", || word_lock(4, SHORT)),
+    ("word_lock_two_longer", || word_lock(2, LONGER)),
+    ("word_lock_four_longer", || word_lock(4, LONGER)),
+    ("std_mutex_alone", || std_mutex(1, SHORT)),
+    ("std_mutex_two", || std_mutex(2, SHORT)),
+    ("std_mutex_four", || std_mutex(4, SHORT)),
+    ("std_mutex_two_longer", || std_mutex(2, LONGER)),
+    ("std_mutex_four_longer", || std_mutex(4, LONGER)),
     ("thousand_threads", thousand_threads),
 ];
 
@@ -503,6 +515,110 @@ fn pair(mutex: &ByteMutex) -> bool {
     let locked = mutex.lock();
     mutex.unlock();
     locked
+}
+
+// The word lock, and std's mutex beside it.
+
+/// How often a section mixes.
+const SHORT: u32 = 0;
+const LONGER: u32 = 50;
+
+const MULTIPLIER: u64 = 0x9E37_79B9_7F4A_7C15;
+
+/// What the lock is around. It is as large as a bucket of a lot.
+struct Tally {
+    count: u64,
+    mixed: u64,
+    _others: [u64; 3],
+}
+
+impl Tally {
+    fn new() -> Tally {
+        Tally {
+            count: 0,
+            mixed: 1,
+            _others: [0; 3],
+        }
+    }
+
+    #[inline]
+    fn count_one(&mut self, turns: u32) {
+        self.count = self.count.wrapping_add(1);
+        for _ in 0..turns {
+            self.mixed = (self.mixed ^ (self.mixed >> 32)).wrapping_mul(MULTIPLIER);
+        }
+    }
+}
+
+trait TallyLock: Sync {
+    fn count_one(&self, turns: u32);
+    fn count(&self) -> u64;
+}
+
+struct Locked {
+    lock: WordLock,
+    tally: UnsafeCell<Tally>,
+}
+
+unsafe impl Sync for Locked {}
+
+impl TallyLock for Locked {
+    #[inline]
+    fn count_one(&self, turns: u32) {
+        self.lock.lock();
+        unsafe {
+            (*self.tally.get()).count_one(turns);
+            self.lock.unlock();
+        }
+    }
+
+    fn count(&self) -> u64 {
+        self.lock.lock();
+        unsafe {
+            let count = (*self.tally.get()).count;
+            self.lock.unlock();
+            count
+        }
+    }
+}
+
+impl TallyLock for Mutex<Tally> {
+    #[inline]
+    fn count_one(&self, turns: u32) {
+        self.lock().unwrap().count_one(turns);
+    }
+
+    fn count(&self) -> u64 {
+        self.lock().unwrap().count
+    }
+}
+
+fn word_lock(threads: usize, turns: u32) -> Option<f64> {
+    let lock = Locked {
+        lock: WordLock::new(),
+        tally: UnsafeCell::new(Tally::new()),
+    };
+    cost_of_lock(&lock, threads, turns)
+}
+
+fn std_mutex(threads: usize, turns: u32) -> Option<f64> {
+    cost_of_lock(&Mutex::new(Tally::new()), threads, turns)
+}
+
+fn cost_of_lock(lock: &impl TallyLock, threads: usize, turns: u32) -> Option<f64> {
+    const PAIRS: u64 = 300_000;
+    const RUNS: usize = 7;
+    let pairs = PAIRS * threads as u64;
+    let cost = median_of(RUNS, || {
+        let spent = together(threads, |_| {
+            for _ in 0..PAIRS {
+                lock.count_one(turns);
+            }
+            true
+        })?;
+        Some(spent.as_nanos() as f64 / pairs as f64)
+    });
+    cost.filter(|_| lock.count() == pairs * (RUNS as u64 + 1))
 }
 
 // A thousand threads.

@@ -16,6 +16,7 @@ mod requeue;
 
 use crate::queue::{Node, Queue};
 use crate::token::{FilterOp, NoMemory, ParkToken, RequeueOp, UnparkResult, UnparkToken};
+use crate::word_lock::Fits;
 use passing::{
     queue_of, take_chosen, take_every, take_first, take_numbered, with_unpark_token, write_token,
 };
@@ -64,6 +65,13 @@ impl Model for Bucket {
 
     ghost invariant = { λ bucket.
         IsInPlace (record { place = bucket.place; size = bucket.size; nodes = bucket.queue }) };
+}
+
+// A bucket behind a lock is asked for no more than what its type says.
+impl Fits for Bucket {
+    ghost use Rattle.std.specs.Prelude.{⊤};
+
+    ghost fits = { λ _. ⊤ };
 }
 
 impl Bucket {

@@ -4,6 +4,7 @@
 mod alone;
 mod cost;
 mod crowd;
+mod locked;
 mod locking;
 mod program;
 mod row;

@@ -2,8 +2,9 @@
 
 use crate::cost::Cost;
 use crate::crowd::Until;
+use crate::locked::Section;
 use crate::row::{ROWS, Row};
-use crate::{alone, crowd, locking, thousand, together, turns};
+use crate::{alone, crowd, locked, locking, thousand, together, turns};
 use std::process::ExitCode;
 use std::rt::Env;
 use std::sync::Wait;
@@ -93,6 +94,16 @@ fn measure<R: AllocGlobal + Threads + Wait + Clock + Copy + Send + Sync + 'stati
         Row::MutexAlone => locking::mutex(rt, alloc, 1),
         Row::MutexTwo => locking::mutex(rt, alloc, 2),
         Row::MutexFour => locking::mutex(rt, alloc, 4),
+        Row::WordLockAlone => locked::word_lock(rt, alloc, 1, Section::Short),
+        Row::WordLockTwo => locked::word_lock(rt, alloc, 2, Section::Short),
+        Row::WordLockFour => locked::word_lock(rt, alloc, 4, Section::Short),
+        Row::WordLockTwoLonger => locked::word_lock(rt, alloc, 2, Section::Longer),
+        Row::WordLockFourLonger => locked::word_lock(rt, alloc, 4, Section::Longer),
+        Row::StdMutexAlone => locked::std_mutex(rt, alloc, 1, Section::Short),
+        Row::StdMutexTwo => locked::std_mutex(rt, alloc, 2, Section::Short),
+        Row::StdMutexFour => locked::std_mutex(rt, alloc, 4, Section::Short),
+        Row::StdMutexTwoLonger => locked::std_mutex(rt, alloc, 2, Section::Longer),
+        Row::StdMutexFourLonger => locked::std_mutex(rt, alloc, 4, Section::Longer),
         Row::ThousandThreads => thousand::thousand_threads(rt, alloc),
     }
 }

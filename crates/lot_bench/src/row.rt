@@ -42,12 +42,42 @@ pub enum Row {
     /// Four threads lock and unlock one such mutex.
     MutexFour,
 
+    /// One thread locks and unlocks a word lock, and counts one meanwhile.
+    WordLockAlone,
+
+    /// Two threads do so with one lock.
+    WordLockTwo,
+
+    /// Four threads do so with one lock.
+    WordLockFour,
+
+    /// Two threads do so, and each mixes a number fifty times meanwhile.
+    WordLockTwoLonger,
+
+    /// Four threads do so, and each mixes a number fifty times meanwhile.
+    WordLockFourLonger,
+
+    /// As `WordLockAlone`, with std's `Mutex`.
+    StdMutexAlone,
+
+    /// As `WordLockTwo`, with std's `Mutex`.
+    StdMutexTwo,
+
+    /// As `WordLockFour`, with std's `Mutex`.
+    StdMutexFour,
+
+    /// As `WordLockTwoLonger`, with std's `Mutex`.
+    StdMutexTwoLonger,
+
+    /// As `WordLockFourLonger`, with std's `Mutex`.
+    StdMutexFourLonger,
+
     /// A thousand threads start, register, park, are woken and end.
     ThousandThreads,
 }
 
 /// All rows, in the order in which they are printed.
-pub const ROWS: [Row; 14] = [
+pub const ROWS: [Row; 24] = [
     Row::UnparkOneNobody,
     Row::UnparkOneFourKeys,
     Row::UnparkOneOneKey,
@@ -61,6 +91,16 @@ pub const ROWS: [Row; 14] = [
     Row::MutexAlone,
     Row::MutexTwo,
     Row::MutexFour,
+    Row::WordLockAlone,
+    Row::WordLockTwo,
+    Row::WordLockFour,
+    Row::WordLockTwoLonger,
+    Row::WordLockFourLonger,
+    Row::StdMutexAlone,
+    Row::StdMutexTwo,
+    Row::StdMutexFour,
+    Row::StdMutexTwoLonger,
+    Row::StdMutexFourLonger,
     Row::ThousandThreads,
 ];
 
@@ -81,6 +121,16 @@ impl Row {
             Row::MutexAlone => "mutex_alone",
             Row::MutexTwo => "mutex_two",
             Row::MutexFour => "mutex_four",
+            Row::WordLockAlone => "word_lock_alone",
+            Row::WordLockTwo => "word_lock_two",
+            Row::WordLockFour => "word_lock_four",
+            Row::WordLockTwoLonger => "word_lock_two_longer",
+            Row::WordLockFourLonger => "word_lock_four_longer",
+            Row::StdMutexAlone => "std_mutex_alone",
+            Row::StdMutexTwo => "std_mutex_two",
+            Row::StdMutexFour => "std_mutex_four",
+            Row::StdMutexTwoLonger => "std_mutex_two_longer",
+            Row::StdMutexFourLonger => "std_mutex_four_longer",
             Row::ThousandThreads => "thousand_threads",
         }
     }

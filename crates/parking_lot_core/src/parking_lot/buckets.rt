@@ -2,8 +2,8 @@
 //! of its key.
 
 ghost use Rattle.std.specs.Prelude.{◌≡◌, ◌≢◌, ◌+◌, ◌^◌, ◌<◌, ◌↔◌, IsTrue, IsErrOf, IfOk, IfSome, Err, MatchOption, length};
-ghost use Rattle.std.specs.Sync.Mutex.{mutex_guard_value};
 ghost use Rattle.lot_base.specs.Place.{IsTableSize};
+ghost use Rattle.lot_base.specs.WordLock.{IsHeldOf};
 ghost use Rattle.parking_lot_core.specs.Represents.{Represents, waiters_in};
 ghost use Rattle.parking_lot_core.specs.Table.{IsRowOf};
 ghost use Rattle.parking_lot_core.specs.Private.Section.{HasPlaceOf, AreApart};
@@ -14,11 +14,12 @@ use crate::table::MAX_THREADS;
 use crate::table::growth::{INITIAL_BUCKETS, empty_buckets, rehash_bucket};
 use lot_base::bucket::{Bucket, place};
 use lot_base::token::{LotError, NoMemory};
+use lot_base::word_lock::{Held, WordLock};
 use registry::Registry;
 use std::alloc::Global;
 use std::marker::Model;
 use std::sync::atomic::{AtomicUsize, Ordering};
-use std::sync::{Mutex, MutexGuard, OnceLock, Wait};
+use std::sync::{Mutex, OnceLock, Wait};
 use std::{array, mem};
 
 // A table has from 16 to 65,536 buckets, and there is a place for a row of each such size.
@@ -27,10 +28,36 @@ const ROWS: usize = 13;
 // What `current` is while the table grows: the index of no row.
 const GROWING: usize = ROWS;
 
+// A bucket that a section has locked. It has no `Drop`: it ends in `unlock`.
+pub(super) struct Locked<'b> {
+    cell: &'b WordLock<Bucket>,
+    pub(super) held: Held<Bucket>,
+}
+
+impl Locked<'_> {
+    // Lets the bucket go.
+    #[inline]
+    pub(super) fn unlock(self)
+        requires { IsHeldOf self.cell.now self.held }
+    {
+        let Locked { cell, held } = self;
+        cell.unlock(held);
+    }
+}
+
+// Lets the second bucket of a section go, where there is one.
+pub(super) fn unlock_if_any(bucket: Option<Locked<'_>>)
+    requires { IfSome bucket (λ bucket. IsHeldOf bucket.cell.now bucket.held) }
+{
+    if let Some(bucket) = bucket {
+        bucket.unlock();
+    }
+}
+
 // The buckets of a table of one size, each at its place and behind a lock.
 #[derive(Drop)]
 struct Row {
-    cells: Vec<Mutex<Bucket>>,
+    cells: Vec<WordLock<Bucket>>,
 }
 
 impl Model for Row {
@@ -52,7 +79,7 @@ impl Row {
     {
         let mut cells = Vec::with_capacity(alloc, size)?;
         for place in 0..size {
-            cells.push(Mutex::new(Bucket::new(place, size)))?;
+            cells.push(WordLock::new(alloc, Bucket::new(place, size))?)?;
         }
         Ok(Row { cells })
     }
@@ -65,35 +92,38 @@ impl Row {
         self.cells.len()
     }
 
-    // The lock of the bucket at this place.
-    fn cell(&self, place: usize) -> &Mutex<Bucket>
+    // Locks the bucket at this place.
+    #[inline]
+    fn lock<R: Wait>(&self, rt: &R, place: usize) -> Locked<'_>
         requires { place < self.now }
+        ensures { IsHeldOf result.cell.now result.held }
     {
-        &self.cells[place]
+        let cell = &self.cells[place];
+        Locked {
+            cell,
+            held: cell.lock(rt),
+        }
     }
 
     // Locks the buckets of both places, the lower one first. If they are one place, it is locked
     // once, and the answer has no second bucket.
-    fn lock_two<R: Wait>(
-        &self,
-        rt: &R,
-        from: usize,
-        to: usize,
-    ) -> (MutexGuard<'_, Bucket>, Option<MutexGuard<'_, Bucket>>)
+    fn lock_two<R: Wait>(&self, rt: &R, from: usize, to: usize) -> (Locked<'_>, Option<Locked<'_>>)
         requires from { from < self.now }
         requires to { to < self.now }
-        ensures { MatchOption result.1 (from ≡ to) (λ _. from ≢ to) }
+        ensures held { IsHeldOf result.0.cell.now result.0.held }
+        ensures second { MatchOption result.1 (from ≡ to)
+            (λ target. (from ≢ to) × IsHeldOf target.cell.now target.held) }
     {
         if from == to {
-            return (self.cell(from).lock(rt), None);
+            return (self.lock(rt, from), None);
         }
         if from < to {
-            let source = self.cell(from).lock(rt);
-            let target = self.cell(to).lock(rt);
+            let source = self.lock(rt, from);
+            let target = self.lock(rt, to);
             return (source, Some(target));
         }
-        let target = self.cell(to).lock(rt);
-        let source = self.cell(from).lock(rt);
+        let target = self.lock(rt, to);
+        let source = self.lock(rt, from);
         (source, Some(target))
     }
 
@@ -104,14 +134,18 @@ impl Row {
         requires represents { Represents buckets.old.items (waiters_in buckets.old.items) }
     {
         for cell in &self.cells {
-            rehash_bucket(&mut *cell.lock(rt), buckets);
+            let mut held = cell.lock(rt);
+            rehash_bucket(&mut held.value, buckets);
+            cell.unlock(held);
         }
     }
 
     // Puts the buckets into their places, where empty ones stand.
     fn fill<R: Wait>(&self, rt: &R, buckets: Vec<Bucket>) {
         for (cell, bucket) in self.cells.iter().zip(buckets) {
-            let _ = mem::replace(&mut *cell.lock(rt), bucket);
+            let mut held = cell.lock(rt);
+            let _ = mem::replace(&mut held.value, bucket);
+            cell.unlock(held);
         }
     }
 }
@@ -151,45 +185,22 @@ impl Buckets {
     }
 
     // Locks the bucket of the key, which begins a section.
-    pub(super) fn lock<R: Wait>(&self, rt: &R, key: usize) -> MutexGuard<'_, Bucket>
-        ensures { HasPlaceOf key (mutex_guard_value result) }
-    {
-        match self.try_lock(key) {
-            Some(bucket) => bucket,
-            None => self.wait_and_lock(rt, key),
-        }
-    }
-
-    // Locks the bucket of the key if nobody has it and the table does not grow.
-    fn try_lock(&self, key: usize) -> Option<MutexGuard<'_, Bucket>>
-        ensures { IfSome result (λ bucket. HasPlaceOf key (mutex_guard_value bucket)) }
-    {
-        let current = self.current.load(Ordering::SeqCst);
-        let row = self.row(current)?;
-        let place = place(key, row.size());
-        let bucket = row.cell(place).try_lock()?;
-        if self.is_in_use(current) && stands_at(&bucket, place, row.size()) {
-            return Some(bucket);
-        }
-        None
-    }
-
-    // Locks the bucket of the key, however long that takes.
-    fn wait_and_lock<R: Wait>(&self, rt: &R, key: usize) -> MutexGuard<'_, Bucket>
-        ensures { HasPlaceOf key (mutex_guard_value result) }
+    #[inline(always)]
+    pub(super) fn lock<R: Wait>(&self, rt: &R, key: usize) -> Locked<'_>
+        ensures held { IsHeldOf result.cell.now result.held }
+        ensures place { HasPlaceOf key result.held.value }
     {
         for _ in rt.forever() {
             let current = self.current.load(Ordering::SeqCst);
-            let Some(row) = self.row(current) else {
-                self.wait_for_growth(rt);
-                continue;
-            };
-            let place = place(key, row.size());
-            let bucket = row.cell(place).lock(rt);
-            if self.is_in_use(current) && stands_at(&bucket, place, row.size()) {
-                return bucket;
+            if let Some(row) = self.row(current) {
+                let place = place(key, row.size());
+                let bucket = row.lock(rt, place);
+                if self.is_in_use(current) && stands_at(&bucket.held.value, place, row.size()) {
+                    return bucket;
+                }
+                bucket.unlock();
             }
-            drop(bucket);
+            self.wait_for_growth(rt);
         }
         unreachable!()
     }
@@ -201,11 +212,13 @@ impl Buckets {
         rt: &R,
         from: usize,
         to: usize,
-    ) -> (MutexGuard<'_, Bucket>, Option<MutexGuard<'_, Bucket>>)
-        ensures from { HasPlaceOf from (mutex_guard_value result.0) }
-        ensures to { MatchOption result.1 (HasPlaceOf to (mutex_guard_value result.0))
-            (λ target. HasPlaceOf to (mutex_guard_value target)
-            × AreApart (mutex_guard_value result.0) (mutex_guard_value target)) }
+    ) -> (Locked<'_>, Option<Locked<'_>>)
+        ensures held { IsHeldOf result.0.cell.now result.0.held }
+        ensures second { IfSome result.1 (λ target. IsHeldOf target.cell.now target.held) }
+        ensures from { HasPlaceOf from result.0.held.value }
+        ensures to { MatchOption result.1 (HasPlaceOf to result.0.held.value)
+            (λ target. HasPlaceOf to target.held.value
+            × AreApart result.0.held.value target.held.value) }
     {
         for _ in rt.forever() {
             let current = self.current.load(Ordering::SeqCst);
@@ -217,13 +230,13 @@ impl Buckets {
             let (source_place, target_place) = (place(from, size), place(to, size));
             let (source, target) = row.lock_two(rt, source_place, target_place);
             if self.is_in_use(current)
-                && stands_at(&source, source_place, size)
+                && stands_at(&source.held.value, source_place, size)
                 && stands_at_if_any(&target, target_place, size)
             {
                 return (source, target);
             }
-            drop(source);
-            drop(target);
+            source.unlock();
+            unlock_if_any(target);
         }
         unreachable!()
     }
@@ -234,6 +247,8 @@ impl Buckets {
     }
 
     // Waits until the thread that lets the table grow is done: it has the registry meanwhile.
+    #[cold]
+    #[inline(never)]
     fn wait_for_growth<R: Wait>(&self, rt: &R) {
         drop(self.registry.lock(rt));
     }
@@ -322,12 +337,12 @@ fn stands_at(bucket: &Bucket, place: usize, size: usize) -> bool
 }
 
 // The same of a second bucket, where there is one.
-fn stands_at_if_any(bucket: &Option<MutexGuard<'_, Bucket>>, place: usize, size: usize) -> bool
-    ensures { IsTrue result ↔ IfSome bucket.now (λ guard.
-        ((mutex_guard_value guard).place ≡ place) × ((mutex_guard_value guard).size ≡ size)) }
+fn stands_at_if_any(bucket: &Option<Locked<'_>>, place: usize, size: usize) -> bool
+    ensures { IsTrue result ↔ IfSome bucket.now (λ locked.
+        (locked.held.value.place ≡ place) × (locked.held.value.size ≡ size)) }
 {
     match bucket {
-        Some(bucket) => stands_at(bucket, place, size),
+        Some(bucket) => stands_at(&bucket.held.value, place, size),
         None => true,
     }
 }

@@ -10,6 +10,7 @@ ghost use Rattle.parking_lot_core.specs.Private.Section.{HasPlaceOf, AreApart};
 ghost use Rattle.parking_lot_core.specs.Threaded.{IsCallableForOne, IsUnparkOfOne, AreCallableForFilter, IsUnparkByFilter, AreCallableForRequeue, IsRequeueByChoice};
 
 use super::ParkingLot;
+use super::buckets::unlock_if_any;
 use super::handles::{Handles, Room};
 use lot_base::bucket::Bucket;
 use lot_base::queue::{Node, Queue};
@@ -30,8 +31,8 @@ impl<P: ThreadParkerT> ParkingLot<P> {
         key: usize,
     ) -> Result<Vec<usize>, NoMemory> {
         let bucket = self.buckets.lock(rt, key);
-        let numbers = list_of(&bucket, alloc, key);
-        drop(bucket);
+        let numbers = list_of(&bucket.held.value, alloc, key);
+        bucket.unlock();
         numbers
     }
 
@@ -49,11 +50,11 @@ impl<P: ThreadParkerT> ParkingLot<P> {
     {
         let Node { number, key, .. } = *node;
         let mut bucket = self.buckets.lock(rt, key);
-        let entered = bucket.enter(node, validate);
+        let entered = bucket.held.value.enter(node, validate);
         if entered.is_ok() {
             self.set_key(number, key);
         }
-        drop(bucket);
+        bucket.unlock();
         entered
     }
 
@@ -78,20 +79,20 @@ impl<P: ThreadParkerT> ParkingLot<P> {
             let key = self.key(number);
             let mut bucket = self.buckets.lock(rt, key);
             if self.key(number) != key {
-                drop(bucket);
+                bucket.unlock();
                 continue;
             }
             if !parker.timed_out(rt) {
-                drop(bucket);
+                bucket.unlock();
                 let node = parker.park(rt);
                 return (ParkResult::Unparked(node.unpark_token), node);
             }
-            if let Some((node, last)) = bucket.remove(number, key, |_, last| last) {
+            if let Some((node, last)) = bucket.held.value.remove(number, key, |_, last| last) {
                 timed_out(key, last);
-                drop(bucket);
+                bucket.unlock();
                 return (ParkResult::TimedOut, node);
             }
-            drop(bucket);
+            bucket.unlock();
         }
         unreachable!()
     }
@@ -107,9 +108,9 @@ impl<P: ThreadParkerT> ParkingLot<P> {
         ensures { IsUnparkOfOne C.FnOnce callback result.0 }
     {
         let mut bucket = self.buckets.lock(rt, key);
-        let (result, taken) = take_one(&mut bucket, key, callback);
+        let (result, taken) = take_one(&mut bucket.held.value, key, callback);
         let handle = self.commit_one(rt, taken);
-        drop(bucket);
+        bucket.unlock();
         (result, handle)
     }
 
@@ -121,9 +122,9 @@ impl<P: ThreadParkerT> ParkingLot<P> {
         token: UnparkToken,
     ) -> (usize, Handles<P::UnparkHandle>) {
         let mut bucket = self.buckets.lock(rt, key);
-        let (count, taken) = take_all(&mut bucket, key, token);
+        let (count, taken) = take_all(&mut bucket.held.value, key, token);
         let handles = self.commit(rt, taken);
-        drop(bucket);
+        bucket.unlock();
         (count, handles)
     }
 
@@ -137,9 +138,9 @@ impl<P: ThreadParkerT> ParkingLot<P> {
         ensures { IsUnparkByFilter F.FnMut C.FnOnce filter callback result.0 }
     {
         let mut bucket = self.buckets.lock(rt, key);
-        let (result, taken) = take_filter(&mut bucket, key, filter, callback);
+        let (result, taken) = take_filter(&mut bucket.held.value, key, filter, callback);
         let handles = self.commit(rt, taken);
-        drop(bucket);
+        bucket.unlock();
         (result, handles)
     }
 
@@ -162,11 +163,20 @@ impl<P: ThreadParkerT> ParkingLot<P> {
         let (mut source, mut target) = self.buckets.lock_two(rt, from, to);
         let mut moved = |number: usize| self.set_key(number, to);
         let (result, taken) = match &mut target {
-            None => requeue_one(&mut source, from, to, validate, callback, &mut moved),
+            None => {
+                requeue_one(
+                    &mut source.held.value,
+                    from,
+                    to,
+                    validate,
+                    callback,
+                    &mut moved,
+                )
+            }
             Some(target) => {
                 requeue_two(
-                    &mut source,
-                    target,
+                    &mut source.held.value,
+                    &mut target.held.value,
                     from,
                     to,
                     validate,
@@ -176,8 +186,8 @@ impl<P: ThreadParkerT> ParkingLot<P> {
             }
         };
         let handle = self.commit_one(rt, taken);
-        drop(source);
-        drop(target);
+        source.unlock();
+        unlock_if_any(target);
         (result, handle)
     }
 

@@ -1,4 +1,3 @@
-use Rattle.std.proofs.Common.{rules}
 use Rattle.lot_base.proofs.FilterLemmas.{IsFilterCallable-always}
 use Rattle.parking_lot_core.proofs.parking_lot.tests.unpark_by.Goals as goal
 
