@@ -4,6 +4,8 @@
 #![tactic(auto)]
 
 #[cfg(test)]
+mod interleaved;
+#[cfg(test)]
 mod lot;
 #[cfg(test)]
 mod record;

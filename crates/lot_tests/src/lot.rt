@@ -281,6 +281,36 @@ fn a_filter_is_not_asked_again_after_stop(rt: HostRuntime) -> Result<(), Fail> {
     Ok(())
 }
 
+// A filter that counts its calls, and unparks the first that it sees.
+#[test]
+fn a_filter_that_counts_is_called_up_to_its_stop_and_not_for_nobody(
+    rt: HostRuntime,
+) -> Result<(), Fail> {
+    let mut lot = lot_with(rt.alloc(), 3)?;
+    for number in 0..3 {
+        enter(&rt, &mut lot, number, 1);
+    }
+    for (key, calls, unparked) in [(1, 2, 1), (2, 0, 0)] {
+        let mut asked: usize = 0;
+        let answered = unpark_by(&mut lot, key, |_| {
+            asked = asked.wrapping_add(1);
+            if asked == 1 {
+                FilterOp::Unpark
+            } else {
+                FilterOp::Stop
+            }
+        });
+        let result = UnparkResult {
+            unparked_threads: unparked,
+            requeued_threads: 0,
+            have_more_threads: unparked == 1,
+        };
+        assert_eq!(rt; answered, (result, Some(result)));
+        assert_eq!(rt; asked, calls);
+    }
+    Ok(())
+}
+
 #[test]
 fn a_late_thread_times_out_and_is_not_unparked_then(rt: HostRuntime) -> Result<(), Fail> {
     let mut lot = lot_with(rt.alloc(), 1)?;

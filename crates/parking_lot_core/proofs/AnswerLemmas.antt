@@ -333,7 +333,7 @@ threads_of-alike m new same alike =
     ∙ count_by-alike (λ number. is_registered (new.status number))
     (λ number. is_registered (m.status number)) 0 m.max_threads alike
 
-threads_of-one_more : (m new : Machine) (number : ℕ) → new.max_threads ≡ m.max_threads → number < m.max_threads
+pub threads_of-one_more : (m new : Machine) (number : ℕ) → new.max_threads ≡ m.max_threads → number < m.max_threads
     → is_registered (m.status number) ≡ false → is_registered (new.status number) ≡ true
     → ((j : ℕ) → j ≢ number → is_registered (m.status j) ≡ is_registered (new.status j))
     → threads_of new ≡ threads_of m + 1
@@ -343,7 +343,7 @@ threads_of-one_more m new number same below before after others =
     (λ number. is_registered (new.status number)) number 0 m.max_threads before after others (omega arith)
     (omega (arith, below))
 
-registered-with_status : (m : Machine) (number : ℕ) (s : Status) (j : ℕ) → j ≢ number
+pub registered-with_status : (m : Machine) (number : ℕ) (s : Status) (j : ℕ) → j ≢ number
     → is_registered (with_value m.status number s j) ≡ is_registered (m.status j)
 registered-with_status m number s j other = ap is_registered (with_value-other m.status number s j other)
 

@@ -581,34 +581,37 @@ IsLotStep-registered lot row number thread keeps is below own was runs kept =
     (ap is_queued runs ∙ ap is_queued (sym was)) (ap is_timed runs ∙ ap is_timed (sym was)) (inr (ap is_queued runs))
     (λ free. ne-free-running (sym runs ∙ free)) kept)
 
--- a bucket counts the waiters of a lot exactly: no list is so long that a `usize` could not tell it
-module _ (lot : LotState) (is : IsLot lot) (key : ℕ) where
-  few : length (waiters_in lot.buckets key) ≤ 2 ^ 64 - 1
-  few = let short = length-le_from_MatchesStatus (thread_keys lot.threads) (machine lot) key is.consistent in
-      omega (arith, short, is.count)
+-- no list of a lot is so long that a `usize` could not tell it
+pub few-waiting : (lot : LotState) → IsLot lot → (key : ℕ) → length (waiters_in lot.buckets key) ≤ 2 ^ 64 - 1
+few-waiting lot is key =
+    let short = length-le_from_MatchesStatus (thread_keys lot.threads) (machine lot) key is.consistent in
+    omega (arith, short, is.count)
 
-  pub saturated-all : saturated (length (nodes_in lot.buckets key)) ≡ length (waiters_in lot.buckets key)
-  saturated-all = let same = length-map (nodes_in lot.buckets key) waiter_of in omega (arith, same, few)
+-- a bucket answers what the lists say
+module _ (row : List BucketState) (key : ℕ) where
+  pub answer-first : result_of (split_first (nodes_in row key)) ≡ result_of (split_first (waiters_in row key))
+  answer-first =
+      sym (result_of-map (split_first (nodes_in row key))) ∙ ap result_of (split_first-map (nodes_in row key))
 
-  pub answer-first : result_of (split_first (nodes_in lot.buckets key))
-      ≡ result_of (split_first (waiters_in lot.buckets key))
-  answer-first = sym (result_of-map (split_first (nodes_in lot.buckets key)))
-      ∙ ap result_of (split_first-map (nodes_in lot.buckets key))
+  -- where it counts, no list may be too long
+  module _ (few : length (waiters_in row key) ≤ 2 ^ 64 - 1) where
+    pub saturated-all : saturated (length (nodes_in row key)) ≡ length (waiters_in row key)
+    saturated-all = let same = length-map (nodes_in row key) waiter_of in omega (arith, same, few)
 
-  pub answer-filter : (decisions : List FilterOp)
-      → with_saturated_counts (result_of (split_filter decisions (nodes_in lot.buckets key)))
-      ≡ result_of (split_filter decisions (waiters_in lot.buckets key))
-  answer-filter decisions =
-      ap with_saturated_counts (sym (result_of-map (split_filter decisions (nodes_in lot.buckets key)))
-      ∙ ap result_of (split_filter-map decisions (nodes_in lot.buckets key)))
-      ∙ result_of-few (split_filter decisions (waiters_in lot.buckets key)) (waiters_in lot.buckets key)
-      (AreParts-filter decisions (waiters_in lot.buckets key)) few
+    pub answer-filter : (decisions : List FilterOp)
+        → with_saturated_counts (result_of (split_filter decisions (nodes_in row key)))
+        ≡ result_of (split_filter decisions (waiters_in row key))
+    answer-filter decisions =
+        ap with_saturated_counts (sym (result_of-map (split_filter decisions (nodes_in row key)))
+        ∙ ap result_of (split_filter-map decisions (nodes_in row key)))
+        ∙ result_of-few (split_filter decisions (waiters_in row key)) (waiters_in row key)
+        (AreParts-filter decisions (waiters_in row key)) few
 
-  pub answer-requeue : (op : RequeueOp)
-      → with_saturated_counts (requeue_result op (split_by op (nodes_in lot.buckets key)))
-      ≡ requeue_result op (split_by op (waiters_in lot.buckets key))
-  answer-requeue op =
-      ap with_saturated_counts (sym (requeue_result-map op (split_by op (nodes_in lot.buckets key)))
-      ∙ ap (requeue_result op) (split_by-map op (nodes_in lot.buckets key)))
-      ∙ requeue_result-few (split_by op (waiters_in lot.buckets key)) (waiters_in lot.buckets key)
-      (AreParts-by op (waiters_in lot.buckets key)) few op
+    pub answer-requeue : (op : RequeueOp)
+        → with_saturated_counts (requeue_result op (split_by op (nodes_in row key)))
+        ≡ requeue_result op (split_by op (waiters_in row key))
+    answer-requeue op =
+        ap with_saturated_counts (sym (requeue_result-map op (split_by op (nodes_in row key)))
+        ∙ ap (requeue_result op) (split_by-map op (nodes_in row key)))
+        ∙ requeue_result-few (split_by op (waiters_in row key)) (waiters_in row key)
+        (AreParts-by op (waiters_in row key)) few op

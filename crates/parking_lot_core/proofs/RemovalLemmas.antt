@@ -1,6 +1,6 @@
 -- One thread leaves a list: of nodes, and of their waiters.
 use Rattle.std.proofs.Common.{◌≡◌, ◌≢◌, ℕ, ◌==◌, Bool, true, false, not, if◌then◌else◌, IsSomeAnd, find, Some, List, []}
-use Rattle.std.proofs.Common.{◌∷◌, map, refl, sym, ap, ◌∙◌, subst, ⊎_elim, arith}
+use Rattle.std.proofs.Common.{◌∷◌, map, refl, sym, ap, ◌∙◌, subst, ⊎_elim, arith, IsSome, MatchOption, None, Option}
 use Rattle.std.proofs.lemmas.Bool.{cases_eq, eq-eqb, ne_eqb, cond-true, cond-false}
 use Rattle.lot_base.specs.NodeFields.{NodeFields}
 use Rattle.lot_base.specs.Waiting.{has_any, without_first}
@@ -64,3 +64,9 @@ pub is_last-map : (number : ℕ) (nodes : List NodeFields)
 is_last-map number nodes =
     ap not (sym (has_any-map waiter_of (without_first (has_number number) nodes))
     ∙ ap has_any (without_first-map number nodes))
+
+-- a node that is there was taken out
+pub is_some-removed : {A : Type 0} (P : NodeFields → Type 0) (B : Type 0) (Q : A → Type 0) (at : Option NodeFields)
+    (removed : Option A) → IsSomeAnd at P → MatchOption removed ((at ≡ None) × B) Q → IsSome removed
+is_some-removed P B Q at None holds none = absurd (subst (λ o. IsSomeAnd o P) none.0 holds)
+is_some-removed P B Q at (Some _) holds some = refl

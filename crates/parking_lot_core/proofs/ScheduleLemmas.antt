@@ -1,5 +1,5 @@
 -- Closures that answer from a step, and runs.
-use Rattle.std.proofs.Common.{◌≡◌, ◌≢◌, ℕ, List, [], ◌∷◌, ◌++◌, length, refl, sym, ap, ◌∙◌, subst, arith}
+use Rattle.std.proofs.Common.{◌≡◌, ◌≢◌, ℕ, List, [], ◌∷◌, ◌++◌, length, map, refl, sym, ap, ◌∙◌, subst, arith}
 use Rattle.std.proofs.lemmas.List.{length-map}
 use Rattle.std.specs.Fn.{Mut, Called}
 use Rattle.lot_base.specs.Filter.{IsFiltered}
@@ -22,32 +22,33 @@ use Rattle.parking_lot_core.specs.declared.schedule.Answer.{Answer}
 use Rattle.parking_lot_core.specs.declared.schedule.Step.{Step}
 
 -- of no waiters nobody is taken or left
-split_filter-nobody : (decisions : List FilterOp) → split_filter decisions [] ≡ split_none {A = Waiter} []
+split_filter-nobody : {A : Type 0} (decisions : List FilterOp) → split_filter decisions [] ≡ split_none {A = A} []
 split_filter-nobody [] = refl
 split_filter-nobody (_ ∷ _) = refl
 
 -- one decision more
-split_filter-one_more : (decision : FilterOp) (some others : List FilterOp) (waiter : Waiter) (waiters : List Waiter)
+split_filter-one_more : {A : Type 0} (decision : FilterOp) (some others : List FilterOp) (waiter : A) (waiters : List A)
     → (decision ≢ Stop → split_filter some waiters ≡ split_filter others waiters)
     → split_filter (decision ∷ some) (waiter ∷ waiters) ≡ split_filter (decision ∷ others) (waiter ∷ waiters)
 split_filter-one_more Stop some others waiter waiters alike = refl
-split_filter-one_more Unpark some others waiter waiters alike =
-    ap (λ (split : Split Waiter). record split { taken = waiter ∷ split.taken }) (alike unpark≢stop)
-split_filter-one_more Skip some others waiter waiters alike =
-    ap (λ (split : Split Waiter). record split { left = waiter ∷ split.left }) (alike skip≢stop)
+split_filter-one_more {A} Unpark some others waiter waiters alike =
+    ap (λ (split : Split A). record split { taken = waiter ∷ split.taken }) (alike unpark≢stop)
+split_filter-one_more {A} Skip some others waiter waiters alike =
+    ap (λ (split : Split A). record split { left = waiter ∷ split.left }) (alike skip≢stop)
 
-module _ {F : Type 0} (calls : Mut F (ParkToken × Unit {0}) FilterOp) (rest : F → List FilterOp)
+module _ {A F : Type 0} (park_token : A → ParkToken) (calls : Mut F (ParkToken × Unit {0}) FilterOp)
+    (rest : F → List FilterOp)
     (decides : (filter next : F) (token : ParkToken) (decision : FilterOp)
     → Called calls filter (token, tt) decision next → AnswersNext (rest filter) decision (rest next)) where
   -- a filter that answers from a list splits the waiters as the list does, where decisions that
   -- are used up are as good as `Skip`
-  pub split_filter-called : (filter : F) (waiters : List Waiter) (given : List FilterOp)
-      → IsFiltered calls filter (waiter_park_tokens waiters) given
+  pub split_filter-called : (filter : F) (waiters : List A) (given : List FilterOp)
+      → IsFiltered calls filter (map park_token waiters) given
       → split_filter given waiters ≡ split_filter (rest filter) waiters
   split_filter-called filter [] given filtered = split_filter-nobody given ∙ sym (split_filter-nobody (rest filter))
   split_filter-called filter (waiter ∷ waiters) [] filtered = absurd filtered
   split_filter-called filter (waiter ∷ waiters) (decision ∷ given) (next, called, stops, goes_on) =
-      by_rest (rest filter) (decides filter next waiter.park_token decision called)
+      by_rest (rest filter) (decides filter next (park_token waiter) decision called)
       (λ other. split_filter-called next waiters given (goes_on other))
     where
       by_rest : (decisions : List FilterOp) → AnswersNext decisions decision (rest next)
@@ -55,7 +56,7 @@ module _ {F : Type 0} (calls : Mut F (ParkToken × Unit {0}) FilterOp) (rest : F
           → split_filter (decision ∷ given) (waiter ∷ waiters) ≡ split_filter decisions (waiter ∷ waiters)
       by_rest [] (skips, none) alike =
           ap (λ d. split_filter (d ∷ given) (waiter ∷ waiters)) skips
-          ∙ ap (λ (split : Split Waiter). record split { left = waiter ∷ split.left })
+          ∙ ap (λ (split : Split A). record split { left = waiter ∷ split.left })
           (alike (λ same. skip≢stop (sym skips ∙ same)) ∙ ap (λ decisions. split_filter decisions waiters) none)
       by_rest (first ∷ decisions) (same, left) alike =
           split_filter-one_more decision given decisions waiter waiters

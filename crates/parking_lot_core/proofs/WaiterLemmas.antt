@@ -12,11 +12,11 @@ use Rattle.parking_lot_core.specs.declared.lot.Status.TheVariants.{Taken}
 use Rattle.parking_lot_core.specs.Machine.{Waiter, times_in, entries_of, statuses_with_taken}
 
 -- a thread that is among the waiters is taken, and any other is as it was
-has_any-none : {A : Type 0} (xs : List A) → length xs ≡ 0 → has_any xs ≡ false
+pub has_any-none : {A : Type 0} (xs : List A) → length xs ≡ 0 → has_any xs ≡ false
 has_any-none [] none = refl
 has_any-none (x ∷ xs) none = absurd (omega arith)
 
-has_any-some : {A : Type 0} (xs : List A) → length xs ≢ 0 → has_any xs ≡ true
+pub has_any-some : {A : Type 0} (xs : List A) → length xs ≢ 0 → has_any xs ≡ true
 has_any-some [] some = absurd (some refl)
 has_any-some (x ∷ xs) some = refl
 

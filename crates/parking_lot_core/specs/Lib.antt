@@ -14,6 +14,18 @@ pub mod Lot
 -- Then what follows for every machine and every run.
 pub mod Laws
 pub mod Totals
+-- Then the interleaved machine, after `FineStep` and `FineAnswer` of src/interleaved.rt, and what of the machine its
+-- runs amount to.
+pub mod InterleavedState
+pub mod InterleavedSteps
+pub mod InterleavedView
+pub mod InterleavedLaws
+-- Then steps that are told anew, and what a run of an interleaved lot amounts to.
+pub mod Copies
+pub mod InterleavedRun
+-- Then which interleaved state an interleaved lot means.
+pub mod FineLotState
+pub mod FineLot
 -- Then what a table keeps, and the threaded lot as contracts see it.
 pub mod TableState
 pub mod Table

@@ -4,3 +4,7 @@ pub mod Committed
 pub mod Decisions
 pub mod RegistryState
 pub mod Section
+pub mod FineThread
+pub mod FineCaller
+pub mod FineSection
+pub mod FineTold

@@ -3,6 +3,7 @@
 #![tactic(auto)]
 
 pub mod deadlock;
+pub mod interleaved;
 pub mod laws;
 pub mod lot;
 pub mod parking_lot;

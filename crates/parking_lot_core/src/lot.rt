@@ -14,7 +14,7 @@ ghost use Rattle.parking_lot_core.specs.LotState.{KeepsSize};
 ghost use Rattle.parking_lot_core.specs.Represents.{with_node};
 ghost use Rattle.parking_lot_core.specs.Lot.{machine};
 
-mod requeue;
+pub(crate) mod requeue;
 mod thread;
 
 use crate::table::{MAX_THREADS, Table};
@@ -528,7 +528,7 @@ impl Lot {
 }
 
 // Hands the node to the bucket of its key, or gives it back if `validate` answers false.
-fn enter_bucket<V: FnOnce() -> bool>(
+pub(crate) fn enter_bucket<V: FnOnce() -> bool>(
     table: &mut Table,
     node: Box<Node>,
     validate: V,

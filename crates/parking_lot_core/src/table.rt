@@ -1,7 +1,7 @@
 //! The hash table of an exclusive lot: the numbers that threads register under, and the buckets. It
 //! grows with the threads that are registered.
 
-ghost use Rattle.std.specs.Prelude.{◌≡◌, ◌≢◌, ◌↔◌, ◌+◌, ◌*◌, ◌<◌, ◌≤◌, [], Some, IsErrOf, IfOk, OnOk, OnErr, length, replicate, slice_set, slice_get};
+ghost use Rattle.std.specs.Prelude.{◌≡◌, ◌≢◌, ◌↔◌, ◌+◌, ◌*◌, ◌<◌, ◌≤◌, [], Some, IsErrOf, IfOk, OnOk, OnErr, length, nat_lt, replicate, slice_set, slice_get};
 ghost use Rattle.lot_base.specs.Place.{IsTableSize, place_of};
 ghost use Rattle.parking_lot_core.specs.Represents.{bucket_at};
 ghost use Rattle.parking_lot_core.specs.Size.{IsSizeFor};
@@ -10,7 +10,7 @@ ghost use Rattle.parking_lot_core.specs.Table.{count_registered, IsLeastUnregist
 pub(crate) mod growth;
 pub(crate) mod numbers;
 
-use growth::{INITIAL_BUCKETS, empty_buckets, make_room};
+use growth::{BUCKETS_PER_THREAD, INITIAL_BUCKETS, empty_buckets, make_room};
 use lot_base::bucket::{Bucket, place};
 use lot_base::token::LotError;
 use numbers::Numbers;
@@ -97,6 +97,14 @@ impl Table {
         ensures room { 3 * count_registered self.now.numbers ≤ result }
     {
         self.cells.len()
+    }
+
+    // Whether one registration more makes it grow.
+    pub(crate) fn is_too_small_for_one_more(&self) -> bool
+        ensures { result
+            ≡ nat_lt (length self.now.cells) (3 * (count_registered self.now.numbers + 1)) }
+    {
+        self.cells.len() < BUCKETS_PER_THREAD * (self.numbers.registered() + 1)
     }
 
     /// The bucket at the key's place.

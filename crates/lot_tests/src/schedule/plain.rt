@@ -106,7 +106,8 @@ impl Plain {
         }
     }
 
-    fn set_status(&mut self, number: usize, status: Status) {
+    /// Gives the number another status.
+    pub fn set_status(&mut self, number: usize, status: Status) {
         if let Some(old) = self.statuses.get_mut(number) {
             *old = status;
         }

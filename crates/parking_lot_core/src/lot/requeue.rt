@@ -60,7 +60,7 @@ pub(super) fn requeue_waiters<
 }
 
 // Does what `Bucket::requeue_one` does, or `requeue_two` where the keys have different places.
-fn requeue_in_table<
+pub(crate) fn requeue_in_table<
     V: FnOnce() -> RequeueOp,
     C: FnOnce(RequeueOp, UnparkResult) -> UnparkToken,
     M: FnMut(usize),

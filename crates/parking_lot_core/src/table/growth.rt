@@ -17,7 +17,7 @@ use std::alloc::Global;
 // How many buckets a table has at first.
 pub(crate) const INITIAL_BUCKETS: usize = 16;
 
-const BUCKETS_PER_THREAD: usize = 3;
+pub(super) const BUCKETS_PER_THREAD: usize = 3;
 
 // The size that a table of this size takes for so many threads: its own if that has 3 buckets for
 // each, and else the next power of two of 3 buckets for each.

@@ -78,6 +78,50 @@ fn a_requeue_of_nobody_calls_back_with_the_default_result(rt: HostRuntime) -> Re
     Ok(())
 }
 
+// How often a filter that unparks everybody was called, and what its callback was handed.
+fn unpark_and_count<R: Wait>(rt: &R, lot: &Lot, key: usize) -> (usize, Option<UnparkResult>) {
+    let mut asked: usize = 0;
+    let mut told = None;
+    let filter = |_| {
+        asked = asked.wrapping_add(1);
+        FilterOp::Unpark
+    };
+    unpark_by(rt, lot, key, filter, |handed| {
+        told = Some(handed);
+        UnparkToken(42)
+    });
+    (asked, told)
+}
+
+// It refuses an unpark that calls its filter where nobody waits, or its callback only where
+// somebody does.
+#[test]
+fn a_filter_that_counts_is_called_once_a_waiter(rt: HostRuntime) -> Result<(), Fail> {
+    let lot = Lot::new(rt.alloc(), 1)?;
+    let mut data = lot.thread_data(&rt, rt.alloc())?;
+    let one = UnparkResult {
+        unparked_threads: 1,
+        ..UnparkResult::default()
+    };
+    let result = park(
+        &rt,
+        &lot,
+        &mut data,
+        KEY,
+        || true,
+        || {
+            let of_nobody = unpark_and_count(&rt, &lot, OTHER_KEY);
+            assert_eq!(rt; of_nobody, (0, Some(UnparkResult::default())));
+            assert_eq!(rt; unpark_and_count(&rt, &lot, KEY), (1, Some(one)));
+        },
+        |_, _| (),
+        DEFAULT_PARK_TOKEN,
+        None,
+    );
+    assert_eq!(rt; result, ParkResult::Unparked(UnparkToken(42)));
+    Ok(())
+}
+
 // Lists the waiters of the greatest key, and unparks them all by a filter, with the greatest token.
 // It tells who waited, and which park token the filter was shown last.
 fn unpark_the_greatest<R: Wait>(

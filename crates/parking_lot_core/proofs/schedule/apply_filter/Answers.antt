@@ -2,7 +2,7 @@ use Rattle.std.proofs.Common.{rules, ◌≡◌, ◌∙◌, ap}
 use Rattle.lot_base.proofs.FilterLemmas.{IsFilterCallable-always}
 use Rattle.lot_base.specs.Waiting.{result_of, split_filter}
 use Rattle.parking_lot_core.specs.Lot.{machine}
-use Rattle.parking_lot_core.specs.Machine.{after_unpark}
+use Rattle.parking_lot_core.specs.Machine.{Waiter, after_unpark}
 use Rattle.parking_lot_core.specs.Represents.{waiters_in}
 use Rattle.parking_lot_core.proofs.ScheduleLemmas.{split_filter-called}
 use Rattle.parking_lot_core.proofs.schedule.apply_filter.Goals as goal
@@ -14,7 +14,7 @@ pub returns-clause-answer : goal.returns-clause-answer
 returns-clause-answer c =
     let filtered = c.unpark_filter.ensures.filtered in
     filtered.answer ∙ ap result_of
-    (split_filter-called _ (λ filter. filter.0.now)
+    (split_filter-called (λ (waiter : Waiter). waiter.park_token) _ (λ filter. filter.0.now)
     (λ filter next token decision called. search rules) _ _ filtered.decisions filtered.decided)
 
 pub returns-clause-taken : goal.returns-clause-taken
@@ -24,6 +24,6 @@ returns-clause-taken c =
     let token : filtered.taken.0 ≡ c.args.token = search rules in
     filtered.taken.2
     ∙ ap (λ split. after_unpark (machine c.args.lot.now) c.args.key split filtered.taken.0)
-    (split_filter-called _ (λ filter. filter.0.now)
+    (split_filter-called (λ (waiter : Waiter). waiter.park_token) _ (λ filter. filter.0.now)
     (λ filter next token decision called. search rules) _ waiters filtered.decisions filtered.decided)
     ∙ ap (after_unpark (machine c.args.lot.now) c.args.key (split_filter c.args.decisions.now waiters)) token

@@ -1,4 +1,4 @@
-use Rattle.std.proofs.Common.{◌≡◌, ◌∙◌, ap, refl, sym, subst, IsTrue, IsSomeAnd, IsSome, IfSome, MatchOption, ◌<◌}
+use Rattle.std.proofs.Common.{◌≡◌, ◌∙◌, ap, sym, subst, IsTrue, IsSomeAnd, IfSome, ◌<◌}
 use Rattle.std.proofs.Common.{length, Option, Some, None, find, map, slice_set}
 use Rattle.std.proofs.lemmas.List.{get_or_read}
 use Rattle.lot_base.specs.Node.{fields}
@@ -13,7 +13,7 @@ use Rattle.parking_lot_core.specs.declared.lot.Status.TheVariants.{Running}
 use Rattle.parking_lot_core.proofs.CommitLemmas.{below_from_status, ne-free-queued}
 use Rattle.parking_lot_core.proofs.LotLemmas.{lot_of, read_thread, StandsAt-queued, IsLotStepOfUse, IsTaking-from}
 use Rattle.parking_lot_core.proofs.LotLemmas.{IsLotStepOfUse-after_timeout}
-use Rattle.parking_lot_core.proofs.RemovalLemmas.{find-standing, is_last-map}
+use Rattle.parking_lot_core.proofs.RemovalLemmas.{find-standing, is_last-map, is_some-removed}
 use Rattle.parking_lot_core.proofs.lot.Lot.time_out.Given as given
 use Rattle.parking_lot_core.proofs.lot.Lot.time_out.Goals as goal
 use Rattle.parking_lot_core.proofs.lot.Lot.time_out.Goals.{After-take-bucket}
@@ -60,12 +60,6 @@ remove-requires g c =
       is_last-map at.args.number (lists_of at.take-bucket.result.nodes at.key-key.result),
       at.take-bucket.ensures.taken,
     ) (callable at.key-key.result (stands g at)))
-
--- a node that is there was taken out
-is_some-removed : {A : Type 0} (P : NodeFields → Type 0) (B : Type 0) (Q : A → Type 0) (at : Option NodeFields)
-    (removed : Option A) → IsSomeAnd at P → MatchOption removed ((at ≡ None) × B) Q → IsSome removed
-is_some-removed P B Q at None holds none = absurd (subst (λ o. IsSomeAnd o P) none.0 holds)
-is_some-removed P B Q at (Some _) holds some = refl
 
 pub unwrap-node-requires : goal.unwrap-node-requires
 unwrap-node-requires g c =

@@ -5,7 +5,7 @@ use Rattle.parking_lot_core.specs.Lot.{machine}
 use Rattle.parking_lot_core.specs.Machine.{after_unpark}
 use Rattle.parking_lot_core.specs.Represents.{waiter_of}
 use Rattle.parking_lot_core.proofs.LotLemmas.{lot_of, IsLotStepOfUse, IsTaking-from, IsLotStepOfUse-taking}
-use Rattle.parking_lot_core.proofs.LotLemmas.{CanCommit-taking, IsUnparkSplit-all, saturated-all}
+use Rattle.parking_lot_core.proofs.LotLemmas.{CanCommit-taking, IsUnparkSplit-all, saturated-all, few-waiting}
 use Rattle.parking_lot_core.proofs.lot.Lot.unpark_all.Goals as goal
 use Rattle.parking_lot_core.proofs.lot.Lot.unpark_all.Goals.{After-commit}
 
@@ -43,4 +43,5 @@ returns-clause-taken c =
 pub returns-clause-answer : goal.returns-clause-answer
 returns-clause-answer c =
     rw (← c.self.view_is) ((rw c.take-bucket.ensures.taken at c.take_all-count.ensures.answer)
-    ∙ saturated-all (lot_of c.self.inside) c.self.invariant.0 c.args.key)
+    ∙ saturated-all c.self.inside.table.cells c.args.key
+    (few-waiting (lot_of c.self.inside) c.self.invariant.0 c.args.key))

@@ -4,7 +4,7 @@ use Rattle.lot_base.specs.NodeLists.{lists_of}
 use Rattle.parking_lot_core.specs.Lot.{machine}
 use Rattle.parking_lot_core.specs.Machine.{after_unpark}
 use Rattle.parking_lot_core.proofs.LotLemmas.{lot_of, IsLotStepOfUse, IsTaking-from, IsLotStepOfUse-taking}
-use Rattle.parking_lot_core.proofs.LotLemmas.{CanCommit-taking, IsUnparkSplit-filter, answer-filter}
+use Rattle.parking_lot_core.proofs.LotLemmas.{CanCommit-taking, IsUnparkSplit-filter, answer-filter, few-waiting}
 use Rattle.parking_lot_core.proofs.SplitLemmas.{split_of, split_filter-map, park_tokens-map}
 use Rattle.parking_lot_core.proofs.lot.Lot.unpark_filter.Given as given
 use Rattle.parking_lot_core.proofs.lot.Lot.unpark_filter.Goals as goal
@@ -17,7 +17,8 @@ take_filter-taken-requires-clause-filter g c =
 pub take_filter-taken-requires-clause-callback : goal.take_filter-taken-requires-clause-callback
 take_filter-taken-requires-clause-callback g c decisions decided =
     let callable = rw (← c.self.view_is) at c.requires.callback in
-    rw (c.take-bucket.ensures.taken, answer-filter (lot_of c.self.inside) c.self.invariant.0 c.args.key decisions)
+    let few = few-waiting (lot_of c.self.inside) c.self.invariant.0 c.args.key in
+    rw (c.take-bucket.ensures.taken, answer-filter c.self.inside.table.cells c.args.key few decisions)
     (callable decisions (rw (c.take-bucket.ensures.taken, park_tokens-map) at decided))
 
 pub commit-requires : goal.commit-requires
@@ -59,7 +60,8 @@ returns-clause-filtered g c =
       decisions = filtered.decisions;
       decided = rw (c.take-bucket.ensures.taken, park_tokens-map) at filtered.decided;
       answer = (rw c.take-bucket.ensures.taken at filtered.answer)
-          ∙ answer-filter (lot_of c.self.inside) c.self.invariant.0 c.args.key filtered.decisions;
+          ∙ answer-filter c.self.inside.table.cells c.args.key
+          (few-waiting (lot_of c.self.inside) c.self.invariant.0 c.args.key) filtered.decisions;
       taken = (
         filtered.taken.0,
         filtered.taken.1,

@@ -12,7 +12,7 @@ use Rattle.parking_lot_core.proofs.lot.Lot.unpark_one.Goals.{After-commit}
 
 pub take_one-taken-requires : goal.take_one-taken-requires
 take_one-taken-requires g c =
-    rw (c.take-bucket.ensures.taken, answer-first (lot_of c.self.inside) c.self.invariant.0 c.args.key)
+    rw (c.take-bucket.ensures.taken, answer-first c.self.inside.table.cells c.args.key)
     (rw (← c.self.view_is) at c.requires)
 
 pub commit-requires : goal.commit-requires
@@ -58,4 +58,4 @@ returns-clause-taken g c =
 pub returns-clause-answer : goal.returns-clause-answer
 returns-clause-answer g c =
     rw (← c.self.view_is) ((rw c.take-bucket.ensures.taken at c.take_one-taken.ensures.answer)
-    ∙ answer-first (lot_of c.self.inside) c.self.invariant.0 c.args.key)
+    ∙ answer-first c.self.inside.table.cells c.args.key)

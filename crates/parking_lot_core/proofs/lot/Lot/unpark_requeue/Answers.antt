@@ -1,12 +1,13 @@
 use Rattle.std.proofs.Common.{◌∙◌, sym}
-use Rattle.parking_lot_core.proofs.LotLemmas.{lot_of, answer-requeue}
+use Rattle.parking_lot_core.proofs.LotLemmas.{lot_of, answer-requeue, few-waiting}
 use Rattle.parking_lot_core.proofs.RequeueLotLemmas.{CanCommit-requeue, uses-requeue, IsLotStep-requeue}
 use Rattle.parking_lot_core.proofs.lot.Lot.unpark_requeue.Goals as goal
 
 pub requeue_waiters-taken-requires-clause-callback : goal.requeue_waiters-taken-requires-clause-callback
 requeue_waiters-taken-requires-clause-callback g c op chosen other =
     let callable = rw (← c.self.view_is) at c.requires.callback in
-    rw (answer-requeue (lot_of c.self.inside) c.self.invariant.0 c.args.from op) (callable op chosen other)
+    let few = few-waiting (lot_of c.self.inside) c.self.invariant.0 c.args.from in
+    rw (answer-requeue c.self.inside.table.cells c.args.from few op) (callable op chosen other)
 
 pub commit-requires : goal.commit-requires
 commit-requires g c =
@@ -32,7 +33,9 @@ returns-clause-requeued g c =
     (record {
       op = done.op;
       chosen = done.chosen;
-      answer = done.answer ∙ answer-requeue (lot_of c.self.inside) c.self.invariant.0 c.args.from done.op;
+      answer = done.answer
+          ∙ answer-requeue c.self.inside.table.cells c.args.from
+          (few-waiting (lot_of c.self.inside) c.self.invariant.0 c.args.from) done.op;
       taken = (
         done.taken.0,
         done.taken.1,

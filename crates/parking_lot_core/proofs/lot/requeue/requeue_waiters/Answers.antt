@@ -1,4 +1,5 @@
-use Rattle.std.proofs.Common.{rules, ◌∙◌, sym, ap, Vec}
+use Rattle.std.proofs.Common.{rules, ◌∙◌, sym, ap, refl, Vec}
+use Rattle.parking_lot_core.specs.Private.Committed.{threads_with_key, threads_with_keys}
 use Rattle.parking_lot_core.proofs.RequeuedLemmas.{keys_set, all_kept}
 use Rattle.parking_lot_core.proofs.lot.requeue.requeue_waiters.Goals as goal
 
@@ -6,9 +7,11 @@ pub returns-clause-requeued : goal.returns-clause-requeued
 returns-clause-requeued g c =
     let done = c.requeue_in_table.ensures.requeued in
     let moves = done.called.moves in
-    let same = all_kept _ (λ moved. moved.0.now.items) (λ moved. (moved.1.now, moved.0.ghost_name))
+    let same = all_kept threads_with_key threads_with_keys (λ key threads. refl) (λ key number numbers threads. refl) _
+    (λ moved. moved.0.now.items) (λ moved. (moved.1.now, moved.0.ghost_name))
     (λ now next number called. (search rules, search rules)) _ _ _ moves in
-    let keys = keys_set _ (λ moved. moved.0.now.items) (λ moved. (moved.1.now, moved.0.ghost_name))
+    let keys = keys_set threads_with_key threads_with_keys (λ key threads. refl) (λ key number numbers threads. refl) _
+    (λ moved. moved.0.now.items) (λ moved. (moved.1.now, moved.0.ghost_name))
     (λ now next number called. (search rules, search rules)) _ _ _ moves in
     record {
       op = done.op;

@@ -1,0 +1,366 @@
+//! Worked rows of the interleaved machine, on an interleaved lot and on the plain machine. The
+//! threads a and b are 0 and 1.
+
+mod both;
+mod plain;
+mod same;
+mod sequential;
+mod steps;
+
+use crate::schedule::steps as whole;
+use both::Both;
+use lot_base::token::{FilterOp, LotError, RequeueOp};
+use parking_lot_core::interleaved::{FineAnswer, FineLot, FineStep, run_fine};
+use parking_lot_core::schedule::{Answer, Step};
+use same::is_same;
+use sequential::expect_sequential;
+use std::alloc::Global;
+use std::process::Abort;
+use std::test::Fail;
+use steps::{
+    MISFIT, answer, begin_all, begin_filter, begin_one, begin_requeue, enter, enter_invalid,
+    unparked, woken_with,
+};
+
+const A: usize = 0;
+
+const B: usize = 1;
+
+const ENTERED: FineAnswer = FineAnswer::Answer(Answer::Entered);
+
+const COMMIT: FineStep = FineStep::Commit { caller: 0 };
+
+const END: FineStep = FineStep::End { caller: 0 };
+
+const WAKE: FineStep = FineStep::Wake { caller: 0 };
+
+fn registered(number: usize) -> FineAnswer {
+    answer(Answer::Registered(number))
+}
+
+fn timed_out(key: usize, last: bool) -> FineAnswer {
+    answer(Answer::TimedOut { key, last })
+}
+
+// Does the steps on both, and compares the answers.
+fn expect(
+    rt: &impl Abort,
+    both: &mut Both,
+    rows: &[(FineStep, FineAnswer)],
+) -> Result<(), LotError> {
+    for (index, (step, expected)) in rows.iter().enumerate() {
+        assert_eq!(rt; both.step(rt, step)?, *expected, "step {index}");
+    }
+    both.compare(rt, [0, 1, 2, 7, 13].as_slice())
+}
+
+// Both for six threads, so many of which are registered.
+fn both_of(
+    rt: &impl Abort,
+    alloc: Global,
+    threads: usize,
+    callers: usize,
+) -> Result<Both, LotError> {
+    let mut both = Both::new(alloc, (6, callers))?;
+    for number in 0..threads {
+        let given = both.step(rt, &FineStep::Register)?;
+        assert_eq!(rt; given, registered(number));
+    }
+    Ok(both)
+}
+
+// It refuses a look that answers `TimedOut` without looking into the slot, and one that does not
+// ask for the bucket.
+#[test]
+fn a_deadline_that_an_unpark_overtook_ends_unparked(rt: HostRuntime) -> Result<(), Fail> {
+    let rows = [
+        (FineStep::Register, registered(A)),
+        (enter(A, 1, true), ENTERED),
+        (begin_all(0, 1, 42), answer(Answer::Count(1))),
+        (FineStep::Deadline { thread: A }, FineAnswer::Late),
+        (FineStep::ReadKey { thread: A }, FineAnswer::Read(1)),
+        (FineStep::Look { thread: A }, FineAnswer::Blocked),
+        (COMMIT, FineAnswer::Committed(A)),
+        (END, FineAnswer::Ended),
+        (FineStep::Look { thread: A }, woken_with(42)),
+        (WAKE, FineAnswer::Woken),
+    ];
+    let sequential = [
+        Step::Register,
+        whole::enter(A, 1, true),
+        whole::all(1, 42),
+        Step::Return { thread: A },
+    ];
+    expect_sequential(&rt, rt.alloc(), (1, 1), &rows, &sequential)?;
+    Ok(())
+}
+
+// It refuses a look that does not compare the key that was read.
+#[test]
+fn a_thread_that_was_requeued_reads_its_key_again(rt: HostRuntime) -> Result<(), Fail> {
+    let rows = [
+        (FineStep::Register, registered(A)),
+        (enter(A, 1, true), ENTERED),
+        (FineStep::Deadline { thread: A }, FineAnswer::Late),
+        (FineStep::ReadKey { thread: A }, FineAnswer::Read(1)),
+        (
+            begin_requeue(0, (1, 2), RequeueOp::RequeueAll, 9),
+            unparked(0, 1, false),
+        ),
+        (END, FineAnswer::Ended),
+        (FineStep::Look { thread: A }, FineAnswer::Retry),
+        (FineStep::ReadKey { thread: A }, FineAnswer::Read(2)),
+        (FineStep::Look { thread: A }, timed_out(2, true)),
+    ];
+    let sequential = [
+        Step::Register,
+        whole::enter(A, 1, true),
+        Step::Deadline { thread: A },
+        whole::requeue((1, 2), RequeueOp::RequeueAll, 9),
+        Step::Resolve { thread: A },
+    ];
+    expect_sequential(&rt, rt.alloc(), (1, 1), &rows, &sequential)?;
+    Ok(())
+}
+
+// It refuses a wake that changes a slot.
+#[test]
+fn a_wake_may_come_after_the_thread_has_gone(rt: HostRuntime) -> Result<(), Fail> {
+    let mut both = Both::new(rt.alloc(), (1, 1))?;
+    let rows = [
+        (FineStep::Register, registered(0)),
+        (enter(0, 1, false), ENTERED),
+        (begin_one(0, 1, 42), unparked(1, 0, false)),
+        (COMMIT, FineAnswer::Committed(0)),
+        (END, FineAnswer::Ended),
+        (FineStep::Return { thread: 0 }, woken_with(42)),
+        (FineStep::Retire { thread: 0 }, answer(Answer::Retired)),
+        (FineStep::Register, registered(0)),
+        (enter(0, 2, false), ENTERED),
+        (WAKE, FineAnswer::Woken),
+        (FineStep::Return { thread: 0 }, MISFIT),
+    ];
+    expect(&rt, &mut both, &rows)?;
+    assert_eq!(rt; both.plain.list(2), [0].as_slice());
+    Ok(())
+}
+
+// It refuses a registration that grows the table while a section holds a bucket, and one that is
+// blocked though it does not grow the table.
+#[test]
+fn a_growth_waits_for_every_section(rt: HostRuntime) -> Result<(), Fail> {
+    let mut both = both_of(&rt, rt.alloc(), 5, 1)?;
+    let rows = [
+        (begin_one(0, 7, 42), unparked(0, 0, false)),
+        (FineStep::Register, FineAnswer::Blocked),
+        (END, FineAnswer::Ended),
+        (FineStep::Register, registered(5)),
+        (begin_one(0, 7, 42), unparked(0, 0, false)),
+        (FineStep::Register, answer(Answer::Full)),
+        (FineStep::Retire { thread: 5 }, answer(Answer::Retired)),
+        (FineStep::Register, registered(5)),
+    ];
+    expect(&rt, &mut both, &rows)?;
+    assert_eq!(rt; both.plain.size(), 32);
+    Ok(())
+}
+
+#[test]
+fn a_caller_has_one_section_at_a_time(rt: HostRuntime) -> Result<(), Fail> {
+    for (second, expected) in [(0, MISFIT), (1, unparked(1, 0, false)), (2, MISFIT)] {
+        let mut both = both_of(&rt, rt.alloc(), 2, 2)?;
+        let rows = [
+            (enter(A, 1, false), ENTERED),
+            (enter(B, 2, false), ENTERED),
+            (begin_one(0, 1, 42), unparked(1, 0, false)),
+            (begin_one(second, 2, 42), expected),
+        ];
+        expect(&rt, &mut both, &rows)?;
+    }
+    Ok(())
+}
+
+// The keys 0 and 13 have place 0 of 16, and the key 1 has another. It refuses an entry that is
+// invalid before it is blocked.
+#[test]
+fn keys_of_one_place_share_a_bucket(rt: HostRuntime) -> Result<(), Fail> {
+    let mut both = both_of(&rt, rt.alloc(), 2, 2)?;
+    let requeue = begin_requeue(1, (1, 13), RequeueOp::Abort, 9);
+    let rows = [
+        (enter(A, 0, false), ENTERED),
+        (begin_all(0, 0, 42), answer(Answer::Count(1))),
+        (begin_one(1, 13, 42), FineAnswer::Blocked),
+        (requeue, FineAnswer::Blocked),
+        (enter(B, 13, false), FineAnswer::Blocked),
+        (enter_invalid(B, 13), FineAnswer::Blocked),
+        (enter_invalid(B, 1), answer(Answer::Invalid)),
+        (enter(B, 1, false), ENTERED),
+    ];
+    expect(&rt, &mut both, &rows)?;
+    Ok(())
+}
+
+#[test]
+fn a_section_ends_once_all_have_their_nodes(rt: HostRuntime) -> Result<(), Fail> {
+    let mut both = both_of(&rt, rt.alloc(), 1, 1)?;
+    let rows = [
+        (enter(A, 1, false), ENTERED),
+        (COMMIT, MISFIT),
+        (END, MISFIT),
+        (begin_one(0, 1, 42), unparked(1, 0, false)),
+        (END, MISFIT),
+        (COMMIT, FineAnswer::Committed(A)),
+        (COMMIT, MISFIT),
+        (END, FineAnswer::Ended),
+        (END, MISFIT),
+    ];
+    expect(&rt, &mut both, &rows)?;
+    Ok(())
+}
+
+// The table grows between the deadline and the look. It refuses a look that was not preceded by a
+// reading of the key.
+#[test]
+fn a_late_thread_times_out_across_a_growth(rt: HostRuntime) -> Result<(), Fail> {
+    let mut both = both_of(&rt, rt.alloc(), 5, 1)?;
+    let rows = [
+        (enter(A, 13, true), ENTERED),
+        (FineStep::Deadline { thread: A }, FineAnswer::Late),
+        (FineStep::Look { thread: A }, MISFIT),
+        (FineStep::ReadKey { thread: A }, FineAnswer::Read(13)),
+        (FineStep::Register, registered(5)),
+        (FineStep::Look { thread: A }, timed_out(13, true)),
+    ];
+    expect(&rt, &mut both, &rows)?;
+    assert_eq!(rt; both.plain.size(), 32);
+    Ok(())
+}
+
+// It refuses a deadline of a thread whose slot is full, a return of a thread that is late, and a
+// count of wakes that goes below zero.
+#[test]
+fn of_two_that_were_taken_one_returns_and_one_is_late(rt: HostRuntime) -> Result<(), Fail> {
+    let rows = [
+        (FineStep::Register, registered(A)),
+        (FineStep::Register, registered(B)),
+        (enter(A, 1, true), ENTERED),
+        (enter(B, 1, true), ENTERED),
+        (begin_all(0, 1, 42), answer(Answer::Count(2))),
+        (COMMIT, FineAnswer::Committed(A)),
+        (FineStep::Deadline { thread: A }, MISFIT),
+        (FineStep::Deadline { thread: B }, FineAnswer::Late),
+        (FineStep::Return { thread: A }, woken_with(42)),
+        (END, MISFIT),
+        (COMMIT, FineAnswer::Committed(B)),
+        (END, FineAnswer::Ended),
+        (FineStep::Return { thread: B }, MISFIT),
+        (FineStep::ReadKey { thread: B }, FineAnswer::Read(1)),
+        (FineStep::Look { thread: B }, woken_with(42)),
+        (WAKE, FineAnswer::Woken),
+        (WAKE, FineAnswer::Woken),
+        (WAKE, MISFIT),
+    ];
+    let sequential = [
+        Step::Register,
+        Step::Register,
+        whole::enter(A, 1, true),
+        whole::enter(B, 1, true),
+        whole::all(1, 42),
+        Step::Return { thread: A },
+        Step::Return { thread: B },
+    ];
+    expect_sequential(&rt, rt.alloc(), (2, 1), &rows, &sequential)?;
+    Ok(())
+}
+
+// It refuses a `FineLot::new` that always answers `NoMemory`.
+#[test]
+fn a_new_interleaved_lot_is_empty(rt: HostRuntime) -> Result<(), Fail> {
+    let lot = FineLot::new(rt.alloc(), 6, 2)?;
+    assert_eq!(rt; (lot.size(), lot.registered()), (16, 0));
+    assert_eq!(rt; lot.list(7)?.len(), 0);
+    FineLot::new(rt.alloc(), 1_024, 1_024)?;
+    FineLot::new(rt.alloc(), 0, 0)?;
+    Ok(())
+}
+
+// It ends well whichever one of its requests for memory is refused.
+#[test]
+fn an_interleaved_lot_is_for_at_most_1024_threads_and_callers(rt: HostRuntime) {
+    for (threads, callers) in [(1_025, 1), (1, 1_025)] {
+        let made = FineLot::new(rt.alloc(), threads, callers);
+        assert!(rt; matches!(made, Err(LotError::TooManyThreads)));
+    }
+    if let Err(refused) = FineLot::new(rt.alloc(), 2, 2) {
+        assert_eq!(rt; refused, LotError::NoMemory);
+        assert!(rt; FineLot::new(rt.alloc(), 2, 2).is_ok());
+    }
+}
+
+// It refuses a `run_fine` that does nothing and answers `NoMemory`.
+#[test]
+fn interleaved_answers_stand_behind_those_that_are_there(rt: HostRuntime) -> Result<(), Fail> {
+    let mut lot = FineLot::new(rt.alloc(), 1, 1)?;
+    let mut answers = Vec::new(rt.alloc());
+    let mut sequential = Vec::new(rt.alloc());
+    run_fine(&mut lot, &[], &mut answers, &mut sequential)?;
+    assert_eq!(rt; (answers.len(), sequential.len()), (0, 0));
+
+    let steps = [FineStep::Register, WAKE, enter_invalid(A, 1)];
+    run_fine(&mut lot, &steps, &mut answers, &mut sequential)?;
+    run_fine(&mut lot, &[], &mut answers, &mut sequential)?;
+    let retire = [FineStep::Retire { thread: A }];
+    run_fine(&mut lot, &retire, &mut answers, &mut sequential)?;
+    let expected = [
+        registered(A),
+        MISFIT,
+        answer(Answer::Invalid),
+        answer(Answer::Retired),
+    ];
+    assert_eq!(rt; answers.as_slice(), expected.as_slice());
+    let expected = [
+        Step::Register,
+        whole::enter_invalid(A, 1),
+        Step::Retire { thread: A },
+    ];
+    assert_eq!(rt; sequential.len(), expected.len());
+    for (told, expected) in sequential.iter().zip(&expected) {
+        assert!(rt; is_same(told, expected));
+    }
+    Ok(())
+}
+
+// It ends well whichever one of its requests for memory is refused: a run that has no room for its
+// answers, for its sequential steps or for copies leaves all as it was, and a registration or a
+// recording that is refused is answered so.
+#[test]
+fn an_interleaved_run_without_room_changes_nothing(rt: HostRuntime) {
+    let Ok(mut lot) = FineLot::new(rt.alloc(), 2, 1) else {
+        return;
+    };
+    let Ok(filter) = begin_filter(rt.alloc(), 0, 7, &[FilterOp::Skip], 42) else {
+        return;
+    };
+    let acquire = FineStep::Acquire { thread: A, key: 5 };
+    let steps = [FineStep::Register, acquire, enter(A, 7, false), filter];
+    let mut answers = Vec::new(rt.alloc());
+    let mut sequential = Vec::new(rt.alloc());
+    if run_fine(&mut lot, &steps, &mut answers, &mut sequential).is_err() {
+        assert_eq!(rt;
+            (answers.len(), sequential.len(), lot.registered()),
+            (0, 0, 0)
+        );
+        assert!(rt; run_fine(&mut lot, &steps, &mut answers, &mut sequential).is_ok());
+    }
+    let no_memory = answer(Answer::NoMemory);
+    let recorded = answer(Answer::Recorded);
+    let nobody = unparked(0, 0, false);
+    let skipped = unparked(0, 0, true);
+    let expected = [
+        [no_memory, MISFIT, MISFIT, nobody],
+        [registered(A), no_memory, ENTERED, skipped],
+        [registered(A), recorded, ENTERED, skipped],
+    ];
+    let given = answers.as_slice();
+    assert!(rt; expected.iter().any(|expected| expected.as_slice() == given));
+}

@@ -1,0 +1,103 @@
+//! Runs of an interleaved lot and of the plain machine beside it, which give the same answers and
+//! amount to the same sequential steps.
+
+use crate::interleaved::plain::FinePlain;
+use crate::interleaved::same::is_same;
+use lot_base::token::{LotError, NoMemory};
+use parking_lot_core::interleaved::{FineAnswer, FineLot, FineStep, run_fine};
+use parking_lot_core::lot::Lot;
+use parking_lot_core::schedule::{Answer, Step, run};
+use std::alloc::Global;
+use std::process::Abort;
+use std::slice;
+
+/// Both, with the sequential steps of all that was done, and their answers.
+#[derive(Drop)]
+pub struct Both {
+    pub plain: FinePlain,
+    pub steps: Vec<Step>,
+    lot: FineLot,
+    answers: Vec<Answer>,
+    alloc: Global,
+    max_threads: usize,
+}
+
+impl Both {
+    /// Both for so many threads and callers, with no registered thread and no open section.
+    pub fn new(alloc: Global, (max_threads, callers): (usize, usize)) -> Result<Both, LotError> {
+        Ok(Both {
+            plain: FinePlain::new(alloc, max_threads, callers)?,
+            steps: Vec::new(alloc),
+            lot: FineLot::new(alloc, max_threads, callers)?,
+            answers: Vec::new(alloc),
+            alloc,
+            max_threads,
+        })
+    }
+
+    /// Does the steps on both, compares what they give, and answers that.
+    pub fn run(
+        &mut self,
+        rt: &impl Abort,
+        steps: &[FineStep],
+    ) -> Result<Vec<FineAnswer>, NoMemory> {
+        let mut expected = Vec::new(self.alloc);
+        let mut sequential = Vec::new(self.alloc);
+        for step in steps {
+            let given = self.plain.step(step)?;
+            expected.push(given)?;
+            if let Some((step, answer)) = self.plain.sequential_step(step, given)? {
+                sequential.push(step)?;
+                self.answers.push(answer)?;
+            }
+        }
+        let mut answers = Vec::new(self.alloc);
+        let before = self.steps.len();
+        run_fine(&mut self.lot, steps, &mut answers, &mut self.steps)?;
+        assert_eq!(rt; answers.as_slice(), expected.as_slice());
+        assert_eq!(rt; self.steps.len(), before.wrapping_add(sequential.len()));
+        for (told, expected) in self.steps.iter().skip(before).zip(&sequential) {
+            assert!(rt; is_same(told, expected), "sequential step");
+        }
+        Ok(answers)
+    }
+
+    /// Does one step on both, compares what they give, and answers that.
+    pub fn step(&mut self, rt: &impl Abort, step: &FineStep) -> Result<FineAnswer, NoMemory> {
+        let answers = self.run(rt, slice::from_ref(step))?;
+        Ok(*answers.first().expect(rt, "an answer"))
+    }
+
+    /// Compares what both tell of their sizes and of the lists of these keys. Gives the sequential
+    /// steps to a new lot, and compares its answers, and what it means then.
+    pub fn compare(&self, rt: &impl Abort, keys: &[usize]) -> Result<(), LotError> {
+        assert_eq!(rt; self.lot.size(), self.plain.size());
+        assert_eq!(rt; self.lot.registered(), self.plain.registered());
+        for key in keys {
+            let found = self.lot.list(*key)?;
+            assert_eq!(rt; found.as_slice(), self.plain.list(*key), "key {key}");
+        }
+        self.compare_sequential(rt, keys)
+    }
+
+    fn compare_sequential(&self, rt: &impl Abort, keys: &[usize]) -> Result<(), LotError> {
+        let mut lot = Lot::new(self.alloc, self.max_threads)?;
+        let mut answers = Vec::new(self.alloc);
+        run(&mut lot, self.steps.as_slice(), &mut answers)?;
+        assert_eq!(rt; answers.as_slice(), self.answers.as_slice());
+        assert_eq!(rt; lot.size(), self.plain.size());
+        for key in keys {
+            let found = lot.list(*key)?;
+            assert_eq!(rt; found.as_slice(), self.plain.list(*key), "key {key}");
+        }
+        for number in 0..self.max_threads {
+            let expected = self.plain.sequential_status(number);
+            assert_eq!(rt; lot.status(number), expected, "{number}");
+            for key in keys {
+                let expected = self.plain.records(number, *key);
+                assert_eq!(rt; lot.records(number, *key), expected, "{number}, key {key}");
+            }
+        }
+        Ok(())
+    }
+}

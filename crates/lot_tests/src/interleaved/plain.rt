@@ -1,0 +1,440 @@
+//! The interleaved machine of docs/MODEL.md, as slow and plain as it is told there. The threads'
+//! view is the plain machine with one list for each key.
+//!
+//! It knows no bucket and no node, and of a table only its size.
+
+use crate::interleaved::steps::{MISFIT, answer, unpark};
+use crate::schedule::plain::Plain;
+use lot_base::token::{NoMemory, ParkToken, UnparkToken};
+use parking_lot_core::interleaved::{FineAnswer, FineStep};
+use parking_lot_core::lot::Status;
+use parking_lot_core::schedule::{Answer, Op, Step};
+use std::alloc::Global;
+
+// What an open section holds and has, and the token of those that it has.
+#[derive(Drop)]
+struct Section {
+    held: [usize; 2],
+    taken: Vec<usize>,
+    token: UnparkToken,
+}
+
+#[derive(Drop)]
+struct Caller {
+    section: Option<Section>,
+    wakes: usize,
+}
+
+#[derive(Copy, Clone)]
+struct Thread {
+    key_word: usize,
+    key_read: Option<usize>,
+    slot: Option<UnparkToken>,
+}
+
+/// The plain interleaved machine.
+#[derive(Drop)]
+pub struct FinePlain {
+    alloc: Global,
+    view: Plain,
+    threads: Vec<Thread>,
+    callers: Vec<Caller>,
+    size: usize,
+}
+
+// The first and the last key of an operation, and its token.
+fn parts(op: &Op) -> (usize, usize, UnparkToken) {
+    match op {
+        Op::One { key, token } => (*key, *key, *token),
+        Op::All { key, token } => (*key, *key, *token),
+        Op::Filter {
+            key,
+            decisions: _,
+            token,
+        } => (*key, *key, *token),
+        Op::Requeue {
+            from,
+            to,
+            op: _,
+            token,
+        } => (*from, *to, *token),
+    }
+}
+
+// The place of a key in a table of this many buckets.
+fn place(key: usize, size: usize) -> usize {
+    let product = key.wrapping_mul(0x9E37_79B9_7F4A_7C15);
+    let width = usize::MAX.checked_div(size).unwrap_or(0).wrapping_add(1);
+    product.checked_div(width).unwrap_or(0)
+}
+
+impl FinePlain {
+    /// A machine for so many threads and callers, with no registered thread and no open section.
+    pub fn new(alloc: Global, max_threads: usize, callers: usize) -> Result<FinePlain, NoMemory> {
+        let mut plain = FinePlain {
+            alloc,
+            view: Plain::new(alloc, max_threads)?,
+            threads: Vec::new(alloc),
+            callers: Vec::new(alloc),
+            size: 16,
+        };
+        for _ in 0..max_threads {
+            plain.threads.push(Thread {
+                key_word: 0,
+                key_read: None,
+                slot: None,
+            })?;
+        }
+        for _ in 0..callers {
+            plain.callers.push(Caller {
+                section: None,
+                wakes: 0,
+            })?;
+        }
+        Ok(plain)
+    }
+
+    /// The numbers of the threads that stand in the list of the key, in order.
+    pub fn list(&self, key: usize) -> &[usize] {
+        self.view.list(key)
+    }
+
+    /// How often the thread of this number has recorded the key.
+    pub fn records(&self, thread: usize, key: usize) -> usize {
+        self.view.records(thread, key)
+    }
+
+    /// How many buckets there are.
+    pub fn size(&self) -> usize {
+        self.size
+    }
+
+    /// Does the step by its rule.
+    pub fn step(&mut self, step: &FineStep) -> Result<FineAnswer, NoMemory> {
+        match step {
+            FineStep::Begin { caller, op } => self.begin(*caller, op),
+            FineStep::Commit { caller } => self.commit(*caller),
+            FineStep::End { caller } => Ok(self.end(*caller)),
+            FineStep::Wake { caller } => Ok(self.wake(*caller)),
+            FineStep::Deadline { thread } => self.deadline(*thread),
+            FineStep::ReadKey { thread } => Ok(self.read_key(*thread)),
+            FineStep::Look { thread } => self.look(*thread),
+            FineStep::Enter {
+                thread,
+                key,
+                valid,
+                park_token,
+                timed,
+            } => self.enter(*thread, *key, *valid, *park_token, *timed),
+            FineStep::Return { thread } => Ok(self.give_back(*thread)),
+            FineStep::Register => self.register(),
+            FineStep::Retire { thread } => self.machine_step(&Step::Retire { thread: *thread }),
+            FineStep::Acquire { thread, key } => self.machine_step(&Step::Acquire {
+                thread: *thread,
+                key: *key,
+            }),
+            FineStep::Release { thread, key } => self.machine_step(&Step::Release {
+                thread: *thread,
+                key: *key,
+            }),
+        }
+    }
+
+    // A step that is one of the machine with one list for each key.
+    fn machine_step(&mut self, step: &Step) -> Result<FineAnswer, NoMemory> {
+        Ok(answer(self.view.step(step)?))
+    }
+
+    fn is_held(&self, key: usize) -> bool {
+        self.callers.iter().any(|caller| match &caller.section {
+            Some(section) => section.held.contains(&place(key, self.size)),
+            None => false,
+        })
+    }
+
+    fn is_any_open(&self) -> bool {
+        self.callers.iter().any(|caller| caller.section.is_some())
+    }
+
+    fn slot(&self, number: usize) -> Option<UnparkToken> {
+        self.threads.get(number).and_then(|thread| thread.slot)
+    }
+
+    // The threads in the list of the key that the machine's step has made taken. In the threads'
+    // view they get back the status that they had before.
+    fn taken_of(&mut self, before: &[(usize, Status)]) -> Result<Vec<usize>, NoMemory> {
+        let mut taken = Vec::new(self.alloc);
+        for (number, status) in before {
+            if let Status::Taken(_) = self.view.status(*number) {
+                taken.push(*number)?;
+                self.view.set_status(*number, *status);
+            }
+        }
+        Ok(taken)
+    }
+
+    fn begin(&mut self, caller: usize, op: &Op) -> Result<FineAnswer, NoMemory> {
+        let (from, to, token) = parts(op);
+        match self.callers.get(caller) {
+            Some(
+                Caller {
+                    section: None,
+                    wakes: 0,
+                },
+            ) => {}
+            _ => return Ok(MISFIT),
+        }
+        if self.is_held(from) || self.is_held(to) {
+            return Ok(FineAnswer::Blocked);
+        }
+        let mut before = Vec::new(self.alloc);
+        for number in self.view.list(from) {
+            before.push((*number, self.view.status(*number)))?;
+        }
+        let given = self.view.step(&unpark(self.alloc, op)?)?;
+        let taken = self.taken_of(before.as_slice())?;
+        for number in self.view.list(to) {
+            if let Some(thread) = self.threads.get_mut(*number) {
+                thread.key_word = to;
+            }
+        }
+        if let Some(caller) = self.callers.get_mut(caller) {
+            caller.section = Some(Section {
+                held: [place(from, self.size), place(to, self.size)],
+                taken,
+                token,
+            });
+        }
+        Ok(answer(given))
+    }
+
+    fn commit(&mut self, caller: usize) -> Result<FineAnswer, NoMemory> {
+        let Some(caller) = self.callers.get_mut(caller) else {
+            return Ok(MISFIT);
+        };
+        let Some(section) = &mut caller.section else {
+            return Ok(MISFIT);
+        };
+        let Some(first) = section.taken.first().copied() else {
+            return Ok(MISFIT);
+        };
+        let mut rest = Vec::new(self.alloc);
+        for number in section.taken.iter().skip(1) {
+            rest.push(*number)?;
+        }
+        section.taken = rest;
+        if let Some(thread) = self.threads.get_mut(first) {
+            thread.slot = Some(section.token);
+        }
+        caller.wakes = caller.wakes.wrapping_add(1);
+        Ok(FineAnswer::Committed(first))
+    }
+
+    fn end(&mut self, caller: usize) -> FineAnswer {
+        let Some(caller) = self.callers.get_mut(caller) else {
+            return MISFIT;
+        };
+        match &caller.section {
+            Some(section) if section.taken.is_empty() => {
+                caller.section = None;
+                FineAnswer::Ended
+            }
+            _ => MISFIT,
+        }
+    }
+
+    fn wake(&mut self, caller: usize) -> FineAnswer {
+        match self.callers.get_mut(caller) {
+            Some(caller) if caller.wakes != 0 => {
+                caller.wakes = caller.wakes.wrapping_sub(1);
+                FineAnswer::Woken
+            }
+            _ => MISFIT,
+        }
+    }
+
+    fn deadline(&mut self, thread: usize) -> Result<FineAnswer, NoMemory> {
+        if self.slot(thread).is_some() {
+            return Ok(MISFIT);
+        }
+        Ok(match self.view.step(&Step::Deadline { thread })? {
+            Answer::Late => FineAnswer::Late,
+            given => answer(given),
+        })
+    }
+
+    fn read_key(&mut self, number: usize) -> FineAnswer {
+        let status = self.view.status(number);
+        match self.threads.get_mut(number) {
+            Some(thread) if status == Status::Late => {
+                thread.key_read = Some(thread.key_word);
+                FineAnswer::Read(thread.key_word)
+            }
+            _ => MISFIT,
+        }
+    }
+
+    // The thread takes its node, with the token, and runs.
+    fn unparked(&mut self, number: usize, token: UnparkToken) -> FineAnswer {
+        if let Some(thread) = self.threads.get_mut(number) {
+            thread.slot = None;
+        }
+        self.view.set_status(number, Status::Running);
+        answer(Answer::Unparked(token))
+    }
+
+    fn look(&mut self, number: usize) -> Result<FineAnswer, NoMemory> {
+        let key_read = self.threads.get(number).and_then(|thread| thread.key_read);
+        let Some(key) = key_read else {
+            return Ok(MISFIT);
+        };
+        if self.is_held(key) {
+            return Ok(FineAnswer::Blocked);
+        }
+        let Some(thread) = self.threads.get_mut(number) else {
+            return Ok(MISFIT);
+        };
+        thread.key_read = None;
+        if thread.key_word != key {
+            return Ok(FineAnswer::Retry);
+        }
+        match thread.slot {
+            Some(token) => Ok(self.unparked(number, token)),
+            None => Ok(answer(self.view.step(&Step::Resolve { thread: number })?)),
+        }
+    }
+
+    fn enter(
+        &mut self,
+        thread: usize,
+        key: usize,
+        valid: bool,
+        park_token: ParkToken,
+        timed: bool,
+    ) -> Result<FineAnswer, NoMemory> {
+        if self.view.status(thread) != Status::Running {
+            return Ok(MISFIT);
+        }
+        if self.is_held(key) {
+            return Ok(FineAnswer::Blocked);
+        }
+        let given = self.view.step(&Step::Enter {
+            thread,
+            key,
+            valid,
+            park_token,
+            timed,
+        })?;
+        match self.threads.get_mut(thread) {
+            Some(thread) if valid => thread.key_word = key,
+            _ => {}
+        }
+        Ok(answer(given))
+    }
+
+    fn give_back(&mut self, number: usize) -> FineAnswer {
+        match (self.view.status(number), self.slot(number)) {
+            (Status::Waiting { .. }, Some(token)) => self.unparked(number, token),
+            _ => MISFIT,
+        }
+    }
+
+    /// How many threads are registered.
+    pub fn registered(&self) -> usize {
+        (0..self.threads.len())
+            .filter(|number| self.view.status(*number) != Status::Free)
+            .count()
+    }
+
+    fn register(&mut self) -> Result<FineAnswer, NoMemory> {
+        let registered = self.registered();
+        let needed = registered.wrapping_add(1).wrapping_mul(3);
+        if registered != self.threads.len() && self.size < needed {
+            if self.is_any_open() {
+                return Ok(FineAnswer::Blocked);
+            }
+            // The next power of two: one thread more needs three buckets more.
+            self.size = self.size.wrapping_mul(2);
+        }
+        Ok(answer(self.view.step(&Step::Register)?))
+    }
+
+    // Whether the thread stands in the list of its key word.
+    fn is_in_list(&self, number: usize) -> bool {
+        match self.threads.get(number) {
+            Some(thread) => self.view.list(thread.key_word).contains(&number),
+            None => false,
+        }
+    }
+
+    // The token of those that an open section has taken, if the thread is one of them.
+    fn token_in_section(&self, number: usize) -> Option<UnparkToken> {
+        for caller in &self.callers {
+            match &caller.section {
+                Some(section) if section.taken.as_slice().contains(&number) => {
+                    return Some(section.token);
+                }
+                _ => {}
+            }
+        }
+        None
+    }
+
+    /// The status of the thread in the sequential view.
+    pub fn sequential_status(&self, number: usize) -> Status {
+        match self.slot(number).or(self.token_in_section(number)) {
+            Some(token) => Status::Taken(token),
+            None => self.view.status(number),
+        }
+    }
+
+    /// The sequential step of a step that was just done and answered so.
+    pub fn sequential_step(
+        &self,
+        step: &FineStep,
+        given: FineAnswer,
+    ) -> Result<Option<(Step, Answer)>, NoMemory> {
+        let given = match given {
+            FineAnswer::Answer(Answer::Misfit) => return Ok(None),
+            FineAnswer::Answer(given) => given,
+            FineAnswer::Late => Answer::Late,
+            _ => return Ok(None),
+        };
+        let step = match step {
+            FineStep::Begin { caller: _, op } => unpark(self.alloc, op)?,
+            FineStep::Deadline { thread } if self.is_in_list(*thread) => {
+                Step::Deadline { thread: *thread }
+            }
+            FineStep::Look { thread } => match given {
+                Answer::TimedOut { .. } => Step::Resolve { thread: *thread },
+                _ => Step::Return { thread: *thread },
+            },
+            FineStep::Enter {
+                thread,
+                key,
+                valid,
+                park_token,
+                timed,
+            } => Step::Enter {
+                thread: *thread,
+                key: *key,
+                valid: *valid,
+                park_token: *park_token,
+                timed: *timed,
+            },
+            FineStep::Return { thread } => Step::Return { thread: *thread },
+            FineStep::Register => Step::Register,
+            FineStep::Retire { thread } => Step::Retire { thread: *thread },
+            FineStep::Acquire { thread, key } => Step::Acquire {
+                thread: *thread,
+                key: *key,
+            },
+            FineStep::Release { thread, key } => Step::Release {
+                thread: *thread,
+                key: *key,
+            },
+            _ => return Ok(None),
+        };
+        Ok(Some((step, given)))
+    }
+}

@@ -1,0 +1,278 @@
+//! Lists of interleaved steps: an interleaved lot gives the answers and the sequential steps of the
+//! plain interleaved machine, and the sequential steps, given to a new lot, have the answers of the
+//! same places.
+
+use crate::interleaved::both::Both;
+use crate::interleaved::same::is_same;
+use crate::interleaved::steps::{
+    begin_all, begin_filter, begin_one, begin_requeue, enter, enter_invalid,
+};
+use lot_base::token::{FilterOp, LotError, NoMemory, RequeueOp};
+use parking_lot_core::interleaved::{FineAnswer, FineStep};
+use parking_lot_core::schedule::{Answer, Step};
+use std::alloc::Global;
+use std::process::Abort;
+use std::test::Fail;
+
+/// Does the steps on a new interleaved lot for so many threads and callers and on the plain machine,
+/// compares the answers and the sequential steps, and compares what the sequential steps give on a
+/// lot.
+pub fn expect_sequential(
+    rt: &impl Abort,
+    alloc: Global,
+    numbers: (usize, usize),
+    rows: &[(FineStep, FineAnswer)],
+    sequential: &[Step],
+) -> Result<(), LotError> {
+    let mut both = Both::new(alloc, numbers)?;
+    for (index, (step, expected)) in rows.iter().enumerate() {
+        assert_eq!(rt; both.step(rt, step)?, *expected, "step {index}");
+    }
+    assert_eq!(rt; both.steps.len(), sequential.len());
+    for (index, (step, expected)) in both.steps.iter().zip(sequential).enumerate() {
+        assert!(rt; is_same(step, expected), "sequential step {index}");
+    }
+    both.compare(rt, [0, 1, 2].as_slice())
+}
+
+// The steps that the shortest lists are made of. The keys 0 and 13 have place 0 of 16, and there is
+// no caller 2.
+fn every_kind() -> [FineStep; 30] {
+    [
+        enter(0, 0, true),
+        enter(0, 13, false),
+        enter(1, 13, true),
+        enter(1, 0, false),
+        begin_one(0, 0, 100),
+        begin_all(0, 13, 101),
+        begin_one(1, 13, 102),
+        begin_requeue(0, (0, 13), RequeueOp::RequeueAll, 103),
+        begin_requeue(1, (13, 0), RequeueOp::UnparkOneRequeueRest, 104),
+        begin_requeue(1, (13, 13), RequeueOp::RequeueOne, 105),
+        begin_requeue(0, (0, 0), RequeueOp::Abort, 106),
+        FineStep::Commit { caller: 0 },
+        FineStep::Commit { caller: 1 },
+        FineStep::End { caller: 0 },
+        FineStep::End { caller: 1 },
+        FineStep::Wake { caller: 0 },
+        FineStep::Wake { caller: 1 },
+        FineStep::Deadline { thread: 0 },
+        FineStep::Deadline { thread: 1 },
+        FineStep::ReadKey { thread: 0 },
+        FineStep::ReadKey { thread: 1 },
+        FineStep::Look { thread: 0 },
+        FineStep::Look { thread: 1 },
+        FineStep::Return { thread: 0 },
+        FineStep::Return { thread: 1 },
+        enter_invalid(1, 0),
+        begin_one(2, 0, 107),
+        FineStep::Commit { caller: 2 },
+        FineStep::Retire { thread: 1 },
+        FineStep::Register,
+    ]
+}
+
+// The steps of a race: a late thread, a caller that unparks it, and one that requeues it.
+fn race() -> [FineStep; 7] {
+    [
+        begin_all(0, 0, 100),
+        begin_requeue(1, (0, 1), RequeueOp::RequeueAll, 101),
+        FineStep::Commit { caller: 0 },
+        FineStep::End { caller: 0 },
+        FineStep::End { caller: 1 },
+        FineStep::ReadKey { thread: 0 },
+        FineStep::Look { thread: 0 },
+    ]
+}
+
+// Does the list of so many steps whose kinds are the digits of the code, after two threads have
+// registered and entered, and after these steps. What is compared at its end is compared at the end
+// of each of its beginnings too: they are lists themselves.
+fn check_list(
+    rt: &impl Abort,
+    alloc: Global,
+    before: &[FineStep],
+    kinds: &[FineStep],
+    (length, code): (usize, usize),
+) -> Result<(), LotError> {
+    let mut both = Both::new(alloc, (2, 2))?;
+    for _ in 0..2 {
+        both.step(rt, &FineStep::Register)?;
+    }
+    both.run(rt, &[enter(0, 0, true), enter(1, 13, true)])?;
+    both.run(rt, before)?;
+    let mut rest = code;
+    for _ in 0..length {
+        let kind = rest.checked_rem(kinds.len()).unwrap_or(0);
+        both.step(rt, kinds.get(kind).expect(rt, "a step"))?;
+        rest = rest.checked_div(kinds.len()).unwrap_or(0);
+    }
+    both.compare(rt, [0, 13, 1].as_slice())
+}
+
+// Does all lists of up to so many steps of these kinds after the steps before them, and answers how
+// many there are.
+fn check_lists(
+    rt: &impl Abort,
+    alloc: Global,
+    before: &[FineStep],
+    kinds: &[FineStep],
+    longest: usize,
+) -> Result<usize, LotError> {
+    let mut lists: usize = 0;
+    let mut count: usize = 1;
+    for length in 0..=longest {
+        for code in 0..count {
+            check_list(rt, alloc, before, kinds, (length, code))?;
+            lists = lists.wrapping_add(1);
+        }
+        count = count.wrapping_mul(kinds.len());
+    }
+    Ok(lists)
+}
+
+// There are 1 + 30 + 900 + 27_000 = 27_931 lists of up to three steps of 30 kinds.
+#[test]
+fn short_interleaved_lists_amount_to_their_sequential_steps(rt: HostRuntime) -> Result<(), Fail> {
+    let lists = check_lists(&rt, rt.alloc(), &[], every_kind().as_slice(), 3)?;
+    assert_eq!(rt; lists, 27_931);
+    Ok(())
+}
+
+// There are 1 + 7 + 49 + 343 + 2_401 + 16_807 = 19_608 lists of up to five steps of seven kinds.
+#[test]
+fn races_amount_to_their_sequential_steps(rt: HostRuntime) -> Result<(), Fail> {
+    let before = [
+        FineStep::Deadline { thread: 0 },
+        FineStep::ReadKey { thread: 0 },
+    ];
+    let lists = check_lists(&rt, rt.alloc(), before.as_slice(), race().as_slice(), 5)?;
+    assert_eq!(rt; lists, 19_608);
+    Ok(())
+}
+
+const KEYS: [usize; 5] = [0, 13, 1, 2, 7];
+
+// Arbitrary numbers: those of a linear congruential generator.
+#[derive(Drop)]
+struct Arbitrary {
+    state: usize,
+}
+
+impl Arbitrary {
+    // A number below the bound.
+    fn below(&mut self, bound: usize) -> usize {
+        self.state = self
+            .state
+            .wrapping_mul(6_364_136_223_846_793_005)
+            .wrapping_add(1_442_695_040_888_963_407);
+        (self.state >> 33).checked_rem(bound).unwrap_or(0)
+    }
+
+    fn key(&mut self) -> usize {
+        KEYS.get(self.below(5)).copied().unwrap_or(0)
+    }
+
+    fn op(&mut self) -> RequeueOp {
+        match self.below(5) {
+            0 => RequeueOp::Abort,
+            1 => RequeueOp::UnparkOneRequeueRest,
+            2 => RequeueOp::RequeueAll,
+            3 => RequeueOp::UnparkOne,
+            _ => RequeueOp::RequeueOne,
+        }
+    }
+
+    // A filter with up to seven decisions.
+    fn filter(&mut self, alloc: Global, caller: usize) -> Result<FineStep, NoMemory> {
+        let mut decisions = Vec::new(alloc);
+        for _ in 0..self.below(8) {
+            decisions.push(match self.below(8) {
+                0 => FilterOp::Stop,
+                1..=4 => FilterOp::Skip,
+                _ => FilterOp::Unpark,
+            })?;
+        }
+        begin_filter(
+            alloc,
+            caller,
+            self.key(),
+            decisions.as_slice(),
+            self.below(1_000),
+        )
+    }
+
+    // A step of one of twelve threads or of four callers.
+    fn step(&mut self, alloc: Global) -> Result<FineStep, NoMemory> {
+        let thread = self.below(12);
+        let caller = self.below(4);
+        let key = self.key();
+        Ok(match self.below(68) {
+            0..=1 => FineStep::Register,
+            2 => FineStep::Retire { thread },
+            3 => enter_invalid(thread, key),
+            4..=7 => enter(thread, key, false),
+            8..=15 => enter(thread, key, true),
+            16..=17 => begin_one(caller, key, self.below(1_000)),
+            18 => begin_all(caller, key, self.below(1_000)),
+            19 => self.filter(alloc, caller)?,
+            20..=22 => {
+                let keys = (key, self.key());
+                begin_requeue(caller, keys, self.op(), self.below(1_000))
+            }
+            23..=28 => FineStep::Commit { caller },
+            29..=35 => FineStep::End { caller },
+            36..=41 => FineStep::Wake { caller },
+            42..=46 => FineStep::Deadline { thread },
+            47..=51 => FineStep::ReadKey { thread },
+            52..=56 => FineStep::Look { thread },
+            57..=63 => FineStep::Return { thread },
+            64..=65 => FineStep::Acquire { thread, key },
+            _ => FineStep::Release { thread, key },
+        })
+    }
+}
+
+// Notes that an answer of this kind was given. Kind 12 is all that is told nowhere else.
+fn note(seen: &mut [bool; 13], given: FineAnswer) {
+    let kind = match given {
+        FineAnswer::Committed(_) => 0,
+        FineAnswer::Ended => 1,
+        FineAnswer::Woken => 2,
+        FineAnswer::Late => 3,
+        FineAnswer::Read(_) => 4,
+        FineAnswer::Retry => 5,
+        FineAnswer::Blocked => 6,
+        FineAnswer::Answer(Answer::Misfit) => 7,
+        FineAnswer::Answer(Answer::TimedOut { .. }) => 8,
+        FineAnswer::Answer(Answer::Unparked(_)) => 9,
+        FineAnswer::Answer(Answer::Full) => 10,
+        FineAnswer::Answer(Answer::Retired) => 11,
+        FineAnswer::Answer(_) => 12,
+    };
+    seen[kind] = true;
+}
+
+// Ten lists of 3000 steps. In each the table grows to 64 buckets, and in them every kind of answer
+// comes up.
+#[test]
+fn long_interleaved_lists_amount_to_their_sequential_steps(rt: HostRuntime) -> Result<(), Fail> {
+    let mut seen = [false; 13];
+    for seed in 1..=10 {
+        let mut arbitrary = Arbitrary { state: seed };
+        let mut both = Both::new(rt.alloc(), (12, 4))?;
+        for _ in 0..30 {
+            let mut steps = Vec::new(rt.alloc());
+            for _ in 0..100 {
+                steps.push(arbitrary.step(rt.alloc())?)?;
+            }
+            for given in &both.run(&rt, steps.as_slice())? {
+                note(&mut seen, *given);
+            }
+            both.compare(&rt, KEYS.as_slice())?;
+        }
+        assert_eq!(rt; both.plain.size(), 64, "seed {seed}");
+    }
+    assert_eq!(rt; seen, [true; 13]);
+    Ok(())
+}

@@ -1,0 +1,198 @@
+//! The sequential steps to which an interleaved run amounts.
+
+ghost use Rattle.std.specs.Prelude.{◌≡◌, ◌+◌, ◌<◌, ◌≤◌, ◌++◌, ℕ, IfOk, OnErr, length, vec_capacity, vec_len, if◌then◌else◌};
+ghost use Rattle.std.specs.Option.{option_to_list};
+ghost use Rattle.parking_lot_core.specs.Copies.{AreCopies, IsCopyOfOp};
+ghost use Rattle.parking_lot_core.specs.FineLot.{fine_state};
+ghost use Rattle.parking_lot_core.specs.InterleavedSteps.{IsFineStep};
+ghost use Rattle.parking_lot_core.specs.InterleavedView.{sequential_step, steps_of};
+ghost use Rattle.parking_lot_core.specs.Private.FineTold.{AreCopiesIn, IsCopyIn, is_time_out, is_with_caller, told, told_by, told_late};
+
+use super::{FineAnswer, FineLot, FineStep};
+use crate::schedule::{Answer, Op, Step};
+use lot_base::token::NoMemory;
+use std::alloc::Global;
+use std::collections::VecDeque;
+
+// For each step a copy of its operation, if it begins a section.
+pub(super) fn copied_ops(
+    alloc: Global,
+    steps: &[FineStep],
+) -> Result<VecDeque<Option<Op>>, NoMemory>
+    ensures copies { IfOk result (λ copies. AreCopiesIn steps.now copies.items) }
+    ensures refused { OnErr result (0 < length steps.now) }
+{
+    let mut copies = VecDeque::with_capacity(alloc, steps.len())?;
+    for step in steps {
+        copies.push_back(copied_op(step)?)?;
+    }
+    Ok(copies)
+}
+
+fn copied_op(step: &FineStep) -> Result<Option<Op>, NoMemory>
+    ensures { IfOk result (λ copy. IsCopyIn step.now copy) }
+{
+    match step {
+        FineStep::Begin { op, .. } => Ok(Some(copy_of(op)?)),
+        _ => Ok(None),
+    }
+}
+
+fn copy_of(op: &Op) -> Result<Op, NoMemory>
+    ensures { IfOk result (λ copy. IsCopyOfOp op.now copy) }
+{
+    match op {
+        Op::One { key, token } => Ok(Op::One {
+            key: *key,
+            token: *token,
+        }),
+        Op::All { key, token } => Ok(Op::All {
+            key: *key,
+            token: *token,
+        }),
+        Op::Filter {
+            key,
+            decisions,
+            token,
+        } => Ok(Op::Filter {
+            key: *key,
+            decisions: decisions.clone()?,
+            token: *token,
+        }),
+        Op::Requeue {
+            from,
+            to,
+            op,
+            token,
+        } => Ok(Op::Requeue {
+            from: *from,
+            to: *to,
+            op: *op,
+            token: *token,
+        }),
+    }
+}
+
+// Appends the step, if there is one, to steps that have room for it.
+pub(super) fn push_if_any(steps: &mut Vec<Step>, step: Option<Step>)
+    requires { vec_len steps.old < vec_capacity steps.old }
+    ensures items { steps.new.items ≡ steps.old.items ++ option_to_list step }
+    ensures len { vec_len steps.new ≤ vec_len steps.old + 1 }
+    ensures capacity { vec_capacity steps.new ≡ vec_capacity steps.old }
+{
+    if let Some(step) = step {
+        steps.push_reserved(step);
+    }
+}
+
+impl FineLot {
+    // Does the step, and tells the sequential step to which it amounts. `op` is the copy of its
+    // operation.
+    pub(super) fn step(&mut self, step: &FineStep, op: Option<Op>) -> (FineAnswer, Option<Step>)
+        requires { IsCopyIn step.now op }
+        ensures does { IsFineStep (fine_state self.old) step.now result.0 (fine_state self.new) }
+        ensures tells { AreCopies
+            (steps_of (sequential_step (fine_state self.old) step.now result.0))
+            (option_to_list result.1) }
+    {
+        let taken = self.is_of_taken(step);
+        let given = self.apply(step);
+        (given, tell(step, op, given, taken))
+    }
+
+    // Whether the step is a deadline of a thread that an open section has.
+    fn is_of_taken(&self, step: &FineStep) -> bool
+        ensures { (thread : ℕ) → step.now ≡ FineStep.Deadline thread
+            → result ≡ is_with_caller thread (fine_state self.now).callers }
+    {
+        match step {
+            FineStep::Deadline { thread } => self.is_with_caller(*thread),
+            _ => false,
+        }
+    }
+
+    fn is_with_caller(&self, thread: usize) -> bool
+        ensures { result ≡ is_with_caller thread (fine_state self.now).callers }
+    {
+        self.callers.iter().any(|caller| caller.has_taken(thread))
+    }
+}
+
+// The sequential step to which a step with this answer amounts; `taken` says whether an open
+// section has the thread of a deadline.
+fn tell(step: &FineStep, op: Option<Op>, given: FineAnswer, taken: bool) -> Option<Step>
+    requires { IsCopyIn step.now op }
+    ensures { AreCopies (told step.now given taken) (option_to_list result) }
+{
+    match given {
+        FineAnswer::Answer(answer) => tell_answered(step, op, answer),
+        FineAnswer::Late => tell_late(step, taken),
+        FineAnswer::Committed(_)
+        | FineAnswer::Ended
+        | FineAnswer::Woken
+        | FineAnswer::Read(_)
+        | FineAnswer::Retry
+        | FineAnswer::Blocked => None,
+    }
+}
+
+fn tell_late(step: &FineStep, taken: bool) -> Option<Step>
+    ensures { AreCopies (told_late step.now taken) (option_to_list result) }
+{
+    match step {
+        FineStep::Deadline { thread } if !taken => Some(Step::Deadline { thread: *thread }),
+        _ => None,
+    }
+}
+
+fn tell_answered(step: &FineStep, op: Option<Op>, given: Answer) -> Option<Step>
+    requires { IsCopyIn step.now op }
+    ensures { AreCopies (told_by step.now given) (option_to_list result) }
+{
+    if let Answer::Misfit = given {
+        return None;
+    }
+    match step {
+        FineStep::Begin { .. } => Some(Step::Unpark(op?)),
+        FineStep::Look { thread } => Some(outcome(*thread, given)),
+        FineStep::Enter {
+            thread,
+            key,
+            valid,
+            park_token,
+            timed,
+        } => Some(Step::Enter {
+            thread: *thread,
+            key: *key,
+            valid: *valid,
+            park_token: *park_token,
+            timed: *timed,
+        }),
+        FineStep::Return { thread } => Some(Step::Return { thread: *thread }),
+        FineStep::Register => Some(Step::Register),
+        FineStep::Retire { thread } => Some(Step::Retire { thread: *thread }),
+        FineStep::Acquire { thread, key } => Some(Step::Acquire {
+            thread: *thread,
+            key: *key,
+        }),
+        FineStep::Release { thread, key } => Some(Step::Release {
+            thread: *thread,
+            key: *key,
+        }),
+        FineStep::End { .. }
+        | FineStep::Wake { .. }
+        | FineStep::Deadline { .. }
+        | FineStep::ReadKey { .. }
+        | FineStep::Commit { .. } => None,
+    }
+}
+
+// The step by which a park ends that a look ended so.
+fn outcome(thread: usize, given: Answer) -> Step
+    ensures { result ≡ (if is_time_out given then Step.Resolve thread else Step.Return thread) }
+{
+    match given {
+        Answer::TimedOut { .. } => Step::Resolve { thread },
+        _ => Step::Return { thread },
+    }
+}
