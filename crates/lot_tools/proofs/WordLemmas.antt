@@ -1,9 +1,12 @@
 -- The words of a line, cut at its blanks.
-use Rattle.std.proofs.Common.{◌≡◌, ℕ, ◌==◌, ◌≤◌, ◌<◌, ◌^◌, ◌+◌, ◌-◌, ◌/◌, ◌%◌, Bool, true, false, cond, List, [], ◌∷◌, ◌++◌, length, map, take, drop, get_or, length-append, if◌then◌else◌, not, Some, None, position, refl, sym, ap, ◌∙◌, arith}
+use Rattle.std.proofs.Common.{◌≡◌, ℕ, ◌==◌, ◌≤◌, ◌<◌, ◌^◌, ◌+◌, ◌-◌, ◌/◌, ◌%◌, Bool, true, false, cond, List, [], ◌∷◌}
+use Rattle.std.proofs.Common.{◌++◌, length, map, take, drop, get_or, length-append, if◌then◌else◌, not, Some, None}
+use Rattle.std.proofs.Common.{position, refl, sym, ap, ◌∙◌, arith}
 use Rattle.std.specs.Prelude.{decimal, All}
 use Rattle.std.specs.List.{onto_first, join_with_byte, position_or_len, AllByRecursion}
 use Rattle.std.proofs.lemmas.Bool.{ne_eqb}
-use Rattle.std.proofs.lemmas.List.Splits.{slice_split_none, slice_split_at, slice_split_first, join_with_byte-slice_split}
+use Rattle.std.proofs.lemmas.List.Splits.{slice_split_none, slice_split_at, slice_split_first}
+use Rattle.std.proofs.lemmas.List.Splits.{join_with_byte-slice_split}
 use Rattle.std.proofs.lemmas.Option.{cond_some}
 use Rattle.std.proofs.lemmas.List.{take_rest}
 use borrow.Author.Tests.{ltb-true, ltb-false}

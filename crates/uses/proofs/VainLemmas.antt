@@ -1,7 +1,8 @@
 -- A wait in vain: a thread enters a list, its deadline passes, and it leaves.
 use Rattle.std.proofs.Common.{◌≡◌, ◌≢◌, ℕ, ◌==◌, true, if◌then◌else◌, List, [], ◌∷◌}
 use Rattle.std.proofs.Common.{◌++◌, refl, sym, ap, subst, ◌∙◌, ⊎_elim, arith, ◌+◌}
-use Rattle.std.proofs.lemmas.Bool.{cases_eq, eq-eqb, ne_eqb, cond-true, cond-false, MatchBool-at_true, MatchBool-at_false}
+use Rattle.std.proofs.lemmas.Bool.{cases_eq, eq-eqb, ne_eqb, cond-true, cond-false, MatchBool-at_true}
+use Rattle.std.proofs.lemmas.Bool.{MatchBool-at_false}
 use Rattle.lot_base.specs.declared.token.ParkToken.{ParkToken}
 use Rattle.lot_base.proofs.ValueLemmas.{with_value-same, with_value-other, with_value-same_value}
 use Rattle.lot_base.specs.Waiting.{without_first}
@@ -12,7 +13,8 @@ use Rattle.parking_lot_core.specs.declared.schedule.Answer.TheVariants as answer
 use Rattle.parking_lot_core.specs.declared.schedule.Step.{Step}
 use Rattle.parking_lot_core.specs.declared.schedule.Step.TheVariants.{Enter, Deadline, Resolve}
 use Rattle.parking_lot_core.specs.Status.{is_running, awaits_deadline, is_queued}
-use Rattle.parking_lot_core.specs.Machine.{Machine, Waiter, StandsAt, IsConsistent, times_in, with_status, after_enter, after_timeout, list_without}
+use Rattle.parking_lot_core.specs.Machine.{Machine, Waiter, StandsAt, IsConsistent, times_in, with_status, after_enter}
+use Rattle.parking_lot_core.specs.Machine.{after_timeout, list_without}
 use Rattle.parking_lot_core.specs.Steps.{IsRun, IsResolve}
 use Rattle.parking_lot_core.proofs.MachineLemmas.{same_machine}
 use Rattle.parking_lot_core.proofs.WaiterLemmas.{times_in-append, times_in-own}

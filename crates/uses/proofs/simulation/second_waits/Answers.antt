@@ -4,7 +4,8 @@ use Rattle.parking_lot_core.specs.LotState.{LotState}
 use Rattle.parking_lot_core.specs.Machine.{Machine}
 use Rattle.parking_lot_core.specs.Lot.{machine}
 use Rattle.uses.specs.SemaphoreState.{SemaphoreState}
-use Rattle.uses.proofs.TaskLemmas.{NoMemory-only, not_full, not_full-one, runs, still_runs, Now-free, Parked-none, waits, waits_alone}
+use Rattle.uses.proofs.TaskLemmas.{NoMemory-only, not_full, not_full-one, runs, still_runs, Now-free, Parked-none}
+use Rattle.uses.proofs.TaskLemmas.{waits, waits_alone}
 use Rattle.uses.proofs.simulation.second_waits.Goals as goal
 
 pub returns-in_err-first-clause-memory : goal.returns-in_err-first-clause-memory
