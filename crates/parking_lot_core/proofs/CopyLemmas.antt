@@ -25,7 +25,7 @@ use Rattle.parking_lot_core.specs.Private.FineTold.{AreCopiesIn}
 use Rattle.parking_lot_core.specs.Steps.{Gives, IsRun, IsStep, IsUnpark}
 use Rattle.parking_lot_core.proofs.FineRunLemmas.{IsFineRun-push}
 use Rattle.parking_lot_core.proofs.InterleavingLemmas.{IsRun-sequential}
-use Rattle.parking_lot_core.proofs.InterleavingLemmas.{OutcomesAlternate-interleaved, totals-interleaved}
+use Rattle.parking_lot_core.proofs.InterleavedOutcomeLemmas.{outcomes-interleaved, totals-interleaved}
 
 IsUnpark-copy : (m : Machine) (op copy : Op) (given : Answer) (new : Machine) → IsCopyOfOp op copy
     → IsUnpark m op given new → IsUnpark m copy given new
@@ -97,7 +97,7 @@ AmountsTo-told s last steps answers told consistent (ran, same) = record {
   machine_run = IsRun-copies (sequential_view s) (steps_of (sequential_steps s steps answers last ran)) told
       (answers_of (sequential_steps s steps answers last ran)) (sequential_view last) same
       (IsRun-sequential s steps answers last consistent ran);
-  outcomes = OutcomesAlternate-interleaved s steps answers last consistent ran;
+  outcomes = outcomes-interleaved s steps answers last consistent ran;
   come_back = totals-interleaved s steps answers last consistent ran;
 }
 

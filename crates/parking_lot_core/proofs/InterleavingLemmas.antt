@@ -30,15 +30,12 @@ use Rattle.parking_lot_core.specs.InterleavedView.{IsFineConsistent, sequential_
 use Rattle.parking_lot_core.specs.InterleavedView.{sequential_steps, steps_of}
 use Rattle.parking_lot_core.specs.InterleavedView.{answers_of, with_taken, with_slot, once_if}
 use Rattle.parking_lot_core.specs.InterleavedLaws.{FineStepsKeepConsistency, EveryInterleavingIsARun}
-use Rattle.parking_lot_core.specs.InterleavedLaws.{InterleavedOutcomesAlternate, EachNodeIsInOnePlace}
-use Rattle.parking_lot_core.specs.InterleavedLaws.{NoNodeIsInAnotherList, InterleavedThreadsComeBack}
-use Rattle.parking_lot_core.proofs.TotalLemmas.{IsRun-balances}
+use Rattle.parking_lot_core.specs.InterleavedLaws.{EachNodeIsInOnePlace, NoNodeIsInAnotherList}
 use Rattle.parking_lot_core.specs.Machine.{Machine, StandsAt, after_enter, after_retire, after_release, times_in}
 use Rattle.parking_lot_core.specs.Status.{is_queued, is_registered, is_running, is_taken, awaits_deadline}
 use Rattle.parking_lot_core.specs.Steps as steps
 use Rattle.parking_lot_core.proofs.BeginLemmas.{begin-amounts, taken_nowhere}
 use Rattle.parking_lot_core.proofs.HandedLemmas.{None-from_test, times_taken-append, times_taken-other}
-use Rattle.parking_lot_core.proofs.LawLemmas.{OutcomesAlternate-run}
 use Rattle.parking_lot_core.proofs.RegisterLemmas.{IsRegister-amounts}
 use Rattle.parking_lot_core.proofs.SequentialLemmas.{Amounts, Amounts-none, Amounts-read, Amounts-retry, Amounts-end}
 use Rattle.parking_lot_core.proofs.SequentialLemmas.{Amounts-wake, Amounts-commit, Amounts-unparked, Amounts-timed_out}
@@ -49,7 +46,7 @@ use Rattle.parking_lot_core.proofs.SequentialLemmas.{still_status}
 use Rattle.parking_lot_core.proofs.StepLemmas.{MatchBool-either, Running-from, Waiting-from}
 
 -- a fact of what may be there, with what is there
-MatchOption-either : {A : Type 0} (o : Option A) {P R : Type 0} {Q : A → Type 0} → (o ≡ None → P → R)
+pub MatchOption-either : {A : Type 0} (o : Option A) {P R : Type 0} {Q : A → Type 0} → (o ≡ None → P → R)
     → ((x : A) → o ≡ Some x → Q x → R) → MatchOption o P Q → R
 MatchOption-either None f g p = f refl p
 MatchOption-either (Some x) f g q = g x refl q
@@ -301,18 +298,6 @@ IsRun-sequential s (step ∷ steps) (given ∷ answers) last c (next, does, ran)
     IsRun-append (sequential_step s step given) (sequential_steps next steps answers last ran) (sequential_view s)
     (sequential_view next) (sequential_view last) amounts.run
     (IsRun-sequential next steps answers last amounts.consistent ran)
-
-pub OutcomesAlternate-interleaved : InterleavedOutcomesAlternate
-OutcomesAlternate-interleaved s steps answers last c ran =
-    OutcomesAlternate-run (sequential_view s) (steps_of (sequential_steps s steps answers last ran))
-    (answers_of (sequential_steps s steps answers last ran)) (sequential_view last) (s.key_words, c.view)
-    (IsRun-sequential s steps answers last c ran)
-
-pub totals-interleaved : InterleavedThreadsComeBack
-totals-interleaved s steps answers last c ran =
-    IsRun-balances (sequential_view s) (steps_of (sequential_steps s steps answers last ran))
-    (answers_of (sequential_steps s steps answers last ran)) (sequential_view last) (s.key_words, c.view)
-    (IsRun-sequential s steps answers last c ran)
 
 module _ (s : FineState) (c : IsFineConsistent s) (n : ℕ) where
   -- who stands in no list by his status in the sequential view

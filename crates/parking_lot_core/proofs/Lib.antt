@@ -37,3 +37,4 @@ pub mod FineSectionLemmas
 pub mod FineRunLemmas
 pub mod CopyLemmas
 pub mod ToldLemmas
+pub mod InterleavedOutcomeLemmas

@@ -1,4 +1,5 @@
--- Steps that are told anew: a list of decisions is another list then, with the same decisions in it.
+-- Copies of steps. A list of decisions has its place in memory and its room in its value, so that of a copy is another
+-- list, with the same decisions in it.
 use Rattle.std.specs.Prelude.{◌≡◌, List, Vec}
 use Rattle.std.specs.List.{AllZip}
 use Rattle.std.specs.declared.alloc.Global.{Global}
@@ -9,7 +10,7 @@ use Rattle.parking_lot_core.specs.declared.schedule.Step.{Step}
 use Rattle.parking_lot_core.specs.declared.schedule.Step.TheVariants.{Register, Retire, Enter, Unpark, Deadline}
 use Rattle.parking_lot_core.specs.declared.schedule.Step.TheVariants.{Resolve, Return, Acquire, Release}
 
--- an operation told anew
+-- a copy of an operation
 abbrev pub IsCopyOfOp : Op → Op → Type 0
 IsCopyOfOp (Filter key decisions token) copy =
     (others : Vec FilterOp Global) × (others.items ≡ decisions.items) × (copy ≡ Filter key others token)

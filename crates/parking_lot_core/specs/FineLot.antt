@@ -20,7 +20,7 @@ fine_thread_at threads number = slice_index_or threads number (free_fine_thread 
 abbrev pub plain_threads : List FineThreadState → List ThreadState
 plain_threads threads = map (λ t. t.thread) threads
 
--- the lot that the threads know
+-- the lot whose machine is the threads' view
 abbrev pub plain_lot : FineLotState → LotState
 plain_lot lot = record { buckets = lot.buckets; threads = plain_threads lot.threads }
 

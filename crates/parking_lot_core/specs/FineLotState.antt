@@ -12,7 +12,8 @@ pub record FineThreadState : Type 0 where
   pub key_read : Option ℕ
   pub slot : Option UnparkToken
 
--- the row of buckets, and the threads and the callers by their numbers
+-- the row of buckets, and the threads and the callers by their numbers. That a thread has its node exactly while it
+-- runs, and a full slot just one node of its own number, the private types `Thread` and `Slot` keep
 pub record FineLotState : Type 0 where
   pub buckets : List BucketState
   pub threads : List FineThreadState

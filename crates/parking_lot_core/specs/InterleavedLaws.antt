@@ -1,7 +1,6 @@
 -- What the definitions of the interleaved machine give for every state, step and run.
 use Rattle.std.specs.Prelude.{◌≡◌, ◌≢◌, ℕ, ◌+◌, List, is_some}
 use Rattle.std.specs.List.{sum_by}
-use Rattle.parking_lot_core.specs.declared.schedule.Answer.{Answer}
 use Rattle.parking_lot_core.specs.declared.interleaved.FineAnswer.{FineAnswer}
 use Rattle.parking_lot_core.specs.declared.interleaved.FineStep.{FineStep}
 use Rattle.parking_lot_core.specs.InterleavedState.{FineState, new_fine_state}
@@ -10,8 +9,9 @@ use Rattle.parking_lot_core.specs.InterleavedView.{sequential_view, sequential_s
 use Rattle.parking_lot_core.specs.InterleavedView.{IsFineConsistent, taken_of, times_taken, once_if}
 use Rattle.parking_lot_core.specs.Machine.{new_machine, times_in}
 use Rattle.parking_lot_core.specs.Status.{is_parked, is_registered, is_running}
-use Rattle.parking_lot_core.specs.Totals.{taken_threads_of, unparked_by, returned_by}
-use Rattle.parking_lot_core.specs.Steps.{IsRun, OutcomesAlternate}
+use Rattle.parking_lot_core.specs.InterleavedOutcomes.{unparked_in, returned_in, FineOutcomesAlternate}
+use Rattle.parking_lot_core.specs.Totals.{taken_threads_of}
+use Rattle.parking_lot_core.specs.Steps.{IsRun}
 
 -- a new interleaved state stands for a new machine
 abbrev pub NewStatesStandForNewMachines : Type 0
@@ -53,17 +53,16 @@ EveryInterleavingIsARun = (s : FineState) (steps : List FineStep) (answers : Lis
     IsRun (sequential_view s) (steps_of (sequential_steps s steps answers last ran))
     (answers_of (sequential_steps s steps answers last ran)) (sequential_view last)
 
--- and in it each thread's parks and their outcomes take turns
+-- and in its answers each thread's parks and their outcomes take turns
 abbrev pub InterleavedOutcomesAlternate : Type 0
 InterleavedOutcomesAlternate = (s : FineState) (steps : List FineStep) (answers : List FineAnswer) (last : FineState)
-    → IsFineConsistent s → (ran : IsFineRun s steps answers last) → (number : ℕ) →
-    OutcomesAlternate (is_parked ((sequential_view s).status number)) number
-    (steps_of (sequential_steps s steps answers last ran)) (answers_of (sequential_steps s steps answers last ran))
+    → IsFineConsistent s → IsFineRun s steps answers last → (number : ℕ) →
+    FineOutcomesAlternate (is_parked ((sequential_view s).status number)) number steps answers
 
--- those that were taken before, and those that its unparks took, are those that come back and those that are left
+-- those that were taken before, and those that its answers count as unparked, are those that its answers tell of as
+-- come back and those that are left
 abbrev pub InterleavedThreadsComeBack : Type 0
 InterleavedThreadsComeBack = (s : FineState) (steps : List FineStep) (answers : List FineAnswer) (last : FineState)
-    → IsFineConsistent s → (ran : IsFineRun s steps answers last) →
-    let told : List Answer = answers_of (sequential_steps s steps answers last ran) in
-    taken_threads_of (sequential_view s) + sum_by unparked_by told
-    ≡ sum_by returned_by told + taken_threads_of (sequential_view last)
+    → IsFineConsistent s → IsFineRun s steps answers last →
+    taken_threads_of (sequential_view s) + sum_by unparked_in answers
+    ≡ sum_by returned_in answers + taken_threads_of (sequential_view last)

@@ -9,10 +9,11 @@ use Rattle.parking_lot_core.specs.InterleavedState.{FineState}
 use Rattle.parking_lot_core.specs.InterleavedSteps.{IsFineRun}
 use Rattle.parking_lot_core.specs.InterleavedView.{answers_of, sequential_steps, sequential_view, steps_of}
 use Rattle.parking_lot_core.specs.Status.{is_parked}
-use Rattle.parking_lot_core.specs.Steps.{IsRun, OutcomesAlternate}
-use Rattle.parking_lot_core.specs.Totals.{returned_by, taken_threads_of, unparked_by}
+use Rattle.parking_lot_core.specs.InterleavedOutcomes.{unparked_in, returned_in, FineOutcomesAlternate}
+use Rattle.parking_lot_core.specs.Steps.{IsRun}
+use Rattle.parking_lot_core.specs.Totals.{taken_threads_of}
 
--- a run from one state to another, and its sequential steps, told anew
+-- a run from one state to another, and its sequential steps, copied
 pub record AmountsTo (s last : FineState) (steps : List FineStep) (answers : List FineAnswer)
     (told : List Step) : Type 0 where
   -- it is a run of the interleaved machine, and these are its sequential steps
@@ -21,11 +22,10 @@ pub record AmountsTo (s last : FineState) (steps : List FineStep) (answers : Lis
   -- with their answers they are a run of the machine with one list for each key
   pub machine_run : IsRun (sequential_view s) told (answers_of (sequential_steps s steps answers last run))
       (sequential_view last)
-  -- in it each thread's parks and their outcomes take turns
-  pub outcomes : (number : ℕ) → OutcomesAlternate (is_parked ((sequential_view s).status number)) number
-      (steps_of (sequential_steps s steps answers last run)) (answers_of (sequential_steps s steps answers last run))
-  -- and those that were taken before, and those that its unparks took, are those that come back and those that are left
-  pub come_back : taken_threads_of (sequential_view s)
-      + sum_by unparked_by (answers_of (sequential_steps s steps answers last run))
-      ≡ sum_by returned_by (answers_of (sequential_steps s steps answers last run))
-      + taken_threads_of (sequential_view last)
+  -- in its answers each thread's parks and their outcomes take turns
+  pub outcomes : (number : ℕ) → FineOutcomesAlternate (is_parked ((sequential_view s).status number)) number steps
+      answers
+  -- and those that were taken before, and those that its answers count as unparked, are those that its answers tell of
+  -- as come back and those that are left
+  pub come_back : taken_threads_of (sequential_view s) + sum_by unparked_in answers
+      ≡ sum_by returned_in answers + taken_threads_of (sequential_view last)

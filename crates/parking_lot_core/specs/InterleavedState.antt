@@ -22,10 +22,11 @@ pub record Caller : Type 0 where
 
 pub record FineState : Type 0 where
   -- what the threads know: the lists, the records, and who runs, waits or is late; one that was taken still waits or is
-  -- late here, until it has its node back
+  -- late here, until it has its node back, so this need not be a consistent machine
   pub threads_view : Machine
-  -- of each thread: its key word, which is the key that it waits on or waited on last; the key that it has read, if it
-  -- is late and has read one to look by; and its slot, empty or with its node, which has this token
+  -- of each number: its key word, which is the key that its last thread to wait waits on or waited on last, and 0 if
+  -- none did; the key that it has read, if it is late and has read one to look by; and its slot, empty or with its
+  -- node, which has this token
   pub key_words : ℕ → ℕ
   pub keys_read : ℕ → Option ℕ
   pub slots : ℕ → Option UnparkToken

@@ -1,6 +1,7 @@
 -- The steps of the interleaved machine and its runs. What a step does of the machine with one list for each key is said
--- by that machine's rule. `fine.`, `answer.`, `status.` and `machine.` stand before the variants of `FineAnswer`,
--- `Answer`, `Status` and `Step`.
+-- by that machine's rule, and `Gives`, `IsMisfit`, `IsRegister` and `IsReturn` here are of interleaved steps. Each step
+-- tests first whether it fits, then whether a number is free, then whether its buckets are, and last memory. `fine.`,
+-- `answer.`, `status.` and `machine.` stand before the variants of `FineAnswer`, `Answer`, `Status` and `Step`.
 use Rattle.std.specs.Prelude.{◌≡◌, ℕ, ◌+◌, ◌*◌, ◌-◌, ◌==◌, Bool, false, ◌&&◌, not, nat_lt, is_some, is_none}
 use Rattle.std.specs.Prelude.{MatchBool, MatchOption, length, slice_get, slice_set, option_and_then, Option, Some, None}
 use Rattle.std.specs.Prelude.{List, ◌∷◌, [], map, if◌then◌else◌}
@@ -59,7 +60,7 @@ holds place (Some section) = list_any (λ held. held == place) section.held
 abbrev pub is_held : FineState → ℕ → Bool
 is_held s key = list_any (λ caller. holds (place_of key s.size) caller.section) s.callers
 
--- a section is open; each holds a bucket
+-- a section is open; Begin opens none without a bucket
 abbrev pub is_any_open : FineState → Bool
 is_any_open s = list_any (λ caller. is_some caller.section) s.callers
 
@@ -82,7 +83,7 @@ abbrev pub with_caller : FineState → ℕ → Option Section → ℕ → FineSt
 with_caller s caller section wakes =
     record s { callers = slice_set s.callers caller (record { section = section; wakes = wakes }) }
 
--- the keys of an operation, and its token
+-- the keys of an operation, whose buckets it needs, a requeue with `Abort` too; and its token
 abbrev pub keys_of : Op → List ℕ
 keys_of (One key token) = key ∷ []
 keys_of (All key token) = key ∷ []
@@ -203,8 +204,8 @@ abbrev pub IsReturn : FineState → ℕ → Status → Option UnparkToken → Fi
 IsReturn s thread (status.Waiting timed) (Some token) given new = IsUnparked s thread token given new
 IsReturn s thread _ _ given new = IsMisfit s given new
 
--- Look, where the bucket of the key that the thread has read is free: with another key word the thread is to read
--- again; with a full slot it was unparked; else it leaves its list
+-- Look, where the bucket of the key that the thread has read is free; only a late thread has read one: with another key
+-- word the thread is to read again; with a full slot it was unparked; else it leaves its list
 abbrev pub IsLook : FineState → ℕ → ℕ → FineAnswer → FineState → Type 0
 IsLook s thread key given new =
     MatchBool (s.key_words thread == key)
@@ -224,13 +225,16 @@ IsEnter s thread key valid park_token timed given new =
     (λ view. record s { threads_view = view; key_words = key_words }) given new))
     (IsMisfit s given new)
 
--- Register: it is full before it is blocked, and it is blocked where the table would grow while a bucket is held
+-- no number is free: `IsFull` of the threads' view, decided
 abbrev pub is_full : FineState → Bool
 is_full s = threads_of s.threads_view == s.threads_view.max_threads
 
+-- the table would grow while a bucket is held
 abbrev pub is_growth_blocked : FineState → Bool
 is_growth_blocked s = nat_lt s.size (3 * (threads_of s.threads_view + 1)) && is_any_open s
 
+-- Register: it is full before it is blocked, and else it is the machine's, after which the table's size is as its rule
+-- says
 abbrev pub IsRegister : FineState → FineAnswer → FineState → Type 0
 IsRegister s given new =
     MatchBool (not (is_full s) && is_growth_blocked s) (Gives s fine.Blocked given new)

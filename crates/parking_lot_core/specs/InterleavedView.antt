@@ -22,7 +22,7 @@ use Rattle.parking_lot_core.specs.InterleavedSteps.{IsFineRun, holds}
 use Rattle.parking_lot_core.specs.Machine.{Machine, MatchesStatus}
 use Rattle.parking_lot_core.specs.Status.{is_queued, is_taken}
 
--- the threads that a section has taken
+-- the threads that a section has taken and not handed on yet
 abbrev pub taken_in : Option Section → List TakenThread
 taken_in None = []
 taken_in (Some section) = section.taken
@@ -59,7 +59,7 @@ times_taken number threads = count_by (λ thread. thread.number == number) threa
 abbrev pub once_if : Bool → ℕ
 once_if b = if b then 1 else 0
 
--- each thread that a caller's section took waits on a key whose bucket the section holds
+-- each thread that a caller's section took and has not handed on has a key word whose bucket the section holds
 abbrev pub HoldsForTaken : FineState → Caller → Type 0
 HoldsForTaken s caller =
     All (λ thread. IsTrue (holds (place_of (s.key_words thread.number) s.size) caller.section))
@@ -69,19 +69,21 @@ pub record IsFineConsistent (s : FineState) : Type 0 where
   -- the sequential view keeps what every machine keeps, and each thread that waits or is late in it stands at its key
   -- word
   pub view : MatchesStatus s.key_words (sequential_view s)
-  -- a thread was taken once at most, and only one that waits or is late; it does not know it
+  -- a thread was taken once at most, and only one that waits or is late
   pub handed : (number : ℕ) → times_taken number (taken_of s) + once_if (is_some (s.slots number))
       ≤ once_if (is_queued (s.threads_view.status number))
+  -- and it does not know it
   pub unaware : (number : ℕ) → is_taken (s.threads_view.status number) ≡ false
-  -- only a late thread has read a key, and sections hold what they must
+  -- only a late thread has read a key
   pub reading : (number : ℕ) → IsTrue (is_some (s.keys_read number)) → s.threads_view.status number ≡ Late
+  -- sections hold the buckets of those that they took, so a late one of these cannot look before the section's end
   pub held : All (HoldsForTaken s) s.callers
 
 -- one step of the machine with its answer
 abbrev pub answered : Step → Answer → List (Step × Answer)
 answered step given = (step, given) ∷ []
 
--- the sequential step of an interleaved step, taken in this state and answered so, if there is one: a deadline is one
+-- the sequential step of an interleaved step, done in this state and answered so, if there is one: a deadline is one
 -- only where the thread stands in a list
 abbrev pub sequential_step : FineState → FineStep → FineAnswer → List (Step × Answer)
 sequential_step s _ (fine.Answer answer.Misfit) = []

@@ -19,6 +19,7 @@ pub mod Totals
 pub mod InterleavedState
 pub mod InterleavedSteps
 pub mod InterleavedView
+pub mod InterleavedOutcomes
 pub mod InterleavedLaws
 -- Then steps that are told anew, and what a run of an interleaved lot amounts to.
 pub mod Copies

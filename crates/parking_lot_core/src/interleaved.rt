@@ -40,8 +40,8 @@ use thread::{Thread, free_threads};
 #[derive(Drop)]
 pub enum FineStep {
     /// A caller without an open section, who has woken all whom it was to wake, locks the buckets
-    /// of the operation's keys and does to their lists what the operation says. It keeps those
-    /// that it took.
+    /// of the operation's keys and does to their lists, and to the key words of those that it
+    /// requeues, what the operation says. It keeps those that it took.
     Begin {
         /// The number of the caller.
         caller: usize,
@@ -75,7 +75,7 @@ pub enum FineStep {
         thread: usize,
     },
 
-    /// A late thread reads on which key it waits, as another may have requeued it.
+    /// A late thread reads its key word, which another may have changed by a requeue.
     ReadKey {
         /// The number of the thread.
         thread: usize,
@@ -138,7 +138,8 @@ pub enum FineStep {
 #[derive(Copy, Clone, Eq, PartialEq, Debug)]
 pub enum FineAnswer {
     /// An answer that a step of a lot gives too: of `Begin` that of the unpark, of `Look` and
-    /// `Return` the outcome of the park, and of a step that does not fit `Misfit`.
+    /// `Return` the outcome of the park, of `Enter`, `Register`, `Retire`, `Acquire` and `Release`
+    /// that of a lot, and of a step that does not fit `Misfit`. A deadline answers `Late` below.
     Answer(Answer),
 
     /// The node of the thread of this number lies in its slot.
@@ -153,10 +154,10 @@ pub enum FineAnswer {
     /// The thread's deadline has passed.
     Late,
 
-    /// The key that the thread waits on.
+    /// The thread's key word.
     Read(usize),
 
-    /// The thread waits on another key than it has read, and is to read again.
+    /// The thread's key word is another key than it has read, and it is to read again.
     Retry,
 
     /// A section holds a bucket that the step needs. Nothing changed.
@@ -282,21 +283,23 @@ impl FineLot {
 ///
 /// The answers are those of a run of the interleaved machine: from the state that the lot meant
 /// before, by these steps, to the one that it means after. `FineLot::new` says what a new lot
-/// means. A step that does not fit is answered by `Misfit`, one that needs a bucket which an open
-/// section holds by `Blocked`, and a registration or a recording that finds no memory by
-/// `NoMemory`.
+/// means. A step that does not fit is answered by `Misfit`, else a registration that finds no free
+/// number by `Full`, else a step that needs a bucket which an open section holds by `Blocked`, and
+/// else a registration or a recording that finds no memory by `NoMemory`. None of the four changes
+/// anything.
 ///
 /// The sequential steps, with their answers, are a run of the machine with one list of waiters for
 /// each key, between the sequential views of the two states. Their lists of decisions are copies.
-/// In it each thread's parks and outcomes take turns, so no park has two outcomes; and the threads
-/// that were taken come back or are left at its end, as `laws::interleaved_threads_come_back` says.
+/// In the interleaved answers each thread's parks and outcomes take turns, so no park has two
+/// outcomes; and the threads that they count as unparked come back or are left at the end.
 ///
 /// It asks for room for all answers and sequential steps, and for the copies of all decisions,
 /// first, and costs what the steps cost.
 ///
 /// # Errors
 ///
-/// `NoMemory` if that room cannot be had, and never where there are no steps. Nothing changed then.
+/// `NoMemory` if that room cannot be had, and never where there are no steps. The lot and the items
+/// of both lists are as before; the lists may have more room.
 pub fn run_fine(
     lot: &mut FineLot,
     steps: &[FineStep],

@@ -10,15 +10,15 @@ pub fn every_interleaving_is_a_run()
     ensures { EveryInterleavingIsARun }
 {}
 
-/// In the sequential steps of every interleaved run from a consistent state each thread's parks and
-/// their outcomes take turns, so no park has two outcomes.
+/// In the answers of every interleaved run from a consistent state each thread's parks and their
+/// outcomes take turns, so no park has two outcomes.
 pub fn interleaved_outcomes_alternate()
     ensures { InterleavedOutcomesAlternate }
 {}
 
-/// In every interleaved run from a consistent state the threads that unparks took, and those that
-/// open sections or slots had before, are as many as the answers `Unparked` and those that open
-/// sections or slots have at its end.
+/// In every interleaved run from a consistent state the threads that its answers count as unparked,
+/// and those that open sections or slots had before, are as many as the answers `Unparked` and
+/// those that open sections or slots have at its end.
 pub fn interleaved_threads_come_back()
     ensures { InterleavedThreadsComeBack }
 {}
