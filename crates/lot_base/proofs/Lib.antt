@@ -13,5 +13,6 @@ pub mod SpreadLemmas
 pub mod LawLemmas
 pub mod TestLemmas
 pub mod WordCounts
+pub mod WordSeats
 pub mod WordKeeps
 pub mod WordLockHolds

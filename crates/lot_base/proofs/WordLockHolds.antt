@@ -8,12 +8,14 @@ use Rattle.lot_base.specs.declared.word_lock.view.View.{View}
 use Rattle.lot_base.specs.declared.word_lock.view.View.TheVariants.{Trying, Enqueued, Holding, Leaving}
 use Rattle.lot_base.specs.WordPlaces.{IsPlace, AllPlaces, total, one_at, times}
 use Rattle.lot_base.specs.WordView.{owed_by}
-use Rattle.lot_base.specs.WordLockInvariant.{IsHolder, IsLeaving, IsEnqueued, BitAndHolder, ValueAtHome, Removals}
-use Rattle.lot_base.specs.WordLockInvariant.{IsWaitingList, IsCharged, HasCharge, NobodyIsLost, WordLockInvariant}
+use Rattle.lot_base.specs.WordLockInvariant.{IsHolder, IsEnqueued, Owes, SomeCaller, BitAndHolder, ValueAtHome}
+use Rattle.lot_base.specs.WordLockInvariant.{Removals, IsWaitingList, IsCharged, HasCharge, NobodyIsLost}
+use Rattle.lot_base.specs.WordLockInvariant.{WordLockInvariant}
 use Rattle.lot_base.specs.WordRule.{holds_lock, has_place, waits_with, owes_place, SeatOk, Charge, Orderly}
 use Rattle.lot_base.proofs.WordCounts.{one_term, two_terms, some_term, total_le, one_at-same, one_at-other}
 use Rattle.lot_base.proofs.WordCounts.{member_place}
-use Rattle.lot_base.proofs.WordKeeps.{waits_has, no_repeats, held_by}
+use Rattle.lot_base.proofs.WordKeeps.{no_repeats, held_by}
+use Rattle.lot_base.proofs.WordSeats.{waits_has}
 
 times-contains : (xs : List ℕ) (p : ℕ) → 0 < times p xs → Contains xs p
 times-contains [] p stands = absurd (omega arith)
@@ -50,12 +52,6 @@ waiter_is p (Leaving owed) h = absurd (omega arith)
 
 waiter_waits : (p : ℕ) (v : View) → IsEnqueued p v → waits_with p v ≡ 1
 waiter_waits p v is = ap (waits_with p) is ∙ one_at-same p
-
-owes_by_holder : (v : View) → owed_by v ≢ [] → IsHolder v ⊎ IsLeaving v
-owes_by_holder (Trying woken p n) owes = absurd (owes refl)
-owes_by_holder (Enqueued p) owes = absurd (owes refl)
-owes_by_holder (Holding seen owed) owes = inl tt
-owes_by_holder (Leaving owed) owes = inr tt
 
 owed_places : (ws list : List ℕ) (v : View) → SeatOk ws list v → AllPlaces (owed_by v) × (length (owed_by v) ≤ 1)
 owed_places ws list (Trying woken p n) ok = (tt, omega arith)
@@ -101,12 +97,6 @@ module _ {T : Type 0} (fits : T → Type 0) (s : State (Option T) View) (o : Ord
         held = λ locked. o.away (omega arith);
       }
 
-  removals : Removals s
-  removals = record {
-    by_holder = λ id v at. owes_by_holder v;
-    one = λ id v at. (owed_places s.words o.list v (o.each_seat id v at)).1;
-  }
-
   -- a place that is in the list or owed is that of a caller that waits
   waited_for : (p : ℕ) → IsPlace p → 0 < times p o.list + total (owes_place p) s.views
       → (get_or s.words p 0 ≢ 0) × (times p o.list + total (owes_place p) s.views ≡ 1) ×
@@ -120,6 +110,28 @@ module _ {T : Type 0} (fits : T → Type 0) (s : State (Option T) View) (o : Ord
       let r = ok.waiting linked in
       (linked, omega arith, omega arith)
 
+  waiter : (p : ℕ) → total (waits_with p) s.views ≡ 1 → SomeCaller s (IsEnqueued p)
+  waiter p waits =
+      let t = some_term (waits_with p) s.views (omega arith) in
+      (t.0, t.1, t.2, waiter_is p t.1 t.3)
+
+  owed_place : (p : ℕ) → SomeCaller s (Owes p)
+      → (get_or s.words p 0 ≢ 0) × (times p o.list ≡ 0) × (total (waits_with p) s.views ≡ 1)
+  owed_place p (id, v, at, owes) =
+      let owed = contained (owed_by v) p owes in
+      let is = member_place (owed_by v) p (owed_places s.words o.list v (o.each_seat id v at)).0 owed in
+      let term = one_term (owes_place p) s.views id v at in
+      let waited = waited_for p is (omega arith) in
+      (waited.0, omega (arith, waited.1), waited.2)
+
+  removals : Removals s o.list
+  removals = record {
+    removed = λ p owed stands. absurd (omega (arith, contained o.list p stands, (owed_place p owed).1));
+    untold = λ p owed. (owed_place p owed).0;
+    callers = λ p owed. waiter p (owed_place p owed).2;
+    one = λ id v at. (owed_places s.words o.list v (o.each_seat id v at)).1;
+  }
+
   waiting_list : IsWaitingList s o.list
   waiting_list =
       let word = o.word in
@@ -130,9 +142,17 @@ module _ {T : Type 0} (fits : T → Type 0) (s : State (Option T) View) (o : Ord
         once = no_repeats fits s o;
         callers = λ p stands.
             let in-list = contained o.list p stands in
-            let waits = (waited_for p (member_place o.list p o.in_places in-list) (omega arith)).2 in
-            let t = some_term (waits_with p) s.views (omega arith) in
-            (t.0, t.1, t.2, waiter_is p t.1 t.3);
+            waiter p (waited_for p (member_place o.list p o.in_places in-list) (omega arith)).2;
+        alone = λ p i j v u at-i at-j is-v is-u. dite (ℕ_discrete i j) (λ e. e)
+            (λ ne.
+            let two = two_terms (waits_with p) s.views i j v u (λ e. ne (sym e)) at-i at-j in
+            let waits-v = waiter_waits p v is-v in
+            let waits-u = waiter_waits p u is-u in
+            let is : IsPlace p = subst (SeatOk s.words o.list) is-v (o.each_seat i v at-i) in
+            let below = total_le (waits_with p) (has_place p) (waits_has p) s.views in
+            let marked = (o.each_place p is).marked in
+            let once = (o.each_place p is).once in
+            absurd (omega arith));
       }
 
   has_charge : HasCharge s o.list

@@ -11,19 +11,19 @@ pub mod Laws
 pub mod Place
 pub mod BucketState
 pub mod SlotState
--- Then what closures are asked and how they were called.
+-- Then what a node shows of itself, what closures are asked and how they were called, and what the type of a queue
+-- keeps of its nodes.
+pub mod Node
 pub mod Filter
 pub mod Requeue
 pub mod Fold
--- Last what a node shows of itself, and what the type of a queue keeps of its nodes.
-pub mod Node
 pub mod Chain
--- A word lock: the places of its list, what its callers know, the rule that holds between any two steps, and what
--- `lock` gives.
+-- Last a word lock, after `View` of src/word_lock/view.rt and `State`, `Me` and `Step` of the crate atomic_table: the
+-- places of its list, what its callers know, what holds between any two steps, and what `lock` gives.
 pub mod WordPlaces
 pub mod WordView
 pub mod WordLockInvariant
 pub mod WordLock
--- Then the same rule as its table keeps it, and what each step tells its caller.
+-- Then a rule from which that follows, as the lock's table keeps it, and what each step tells its caller.
 pub mod WordRule
 pub mod WordSteps

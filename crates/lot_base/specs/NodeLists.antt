@@ -33,7 +33,7 @@ has_number number node = node.number == number
 abbrev pub saturated : ℕ → ℕ
 saturated count = min count (2 ^ 64 - 1)
 
--- a result with its counts so; the result of a lot is exact, since its lists are short
+-- a result with its counts so; the result of an exclusive lot is exact, since its lists are short
 abbrev pub with_saturated_counts : UnparkResult → UnparkResult
 with_saturated_counts result = record result {
   unparked_threads = saturated result.unparked_threads;

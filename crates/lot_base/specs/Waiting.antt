@@ -12,7 +12,8 @@ use Rattle.lot_base.specs.declared.token.FilterOp.TheVariants.{Unpark, Skip, Sto
 abbrev pub with_value : {A : Type 0} → (ℕ → A) → ℕ → A → ℕ → A
 with_value f key value k = if k == key then value else f k
 
--- what becomes of the waiters of a key: some are taken, some are moved to another key, the others are left
+-- what becomes of the waiters of a key: some are taken, some are moved to a second key, which may be the same, and the
+-- others are left
 pub record Split (A : Type 0) : Type 0 where
   pub taken : List A
   pub moved : List A

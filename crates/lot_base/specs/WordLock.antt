@@ -17,7 +17,7 @@ module _ {T : Type 0} where
   abbrev pub seat_of : Caller T → Me (Option T) View
   seat_of caller = caller.seat.me
 
-  -- it is what `lock` of this lock gave: a caller that holds the lock, whose value is out of the slot
+  -- it is what `lock` of this lock gave: a caller that holds the lock, and has the slot, whose value was taken from it
   abbrev pub IsHeldOf : WordLock T → Held T → Type 0
   IsHeldOf lock held = IsCallerOf lock held.caller × (seat_of held.caller ≡ (Holding [] [], (0, None) ∷ []))
 
@@ -25,11 +25,11 @@ module _ {T : Type 0} where
   abbrev pub IsTrying : Caller T → ℕ → ℕ → Type 0
   IsTrying caller p n = (woken : Bool) × (seat_of caller ≡ (Trying woken p n, []))
 
-  -- the slot is out with the caller, and has a value that fits
-  abbrev pub HasHome : (T → Type 0) → Caller T → Type 0
-  HasHome fits caller = (value : T) × ((seat_of caller).1 ≡ (0, Some value) ∷ []) × fits value
+  -- the caller has the slot, and in it a value that fits
+  abbrev pub HasFullSlot : (T → Type 0) → Caller T → Type 0
+  HasFullSlot fits caller = (value : T) × ((seat_of caller).1 ≡ (0, Some value) ∷ []) × fits value
 
-  -- the caller holds the lock and has seen the list from these places on
+  -- the caller holds the lock and has seen these places, the oldest of the list, newest first
   abbrev pub Sees : Caller T → List ℕ → Type 0
   Sees caller places = (seat_of caller).0 ≡ Holding places []
 

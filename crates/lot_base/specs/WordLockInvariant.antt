@@ -17,13 +17,6 @@ IsHolder (Enqueued p) = ⊥
 IsHolder (Holding seen owed) = ⊤
 IsHolder (Leaving owed) = ⊥
 
--- it is inside `unlock`, and has let the lock go
-abbrev pub IsLeaving : View → Type 0
-IsLeaving (Trying woken p n) = ⊥
-IsLeaving (Enqueued p) = ⊥
-IsLeaving (Holding seen owed) = ⊥
-IsLeaving (Leaving owed) = ⊤
-
 -- it is inside `lock`, knows that it was removed from the list, and has neither had the lock nor entered again since
 abbrev pub IsAwake : View → Type 0
 IsAwake (Trying woken p n) = woken ≡ true
@@ -39,7 +32,7 @@ IsEnqueued p view = view ≡ Enqueued p
 abbrev pub Owes : ℕ → View → Type 0
 Owes p view = Contains (owed_by view) p
 
--- the value is in its slot, and fits
+-- the table has the slot, slot 0, and in it a value that fits
 abbrev pub HasValue : {T : Type 0} → (T → Type 0) → List (maybe.Option (Option T)) → Type 0
 HasValue {T} fits homes = (value : T) × (get_elem? homes 0 ≡ some (some (Some value))) × fits value
 
@@ -71,24 +64,27 @@ module _ {T : Type 0} (s : State (Option T) View) where
     pub bit : IsLocked ↔ SomeCaller IsHolder
     pub one : AtMostOneCaller IsHolder
 
-  -- 2. The value is in its slot and fits while nobody holds the lock, and else it is out
+  -- 2. While nobody holds the lock the table has the slot, with a value that fits; and else a caller has the slot
   pub record ValueAtHome (fits : T → Type 0) : Type 0 where
     pub free : ¬ IsLocked → HasValue fits s.homes
     pub held : IsLocked → get_elem? s.homes 0 ≡ some none
 
-  -- 3. Only the holder removes places, and owes them until it has told them, after it let the lock go; and nobody owes
-  -- more than one
-  pub record Removals : Type 0 where
-    pub by_holder : EachCaller (λ view. owed_by view ≢ [] → IsHolder view ⊎ IsLeaving view)
+  -- 3. A place that a caller owes is no longer in the list, was not told so yet, and is that of a caller inside `lock`;
+  -- and nobody owes more than one
+  pub record Removals (list : List ℕ) : Type 0 where
+    pub removed : (p : ℕ) → SomeCaller (Owes p) → ¬ Contains list p
+    pub untold : (p : ℕ) → SomeCaller (Owes p) → link p ≢ 0
+    pub callers : (p : ℕ) → SomeCaller (Owes p) → SomeCaller (IsEnqueued p)
     pub one : EachCaller (λ view. length (owed_by view) ≤ 1)
 
   -- 4. The waiting list, newest first, begins at the newest place and goes on by the links, repeats no place, and each
-  -- of its places is that of a caller inside `lock`
+  -- of its places is that of a caller inside `lock`; no two callers wait with the same place
   pub record IsWaitingList (list : List ℕ) : Type 0 where
     pub begins : newest ≡ head list
     pub goes_on : IsChain s.words list
     pub once : (p : ℕ) → times p list ≤ 1
     pub callers : (p : ℕ) → Contains list p → SomeCaller (IsEnqueued p)
+    pub alone : (p : ℕ) → AtMostOneCaller (IsEnqueued p)
 
   -- it will see to the list: it is awake, or was told that it is not in the list, or owes a place
   abbrev pub IsCharged : View → Type 0
@@ -108,7 +104,7 @@ pub record WordLockInvariant {T : Type 0} (fits : T → Type 0) (s : State (Opti
   pub list : List ℕ
   pub holder : BitAndHolder s
   pub value : ValueAtHome s fits
-  pub removals : Removals s
+  pub removals : Removals s list
   pub waiting : IsWaitingList s list
   pub charge : HasCharge s list
   pub callers : NobodyIsLost s list

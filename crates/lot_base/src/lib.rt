@@ -1,5 +1,6 @@
-//! The lower modules of a parking lot: tokens and results, queues of waiting threads, the slots
-//! that hand a thread its node back, and the buckets of the hash table.
+//! The lower modules of a parking lot: tokens and results, spinning, queues of waiting threads,
+//! parkers with the slots that hand a thread its node back, a word lock, and the buckets of the
+//! hash table.
 #![tactic(auto)]
 
 pub mod bucket;

@@ -1,5 +1,8 @@
 //! Parkers, which put a thread to sleep until another hands it its node back, and the slots through
 //! which the node goes.
+//!
+//! It is proved whose node comes back, and at whose parker a handle wakes. That a thread is woken,
+//! and that a node which was put into a slot comes out, is shown by tests.
 
 ghost use Rattle.std.specs.Prelude.{◌≡◌, [], ◌∷◌, ◌++◌, ◌↔◌, ℕ, IsNone, IsTrue, IfSome, IfOk};
 ghost use Rattle.std.specs.Sync.Mutex.{mutex_guard_value};

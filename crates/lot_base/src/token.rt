@@ -42,7 +42,7 @@ pub struct UnparkResult {
     /// How many threads it unparked.
     pub unparked_threads: usize,
 
-    /// How many threads it moved to another key.
+    /// How many threads it moved to the second key, which may be the same.
     pub requeued_threads: usize,
 
     /// Whether it left any waiter of the key, one that was moved not counted. It is false after an
@@ -99,7 +99,8 @@ pub const DEFAULT_PARK_TOKEN: ParkToken = ParkToken(0);
 /// Why a lot could not be made or a thread could not be registered.
 #[derive(Eq, PartialEq, Debug, Drop, Error)]
 pub enum LotError {
-    /// The lot or table was to be made for more threads than it can have. Nothing was made.
+    /// A table or lot was to be made for more threads, callers or workers than it can have. Nothing
+    /// was made.
     #[error("too many threads")]
     TooManyThreads,
 

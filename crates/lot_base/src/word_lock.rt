@@ -15,6 +15,9 @@
 //!
 //! Upstream's list is one of the waiters' own nodes, linked both ways, with a second bit in the
 //! word for whoever works on it after the release. Here the holder does that before it lets go.
+//!
+//! What is proved is `WordLockInvariant`, and that a `lock` gives a value that fits. That whoever
+//! sleeps is woken is shown by tests.
 
 ghost use Rattle.std.specs.Prelude.{◌≡◌, ◌-◌, ◌%◌, ◌/◌, ◌+◌, ℕ, List, [], ◌∷◌, Option, IsTrue};
 ghost use Rattle.atomic_table.specs.Table.{State};
@@ -78,7 +81,7 @@ pub struct Held<T> {
 }
 
 impl<T: Fits> WordLock<T> {
-    ghost use Rattle.lot_base.specs.WordLock.{IsCallerOf, IsHeldOf, IsTrying, HasHome, Sees, SeesMore, seat_of};
+    ghost use Rattle.lot_base.specs.WordLock.{IsCallerOf, IsHeldOf, IsTrying, HasFullSlot, Sees, SeesMore, seat_of};
 
     /// A lock that nobody holds, around a value that fits.
     ///
@@ -103,9 +106,10 @@ impl<T: Fits> WordLock<T> {
     /// Waits until nobody holds the lock, and takes it with its value, which fits. Any thread may
     /// call it; one that holds the lock already waits forever.
     ///
-    /// If nobody holds the lock, it is one exchange of the word. Else it spins by a `SpinWait`
-    /// while nobody is in the list, and then enters the list and sleeps until it was removed; then
-    /// it tries again, like any other caller. Where no place is free it yields and tries again.
+    /// If nobody holds the lock or is in the list, it is one exchange of the word. If somebody
+    /// holds it, it spins by a `SpinWait` while nobody is in the list, and then enters the list and
+    /// sleeps until it was removed; then it tries again, like any other caller. Where no place is
+    /// free it yields and tries again.
     ///
     /// Upstream's `lock` waits in the same way and gives nothing.
     #[inline]
@@ -121,8 +125,9 @@ impl<T: Fits> WordLock<T> {
     /// Puts the value back, which has to fit, and lets the lock go. The contract asks that this
     /// lock's `lock` gave what is passed. It does not wait.
     ///
-    /// If nobody is in the list, it is one exchange of the word. Else it reads one link for each
-    /// place in the list, at most four, removes the oldest place, and wakes its caller.
+    /// If nobody is in the list, it is one exchange of the word. Else it reads the links of the
+    /// list, at most five times in all, tries the word up to three times, of which the last changes
+    /// it, removes the oldest place, and wakes its caller.
     ///
     /// Upstream's `unlock` is unsafe, since nothing shows that its caller holds the lock. It lets
     /// the lock go first and works on the list after that.
@@ -141,7 +146,7 @@ impl<T: Fits> WordLock<T> {
     fn hold<R: Wait>(&self, rt: &R) -> Caller<T>
         ensures lock { IsCallerOf self.now result }
         ensures holds { Sees result [] }
-        ensures home { HasHome T.fits result }
+        ensures home { HasFullSlot T.fits result }
     {
         let mut caller = self.arrive();
         if self.acquire(&mut caller, 0) {
@@ -158,7 +163,7 @@ impl<T: Fits> WordLock<T> {
         requires tries { IsTrying arrived 0 0 }
         ensures lock { IsCallerOf self.now result }
         ensures holds { Sees result [] }
-        ensures home { HasHome T.fits result }
+        ensures home { HasFullSlot T.fits result }
     {
         let mut caller = arrived;
         let mut spin = SpinWait::new();
@@ -241,7 +246,7 @@ impl<T: Fits> WordLock<T> {
     fn let_go(&self, holder: Caller<T>)
         requires lock { IsCallerOf self.now holder }
         requires holds { Sees holder [] }
-        requires home { HasHome T.fits holder }
+        requires home { HasFullSlot T.fits holder }
     {
         let mut caller = holder;
         let word = self.release_to_zero(&mut caller, LOCKED);
@@ -258,7 +263,7 @@ impl<T: Fits> WordLock<T> {
     fn unlock_slow(&self, holder: Caller<T>, word: u64)
         requires lock { IsCallerOf self.now holder }
         requires holds { SeesMore holder 0 word }
-        requires home { HasHome T.fits holder }
+        requires home { HasFullSlot T.fits holder }
     {
         let mut caller = holder;
         let link = self.first_link(&mut caller, word);
@@ -281,7 +286,7 @@ impl<T: Fits> WordLock<T> {
         requires lock { IsCallerOf self.now holder }
         requires places { IsPlace newest × IsPlace next }
         requires holds { (older : List ℕ) × Sees holder (newest ∷ next ∷ older) }
-        requires home { HasHome T.fits holder }
+        requires home { HasFullSlot T.fits holder }
     {
         let mut caller = holder;
         let (newer, oldest) = self.find_oldest(&mut caller, newest, next);

@@ -49,7 +49,7 @@ impl<T> Caller<T> {
 }
 
 impl<T: Fits> WordLock<T> {
-    ghost use Rattle.lot_base.specs.WordLock.{IsCallerOf, IsTrying, HasHome, Sees, SeesMore, seat_of};
+    ghost use Rattle.lot_base.specs.WordLock.{IsCallerOf, IsTrying, HasFullSlot, Sees, SeesMore, seat_of};
 
     /// A new caller.
     pub(super) fn arrive(&self) -> Caller<T>
@@ -80,7 +80,7 @@ impl<T: Fits> WordLock<T> {
         requires tries { IsTrying caller.old 0 0 }
         requires free { word % 2 ≡ 0 }
         ensures lock { IsCallerOf self.now caller.new }
-        ensures holds { IsTrue result → Sees caller.new [] × HasHome T.fits caller.new }
+        ensures holds { IsTrue result → Sees caller.new [] × HasFullSlot T.fits caller.new }
         ensures tries { IsFalse result → seat_of caller.new ≡ seat_of caller.old }
     {
         self.table
@@ -93,7 +93,7 @@ impl<T: Fits> WordLock<T> {
     pub(super) fn take_value(&self, caller: &mut Caller<T>) -> T
         requires lock { IsCallerOf self.now caller.old }
         requires holds { Sees caller.old [] }
-        requires home { HasHome T.fits caller.old }
+        requires home { HasFullSlot T.fits caller.old }
         ensures lock { IsCallerOf self.now caller.new }
         ensures out { seat_of caller.new ≡ (Holding [] [], (0, None) ∷ []) }
         ensures fits { T.fits result }
@@ -111,7 +111,7 @@ impl<T: Fits> WordLock<T> {
         requires fits { T.fits value }
         ensures lock { IsCallerOf self.now caller.new }
         ensures holds { Sees caller.new [] }
-        ensures home { HasHome T.fits caller.new }
+        ensures home { HasFullSlot T.fits caller.new }
     {
         let old = self
             .table
@@ -198,14 +198,14 @@ impl<T: Fits> WordLock<T> {
     /// so it lets the lock go and removes that place. Answers the word as it was.
     pub(super) fn release_to_zero(&self, caller: &mut Caller<T>, word: u64) -> u64
         requires lock { IsCallerOf self.now caller.old }
-        requires home { HasHome T.fits caller.old }
+        requires home { HasFullSlot T.fits caller.old }
         requires holds { Sees caller.old (seen_by (seat_of caller.old).0) }
         requires short { length (seen_by (seat_of caller.old).0) ≤ 1 }
         requires word { word ≡ 1 + 2 * head (seen_by (seat_of caller.old).0) }
         ensures lock { IsCallerOf self.now caller.new }
         ensures left { result ≡ word →
             seat_of caller.new ≡ (leaving (seen_by (seat_of caller.old).0), []) }
-        ensures home { result ≢ word → HasHome T.fits caller.new }
+        ensures home { result ≢ word → HasFullSlot T.fits caller.new }
         ensures holds { result ≢ word →
             SeesMore caller.new (length (seen_by (seat_of caller.old).0)) result }
     {
@@ -263,7 +263,7 @@ impl<T: Fits> WordLock<T> {
     /// Clears bit 0 of the word, after a cut.
     pub(super) fn release_after_cut(&self, caller: &mut Caller<T>)
         requires lock { IsCallerOf self.now caller.old }
-        requires home { HasHome T.fits caller.old }
+        requires home { HasFullSlot T.fits caller.old }
         requires owes { (removed : ℕ) × ((seat_of caller.old).0 ≡ Holding [] (removed ∷ [])) }
         ensures lock { IsCallerOf self.now caller.new }
         ensures left { seat_of caller.new ≡ (leaving (owed_by (seat_of caller.old).0), []) }

@@ -2,7 +2,7 @@
 
 ghost use Rattle.std.specs.Prelude.{◌≡◌, ◌%◌, ◌/◌, ◌+◌, []};
 ghost use Rattle.lot_base.specs.WordPlaces.{IsPlace};
-ghost use Rattle.lot_base.specs.WordLock.{IsCallerOf, IsTrying, HasHome, Sees, seat_of};
+ghost use Rattle.lot_base.specs.WordLock.{IsCallerOf, IsTrying, HasFullSlot, Sees, seat_of};
 ghost use Rattle.lot_base.specs.declared.word_lock.view.View.TheVariants.{Enqueued};
 
 use super::*;
@@ -47,7 +47,7 @@ fn hold<R: Abort>(rt: &R, lock: &WordLock<Pair>, word: u64) -> Caller<Pair>
     requires { word % 2 ≡ 0 }
     ensures lock { IsCallerOf lock.now result }
     ensures holds { Sees result [] }
-    ensures home { HasHome ⟦<Pair as Fits>⟧.fits result }
+    ensures home { HasFullSlot ⟦<Pair as Fits>⟧.fits result }
 {
     let mut caller = lock.arrive();
     assert!(rt; lock.acquire(&mut caller, word), "the word is {word}");
