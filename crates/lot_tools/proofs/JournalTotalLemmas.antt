@@ -149,7 +149,7 @@ module _ (old : RecordState) (step : Step) (new : RecordState) where
     woken = ap (λ state. woken_in state.journal) same ∙ omega arith;
     unparked = ap (λ state. unparked_in state.journal) same ∙ omega arith;
   }
-  IsRecorded-adds (Err refused.NoMemory) (roomy, given, is, does, journal, capacity) =
+  IsRecorded-adds (Err refused.NoMemory) (roomy, given, is, does, journal, capacity, size) =
       subst (λ result. AddsWhatIsTold old result new) (sym is) (AddsWhatIsTold-done given journal)
-  IsRecorded-adds (Ok answered) (roomy, given, is, does, journal, capacity) =
+  IsRecorded-adds (Ok answered) (roomy, given, is, does, journal, capacity, size) =
       subst (λ result. AddsWhatIsTold old result new) (sym is) (AddsWhatIsTold-done given journal)

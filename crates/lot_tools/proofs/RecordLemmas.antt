@@ -1,7 +1,7 @@
 -- A record before and after a step.
 use Rattle.std.proofs.Common.{◌≡◌, ◌≢◌, ℕ, ◌+◌, ◌≤◌, ◌<◌, [], ◌∷◌, ◌++◌, length, List, refl, sym, ap, ◌∙◌, subst, arith}
-use Rattle.std.proofs.Common.{replicate, ⊎_elim, length-append}
-use Rattle.std.proofs.lemmas.Bool.{cases_lt}
+use Rattle.std.proofs.Common.{replicate, ⊎_elim, length-append, Bool, true, false, if◌then◌else◌}
+use Rattle.std.proofs.lemmas.Bool.{cases_lt, false≢true}
 use Rattle.std.proofs.lemmas.List.{map-append, length-replicate}
 use Rattle.std.proofs.lemmas.List.Sums.{fold-append}
 use Rattle.std.specs.List.{sum}
@@ -10,7 +10,8 @@ use Rattle.parking_lot_core.specs.declared.schedule.Answer.TheVariants as answer
 use Rattle.parking_lot_core.specs.declared.schedule.Step.{Step}
 use Rattle.parking_lot_core.specs.LotState.{LotState}
 use Rattle.parking_lot_core.specs.Lot.{machine}
-use Rattle.parking_lot_core.specs.Machine.{new_machine}
+use Rattle.parking_lot_core.specs.Machine.{new_machine, threads_of}
+use Rattle.parking_lot_core.specs.Size.{IsSizeAfter}
 use Rattle.parking_lot_core.specs.Steps.{IsStep, IsRun}
 use Rattle.parking_lot_core.proofs.ScheduleLemmas.{IsRun-push}
 use Rattle.parking_lot_core.proofs.StepLemmas.{IsConsistent-new}
@@ -27,10 +28,26 @@ entries_for-fitting step _ fitting = refl
 pub IsRecorded-told : (old : RecordState) (step : Step) (given : Answer) (new : RecordState)
     → (LacksRoom old step → ⊥) → IsStep (machine old.lot) step given (machine new.lot)
     → new.journal ≡ old.journal ++ entries_for step given → new.capacity ≡ old.capacity
+    → IsSizeAfter given (threads_of (machine new.lot)) (length old.lot.buckets) (length new.lot.buckets)
     → IsRecorded old step (told given) new
-IsRecorded-told old step answer.NoMemory new roomy does journal capacity =
-    (roomy, answer.NoMemory, refl, does, journal, capacity)
-IsRecorded-told old step given new roomy does journal capacity = (roomy, given, refl, does, journal, capacity)
+IsRecorded-told old step answer.NoMemory new roomy does journal capacity size =
+    (roomy, answer.NoMemory, refl, does, journal, capacity, size)
+IsRecorded-told old step given new roomy does journal capacity size =
+    (roomy, given, refl, does, journal, capacity, size)
+
+abbrev pub record_of : LotState → List Entry → ℕ → RecordState
+record_of lot journal capacity = record { lot = lot; journal = journal; capacity = capacity }
+
+-- a record of which the code answers that it does not lack room
+pub has_room : (state seen : RecordState) (step : Step) → state ≡ seen → (LacksRoom seen step → false ≡ true)
+    → LacksRoom state step → ⊥
+has_room state seen step same answers lacks =
+    false≢true (answers (subst (λ record_. LacksRoom record_ step) same lacks))
+
+pub journal-pushed : (old new : List Entry) (entry : Entry) (is_done : Bool)
+    → new ≡ (if is_done then old ++ entry ∷ [] else old) → is_done ≡ true → new ≡ old ++ entry ∷ []
+journal-pushed old new entry is_done is done =
+    is ∙ ap (λ b. if b then old ++ entry ∷ [] else old) done
 
 -- what is set aside for the threads of a record covers what they may still do
 pub IsRecord-backing : (state : RecordState) → IsRecord state
@@ -54,7 +71,7 @@ module _ (old : RecordState) (is : IsRecord old) (step : Step) (given : Answer) 
 
   -- the record with the step's entry
   abbrev pub pushed : RecordState
-  pushed = record { lot = lot; journal = old.journal ++ (step, given) ∷ []; capacity = old.capacity }
+  pushed = record_of lot (old.journal ++ (step, given) ∷ []) old.capacity
 
   pub asides_of-pushed : asides_of (machine lot).max_threads pushed.journal
       ≡ with_aside (asides_of (machine old.lot).max_threads old.journal) (set_aside_by step given)
@@ -98,14 +115,15 @@ module _ (old : RecordState) (is : IsRecord old) (step : Step) (given : Answer) 
   -- the record that has this journal
   pub IsRecord-grown : (LacksRoom old step → ⊥) → given ≢ answer.Misfit → (journal : List Entry)
       → journal ≡ pushed.journal
-      → IsRecord (record { lot = lot; journal = journal; capacity = old.capacity })
+      → IsRecord (record_of lot journal old.capacity)
   IsRecord-grown roomy fitting journal same =
-      subst (λ entries. IsRecord (record { lot = lot; journal = entries; capacity = old.capacity })) (sym same)
+      subst (λ entries. IsRecord (record_of lot entries old.capacity)) (sym same)
       (IsRecord-pushed roomy fitting)
 
   pub IsRecorded-grown : (LacksRoom old step → ⊥) → given ≢ answer.Misfit → (journal : List Entry)
       → journal ≡ pushed.journal
-      → IsRecorded old step (told given) (record { lot = lot; journal = journal; capacity = old.capacity })
-  IsRecorded-grown roomy fitting journal same =
-      IsRecorded-told old step given (record { lot = lot; journal = journal; capacity = old.capacity }) roomy does
-      (same ∙ ap (λ entries. old.journal ++ entries) (sym (entries_for-fitting step given fitting))) refl
+      → IsSizeAfter given (threads_of (machine lot)) (length old.lot.buckets) (length lot.buckets)
+      → IsRecorded old step (told given) (record_of lot journal old.capacity)
+  IsRecorded-grown roomy fitting journal same size =
+      IsRecorded-told old step given (record_of lot journal old.capacity) roomy does
+      (same ∙ ap (λ entries. old.journal ++ entries) (sym (entries_for-fitting step given fitting))) refl size

@@ -154,4 +154,5 @@ short-ends n front last low is = same-ends front [] last (48 + n) (is ∙ decima
 -- any other ends in its last digit, behind the digits of the others
 pub long-ends : (n : ℕ) (front : List ℕ) (last : ℕ) → 10 ≤ n → n < 2 ^ 64 → front ++ last ∷ [] ≡ decimal n
     → (front ≡ decimal (n / 10)) × (last ≡ 48 + n % 10)
-long-ends n front last high fits is = same-ends front (decimal (n / 10)) last (48 + n % 10) (is ∙ decimal_step n high fits)
+long-ends n front last high fits is =
+    same-ends front (decimal (n / 10)) last (48 + n % 10) (is ∙ decimal_step n high fits)

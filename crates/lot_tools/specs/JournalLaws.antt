@@ -6,7 +6,7 @@ use Rattle.lot_tools.specs.Journal.{Entry, Replays, woken_in, unparked_in}
 use Rattle.lot_tools.specs.RecordState.{RecordState}
 use Rattle.lot_tools.specs.Record.{IsRecord}
 
--- the threads that its unparks unparked have come back, or are left taken
+-- the threads that its unparks unparked are as many as those that have come back and those that are left taken
 abbrev pub UnparkedAreWokenOrTaken : Type 0
 UnparkedAreWokenOrTaken = (max_threads : ℕ) (journal : List Entry) (m : Machine) → Replays max_threads journal m
     → unparked_in journal ≡ woken_in journal + taken_threads_of m

@@ -5,6 +5,8 @@ use Rattle.parking_lot_core.specs.declared.schedule.Answer.{Answer}
 use Rattle.parking_lot_core.specs.declared.schedule.Answer.TheVariants as answer
 use Rattle.parking_lot_core.specs.declared.schedule.Step.{Step}
 use Rattle.parking_lot_core.specs.Lot.{machine}
+use Rattle.parking_lot_core.specs.Machine.{threads_of}
+use Rattle.parking_lot_core.specs.Size.{IsSizeAfter}
 use Rattle.parking_lot_core.specs.Steps.{IsStep}
 use Rattle.lot_tools.specs.declared.record.RecordError.{RecordError}
 use Rattle.lot_tools.specs.declared.record.RecordError.TheVariants as refused
@@ -38,10 +40,11 @@ abbrev pub entries_for : Step → Answer → List Entry
 entries_for step answer.Misfit = []
 entries_for step given = (step, given) ∷ []
 
--- a step was refused, or it is the machine's: done, answered, and journalled
+-- a step was refused, or it is the machine's: done, answered, and journalled, where the table's size follows the rule
 abbrev pub IsRecorded : RecordState → Step → Result Answer RecordError → RecordState → Type 0
 IsRecorded old step (Err refused.JournalFull) new = LacksRoom old step × (new ≡ old)
 IsRecorded old step result new =
     (LacksRoom old step → ⊥) × (given : Answer) × (result ≡ told given)
     × IsStep (machine old.lot) step given (machine new.lot)
     × (new.journal ≡ old.journal ++ entries_for step given) × (new.capacity ≡ old.capacity)
+    × IsSizeAfter given (threads_of (machine new.lot)) (length old.lot.buckets) (length new.lot.buckets)

@@ -12,7 +12,7 @@ use Rattle.lot_tools.specs.Lines.{bytes_of}
 use Rattle.lot_tools.specs.Command.{lot_words, command_words}
 use Rattle.lot_tools.specs.Reply.{State, new_state, IsReply, reply_words}
 
--- A line has a form there. Before the first line there is no lot, and so no state.
+-- A line is one of those that may stand here. Before the first line there is no lot, and so no state.
 abbrev pub HasForm : Option State → List ℕ → Type 0
 HasForm None line = (max_threads : ℕ) × IsLine (lot_words max_threads) line
 HasForm (Some state) line = (command : Command) × IsLine (command_words command) line

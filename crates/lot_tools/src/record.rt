@@ -1,6 +1,6 @@
 //! Records: an exclusive lot with a journal of what was done on it.
 
-ghost use Rattle.std.specs.Prelude.{◌≡◌, ◌≢◌, ◌↔◌, ◌<◌, ◌≤◌, ◌+◌, [], IsErrOf, IfOk, Err, IsTrue};
+ghost use Rattle.std.specs.Prelude.{◌≡◌, ◌≢◌, ◌↔◌, ◌<◌, ◌≤◌, ◌+◌, [], IsErrOf, IfOk, Err, IsTrue, length};
 ghost use Rattle.parking_lot_core.specs.Lot.{machine};
 ghost use Rattle.parking_lot_core.specs.Machine.{new_machine};
 ghost use Rattle.lot_tools.specs.Journal.{Replays, fits, needed, set_aside_by};
@@ -87,6 +87,7 @@ impl Record {
         ensures too_many { IsErrOf result LotError.TooManyThreads ↔ (MAX_THREADS < max_threads) }
         ensures not_full { result ≢ Err LotError.Full }
         ensures lot { IfOk result (λ made. machine made.lot ≡ new_machine max_threads) }
+        ensures size { IfOk result (λ made. length made.lot.buckets ≡ 16) }
         ensures journal { IfOk result (λ made. made.journal ≡ []) }
         ensures capacity { IfOk result (λ made. made.capacity ≡ capacity) }
     {

@@ -45,8 +45,10 @@ use std::io::{BufRead, Write};
 ///
 /// # Errors
 ///
-/// The fault of the first line that cannot be done. The answers of the lines before it are
-/// written; none of its own is, but at `WriteFailed` a beginning of it may be.
+/// The fault of the first line that cannot be done or answered. The answers of the lines before it
+/// are written; none of its own is, but at `WriteFailed` a beginning of it may be, and all of it if
+/// the flush at the end fails, which is a fault of the last line. A step or a list for which the
+/// lot has no memory is no fault: it is answered `no memory`, and the script goes on.
 pub fn script<R: BufRead + Drop, W: Write>(
     alloc: Global,
     mut input: R,

@@ -9,7 +9,8 @@ use thiserror::Error;
 /// What was wrong with a line.
 #[derive(Eq, PartialEq, Debug, Drop, Error)]
 pub enum Cause {
-    /// The line has no form there, it is longer than 4,096 bytes, or there is no line at all.
+    /// The line is none of those that may stand there, or longer than 4,096 bytes, or there is no
+    /// line at all.
     #[error("bad step")]
     BadStep,
 
@@ -25,7 +26,8 @@ pub enum Cause {
     #[error("read failed")]
     ReadFailed,
 
-    /// The answer could not be written: the writer told an error, or took no byte.
+    /// The answer could not be written, since the writer told an error or took no byte; or the
+    /// writer could not be flushed behind the last line.
     #[error("write failed")]
     WriteFailed,
 }

@@ -1,23 +1,17 @@
-use Rattle.std.proofs.Common.{◌≡◌, ◌∷◌, ◌++◌, [], if◌then◌else◌, ◌∙◌, sym, ap, subst, arith}
-use Rattle.std.proofs.lemmas.Bool.{false≢true}
+use Rattle.std.proofs.Common.{◌∷◌, [], ◌∙◌, sym, ap, subst, arith}
 use Rattle.std.proofs.lemmas.List.{length-append}
 use Rattle.std.specs.Result.{is_ok}
 use Rattle.parking_lot_core.specs.Lot.{machine}
 use Rattle.lot_tools.specs.Journal.{asides_of, set_aside_by, with_aside}
-use Rattle.lot_tools.specs.Record.{LacksRoom, IsRecord, IsRecorded}
-use Rattle.lot_tools.specs.RecordState.{RecordState}
-use Rattle.lot_tools.proofs.RecordLemmas.{IsRecord-pushed, IsRecord-grown, IsRecorded-grown, asides_of-pushed, pushed}
+use Rattle.lot_tools.specs.Record.{IsRecord, IsRecorded}
+use Rattle.lot_tools.proofs.RecordLemmas.{record_of, has_room, journal-pushed, pushed}
+use Rattle.lot_tools.proofs.RecordLemmas.{IsRecord-pushed, IsRecord-grown, IsRecorded-grown, asides_of-pushed}
 use Rattle.lot_tools.proofs.record.Record.step.Goals as goal
 
 pub unwrap-requires : goal.unwrap-requires
 unwrap-requires c =
-    let old : RecordState = record {
-      lot = c.self.inside.lot;
-      journal = c.self.inside.journal.items;
-      capacity = c.self.inside.capacity;
-    } in
-    let roomy : LacksRoom old c.args.step → ⊥ = λ lacks.
-    false≢true (c.if-lacks_room.ensures.1 (subst (λ state. LacksRoom state c.args.step) c.self.view_is lacks)) in
+    let old = record_of c.self.inside.lot c.self.inside.journal.items c.self.inside.capacity in
+    let roomy = has_room old _ c.args.step c.self.view_is c.if-lacks_room.ensures.1 in
     let is : IsRecord (pushed old c.self.invariant.0 c.args.step c.apply-answer.result c.apply-answer.new.self
     c.apply-answer.ensures.step) =
     IsRecord-pushed old c.self.invariant.0 c.args.step c.apply-answer.result c.apply-answer.new.self
@@ -27,17 +21,10 @@ unwrap-requires c =
 
 pub invariant_of-self-2 : goal.invariant_of-self-2
 invariant_of-self-2 c =
-    let old : RecordState = record {
-      lot = c.self.inside.lot;
-      journal = c.self.inside.journal.items;
-      capacity = c.self.inside.capacity;
-    } in
-    let roomy : LacksRoom old c.args.step → ⊥ = λ lacks.
-    false≢true (c.if-lacks_room.ensures.1 (subst (λ state. LacksRoom state c.args.step) c.self.view_is lacks)) in
-    let grown : c.push.new.self.items ≡ old.journal ++ (c.args.step, c.apply-answer.result) ∷ [] =
-    c.push.ensures.items
-    ∙ ap (λ result. if is_ok result then old.journal ++ (c.args.step, c.apply-answer.result) ∷ [] else old.journal)
-    c.unwrap.ensures in (
+    let old = record_of c.self.inside.lot c.self.inside.journal.items c.self.inside.capacity in
+    let roomy = has_room old _ c.args.step c.self.view_is c.if-lacks_room.ensures.1 in
+    let grown = journal-pushed old.journal c.push.new.self.items (c.args.step, c.apply-answer.result) _
+    c.push.ensures.items (ap is_ok c.unwrap.ensures) in (
       IsRecord-grown old c.self.invariant.0 c.args.step c.apply-answer.result c.apply-answer.new.self
           c.apply-answer.ensures.step roomy c.in_default.not-Misfit c.push.new.self.items grown,
       c.change.ensures
@@ -51,23 +38,13 @@ invariant_of-self-2 c =
 
 pub returns : goal.returns
 returns c =
-    let old : RecordState = record {
-      lot = c.self.inside.lot;
-      journal = c.self.inside.journal.items;
-      capacity = c.self.inside.capacity;
-    } in
-    let roomy : LacksRoom old c.args.step → ⊥ = λ lacks.
-    false≢true (c.if-lacks_room.ensures.1 (subst (λ state. LacksRoom state c.args.step) c.self.view_is lacks)) in
-    let grown : c.push.new.self.items ≡ old.journal ++ (c.args.step, c.apply-answer.result) ∷ [] =
-    c.push.ensures.items
-    ∙ ap (λ result. if is_ok result then old.journal ++ (c.args.step, c.apply-answer.result) ∷ [] else old.journal)
-    c.unwrap.ensures in
-    let now : RecordState = record {
-      lot = c.apply-answer.new.self;
-      journal = c.push.new.self.items;
-      capacity = c.self.inside.capacity;
-    } in
+    let old = record_of c.self.inside.lot c.self.inside.journal.items c.self.inside.capacity in
+    let roomy = has_room old _ c.args.step c.self.view_is c.if-lacks_room.ensures.1 in
+    let grown = journal-pushed old.journal c.push.new.self.items (c.args.step, c.apply-answer.result) _
+    c.push.ensures.items (ap is_ok c.unwrap.ensures) in
+    let now = record_of c.apply-answer.new.self c.push.new.self.items c.self.inside.capacity in
     subst (λ state. IsRecorded state c.args.step c.answer_told.result now) c.self.view_is
     (subst (λ result. IsRecorded old c.args.step result now) (sym c.answer_told.ensures)
     (IsRecorded-grown old c.self.invariant.0 c.args.step c.apply-answer.result c.apply-answer.new.self
-    c.apply-answer.ensures.step roomy c.in_default.not-Misfit c.push.new.self.items grown))
+    c.apply-answer.ensures.step roomy c.in_default.not-Misfit c.push.new.self.items grown
+    c.apply-answer.ensures.size))

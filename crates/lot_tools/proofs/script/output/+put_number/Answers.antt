@@ -7,7 +7,8 @@ use Rattle.lot_tools.proofs.script.output.+put_number.Goals as goal
 pub returns-then-number-lt10 : goal.returns-then-number-lt10
 returns-then-number-lt10 g t c =
     let n = c.args.number in
-    subst (λ bytes. Writes (g.W.Write.contents c.args.output.now) (g.W.Write.contents c.put.new.output) c.put.result bytes)
+    subst (λ bytes. Writes (g.W.Write.contents c.args.output.now) (g.W.Write.contents c.put.new.output)
+    c.put.result bytes)
     (ap (λ d. d ∷ []) c.digit_of.ensures ∙ sym (decimal_digit n (omega arith))) c.put.ensures
 
 pub returns-in_err-put_number : goal.returns-in_err-put_number
@@ -22,7 +23,8 @@ returns-in_err-put_number g t c =
 pub returns : goal.returns
 returns g t c =
     let n = c.args.number in
-    subst (λ bytes. Writes (g.W.Write.contents c.args.output.now) (g.W.Write.contents c.put-2.new.output) c.put-2.result bytes)
+    subst (λ bytes. Writes (g.W.Write.contents c.args.output.now) (g.W.Write.contents c.put-2.new.output)
+    c.put-2.result bytes)
     (ap (λ d. decimal (n / 10) ++ d ∷ []) c.digit_of-2.ensures ∙ sym (decimal_step n (omega arith) (omega arith)))
     (Writes-then c.put-2.result _ _ _ (decimal (n / 10)) (c.digit_of-2.result ∷ []) c.in_ok-put_number.ensures
     c.put-2.ensures)

@@ -15,7 +15,8 @@ pub returns-then-is_empty : goal.returns-then-is_empty
 returns-then-is_empty t c =
     let n = c.args.number in
     let cut = c.in-Some.ensures.cases.0 in
-    let none : c.in-Some.front.now ≡ [] = nil_from_length c.in-Some.front.now (eqb-true _ _ (sym c.if-is_empty.ensures)) in (
+    let none : c.in-Some.front.now ≡ [] =
+    nil_from_length c.in-Some.front.now (eqb-true _ _ (sym c.if-is_empty.ensures)) in (
       λ same. cut ∙ ap (λ front. front ++ c.in-Some.last.now ∷ []) none
           ∙ ap (λ last. last ∷ []) (eqb-true _ _ same ∙ c.digit_of.ensures) ∙ sym (decimal_digit n (omega arith)),
       λ is. eq-eqb _ _ ((short-ends n _ _ (omega arith) (sym cut ∙ is)).1 ∙ sym c.digit_of.ensures),
@@ -26,7 +27,8 @@ returns-else-is_empty t c =
     let n = c.args.number in
     let cut = c.in-Some.ensures.cases.0 in (
       λ some. absurd (false≢true (sym c.if-is_empty.false ∙ some)),
-      λ is. absurd (false≢true (c.if-is_empty.ensures ∙ eq-eqb _ _ (ap length (short-ends n _ _ (omega arith) (sym cut ∙ is)).0))),
+      λ is. absurd (false≢true (c.if-is_empty.ensures
+          ∙ eq-eqb _ _ (ap length (short-ends n _ _ (omega arith) (sym cut ∙ is)).0))),
     )
 
 pub returns-then-last-digit_of : goal.returns-then-last-digit_of
