@@ -4,7 +4,7 @@ use lot_base::token::{
     DEFAULT_PARK_TOKEN, FilterOp, LotError, Misfit, NoMemory, ParkResult, ParkToken, RequeueOp,
     StepError, UnparkResult, UnparkToken,
 };
-use parking_lot_core::laws::acquire_and_release;
+use parking_lot_core::laws::{acquire_and_release, requeue_all_to_itself, unpark_all_by_filter};
 use parking_lot_core::lot::{Lot, Status};
 use std::alloc::Global;
 use std::process::Abort;
@@ -524,6 +524,33 @@ fn a_record_that_is_released_again_leaves_the_others(rt: HostRuntime) -> Result<
     assert_eq!(rt; acquire_and_release(&mut lot, 0, 5), Ok(()));
     assert_eq!(rt; lot.records(0, 5), 1);
     assert_eq!(rt; acquire_and_release(&mut lot, 1, 5), Err(StepError::Misfit));
+    Ok(())
+}
+
+#[test]
+fn all_waiters_are_requeued_to_their_own_key_and_unparked_by_a_filter(
+    rt: HostRuntime,
+) -> Result<(), Fail> {
+    let mut lot = lot_with(rt.alloc(), 2)?;
+    for number in 0..2 {
+        enter(&rt, &mut lot, number, 1);
+    }
+    let requeued = UnparkResult {
+        unparked_threads: 0,
+        requeued_threads: 2,
+        have_more_threads: false,
+    };
+    assert_eq!(rt; requeue_all_to_itself(&mut lot, 1), requeued);
+    expect_list(&rt, &lot, 1, &[0, 1])?;
+    let unparked = UnparkResult {
+        unparked_threads: 2,
+        requeued_threads: 0,
+        have_more_threads: false,
+    };
+    assert_eq!(rt; unpark_all_by_filter(&mut lot, 1, TOKEN), unparked);
+    for number in 0..2 {
+        assert_eq!(rt; lot.status(number), Status::Taken(TOKEN));
+    }
     Ok(())
 }
 

@@ -1,5 +1,5 @@
--- Copies of steps. A list of decisions has its place in memory and its room in its value, so that of a copy is another
--- list, with the same decisions in it.
+-- Copies of steps. The value of a list of decisions tells its address and its capacity, so a copied list is another
+-- value, with the same decisions in it.
 use Rattle.std.specs.Prelude.{◌≡◌, List, Vec}
 use Rattle.std.specs.List.{AllZip}
 use Rattle.std.specs.declared.alloc.Global.{Global}

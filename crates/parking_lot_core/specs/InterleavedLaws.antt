@@ -59,8 +59,8 @@ InterleavedOutcomesAlternate = (s : FineState) (steps : List FineStep) (answers 
     → IsFineConsistent s → IsFineRun s steps answers last → (number : ℕ) →
     FineOutcomesAlternate (is_parked ((sequential_view s).status number)) number steps answers
 
--- those that were taken before, and those that its answers count as unparked, are those that its answers tell of as
--- come back and those that are left
+-- those that were taken before, and those that its answers count as unparked, are as many as those that its answers
+-- tell of as come back and those that are left
 abbrev pub InterleavedThreadsComeBack : Type 0
 InterleavedThreadsComeBack = (s : FineState) (steps : List FineStep) (answers : List FineAnswer) (last : FineState)
     → IsFineConsistent s → IsFineRun s steps answers last →

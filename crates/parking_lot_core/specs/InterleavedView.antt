@@ -76,7 +76,8 @@ pub record IsFineConsistent (s : FineState) : Type 0 where
   pub unaware : (number : ℕ) → is_taken (s.threads_view.status number) ≡ false
   -- only a late thread has read a key
   pub reading : (number : ℕ) → IsTrue (is_some (s.keys_read number)) → s.threads_view.status number ≡ Late
-  -- sections hold the buckets of those that they took, so a late one of these cannot look before the section's end
+  -- sections hold the buckets of those that they took, so a late one of these cannot look by its key word before the
+  -- section's end
   pub held : All (HoldsForTaken s) s.callers
 
 -- one step of the machine with its answer

@@ -23,7 +23,7 @@ abbrev pub AnswersFixTheRun : Type 0
 AnswersFixTheRun = (m : Machine) (steps : List Step) (answers : List Answer) (last other : Machine)
     → IsRun m steps answers last → IsRun m steps answers other → last ≡ other
 
--- every step of a consistent machine has an answer for which no memory is wanting
+-- every step of a consistent machine has an answer other than `NoMemory`
 abbrev pub EachStepHasAnAnswer : Type 0
 EachStepHasAnAnswer = (m : Machine) (step : Step) → IsConsistent m
     → (given : Answer) × (given ≢ NoMemory) × (new : Machine) × IsStep m step given new

@@ -7,7 +7,7 @@ pub mod Records
 pub mod Machine
 pub mod Steps
 pub mod Size
--- Then which machine a lot means, and how its buckets represent that.
+-- Then which machine a lot means, and how its buckets represent that, after `Use` of src/table.rt.
 pub mod LotState
 pub mod Represents
 pub mod Lot
@@ -21,7 +21,7 @@ pub mod InterleavedSteps
 pub mod InterleavedView
 pub mod InterleavedOutcomes
 pub mod InterleavedLaws
--- Then steps that are told anew, and what a run of an interleaved lot amounts to.
+-- Then copies of steps, and what a run of an interleaved lot amounts to.
 pub mod Copies
 pub mod InterleavedRun
 -- Then which interleaved state an interleaved lot means.

@@ -1,5 +1,6 @@
 -- The machine with one list of waiters for each key, which is the key's queue: its state, what each step makes of it,
--- and what every state keeps. `Steps` says when a step does so, and with which answer. It knows no table.
+-- and what every consistent state keeps, as those of lots are. `Steps` says when a step does so, and with which answer.
+-- It knows no table.
 use Rattle.std.specs.Prelude.{◌≡◌, ◌≢◌, ℕ, ◌<◌, ◌≤◌, Bool, ◌==◌, not, if◌then◌else◌, List, ◌∷◌, ◌++◌, []}
 use Rattle.std.specs.Prelude.{length, filter, All, MatchBool}
 use Rattle.std.specs.List.{count_by, range_with_len}
@@ -18,7 +19,7 @@ pub record Waiter : Type 0 where
   pub timed : Bool
 
 -- the waiters of each key, first in first; the status of each thread number; how often each number's thread has
--- recorded each key; for how many threads it is, whose numbers are those below that
+-- recorded each key; and for how many threads it is: their numbers are those below
 pub record Machine : Type 0 where
   pub lists : ℕ → List Waiter
   pub status : ℕ → Status
@@ -92,7 +93,7 @@ abbrev pub after_unpark : Machine → ℕ → Split Waiter → UnparkToken → M
 after_unpark m key split token =
     record m { lists = with_value m.lists key split.left; status = statuses_with_taken token split.taken m.status }
 
--- Requeue: some are taken, some moved behind the waiters of another key, and the others are left
+-- Requeue: some are taken, some moved behind the waiters of a second key, which may be the same, and others are left
 abbrev pub after_requeue : Machine → ℕ → ℕ → Split Waiter → UnparkToken → Machine
 after_requeue m from to split token =
     record m {
@@ -113,7 +114,7 @@ abbrev pub after_timeout : Machine → ℕ → ℕ → Machine
 after_timeout m number key =
     record (with_status m number Running) { lists = with_value m.lists key (list_without m number key) }
 
--- what every state keeps
+-- what every consistent state keeps
 
 -- a thread that waits or is late stands at this key, and any other stands nowhere
 abbrev pub StandsByStatus : Machine → ℕ → ℕ → Type 0

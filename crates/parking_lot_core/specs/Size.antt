@@ -4,13 +4,13 @@ use Rattle.std.specs.Int.{IsPowerOfTwo}
 use Rattle.parking_lot_core.specs.declared.schedule.Answer.{Answer}
 use Rattle.parking_lot_core.specs.declared.schedule.Answer.TheVariants.{Registered, Retired}
 
--- the least power of two that is not below n, which is at least 1
+-- the least power of two that is not below n, where n is at least 1
 pub record IsNextPowerOfTwo (n power : ℕ) : Type 0 where
   pub is_power : IsPowerOfTwo power
   pub not_below : n ≤ power
   pub least : power / 2 < n
 
--- the size of a table after a registration that made so many threads: it has three buckets for each
+-- the size of a table after a registration that made so many threads: it has at least three buckets for each
 pub record IsSizeFor (threads old new : ℕ) : Type 0 where
   pub kept : 3 * threads ≤ old → new ≡ old
   pub grown : old < 3 * threads → IsNextPowerOfTwo (3 * threads) new

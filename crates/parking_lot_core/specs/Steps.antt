@@ -47,15 +47,15 @@ IsUnpark m (Requeue from to op token) given new =
     let split : Split Waiter = split_by op (m.lists from) in
     Gives (after_requeue m from to split token) (answer.Unpark (requeue_result op split)) given new
 
--- Return, where the thread has this status: one that was taken runs again, with its token; a thread calls it that was
--- unparked
+-- Return, where the thread has this status: one that was taken runs again, with its token; it ends the park of a thread
+-- that was woken
 abbrev pub IsReturn : Machine → ℕ → Status → Answer → Machine → Type 0
 IsReturn m thread (status.Taken token) given new =
     Gives (with_status m thread status.Running) (answer.Unparked token) given new
 IsReturn m thread _ given new = IsMisfit m given new
 
--- Resolve, where the thread has this status: a late one leaves its list, and one that was taken does as in Return; a
--- thread calls it whose deadline has passed, and who may have been unparked meanwhile
+-- Resolve, where the thread has this status: a late one leaves its list, and one that was taken does as in Return; it
+-- ends the park of a thread whose deadline has passed, and which may have been unparked before
 abbrev pub IsResolve : Machine → ℕ → Status → Answer → Machine → Type 0
 IsResolve m thread status.Late given new =
     (key : ℕ) × StandsAt m thread key × Gives (after_timeout m thread key)
@@ -116,8 +116,8 @@ ends_park number (Resolve thread) given = is_outcome given && thread == number
 ends_park number (Return thread) given = is_outcome given && thread == number
 ends_park number _ given = false
 
--- the parks of a thread and their outcomes take turns: it parks only where it is not parked, and has an outcome only
--- where it is
+-- the parks of a thread and their outcomes take turns, where it is parked or not before the first step: it parks only
+-- where it is not parked, and has an outcome only where it is
 abbrev pub OutcomesAlternate : Bool → ℕ → List Step → List Answer → Type 0
 OutcomesAlternate parked number [] [] = ⊤
 OutcomesAlternate parked number [] (_ ∷ _) = ⊥

@@ -27,7 +27,7 @@ pub fn acquire_resource(thread_data: &mut ThreadData, key: usize) -> Result<(), 
     thread_data.records.acquire(key)
 }
 
-/// Records one less of this key. Where the key is not recorded, it changes nothing.
+/// Records one less of this key. Where the key is not recorded, no count changes.
 ///
 /// It searches the records from the last one, and allocates nothing. It takes no lock.
 ///

@@ -33,7 +33,8 @@ use thread::{Thread, free_threads};
 /// An unpark of the threaded lot is `Begin`, a `Commit` for each thread that it took, `End`, and a
 /// `Wake` for each of them, which may come before `End`. A park is `Enter`, and after the sleep
 /// `Return`; or, where its deadline passes first, `Deadline`, and then `ReadKey` and `Look` until a
-/// `Look` answers how it ended.
+/// `Look` answers how it ended. That the threaded lot's lines are these steps is read in its code:
+/// no contract tells it.
 ///
 /// Callers and threads go by their numbers. In the threaded lot a caller is a thread that is inside
 /// an unpark.
@@ -82,7 +83,7 @@ pub enum FineStep {
     },
 
     /// A late thread that has read its key locks that key's bucket and looks whether it waits there
-    /// still: the second look.
+    /// still: the second look, where its return from the sleep was the first.
     Look {
         /// The number of the thread.
         thread: usize,
@@ -164,8 +165,8 @@ pub enum FineAnswer {
     Blocked,
 }
 
-/// A lot on which one caller takes every interleaved step of every thread and every caller, in any
-/// order.
+/// A lot on which whoever has it borrowed takes every interleaved step of every thread and every
+/// caller, in any order.
 ///
 /// What it means is an interleaved state. Threads and callers go by their numbers. No call takes a
 /// lock: a bucket that a section holds is only noted.

@@ -69,7 +69,8 @@ pub fn unparked_threads_come_back()
 {}
 
 /// Unparks every waiter of the key by a filter that always answers `Unpark`: it does what
-/// `Lot::unpark_all` does. It costs what `Lot::unpark_filter` costs.
+/// `Lot::unpark_all` does, and answers their number in a result. It costs what
+/// `Lot::unpark_filter` costs.
 pub fn unpark_all_by_filter(lot: &mut Lot, key: usize, unpark_token: UnparkToken) -> UnparkResult
     ensures result { result ≡ result_of (split_all ((machine lot.old).lists key)) }
     ensures taken { machine lot.new

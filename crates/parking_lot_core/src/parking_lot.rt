@@ -25,7 +25,7 @@ use std::time::{Clock, Instant};
 
 /// A registered thread: its number, its node while it does not wait, and the records of what it
 /// holds, which `deadlock` changes. It belongs to the lot that gave it. With another lot's data
-/// every call is safe, and nothing else is said.
+/// every call is safe, and acts for whoever has that number there.
 ///
 /// Data that is only dropped leaves its number registered; `ParkingLot::retire` frees it.
 ///
@@ -74,10 +74,15 @@ struct PerThread<P: ThreadParkerT> {
 ///
 /// It is made for a greatest number of threads, each of which registers by `thread_data`. Each
 /// bucket has a lock of its own, and a section is what a call does under the lock of its key's
-/// bucket, or of its two keys' buckets, the one at the lower place first. It takes no other lock
+/// bucket, or of its two keys' buckets, the one at the lower place first. In it an unpark is
+/// committed, once the thread's node lies in the slot of its parker. A section takes no other lock
 /// but parkers' own, one at a time. Registering and retiring take the lock of the numbers, and a
 /// registration that lets the table grow also that of each bucket in turn; sections that meet it
 /// sleep until it is done.
+///
+/// What is proved of its calls is how their closures are called, and what form their answers have.
+/// Which threads wait and are unparked, that each gets its token and wakes, and which numbers are
+/// given, is shown by tests.
 ///
 /// Upstream has one lot for the process, in statics.
 #[derive(Drop)]

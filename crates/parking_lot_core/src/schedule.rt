@@ -94,7 +94,7 @@ pub enum Step {
         thread: usize,
     },
 
-    /// `Lot::resolve`, which a thread calls whose deadline has passed.
+    /// `Lot::resolve`, for a thread whose deadline has passed, which may have been unparked before.
     Resolve {
         /// The number of the thread.
         thread: usize,
@@ -378,8 +378,8 @@ fn apply_filter(
 ///
 /// # Errors
 ///
-/// `NoMemory` if room for the answers cannot be had, and never where `answers` has it. Nothing
-/// changed then.
+/// `NoMemory` if room for the answers cannot be had, and never where `answers` has it. The lot and
+/// the answers are as before then, and `answers` may have more room.
 pub fn run(lot: &mut Lot, steps: &[Step], answers: &mut Vec<Answer>) -> Result<(), NoMemory>
     ensures ran { OnOk result (record {
       given : List Answer;

@@ -15,7 +15,7 @@ use Rattle.parking_lot_core.specs.Copies.{IsCopyOfOp}
 use Rattle.parking_lot_core.specs.InterleavedState.{Caller, TakenThread}
 use Rattle.parking_lot_core.specs.InterleavedView.{taken_in}
 
--- the operation of a step that begins a section, told anew
+-- the operation of a step that begins a section, copied
 abbrev pub IsCopyIn : FineStep → Option Op → Type 0
 IsCopyIn (Begin caller op) None = ⊥
 IsCopyIn (Begin caller op) (Some copy) = IsCopyOfOp op copy

@@ -4,8 +4,8 @@
 ghost use Rattle.parking_lot_core.specs.InterleavedLaws.{NewStatesStandForNewMachines, NewFineStatesAreConsistent, FineStepsKeepConsistency, FineAnswersFixTheState, EveryInterleavingIsARun, InterleavedOutcomesAlternate, EachNodeIsInOnePlace, NoNodeIsInAnotherList, InterleavedThreadsComeBack};
 
 /// Every interleaved run from a consistent state is a run of the machine with one list of waiters
-/// for each key: its sequential steps, with the answers of their places, lead from the sequential
-/// view of the first state to that of the last.
+/// for each key: its sequential steps, with their answers, lead from the sequential view of the
+/// first state to that of the last.
 pub fn every_interleaving_is_a_run()
     ensures { EveryInterleavingIsARun }
 {}

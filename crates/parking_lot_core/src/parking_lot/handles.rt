@@ -6,7 +6,8 @@ pub(super) const HANDLES: usize = 8;
 /// Room for eight handles.
 pub(super) type Handles<H> = Pair<Pair<Pair<Option<H>>>>;
 
-/// Room for some handles, of which the first to be kept is the first to be taken.
+/// Room for some handles. Those that are kept before any is taken come out in the order in which
+/// they were kept.
 pub(super) trait Room<H>: Drop {
     /// Room with no handle in it.
     fn empty() -> Self;

@@ -5,7 +5,7 @@ use Rattle.threaded_tests.proofs.parking_lot.unpark_by.Goals as goal
 pub unpark_filter-requires-after_bounds : goal.unpark_filter-requires-after_bounds
 unpark_filter-requires-after_bounds g c κs within =
     record {
-      may_filter = λ tokens. IsFilterCallable-always g.F.FnMut (λ filter token. c.requires.filter filter token) c.args.filter
-          tokens;
+      may_filter = λ tokens. IsFilterCallable-always g.F.FnMut (λ filter token. c.requires.filter filter token)
+          c.args.filter tokens;
       may_call_back = λ waiters decisions filtered. c.requires.callback _;
     }
