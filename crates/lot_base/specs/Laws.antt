@@ -29,8 +29,7 @@ module _ (A : Type 0) where
   UnparkThenStopTakesFirst = (waiters : List A) (decisions : List FilterOp)
       → split_filter (Unpark ∷ Stop ∷ decisions) waiters ≡ split_first waiters
 
-  -- each waiter that a filter is asked about, or would be but for a stop, is taken or left, both in order, and none is
-  -- moved
+  -- each of the waiters is taken by the filter or left, both in order, and none is moved
   abbrev pub FilterSplitsInOrder : Type 0
   FilterSplitsInOrder = (decisions : List FilterOp) (waiters : List A) →
       let split : Split A = split_filter decisions waiters in

@@ -21,6 +21,7 @@ pub mod LawLemmas
 pub mod AnswerLemmas
 pub mod GrowthLemmas
 pub mod ParkingLotLemmas
+pub mod HandleLemmas
 pub mod InterleavedLemmas
 pub mod HandedLemmas
 pub mod SequentialLemmas

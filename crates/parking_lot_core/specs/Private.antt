@@ -4,6 +4,7 @@ pub mod Committed
 pub mod Decisions
 pub mod RegistryState
 pub mod Section
+pub mod Handles
 pub mod FineThread
 pub mod FineCaller
 pub mod FineSection

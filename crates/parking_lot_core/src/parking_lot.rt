@@ -80,9 +80,10 @@ struct PerThread<P: ThreadParkerT> {
 /// registration that lets the table grow also that of each bucket in turn; sections that meet it
 /// sleep until it is done.
 ///
-/// What is proved of its calls is how their closures are called, and what form their answers have.
-/// Which threads wait and are unparked, that each gets its token and wakes, and which numbers are
-/// given, is shown by tests.
+/// What is proved of its calls is how their closures are called, what form their answers have, and
+/// that an unpark hands each node that it took to the parker of its thread, up to eight. Which
+/// threads wait and are unparked, that each gets its token and wakes, and which numbers are given,
+/// is shown by tests.
 ///
 /// Upstream has one lot for the process, in statics.
 #[derive(Drop)]

@@ -1,5 +1,7 @@
 //! Handles of threads that are still to be woken, kept without asking for memory.
 
+ghost use Rattle.std.specs.Prelude.{◌≡◌, ◌+◌, ◌≤◌, ℕ, IsSome, IsNone};
+
 /// How many handles there is room for.
 pub(super) const HANDLES: usize = 8;
 
@@ -9,17 +11,34 @@ pub(super) type Handles<H> = Pair<Pair<Pair<Option<H>>>>;
 /// Room for some handles. Those that are kept before any is taken come out in the order in which
 /// they were kept.
 pub(super) trait Room<H>: Drop {
+    /// For how many handles there is room.
+    ghost capacity: { ℕ };
+
+    /// How many handles are kept.
+    ghost kept: { Self → ℕ };
+
     /// Room with no handle in it.
-    fn empty() -> Self;
+    fn empty() -> Self
+        ensures { kept result ≡ 0 };
 
     /// Keeps the handle, or gives it back if there is no room.
-    fn put(&mut self, handle: H) -> Option<H>;
+    fn put(&mut self, handle: H) -> Option<H>
+        ensures kept { IsNone result → kept self.new ≡ kept self.old + 1 }
+        ensures full { IsSome result → (kept self.new ≡ kept self.old) × (capacity ≤ kept self.old) };
 
     /// Takes one of the handles, if there is any.
-    fn take(&mut self) -> Option<H>;
+    fn take(&mut self) -> Option<H>
+        ensures taken { IsSome result → kept self.old ≡ kept self.new + 1 }
+        ensures none { IsNone result → (kept self.old ≡ 0) × (kept self.new ≡ 0) };
 }
 
 impl<H: Drop> Room<H> for Option<H> {
+    ghost use Rattle.parking_lot_core.specs.Private.Handles.{kept_in_option};
+
+    ghost capacity = { 1 };
+
+    ghost kept = { λ room. kept_in_option room };
+
     fn empty() -> Option<H> {
         None
     }
@@ -45,6 +64,13 @@ pub(super) struct Pair<R> {
 }
 
 impl<H: Drop, R: Room<H>> Room<H> for Pair<R> {
+    ghost use Rattle.std.specs.Prelude.{◌+◌};
+    ghost use Rattle.parking_lot_core.specs.Private.Handles.{kept_in_pair};
+
+    ghost capacity = { R.capacity + R.capacity };
+
+    ghost kept = { λ pair. kept_in_pair R.kept pair };
+
     fn empty() -> Pair<R> {
         Pair {
             first: R::empty(),

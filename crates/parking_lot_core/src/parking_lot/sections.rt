@@ -3,15 +3,18 @@
 //! A section locks, does its step, commits, and lets go before it answers. It has no `?` while it
 //! has a bucket.
 
-ghost use Rattle.std.specs.Prelude.{◌≡◌, ◌≢◌, ◌<◌, IfErr, is_ok};
+ghost use Rattle.std.specs.Prelude.{◌≡◌, ◌≢◌, ◌<◌, ◌≤◌, ℕ, min, [], ◌∷◌, ◌++◌, length, take, IsTrue, IfOk, IfErr, OnErr, is_ok};
 ghost use Rattle.lot_base.specs.Node.{fields};
-ghost use Rattle.lot_base.specs.Requeue.{IsCallableAtEach};
+ghost use Rattle.lot_base.specs.Requeue.{numbers};
+ghost use Rattle.lot_base.specs.NodeLists.{ChangesOnly, lists_of, saturated, split_to};
+ghost use Rattle.lot_base.specs.Waiting.{has_any, lists_after_requeue, split_first, split_filter, split_by};
+ghost use Rattle.parking_lot_core.specs.Private.Handles.{handle_numbers, kept_handles, thread_numbers};
 ghost use Rattle.parking_lot_core.specs.Private.Section.{HasPlaceOf, AreApart};
 ghost use Rattle.parking_lot_core.specs.Threaded.{IsCallableForOne, IsUnparkOfOne, AreCallableForFilter, IsUnparkByFilter, AreCallableForRequeue, IsRequeueByChoice};
 
 use super::ParkingLot;
 use super::buckets::unlock_if_any;
-use super::handles::{Handles, Room};
+use super::handles::{HANDLES, Handles, Room};
 use lot_base::bucket::Bucket;
 use lot_base::queue::{Node, Queue};
 use lot_base::thread_parker::ThreadParkerT;
@@ -108,10 +111,9 @@ impl<P: ThreadParkerT> ParkingLot<P> {
         ensures { IsUnparkOfOne C.FnOnce callback result.0 }
     {
         let mut bucket = self.buckets.lock(rt, key);
-        let (result, taken) = take_one(&mut bucket.held.value, key, callback);
-        let handle = self.commit_one(rt, taken);
+        let answer = self.take_one_of(rt, &mut bucket.held.value, key, callback);
         bucket.unlock();
-        (result, handle)
+        answer
     }
 
     // The section of an unpark of all.
@@ -122,10 +124,9 @@ impl<P: ThreadParkerT> ParkingLot<P> {
         token: UnparkToken,
     ) -> (usize, Handles<P::UnparkHandle>) {
         let mut bucket = self.buckets.lock(rt, key);
-        let (count, taken) = take_all(&mut bucket.held.value, key, token);
-        let handles = self.commit(rt, taken);
+        let answer = self.take_all_of(rt, &mut bucket.held.value, key, token);
         bucket.unlock();
-        (count, handles)
+        answer
     }
 
     // The section of an unpark by a filter.
@@ -138,10 +139,9 @@ impl<P: ThreadParkerT> ParkingLot<P> {
         ensures { IsUnparkByFilter F.FnMut C.FnOnce filter callback result.0 }
     {
         let mut bucket = self.buckets.lock(rt, key);
-        let (result, taken) = take_filter(&mut bucket.held.value, key, filter, callback);
-        let handles = self.commit(rt, taken);
+        let answer = self.take_filter_of(rt, &mut bucket.held.value, key, filter, callback);
         bucket.unlock();
-        (result, handles)
+        answer
     }
 
     // The section of a requeue, in one bucket or in two.
@@ -161,34 +161,157 @@ impl<P: ThreadParkerT> ParkingLot<P> {
         ensures { IsRequeueByChoice V.FnOnce C.FnOnce validate callback result.0 }
     {
         let (mut source, mut target) = self.buckets.lock_two(rt, from, to);
-        let mut moved = |number: usize| self.set_key(number, to);
-        let (result, taken) = match &mut target {
-            None => {
-                requeue_one(
-                    &mut source.held.value,
-                    from,
-                    to,
-                    validate,
-                    callback,
-                    &mut moved,
-                )
-            }
+        let bucket = &mut source.held.value;
+        let answer = match &mut target {
+            None => self.requeue_in_one(rt, bucket, from, to, validate, callback),
             Some(target) => {
-                requeue_two(
-                    &mut source.held.value,
-                    &mut target.held.value,
-                    from,
-                    to,
-                    validate,
-                    callback,
-                    &mut moved,
-                )
+                let target = &mut target.held.value;
+                self.requeue_across(rt, bucket, target, from, to, validate, callback)
             }
         };
-        let handle = self.commit_one(rt, taken);
         source.unlock();
         unlock_if_any(target);
-        (result, handle)
+        answer
+    }
+
+    // Takes the first waiter of the key out of the bucket that is the key's, and commits its unpark.
+    fn take_one_of<R: Wait, C: FnOnce(UnparkResult) -> UnparkToken>(
+        &self,
+        rt: &R,
+        bucket: &mut Bucket,
+        key: usize,
+        callback: C,
+    ) -> (UnparkResult, Option<P::UnparkHandle>)
+        requires place { HasPlaceOf key bucket.old }
+        requires callback { IsCallableForOne C.FnOnce callback }
+        ensures { record {
+          unparked : IsUnparkOfOne C.FnOnce callback result.0;
+          waiters : unparked.waiters ≡ lists_of bucket.old.nodes key;
+          lists : ChangesOnly bucket.old.nodes bucket.new.nodes key
+              (split_first unparked.waiters).left;
+          handle : handle_numbers P.UnparkHandle.number result.1
+              ≡ thread_numbers self.now.max_threads (split_first unparked.waiters).taken;
+        } }
+    {
+        let (result, taken) = bucket.take_one(key, callback);
+        (result, self.commit_one(rt, taken))
+    }
+
+    // Takes all waiters of the key out of the bucket that is the key's, and commits their unparks.
+    fn take_all_of<R: Wait>(
+        &self,
+        rt: &R,
+        bucket: &mut Bucket,
+        key: usize,
+        token: UnparkToken,
+    ) -> (usize, Handles<P::UnparkHandle>)
+        requires { HasPlaceOf key bucket.old }
+        ensures lists { ChangesOnly bucket.old.nodes bucket.new.nodes key [] }
+        ensures answer { result.0 ≡ saturated (length (lists_of bucket.old.nodes key)) }
+        ensures handles { min HANDLES
+            (length (thread_numbers self.now.max_threads (lists_of bucket.old.nodes key)))
+            ≤ kept_handles result.1 }
+    {
+        let (count, taken) = bucket.take_all(key, token);
+        (count, self.commit(rt, taken))
+    }
+
+    // Takes those waiters of the key that the filter unparks out of the bucket that is the key's,
+    // and commits their unparks.
+    fn take_filter_of<
+        R: Wait,
+        F: FnMut(ParkToken) -> FilterOp,
+        C: FnOnce(UnparkResult) -> UnparkToken,
+    >(
+        &self,
+        rt: &R,
+        bucket: &mut Bucket,
+        key: usize,
+        filter: F,
+        callback: C,
+    ) -> (UnparkResult, Handles<P::UnparkHandle>)
+        requires place { HasPlaceOf key bucket.old }
+        requires callable { AreCallableForFilter F.FnMut C.FnOnce filter callback }
+        ensures { record {
+          unparked : IsUnparkByFilter F.FnMut C.FnOnce filter callback result.0;
+          waiters : unparked.waiters ≡ lists_of bucket.old.nodes key;
+          lists : ChangesOnly bucket.old.nodes bucket.new.nodes key
+              (split_filter unparked.decisions unparked.waiters).left;
+          handles : min HANDLES (length (thread_numbers self.now.max_threads
+              (split_filter unparked.decisions unparked.waiters).taken)) ≤ kept_handles result.1;
+        } }
+    {
+        let (result, taken) = bucket.take_filter(key, filter, callback);
+        (result, self.commit(rt, taken))
+    }
+
+    // Requeues waiters of the key `from` onto the key `to`, where both have one bucket, and commits
+    // the unpark.
+    fn requeue_in_one<
+        R: Wait,
+        V: FnOnce() -> RequeueOp,
+        C: FnOnce(RequeueOp, UnparkResult) -> UnparkToken,
+    >(
+        &self,
+        rt: &R,
+        bucket: &mut Bucket,
+        from: usize,
+        to: usize,
+        validate: V,
+        callback: C,
+    ) -> (UnparkResult, Option<P::UnparkHandle>)
+        requires from { HasPlaceOf from bucket.old }
+        requires to { HasPlaceOf to bucket.old }
+        requires callable { AreCallableForRequeue V.FnOnce C.FnOnce validate callback }
+        ensures { record {
+          requeued : IsRequeueByChoice V.FnOnce C.FnOnce validate callback result.0;
+          waiters : requeued.waiters ≡ lists_of bucket.old.nodes from;
+          lists : (k : ℕ) → lists_of bucket.new.nodes k
+              ≡ lists_after_requeue (lists_of bucket.old.nodes) from to
+              (split_to to (split_by requeued.op requeued.waiters)) k;
+          handle : handle_numbers P.UnparkHandle.number result.1
+              ≡ thread_numbers self.now.max_threads (split_by requeued.op requeued.waiters).taken;
+        } }
+    {
+        let mut moved = |number: usize| self.set_key(number, to);
+        let (result, taken) = bucket.requeue_one(from, to, validate, callback, &mut moved);
+        (result, self.commit_one(rt, taken))
+    }
+
+    // Does what `requeue_in_one` does, where each key has a bucket of its own.
+    fn requeue_across<
+        R: Wait,
+        V: FnOnce() -> RequeueOp,
+        C: FnOnce(RequeueOp, UnparkResult) -> UnparkToken,
+    >(
+        &self,
+        rt: &R,
+        source: &mut Bucket,
+        target: &mut Bucket,
+        from: usize,
+        to: usize,
+        validate: V,
+        callback: C,
+    ) -> (UnparkResult, Option<P::UnparkHandle>)
+        requires apart { AreApart source.old target.old }
+        requires from { HasPlaceOf from source.old }
+        requires to { HasPlaceOf to target.old }
+        requires callable { AreCallableForRequeue V.FnOnce C.FnOnce validate callback }
+        ensures { record {
+          requeued : IsRequeueByChoice V.FnOnce C.FnOnce validate callback result.0;
+          waiters : requeued.waiters ≡ lists_of source.old.nodes from;
+          lists : ChangesOnly source.old.nodes source.new.nodes from
+              (split_by requeued.op requeued.waiters).left;
+          targets : ChangesOnly target.old.nodes target.new.nodes to
+              (lists_of target.old.nodes to
+              ++ (split_to to (split_by requeued.op requeued.waiters)).moved);
+          handle : handle_numbers P.UnparkHandle.number result.1
+              ≡ thread_numbers self.now.max_threads (split_by requeued.op requeued.waiters).taken;
+        } }
+    {
+        let mut moved = |number: usize| self.set_key(number, to);
+        let (result, taken) = source.requeue_two(target, from, to, validate, callback, &mut moved);
+        (result, self.commit_one(rt, taken))
     }
 
     // The key of the queue that the thread of this number entered last, or was moved to.
@@ -208,7 +331,10 @@ impl<P: ThreadParkerT> ParkingLot<P> {
 
     // Hands the node to its thread: the commit of an unpark. A node whose number is no thread's of
     // this lot is dropped.
-    fn hand_over<R: Wait>(&self, rt: &R, node: Box<Node>) -> Option<P::UnparkHandle> {
+    fn hand_over<R: Wait>(&self, rt: &R, node: Box<Node>) -> Option<P::UnparkHandle>
+        ensures { handle_numbers P.UnparkHandle.number result
+            ≡ thread_numbers self.now.max_threads (fields node.value ∷ []) }
+    {
         let number = node.number;
         if number >= self.threads.len() {
             return None;
@@ -217,14 +343,20 @@ impl<P: ThreadParkerT> ParkingLot<P> {
     }
 
     // Commits the unpark of the node that was taken, if there is one.
-    fn commit_one<R: Wait>(&self, rt: &R, mut taken: Queue) -> Option<P::UnparkHandle> {
+    fn commit_one<R: Wait>(&self, rt: &R, mut taken: Queue) -> Option<P::UnparkHandle>
+        ensures { handle_numbers P.UnparkHandle.number result
+            ≡ thread_numbers self.now.max_threads (take 1 taken) }
+    {
         let node = taken.pop_front()?;
         self.hand_over(rt, node)
     }
 
     // Commits the unparks of all nodes that were taken, in order. It wakes those for whose handles
     // there is no room.
-    fn commit<R: Wait>(&self, rt: &R, mut taken: Queue) -> Handles<P::UnparkHandle> {
+    fn commit<R: Wait>(&self, rt: &R, mut taken: Queue) -> Handles<P::UnparkHandle>
+        ensures { min HANDLES (length (thread_numbers self.now.max_threads taken))
+            ≤ kept_handles result }
+    {
         let mut handles: Handles<P::UnparkHandle> = Room::empty();
         while let Some(node) = taken.pop_front() {
             if let Some(handle) = self.hand_over(rt, node)
@@ -240,86 +372,8 @@ impl<P: ThreadParkerT> ParkingLot<P> {
 // The list of the key, of the bucket that is the key's.
 fn list_of(bucket: &Bucket, alloc: Global, key: usize) -> Result<Vec<usize>, NoMemory>
     requires { HasPlaceOf key bucket.now }
+    ensures refused { OnErr result (IsTrue (has_any (lists_of bucket.now.nodes key))) }
+    ensures told { IfOk result (λ list. list.items ≡ numbers (lists_of bucket.now.nodes key)) }
 {
     bucket.list(alloc, key)
-}
-
-// Takes the first waiter of the key out of the bucket that is the key's.
-fn take_one<C: FnOnce(UnparkResult) -> UnparkToken>(
-    bucket: &mut Bucket,
-    key: usize,
-    callback: C,
-) -> (UnparkResult, Queue)
-    requires place { HasPlaceOf key bucket.old }
-    requires callback { IsCallableForOne C.FnOnce callback }
-    ensures { IsUnparkOfOne C.FnOnce callback result.0 }
-{
-    bucket.take_one(key, callback)
-}
-
-// Takes all waiters of the key out of the bucket that is the key's.
-fn take_all(bucket: &mut Bucket, key: usize, token: UnparkToken) -> (usize, Queue)
-    requires { HasPlaceOf key bucket.old }
-{
-    bucket.take_all(key, token)
-}
-
-// Takes those waiters of the key that the filter unparks out of the bucket that is the key's.
-fn take_filter<F: FnMut(ParkToken) -> FilterOp, C: FnOnce(UnparkResult) -> UnparkToken>(
-    bucket: &mut Bucket,
-    key: usize,
-    filter: F,
-    callback: C,
-) -> (UnparkResult, Queue)
-    requires place { HasPlaceOf key bucket.old }
-    requires callable { AreCallableForFilter F.FnMut C.FnOnce filter callback }
-    ensures { IsUnparkByFilter F.FnMut C.FnOnce filter callback result.0 }
-{
-    bucket.take_filter(key, filter, callback)
-}
-
-// Requeues waiters of the key `from` onto the key `to`, where both have one bucket.
-fn requeue_one<
-    V: FnOnce() -> RequeueOp,
-    C: FnOnce(RequeueOp, UnparkResult) -> UnparkToken,
-    M: FnMut(usize),
->(
-    bucket: &mut Bucket,
-    from: usize,
-    to: usize,
-    validate: V,
-    callback: C,
-    moved: &mut M,
-) -> (UnparkResult, Queue)
-    requires from { HasPlaceOf from bucket.old }
-    requires to { HasPlaceOf to bucket.old }
-    requires callable { AreCallableForRequeue V.FnOnce C.FnOnce validate callback }
-    requires moved { (numbers : _) → IsCallableAtEach M.FnMut moved.old numbers }
-    ensures { IsRequeueByChoice V.FnOnce C.FnOnce validate callback result.0 }
-{
-    bucket.requeue_one(from, to, validate, callback, moved)
-}
-
-// Requeues waiters of the key `from` onto the key `to`, where each has a bucket of its own.
-fn requeue_two<
-    V: FnOnce() -> RequeueOp,
-    C: FnOnce(RequeueOp, UnparkResult) -> UnparkToken,
-    M: FnMut(usize),
->(
-    source: &mut Bucket,
-    target: &mut Bucket,
-    from: usize,
-    to: usize,
-    validate: V,
-    callback: C,
-    moved: &mut M,
-) -> (UnparkResult, Queue)
-    requires apart { AreApart source.old target.old }
-    requires from { HasPlaceOf from source.old }
-    requires to { HasPlaceOf to target.old }
-    requires callable { AreCallableForRequeue V.FnOnce C.FnOnce validate callback }
-    requires moved { (numbers : _) → IsCallableAtEach M.FnMut moved.old numbers }
-    ensures { IsRequeueByChoice V.FnOnce C.FnOnce validate callback result.0 }
-{
-    source.requeue_two(target, from, to, validate, callback, moved)
 }
