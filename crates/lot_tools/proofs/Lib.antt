@@ -6,4 +6,5 @@ pub mod ReplyLemmas
 pub mod ScriptLemmas
 pub mod JournalLemmas
 pub mod RecordLemmas
+pub mod RoomLemmas
 pub mod JournalTotalLemmas

@@ -10,7 +10,7 @@ use Rattle.parking_lot_core.specs.declared.schedule.Answer.TheVariants as answer
 use Rattle.parking_lot_core.specs.declared.schedule.Step.{Step}
 use Rattle.parking_lot_core.specs.LotState.{LotState}
 use Rattle.parking_lot_core.specs.Lot.{machine}
-use Rattle.parking_lot_core.specs.Machine.{new_machine, threads_of}
+use Rattle.parking_lot_core.specs.Machine.{Machine, new_machine, threads_of}
 use Rattle.parking_lot_core.specs.Size.{IsSizeAfter}
 use Rattle.parking_lot_core.specs.Steps.{IsStep, IsRun}
 use Rattle.parking_lot_core.proofs.ScheduleLemmas.{IsRun-push}
@@ -49,16 +49,20 @@ pub journal-pushed : (old new : List Entry) (entry : Entry) (is_done : Bool)
 journal-pushed old new entry is_done is done =
     is ∙ ap (λ b. if b then old ++ entry ∷ [] else old) done
 
--- what is set aside for the threads of a record covers what they may still do
+-- what a journal sets aside covers what its threads may still do, and so does a record's
+pub Replays-backing : (max_threads : ℕ) (journal : List Entry) (m : Machine) → Replays max_threads journal m
+    → Backing m (asides_of max_threads journal)
+Replays-backing max_threads journal m ran =
+    Backing-run journal (new_machine max_threads) (replicate max_threads 0) m (record {
+      consistent = IsConsistent-new max_threads;
+      long = length-replicate max_threads 0;
+      backed = λ _. tt;
+    }) ran
+
 pub IsRecord-backing : (state : RecordState) → IsRecord state
     → Backing (machine state.lot) (asides_of (machine state.lot).max_threads state.journal)
 IsRecord-backing state is =
-    let max : ℕ = (machine state.lot).max_threads in
-    Backing-run state.journal (new_machine max) (replicate max 0) (machine state.lot) (record {
-      consistent = IsConsistent-new max;
-      long = length-replicate max 0;
-      backed = λ _. tt;
-    }) is.replays
+    Replays-backing (machine state.lot).max_threads state.journal (machine state.lot) is.replays
 
 module _ (old : RecordState) (is : IsRecord old) (step : Step) (given : Answer) (lot : LotState)
     (does : IsStep (machine old.lot) step given (machine lot)) where

@@ -4,6 +4,7 @@ ghost use Rattle.std.specs.Prelude.{◌≡◌, ◌≢◌, ◌↔◌, ◌<◌, �
 ghost use Rattle.parking_lot_core.specs.Lot.{machine};
 ghost use Rattle.parking_lot_core.specs.Machine.{new_machine};
 ghost use Rattle.lot_tools.specs.Journal.{Replays, fits, needed, set_aside_by};
+ghost use Rattle.lot_tools.specs.JournalLaws.{MisfitsDoNotFit, ParksHaveEntries, EndsHaveRoom};
 ghost use Rattle.lot_tools.specs.Record.{IsRecord, LacksRoom, IsRecorded, told};
 
 mod aside;
@@ -164,6 +165,18 @@ impl Record {
             && does_fit(&self.lot, step)
     }
 }
+
+/// A step is answered by `Misfit` exactly where it does not fit the status of its thread.
+pub fn misfits_do_not_fit()
+    ensures { MisfitsDoNotFit }
+{}
+
+/// For each park that has no outcome yet a journal has an entry set aside, and one more while the
+/// park's deadline may pass; so no record refuses a deadline or the end of a park for want of room.
+pub fn ends_have_room()
+    ensures entries { ParksHaveEntries }
+    ensures room { EndsHaveRoom }
+{}
 
 // Whether the step fits the status of its thread.
 fn does_fit(lot: &Lot, step: &Step) -> bool

@@ -3,7 +3,8 @@
 ghost use Rattle.std.specs.Prelude.{◌≡◌, ◌≢◌, ◌↔◌, ◌<◌, ◌≤◌, ◌+◌, ◌⊎◌, IsErrOf, IfOk, Err, All, length, vec_len};
 ghost use Rattle.std.specs.List.{sum_by};
 ghost use Rattle.lot_tools.specs.Journal.{woken_in, unparked_in};
-ghost use Rattle.lot_tools.specs.Record.{IsRecorded};
+ghost use Rattle.lot_tools.specs.Record.{IsRecord, IsRecorded};
+ghost use Rattle.lot_tools.specs.RecordState.{RecordState};
 ghost use Rattle.lot_tools.specs.TicketState.{new_ticket, after_answer, count_of, woken_of, unparked_of};
 ghost use Rattle.lot_tools.specs.JournalLaws.{UnparkedAreWokenOrTaken, TotalsHaveRoom};
 
@@ -97,7 +98,8 @@ impl<C: Ledger, W: Ledger, U: Ledger> RecordingLot<C, W, U> {
     }
 
     /// Does the step as `Record::step` does, and adds its answer to the ticket's totals. It takes
-    /// the lot's lock, and waits for it.
+    /// the lot's lock, and waits for it. The contract does not know the record that it finds: it
+    /// says that the answer is one that some record gives to this step.
     ///
     /// # Errors
     ///
@@ -108,7 +110,9 @@ impl<C: Ledger, W: Ledger, U: Ledger> RecordingLot<C, W, U> {
         ticket: &mut Ticket<C, W, U>,
         step: Step,
     ) -> Result<Answer, RecordError>
-        ensures { ticket.new ≡ after_answer ticket.old result }
+        ensures recorded { (old : RecordState) × (new : RecordState) × IsRecord old
+            × IsRecorded old step result new }
+        ensures ticket { ticket.new ≡ after_answer ticket.old result }
     {
         let mut counted = self.counted.lock(rt);
         let result = counted.step(ticket, step);

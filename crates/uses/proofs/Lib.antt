@@ -3,3 +3,4 @@ pub mod DeadlineLemmas
 pub mod VainLemmas
 pub mod TaskLemmas
 pub mod ReplayLemmas
+pub mod EndLemmas

@@ -1,13 +1,14 @@
 //! What threads did on a recording lot, and the same once more on a lot of one's own.
 
-ghost use Rattle.std.specs.Prelude.{◌≡◌, ◌≤◌, IfOk};
+ghost use Rattle.std.specs.Prelude.{◌≡◌, ◌≤◌, IfOk, Ok};
 ghost use Rattle.parking_lot_core.specs.Lot.{machine};
+ghost use Rattle.lot_tools.specs.Record.{IsRecorded};
 ghost use Rattle.lot_tools.specs.declared.record.TheConstants.{MAX_JOURNAL};
 
 #[cfg(test)]
 mod tests;
 
-use lot_tools::record::{MAX_JOURNAL, Record, RecordError};
+use lot_tools::record::{MAX_JOURNAL, Record, RecordError, ends_have_room};
 use lot_tools::recording_lot::{RecordingLot, Ticket};
 use parking_lot_core::lot::Lot;
 use parking_lot_core::schedule::{Answer, Op, Step};
@@ -42,6 +43,19 @@ pub fn replay(alloc: Global, recorded: &Record) -> Result<Lot, LotError>
         }
     }
     Ok(lot)
+}
+
+/// Ends the park of a thread, and journals that. The answer is `Misfit` if the thread is neither
+/// late nor unparked. The end of a park is never refused, also where the journal is full: its entry
+/// was set aside when the thread entered.
+///
+/// It costs what `Record::step` costs.
+pub fn end_park(recorded: &mut Record, thread: usize) -> Answer
+    ensures { IsRecorded recorded.old (Step.Resolve thread) (Ok result) recorded.new }
+{
+    recorded.consistency();
+    ends_have_room();
+    recorded.step(Step::Resolve { thread }).unwrap()
 }
 
 /// Two threads each register on a recording lot for two, wait on the key in turns and unpark who

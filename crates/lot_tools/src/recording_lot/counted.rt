@@ -3,7 +3,7 @@
 ghost use Rattle.std.specs.Prelude.{◌≡◌, length, vec_len};
 ghost use Rattle.std.specs.List.{sum_by};
 ghost use Rattle.lot_tools.specs.Journal.{woken_in, unparked_in};
-ghost use Rattle.lot_tools.specs.Record.{IsRecorded};
+ghost use Rattle.lot_tools.specs.Record.{IsRecord, IsRecorded};
 ghost use Rattle.lot_tools.specs.TicketState.{after_answer, count_of, woken_of, unparked_of};
 
 use super::ticket::Ticket;
@@ -41,9 +41,11 @@ impl<C: Ledger, W: Ledger, U: Ledger> Counted<C, W, U> {
         ticket: &mut Ticket<C, W, U>,
         step: Step,
     ) -> Result<Answer, RecordError>
+        ensures kept { IsRecord self.old.recorded }
         ensures recorded { IsRecorded self.old.recorded step result self.new.recorded }
         ensures ticket { ticket.new ≡ after_answer ticket.old result }
     {
+        self.recorded.consistency();
         let result = self.recorded.step(step);
         self.recorded.consistency();
         ticket.count.add(&mut self.counts, entries_of(&result));

@@ -32,3 +32,32 @@ fn a_replay_gives_a_lot_like_the_records(rt: HostRuntime) -> Result<(), Fail> {
     );
     Ok(())
 }
+
+#[test]
+fn a_park_ends_where_the_journal_is_full(rt: HostRuntime) -> Result<(), Fail> {
+    let mut recorded = Record::new(rt.alloc(), 1, 4)?;
+    assert_eq!(&rt; recorded.step(Step::Register), Ok(Answer::Registered(0)));
+    let enter = Step::Enter {
+        thread: 0,
+        key: 7,
+        valid: true,
+        park_token: DEFAULT_PARK_TOKEN,
+        timed: true,
+    };
+    assert_eq!(&rt; recorded.step(enter), Ok(Answer::Entered));
+    assert_eq!(&rt;
+        recorded.step(Step::Register),
+        Err(RecordError::JournalFull)
+    );
+    assert_eq!(&rt; end_park(&mut recorded, 0), Answer::Misfit);
+    assert_eq!(&rt;
+        recorded.step(Step::Deadline { thread: 0 }),
+        Ok(Answer::Late)
+    );
+    assert_eq!(&rt;
+        end_park(&mut recorded, 0),
+        Answer::TimedOut { key: 7, last: true }
+    );
+    assert_eq!(&rt; recorded.journal().len(), 4);
+    Ok(())
+}

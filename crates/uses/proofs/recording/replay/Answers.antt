@@ -1,7 +1,7 @@
 use Rattle.std.proofs.Common.{◌≡◌, ◌+◌, ◌<◌, ◌∙◌, drop, length, slice_index_or, ap, subst, arith}
 use Rattle.parking_lot_core.specs.Lot.{machine}
 use Rattle.parking_lot_core.specs.Steps.{IsStep, IsRun}
-use Rattle.parking_lot_core.proofs.AnswerLemmas.{IsStep-same_answer, memory-open}
+use Rattle.parking_lot_core.proofs.AnswerLemmas.{IsStep-same_answer}
 use Rattle.parking_lot_core.proofs.LawLemmas.{IsStep-fixes}
 use Rattle.parking_lot_core.proofs.StepLemmas.{IsConsistent-step}
 use Rattle.lot_tools.specs.Journal.{steps_of, answers_of}

@@ -6,19 +6,19 @@ pub add-requires-2 : goal.add-requires-2
 add-requires-2 g c =
     let adds = IsRecorded-adds c.args.self.now.recorded c.args.step c.step-result.new.self c.step-result.result
     c.step-result.ensures in
-    let room = totals_have_room c.step-result.new.self c.consistency.ensures in
-    omega (arith, adds.woken, room.1, c.consistency.ensures.capacity, c.woken_by.ensures, c.args.self.now.woken)
+    let room = totals_have_room c.step-result.new.self c.consistency-2.ensures in
+    omega (arith, adds.woken, room.1, c.consistency-2.ensures.capacity, c.woken_by.ensures, c.args.self.now.woken)
 
 pub add-requires-3 : goal.add-requires-3
 add-requires-3 g c =
     let adds = IsRecorded-adds c.args.self.now.recorded c.args.step c.step-result.new.self c.step-result.result
     c.step-result.ensures in
-    let room = totals_have_room c.step-result.new.self c.consistency.ensures in
+    let room = totals_have_room c.step-result.new.self c.consistency-2.ensures in
     omega (
       arith,
       adds.unparked,
       room.2,
-      c.consistency.ensures.capacity,
+      c.consistency-2.ensures.capacity,
       c.unparked_by.ensures,
       c.args.self.now.unparked,
     )

@@ -1,0 +1,28 @@
+-- The end of a park on a record.
+use Rattle.std.proofs.Common.{◌≡◌, ℕ, Result, Ok, Err, refl, subst}
+use Rattle.std.specs.Prelude.{IsOk}
+use Rattle.parking_lot_core.specs.Lot.{machine}
+use Rattle.parking_lot_core.specs.Steps.{IsStep}
+use Rattle.parking_lot_core.specs.declared.schedule.Answer.{Answer}
+use Rattle.parking_lot_core.specs.declared.schedule.Answer.TheVariants as answer
+use Rattle.parking_lot_core.specs.declared.schedule.Step.TheVariants.{Resolve}
+use Rattle.parking_lot_core.proofs.AnswerLemmas.{memory-open}
+use Rattle.lot_tools.specs.JournalLaws.{EndsHaveRoom}
+use Rattle.lot_tools.specs.Record.{IsRecord, IsRecorded, told}
+use Rattle.lot_tools.specs.RecordState.{RecordState}
+use Rattle.lot_tools.specs.declared.record.RecordError.{RecordError}
+use Rattle.lot_tools.specs.declared.record.RecordError.TheVariants as refused
+
+told-memory : (given : Answer) → Err refused.NoMemory ≡ told given → given ≡ answer.NoMemory
+told-memory answer.NoMemory is = refl
+told-memory _ is = cc
+
+-- it is never refused
+pub end-done : (old new : RecordState) (thread : ℕ) (result : Result Answer RecordError) → IsRecord old → EndsHaveRoom
+    → IsRecorded old (Resolve thread) result new → IsOk result
+end-done old new thread (Ok given) kept room is = refl
+end-done old new thread (Err refused.JournalFull) kept room (lacks, _) = absurd ((room old thread kept).1 lacks)
+end-done old new thread (Err refused.NoMemory) kept room (roomy, given, is, does, journal, capacity, size) =
+    absurd ((memory-open (machine old.lot) (Resolve thread) (machine new.lot)).0
+    (subst (λ answered. IsStep (machine old.lot) (Resolve thread) answered (machine new.lot)) (told-memory given is)
+    does)).0
