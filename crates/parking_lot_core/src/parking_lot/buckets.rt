@@ -1,17 +1,18 @@
 //! The buckets of a threaded lot, each behind a lock of its own, and how a section reaches the one
 //! of its key.
 
-ghost use Rattle.std.specs.Prelude.{◌≡◌, ◌≢◌, ◌+◌, ◌^◌, ◌<◌, ◌↔◌, IsTrue, IsErrOf, IfOk, IfSome, Err, MatchOption, length};
+ghost use Rattle.std.specs.Prelude.{◌≡◌, ◌≢◌, ◌+◌, ◌^◌, ◌<◌, ◌↔◌, IsTrue, IsErrOf, IfOk, OnErr, IfSome, Err, MatchOption, length, slice_set};
 ghost use Rattle.lot_base.specs.Place.{IsTableSize};
 ghost use Rattle.lot_base.specs.WordLock.{IsHeldOf};
 ghost use Rattle.parking_lot_core.specs.Represents.{Represents, waiters_in};
-ghost use Rattle.parking_lot_core.specs.Table.{IsRowOf};
+ghost use Rattle.parking_lot_core.specs.Size.{IsSizeFor};
+ghost use Rattle.parking_lot_core.specs.Table.{IsRowOf, count_registered, IsLeastUnregistered};
 ghost use Rattle.parking_lot_core.specs.Private.Section.{HasPlaceOf, AreApart};
 
 mod registry;
 
-use crate::table::MAX_THREADS;
 use crate::table::growth::{INITIAL_BUCKETS, empty_buckets, rehash_bucket};
+use crate::table::{MAX_THREADS, Use};
 use lot_base::bucket::{Bucket, place};
 use lot_base::token::{LotError, NoMemory};
 use lot_base::word_lock::{Held, WordLock};
@@ -253,10 +254,8 @@ impl Buckets {
         drop(self.registry.lock(rt));
     }
 
-    // Registers the least free number, which is to be below `max_threads`. If the table has less
-    // than three buckets for each thread then, it grows first.
-    //
-    // Nothing that can be refused comes after `current` says that the table grows.
+    // Registers the least free number, which is to be below `max_threads`, under the lock of the
+    // registry.
     pub(super) fn register<R: Wait>(
         &self,
         rt: &R,
@@ -267,13 +266,41 @@ impl Buckets {
         ensures number { IfOk result (λ number. number < max_threads) }
     {
         let mut registry = self.registry.lock(rt);
+        let registered = self.register_in(rt, alloc, &mut registry, max_threads);
+        drop(registry);
+        registered
+    }
+
+    // Registers the least free number of the registry, which is locked. If the table has less than
+    // three buckets for each thread then, it grows first.
+    //
+    // Nothing that can be refused comes after `current` says that the table grows.
+    fn register_in<R: Wait>(
+        &self,
+        rt: &R,
+        alloc: Global,
+        registry: &mut Registry,
+        max_threads: usize,
+    ) -> Result<usize, LotError>
+        ensures full { length registry.old.numbers ≡ max_threads → (IsErrOf result LotError.Full
+            ↔ (count_registered registry.old.numbers ≡ max_threads)) }
+        ensures not_too_many { result ≢ Err LotError.TooManyThreads }
+        ensures registered { IfOk result (λ number. record {
+          below : number < max_threads;
+          least : IsLeastUnregistered registry.old.numbers number;
+          numbers : registry.new.numbers
+              ≡ slice_set registry.old.numbers number Use.Registered;
+          size : IsSizeFor (count_registered registry.old.numbers + 1) registry.old.size
+              registry.new.size;
+        }) }
+        ensures err { OnErr result (registry.new ≡ registry.old) }
+    {
         let number = registry.least_free(max_threads)?;
         let size = registry.size_for_one_more();
-        if size != registry.size() {
+        if registry.size() < size {
             self.grow(rt, alloc, registry.size(), size)?;
         }
         registry.register(number, size);
-        drop(registry);
         Ok(number)
     }
 
@@ -295,6 +322,7 @@ impl Buckets {
     ) -> Result<(), NoMemory>
         requires old { IsTableSize old_size }
         requires new { IsTableSize new_size }
+        requires grows { old_size < new_size }
     {
         let row = self.row_of_size(rt, alloc, new_size)?;
         let mut buckets = empty_buckets(alloc, new_size)?;

@@ -3,11 +3,13 @@
 //! A section locks, does its step, commits, and lets go before it answers. It has no `?` while it
 //! has a bucket.
 
-ghost use Rattle.std.specs.Prelude.{◌≡◌, ◌≢◌, ◌<◌, ◌≤◌, ℕ, min, [], ◌∷◌, ◌++◌, length, take, IsTrue, IfOk, IfErr, OnErr, is_ok};
+ghost use Rattle.std.specs.Prelude.{◌≡◌, ◌≢◌, ◌<◌, ◌≤◌, ℕ, min, [], ◌∷◌, ◌++◌, length, take, not, Some, None, IsTrue, IfOk, IfErr, OnOk, OnErr, is_ok};
+ghost use Rattle.std.specs.List.{find};
+ghost use Rattle.lot_base.specs.BucketState.{KeepsPlace};
 ghost use Rattle.lot_base.specs.Node.{fields};
 ghost use Rattle.lot_base.specs.Requeue.{numbers};
-ghost use Rattle.lot_base.specs.NodeLists.{ChangesOnly, lists_of, saturated, split_to};
-ghost use Rattle.lot_base.specs.Waiting.{has_any, lists_after_requeue, split_first, split_filter, split_by};
+ghost use Rattle.lot_base.specs.NodeLists.{ChangesOnly, has_number, lists_of, saturated, split_to};
+ghost use Rattle.lot_base.specs.Waiting.{has_any, lists_after_requeue, split_first, split_filter, split_by, without_first};
 ghost use Rattle.parking_lot_core.specs.Private.Handles.{handle_numbers, kept_handles, thread_numbers};
 ghost use Rattle.parking_lot_core.specs.Private.Section.{HasPlaceOf, AreApart};
 ghost use Rattle.parking_lot_core.specs.Threaded.{IsCallableForOne, IsUnparkOfOne, AreCallableForFilter, IsUnparkByFilter, AreCallableForRequeue, IsRequeueByChoice};
@@ -53,7 +55,7 @@ impl<P: ThreadParkerT> ParkingLot<P> {
     {
         let Node { number, key, .. } = *node;
         let mut bucket = self.buckets.lock(rt, key);
-        let entered = bucket.held.value.enter(node, validate);
+        let entered = enter_into(&mut bucket.held.value, node, validate);
         if entered.is_ok() {
             self.set_key(number, key);
         }
@@ -75,9 +77,12 @@ impl<P: ThreadParkerT> ParkingLot<P> {
         ensures valid { result.0 ≢ ParkResult.Invalid }
         ensures timed_out { result.0 ≡ ParkResult.TimedOut
             → (key : _) × (last : _) × T.post timed_out key last tt }
+        ensures token { (token : _) → result.0 ≡ ParkResult.Unparked token
+            → (fields result.1.value).unpark_token ≡ token }
         ensures number { (fields result.1.value).number ≡ number }
     {
         let parker = self.parker(number);
+        let mut timed_out = timed_out;
         for _ in rt.forever() {
             let key = self.key(number);
             let mut bucket = self.buckets.lock(rt, key);
@@ -90,12 +95,12 @@ impl<P: ThreadParkerT> ParkingLot<P> {
                 let node = parker.park(rt);
                 return (ParkResult::Unparked(node.unpark_token), node);
             }
-            if let Some((node, last)) = bucket.held.value.remove(number, key, |_, last| last) {
-                timed_out(key, last);
-                bucket.unlock();
-                return (ParkResult::TimedOut, node);
-            }
+            let removed = remove_from(&mut bucket.held.value, number, key, timed_out);
             bucket.unlock();
+            match removed {
+                Ok(node) => return (ParkResult::TimedOut, node),
+                Err(uncalled) => timed_out = uncalled,
+            }
         }
         unreachable!()
     }
@@ -184,7 +189,8 @@ impl<P: ThreadParkerT> ParkingLot<P> {
     ) -> (UnparkResult, Option<P::UnparkHandle>)
         requires place { HasPlaceOf key bucket.old }
         requires callback { IsCallableForOne C.FnOnce callback }
-        ensures { record {
+        ensures place { KeepsPlace bucket.old bucket.new }
+        ensures taken { record {
           unparked : IsUnparkOfOne C.FnOnce callback result.0;
           waiters : unparked.waiters ≡ lists_of bucket.old.nodes key;
           lists : ChangesOnly bucket.old.nodes bucket.new.nodes key
@@ -206,6 +212,7 @@ impl<P: ThreadParkerT> ParkingLot<P> {
         token: UnparkToken,
     ) -> (usize, Handles<P::UnparkHandle>)
         requires { HasPlaceOf key bucket.old }
+        ensures place { KeepsPlace bucket.old bucket.new }
         ensures lists { ChangesOnly bucket.old.nodes bucket.new.nodes key [] }
         ensures answer { result.0 ≡ saturated (length (lists_of bucket.old.nodes key)) }
         ensures handles { min HANDLES
@@ -232,7 +239,8 @@ impl<P: ThreadParkerT> ParkingLot<P> {
     ) -> (UnparkResult, Handles<P::UnparkHandle>)
         requires place { HasPlaceOf key bucket.old }
         requires callable { AreCallableForFilter F.FnMut C.FnOnce filter callback }
-        ensures { record {
+        ensures place { KeepsPlace bucket.old bucket.new }
+        ensures taken { record {
           unparked : IsUnparkByFilter F.FnMut C.FnOnce filter callback result.0;
           waiters : unparked.waiters ≡ lists_of bucket.old.nodes key;
           lists : ChangesOnly bucket.old.nodes bucket.new.nodes key
@@ -263,7 +271,8 @@ impl<P: ThreadParkerT> ParkingLot<P> {
         requires from { HasPlaceOf from bucket.old }
         requires to { HasPlaceOf to bucket.old }
         requires callable { AreCallableForRequeue V.FnOnce C.FnOnce validate callback }
-        ensures { record {
+        ensures place { KeepsPlace bucket.old bucket.new }
+        ensures taken { record {
           requeued : IsRequeueByChoice V.FnOnce C.FnOnce validate callback result.0;
           waiters : requeued.waiters ≡ lists_of bucket.old.nodes from;
           lists : (k : ℕ) → lists_of bucket.new.nodes k
@@ -297,7 +306,8 @@ impl<P: ThreadParkerT> ParkingLot<P> {
         requires from { HasPlaceOf from source.old }
         requires to { HasPlaceOf to target.old }
         requires callable { AreCallableForRequeue V.FnOnce C.FnOnce validate callback }
-        ensures { record {
+        ensures places { KeepsPlace source.old source.new × KeepsPlace target.old target.new }
+        ensures taken { record {
           requeued : IsRequeueByChoice V.FnOnce C.FnOnce validate callback result.0;
           waiters : requeued.waiters ≡ lists_of source.old.nodes from;
           lists : ChangesOnly source.old.nodes source.new.nodes from
@@ -376,4 +386,49 @@ fn list_of(bucket: &Bucket, alloc: Global, key: usize) -> Result<Vec<usize>, NoM
     ensures told { IfOk result (λ list. list.items ≡ numbers (lists_of bucket.now.nodes key)) }
 {
     bucket.list(alloc, key)
+}
+
+// Puts the node into the bucket that is its key's, or gives it back if `validate` answers false.
+fn enter_into<V: FnOnce() -> bool>(
+    bucket: &mut Bucket,
+    node: Box<Node>,
+    validate: V,
+) -> Result<(), Box<Node>>
+    requires place { HasPlaceOf (fields node.value).key bucket.old }
+    requires validate { V.pre validate }
+    ensures asked { V.post validate (is_ok result) }
+    ensures entered { OnOk result
+        (bucket.new ≡ record bucket.old { nodes = bucket.old.nodes ++ fields node.value ∷ [] }) }
+    ensures refused { OnErr result (bucket.new ≡ bucket.old) }
+    ensures returned { IfErr result (λ back. back.value ≡ node.value) }
+{
+    bucket.enter(node, validate)
+}
+
+// Takes the node of the thread whose deadline has passed out of the bucket that is the key's, and
+// calls `timed_out`, or gives that back if the node is not there.
+fn remove_from<T: FnOnce(usize, bool)>(
+    bucket: &mut Bucket,
+    number: usize,
+    key: usize,
+    timed_out: T,
+) -> Result<Box<Node>, T>
+    requires place { HasPlaceOf key bucket.old }
+    requires timed_out { (last : _) → T.pre timed_out key last }
+    ensures place { KeepsPlace bucket.old bucket.new }
+    ensures lists { ChangesOnly bucket.old.nodes bucket.new.nodes key
+        (without_first (has_number number) (lists_of bucket.old.nodes key)) }
+    ensures removed { IfOk result (λ node. let waiters = lists_of bucket.old.nodes key in
+        (find (has_number number) waiters ≡ Some (fields node.value))
+        × T.post timed_out key (not (has_any (without_first (has_number number) waiters))) tt) }
+    ensures uncalled { IfErr result (λ back. (back ≡ timed_out)
+        × (find (has_number number) (lists_of bucket.old.nodes key) ≡ None)) }
+{
+    match bucket.remove(number, key, |_, last| last) {
+        Some((node, last)) => {
+            timed_out(key, last);
+            Ok(node)
+        }
+        None => Err(timed_out),
+    }
 }

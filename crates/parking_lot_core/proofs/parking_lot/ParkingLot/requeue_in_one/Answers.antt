@@ -4,8 +4,8 @@ use Rattle.lot_base.specs.Waiting.{split_by}
 use Rattle.parking_lot_core.proofs.HandleLemmas.{handle-one, one-by}
 use Rattle.parking_lot_core.proofs.parking_lot.ParkingLot.requeue_in_one.Goals as goal
 
-pub returns : goal.returns
-returns g c =
+pub returns-clause-taken : goal.returns-clause-taken
+returns-clause-taken g c =
     let waiters = lists_of c.args.bucket.now.nodes c.args.from in
     let told = c.requeue_one-taken.ensures.requeued in
     record {

@@ -9,8 +9,8 @@ use Rattle.parking_lot_core.proofs.parking_lot.ParkingLot.take_filter_of.Goals a
 pub take_filter-taken-requires-clause-filter : goal.take_filter-taken-requires-clause-filter
 take_filter-taken-requires-clause-filter g c = c.requires.callable.may_filter _
 
-pub returns : goal.returns
-returns g c =
+pub returns-clause-taken : goal.returns-clause-taken
+returns-clause-taken g c =
     let waiters = lists_of c.args.bucket.now.nodes c.args.key in
     let told = c.take_filter-taken.ensures.filtered in
     let (token, called, taken) = told.taken in

@@ -3,8 +3,8 @@ use Rattle.lot_base.specs.NodeLists.{lists_of}
 use Rattle.parking_lot_core.proofs.HandleLemmas.{handle-one, one-first}
 use Rattle.parking_lot_core.proofs.parking_lot.ParkingLot.take_one_of.Goals as goal
 
-pub returns : goal.returns
-returns g c =
+pub returns-clause-taken : goal.returns-clause-taken
+returns-clause-taken g c =
     let waiters = lists_of c.args.bucket.now.nodes c.args.key in
     let (token, called, taken) = c.take_one-taken.ensures.taken in
     record {
