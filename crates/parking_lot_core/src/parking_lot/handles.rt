@@ -24,7 +24,8 @@ pub(super) trait Room<H>: Drop {
     /// Keeps the handle, or gives it back if there is no room.
     fn put(&mut self, handle: H) -> Option<H>
         ensures kept { IsNone result → kept self.new ≡ kept self.old + 1 }
-        ensures full { IsSome result → (kept self.new ≡ kept self.old) × (capacity ≤ kept self.old) };
+        ensures full { IsSome result → (kept self.new ≡ kept self.old)
+            × (capacity ≤ kept self.old) };
 
     /// Takes one of the handles, if there is any.
     fn take(&mut self) -> Option<H>

@@ -3,7 +3,7 @@
 //! A section locks, does its step, commits, and lets go before it answers. It has no `?` while it
 //! has a bucket.
 
-ghost use Rattle.std.specs.Prelude.{◌≡◌, ◌≢◌, ◌<◌, ◌≤◌, ℕ, min, [], ◌∷◌, ◌++◌, length, take, not, Some, None, IsTrue, IfOk, IfErr, OnOk, OnErr, is_ok};
+ghost use Rattle.std.specs.Prelude.{◌≡◌, ◌≢◌, ◌<◌, ◌≤◌, ℕ, min, [], ◌∷◌, ◌++◌, length, take, not, Some, None, IsTrue, IfOk, IfErr, OnErr, is_ok};
 ghost use Rattle.std.specs.List.{find};
 ghost use Rattle.lot_base.specs.BucketState.{KeepsPlace};
 ghost use Rattle.lot_base.specs.Node.{fields};
@@ -55,7 +55,7 @@ impl<P: ThreadParkerT> ParkingLot<P> {
     {
         let Node { number, key, .. } = *node;
         let mut bucket = self.buckets.lock(rt, key);
-        let entered = enter_into(&mut bucket.held.value, node, validate);
+        let entered = bucket.held.value.enter(node, validate);
         if entered.is_ok() {
             self.set_key(number, key);
         }
@@ -179,7 +179,8 @@ impl<P: ThreadParkerT> ParkingLot<P> {
         answer
     }
 
-    // Takes the first waiter of the key out of the bucket that is the key's, and commits its unpark.
+    // Takes the first waiter of the key out of the bucket that is the key's, and commits its
+    // unpark.
     fn take_one_of<R: Wait, C: FnOnce(UnparkResult) -> UnparkToken>(
         &self,
         rt: &R,
@@ -386,23 +387,6 @@ fn list_of(bucket: &Bucket, alloc: Global, key: usize) -> Result<Vec<usize>, NoM
     ensures told { IfOk result (λ list. list.items ≡ numbers (lists_of bucket.now.nodes key)) }
 {
     bucket.list(alloc, key)
-}
-
-// Puts the node into the bucket that is its key's, or gives it back if `validate` answers false.
-fn enter_into<V: FnOnce() -> bool>(
-    bucket: &mut Bucket,
-    node: Box<Node>,
-    validate: V,
-) -> Result<(), Box<Node>>
-    requires place { HasPlaceOf (fields node.value).key bucket.old }
-    requires validate { V.pre validate }
-    ensures asked { V.post validate (is_ok result) }
-    ensures entered { OnOk result
-        (bucket.new ≡ record bucket.old { nodes = bucket.old.nodes ++ fields node.value ∷ [] }) }
-    ensures refused { OnErr result (bucket.new ≡ bucket.old) }
-    ensures returned { IfErr result (λ back. back.value ≡ node.value) }
-{
-    bucket.enter(node, validate)
 }
 
 // Takes the node of the thread whose deadline has passed out of the bucket that is the key's, and
