@@ -14,5 +14,9 @@ pub mod LawLemmas
 pub mod TestLemmas
 pub mod WordCounts
 pub mod WordSeats
+pub mod WordBoard
+pub mod WordTries
+pub mod WordWaits
+pub mod WordHolds
 pub mod WordKeeps
 pub mod WordLockHolds

@@ -5,7 +5,7 @@ use mathlib.Core.Logic.{dite}
 use mathlib.Core.Option.{some, some-injective, some-ne-none}
 use native.Mathlib.Decide.{ℕ_discrete}
 use lib.ListN.{get_elem?}
-use Rattle.lot_base.specs.WordPlaces.{IsPlace, AllPlaces, total, one_at, times, head, IsChain}
+use Rattle.lot_base.specs.WordPlaces.{IsPlace, AllPlaces, total, one_at, times, head, FollowsLinks}
 
 module _ {A : Type 0} where
   module _ (f : A → ℕ) where
@@ -93,12 +93,12 @@ whole list (x ∷ newer) (a ∷ []) is short heads all once =
 whole list (x ∷ newer) (a ∷ b ∷ seen) is short heads all once = absurd (omega arith)
 
 pub chain_kept : (ws vs : List ℕ) (xs : List ℕ) → ((p : ℕ) → 0 < times p xs → get_or vs p 0 ≡ get_or ws p 0)
-    → IsChain ws xs → IsChain vs xs
+    → FollowsLinks ws xs → FollowsLinks vs xs
 chain_kept ws vs [] same c = tt
 chain_kept ws vs (x ∷ xs) same c =
     (same x (omega (arith, one_at-same x)) ∙ c.0, chain_kept ws vs xs (λ p h. same p (omega arith)) c.1)
 
-pub chain_behind : (ws newer xs : List ℕ) → IsChain ws (newer ++ xs) → IsChain ws xs
+pub chain_behind : (ws newer xs : List ℕ) → FollowsLinks ws (newer ++ xs) → FollowsLinks ws xs
 chain_behind ws [] xs c = c
 chain_behind ws (x ∷ newer) xs c = chain_behind ws newer xs c.1
 
@@ -112,7 +112,7 @@ times_cut p newer b a = omega (arith, times-append p newer (b ∷ a ∷ []), tim
 
 -- the chain that ends at b, once the link of b is 1
 pub chain_cut : (ws newer : List ℕ) (b a : ℕ) → b < length ws → times b (newer ++ b ∷ a ∷ []) ≤ 1
-    → IsChain ws (newer ++ b ∷ a ∷ []) → IsChain (set ws b 1) (newer ++ b ∷ [])
+    → FollowsLinks ws (newer ++ b ∷ a ∷ []) → FollowsLinks (set ws b 1) (newer ++ b ∷ [])
 chain_cut ws [] b a long once c = (get_or-set_same ws b 1 0 long, tt)
 chain_cut ws (x ∷ newer) b a long once c =
     let further : one_at b x + times b (newer ++ b ∷ a ∷ []) ≤ 1 = once in

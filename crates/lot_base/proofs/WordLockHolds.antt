@@ -14,7 +14,7 @@ use Rattle.lot_base.specs.WordLockInvariant.{WordLockInvariant}
 use Rattle.lot_base.specs.WordRule.{holds_lock, has_place, waits_with, owes_place, SeatOk, Charge, Orderly}
 use Rattle.lot_base.proofs.WordCounts.{one_term, two_terms, some_term, total_le, one_at-same, one_at-other}
 use Rattle.lot_base.proofs.WordCounts.{member_place}
-use Rattle.lot_base.proofs.WordKeeps.{no_repeats, held_by}
+use Rattle.lot_base.proofs.WordHolds.{no_repeats, held_by}
 use Rattle.lot_base.proofs.WordSeats.{waits_has}
 
 times-contains : (xs : List ℕ) (p : ℕ) → 0 < times p xs → Contains xs p

@@ -10,7 +10,7 @@ use lib.ListN.{get_elem?}
 use Rattle.atomic_table.proofs.Lists.{set_here, set_else}
 use Rattle.lot_base.specs.declared.word_lock.view.View.{View}
 use Rattle.lot_base.specs.declared.word_lock.view.View.TheVariants.{Trying, Enqueued, Holding, Leaving}
-use Rattle.lot_base.specs.WordPlaces.{IsPlace, AllPlaces, total, times, head, LeadsTo}
+use Rattle.lot_base.specs.WordPlaces.{IsPlace, AllPlaces, total, times, head, LinkLeadsTo}
 use Rattle.lot_base.specs.WordView.{leaving}
 use Rattle.lot_base.specs.WordRule.{holds_lock, has_place, waits_with, owes_place, SeatOk, PlaceOk, Charge, SomeCharge}
 use Rattle.lot_base.proofs.WordCounts.{total-set, one_term, two_terms, total_below}
@@ -153,7 +153,7 @@ longer list [] seen is other all = absurd (other (ap head is))
 longer list (x ∷ newer) seen is other all =
     (x, newer ++ seen, is, (subst AllPlaces is all).0, omega (arith, length-append newer seen))
 
-pub leads_to : (r : ℕ) (places : List ℕ) → r ≡ 1 + head places → AllPlaces places → LeadsTo r places
+pub leads_to : (r : ℕ) (places : List ℕ) → r ≡ 1 + head places → AllPlaces places → LinkLeadsTo r places
 leads_to r [] is all = record {
   some_link = omega arith;
   last = λ _. refl;

@@ -7,7 +7,7 @@ use lib.ListN.{get_elem?}
 use Rattle.atomic_table.specs.Table.{State}
 use Rattle.lot_base.specs.declared.word_lock.view.View.{View}
 use Rattle.lot_base.specs.declared.word_lock.view.View.TheVariants.{Trying, Enqueued, Holding, Leaving}
-use Rattle.lot_base.specs.WordPlaces.{times, head, IsChain}
+use Rattle.lot_base.specs.WordPlaces.{times, head, FollowsLinks}
 use Rattle.lot_base.specs.WordView.{owed_by}
 
 -- it holds the lock
@@ -81,7 +81,7 @@ module _ {T : Type 0} (s : State (Option T) View) where
   -- of its places is that of a caller inside `lock`; no two callers wait with the same place
   pub record IsWaitingList (list : List ℕ) : Type 0 where
     pub begins : newest ≡ head list
-    pub goes_on : IsChain s.words list
+    pub goes_on : FollowsLinks s.words list
     pub once : (p : ℕ) → times p list ≤ 1
     pub callers : (p : ℕ) → Contains list p → SomeCaller (IsEnqueued p)
     pub alone : (p : ℕ) → AtMostOneCaller (IsEnqueued p)

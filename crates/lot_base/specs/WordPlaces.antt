@@ -31,12 +31,12 @@ abbrev pub times : ℕ → List ℕ → ℕ
 times p ps = total (one_at p) ps
 
 -- the link of each place is 1 more than the next place, or 1 at the last
-abbrev pub IsChain : List ℕ → List ℕ → Type 0
-IsChain words [] = Unit {0}
-IsChain words (p ∷ ps) = (slice_index words p ≡ 1 + head ps) × IsChain words ps
+abbrev pub FollowsLinks : List ℕ → List ℕ → Type 0
+FollowsLinks words [] = Unit {0}
+FollowsLinks words (p ∷ ps) = (slice_index words p ≡ 1 + head ps) × FollowsLinks words ps
 
 -- a link that leads to the first of these places, or tells that there is none
-pub record LeadsTo (link : ℕ) (places : List ℕ) : Type 0 where
+pub record LinkLeadsTo (link : ℕ) (places : List ℕ) : Type 0 where
   pub some_link : 1 ≤ link
   pub last : link ≡ 1 → places ≡ []
   pub next : link ≢ 1 → (places ≡ (link - 1) ∷ behind places) × IsPlace (link - 1)

@@ -6,7 +6,7 @@ use lib.ListN.{get_elem?}
 use Rattle.atomic_table.specs.Table.{State}
 use Rattle.lot_base.specs.declared.word_lock.view.View.{View}
 use Rattle.lot_base.specs.declared.word_lock.view.View.TheVariants.{Trying, Enqueued, Holding, Leaving}
-use Rattle.lot_base.specs.WordPlaces.{IsPlace, AllPlaces, head, IsChain, total, one_at, times}
+use Rattle.lot_base.specs.WordPlaces.{IsPlace, AllPlaces, head, FollowsLinks, total, one_at, times}
 use Rattle.lot_base.specs.WordView.{owed_by}
 use Rattle.lot_base.specs.WordLockInvariant.{HasValue}
 
@@ -64,7 +64,7 @@ pub record Orderly {T : Type 0} (fits : T → Type 0) (s : State (Option T) View
   pub single : total holds_lock s.views ≤ 1
   pub home : total holds_lock s.views ≡ 0 → HasValue fits s.homes
   pub away : total holds_lock s.views ≡ 1 → get_elem? s.homes 0 ≡ some none
-  pub chain : IsChain s.words list
+  pub chain : FollowsLinks s.words list
   pub in_places : AllPlaces list
   pub each_place : (p : ℕ) → IsPlace p → PlaceOk s.words list s.views p
   pub charged : (list ≡ []) ⊎ ((total holds_lock s.views ≡ 1) ⊎ SomeCharge s.words s.views)

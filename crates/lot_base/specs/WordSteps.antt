@@ -3,8 +3,8 @@ use Rattle.std.specs.Prelude.{◌≡◌, ◌≢◌, ℕ, ◌+◌, ◌*◌, ◌�
 use Rattle.atomic_table.specs.Table.{Me, Step, rest}
 use Rattle.lot_base.specs.declared.word_lock.view.View.{View}
 use Rattle.lot_base.specs.declared.word_lock.view.View.TheVariants.{Trying, Enqueued, Holding}
-use Rattle.lot_base.specs.WordPlaces.{IsPlace, behind, LeadsTo}
-use Rattle.lot_base.specs.WordView.{resting, leaving, place_of, seen_by, owed_by, with_place}
+use Rattle.lot_base.specs.WordPlaces.{IsPlace, behind, LinkLeadsTo}
+use Rattle.lot_base.specs.WordView.{resting, leaving, place_of_caller, seen_by, owed_by, with_place}
 
 abbrev pub Play : Type 0 → Type 1
 Play T = Step (Option T) → Me (Option T) View → ℕ → Me (Option T) View → Type 0
@@ -27,13 +27,13 @@ module _ {T : Type 0} where
   given_back st m r n = n ≡ (with_place m.0 0 0, m.1)
 
   abbrev pub linked : Play T
-  linked st m r n = n ≡ (with_place m.0 (place_of m.0) st.first, m.1)
+  linked st m r n = n ≡ (with_place m.0 (place_of_caller m.0) st.first, m.1)
 
   abbrev pub enqueued : Play T
-  enqueued st m r n = (r ≡ st.first → n ≡ (Enqueued (place_of m.0), m.1)) × (r ≢ st.first → n ≡ m)
+  enqueued st m r n = (r ≡ st.first → n ≡ (Enqueued (place_of_caller m.0), m.1)) × (r ≢ st.first → n ≡ m)
 
   abbrev pub looked : Play T
-  looked st m r n = (r ≡ 0 → n ≡ (Trying true (place_of m.0) 0, m.1)) × (r ≢ 0 → n ≡ m)
+  looked st m r n = (r ≡ 0 → n ≡ (Trying true (place_of_caller m.0) 0, m.1)) × (r ≢ 0 → n ≡ m)
 
   -- where it fails, the list is longer than what was seen of it, and now it is seen whole
   abbrev pub released_to_zero : Play T
@@ -44,11 +44,11 @@ module _ {T : Type 0} where
 
   -- the link of the first place that was seen
   abbrev pub read_first : Play T
-  read_first st m r n = (n ≡ m) × LeadsTo r (behind (seen_by m.0))
+  read_first st m r n = (n ≡ m) × LinkLeadsTo r (behind (seen_by m.0))
 
   -- the link of the second; where a third follows, the first is let out of sight
   abbrev pub read_next : Play T
-  read_next st m r n = LeadsTo r (behind (behind (seen_by m.0))) × (r ≡ 1 → n ≡ m)
+  read_next st m r n = LinkLeadsTo r (behind (behind (seen_by m.0))) × (r ≡ 1 → n ≡ m)
       × (r ≢ 1 → n ≡ (Holding (behind (seen_by m.0)) [], m.1))
 
   abbrev pub cut : Play T

@@ -13,11 +13,11 @@ leaving [] = resting
 leaving (p ∷ ps) = Leaving (p ∷ ps)
 
 -- the place of a caller that waits or tries, or 0
-abbrev pub place_of : View → ℕ
-place_of (Trying woken p n) = p
-place_of (Enqueued p) = p
-place_of (Holding seen owed) = 0
-place_of (Leaving owed) = 0
+abbrev pub place_of_caller : View → ℕ
+place_of_caller (Trying woken p n) = p
+place_of_caller (Enqueued p) = p
+place_of_caller (Holding seen owed) = 0
+place_of_caller (Leaving owed) = 0
 
 -- a trying caller with another place and another link of it
 abbrev pub with_place : View → ℕ → ℕ → View

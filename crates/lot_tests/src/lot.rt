@@ -4,8 +4,8 @@ use lot_base::token::{
     DEFAULT_PARK_TOKEN, FilterOp, LotError, Misfit, NoMemory, ParkResult, ParkToken, RequeueOp,
     StepError, UnparkResult, UnparkToken,
 };
-use parking_lot_core::laws::{acquire_and_release, requeue_all_to_itself, unpark_all_by_filter};
-use parking_lot_core::lot::{Lot, Status};
+use lot_exclusive::laws::{acquire_and_release, requeue_all_to_itself, unpark_all_by_filter};
+use lot_exclusive::lot::{Lot, Status};
 use std::alloc::Global;
 use std::process::Abort;
 use std::test::Fail;

@@ -9,8 +9,8 @@ pub(crate) mod steps;
 use lot_base::token::{
     FilterOp, LotError, NoMemory, ParkToken, RequeueOp, UnparkResult, UnparkToken,
 };
-use parking_lot_core::lot::{Lot, Status};
-use parking_lot_core::schedule::{Answer, Op, Step, run};
+use lot_exclusive::lot::{Lot, Status};
+use lot_exclusive::schedule::{Answer, Op, Step, run};
 use std::alloc::Global;
 use std::process::Abort;
 use std::test::Fail;

@@ -3,7 +3,7 @@
 
 use lot_base::queue::Node;
 use lot_base::token::{LotError, NoMemory, ParkToken};
-use parking_lot_core::table::Table;
+use lot_exclusive::table::Table;
 use std::alloc::Global;
 use std::test::Fail;
 

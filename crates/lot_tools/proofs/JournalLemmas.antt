@@ -10,23 +10,24 @@ use Rattle.std.specs.List.{fold, sum}
 use Rattle.lot_base.specs.Waiting.{with_value, split_first, split_all, split_filter, split_by, Split}
 use Rattle.lot_base.specs.declared.token.UnparkToken.{UnparkToken}
 use Rattle.lot_base.proofs.ValueLemmas.{with_value-same, with_value-other}
-use Rattle.parking_lot_core.specs.declared.lot.Status.{Status}
-use Rattle.parking_lot_core.specs.declared.lot.Status.TheVariants as status
-use Rattle.parking_lot_core.specs.declared.schedule.Answer.{Answer}
-use Rattle.parking_lot_core.specs.declared.schedule.Answer.TheVariants as answer
-use Rattle.parking_lot_core.specs.declared.schedule.Op.{Op}
-use Rattle.parking_lot_core.specs.declared.schedule.Op.TheVariants.{One, All, Filter, Requeue}
-use Rattle.parking_lot_core.specs.declared.schedule.Step.{Step}
-use Rattle.parking_lot_core.specs.declared.schedule.Step.TheVariants.{Register, Retire, Enter, Unpark, Deadline}
-use Rattle.parking_lot_core.specs.declared.schedule.Step.TheVariants.{Resolve, Return, Acquire, Release}
-use Rattle.parking_lot_core.specs.Machine.{Machine, Waiter, MatchesStatus, IsConsistent, times_in, statuses_with_taken}
-use Rattle.parking_lot_core.specs.Status.{is_queued, is_running, is_taken, awaits_deadline, can_resolve}
-use Rattle.parking_lot_core.specs.Steps.{Gives, IsRegister, IsUnpark, IsReturn, IsResolve, IsAcquire, IsStep, IsRun}
-use Rattle.parking_lot_core.proofs.MachineLemmas.{is_queued-standing, below_max_threads}
-use Rattle.parking_lot_core.proofs.SplitLemmas.{AreParts, AreParts-first, AreParts-all, AreParts-filter, AreParts-by}
-use Rattle.parking_lot_core.proofs.StepLemmas.{MatchBool-either, Running-from, Waiting-from, IsConsistent-step}
-use Rattle.parking_lot_core.proofs.WaiterLemmas.{statuses_with_taken-other, statuses_with_taken-among}
-use Rattle.lot_tools.specs.Journal.{Entry, steps_of, answers_of, fits, set_aside_by, with_aside, needed}
+use Rattle.lot_exclusive.specs.declared.lot.Status.{Status}
+use Rattle.lot_exclusive.specs.declared.lot.Status.TheVariants as status
+use Rattle.lot_exclusive.specs.declared.schedule.Answer.{Answer}
+use Rattle.lot_exclusive.specs.declared.schedule.Answer.TheVariants as answer
+use Rattle.lot_exclusive.specs.declared.schedule.Op.{Op}
+use Rattle.lot_exclusive.specs.declared.schedule.Op.TheVariants.{One, All, Filter, Requeue}
+use Rattle.lot_exclusive.specs.declared.schedule.Step.{Step}
+use Rattle.lot_exclusive.specs.declared.schedule.Step.TheVariants.{Register, Retire, Enter, Unpark, Deadline}
+use Rattle.lot_exclusive.specs.declared.schedule.Step.TheVariants.{Resolve, Return, Acquire, Release}
+use Rattle.lot_exclusive.specs.Machine.{Machine, Waiter, MatchesStatus, IsConsistent, times_in, statuses_with_taken}
+use Rattle.lot_exclusive.specs.Status.{is_queued, is_running, is_taken, awaits_deadline, can_resolve}
+use Rattle.lot_exclusive.specs.Steps.{Gives, IsRegister, IsUnpark, IsReturn, IsResolve, IsAcquire, IsStep, IsRun}
+use Rattle.lot_exclusive.proofs.StandingLemmas.{is_queued-standing}
+use Rattle.lot_exclusive.proofs.MachineLemmas.{below_max_threads}
+use Rattle.lot_exclusive.proofs.SplitLemmas.{AreParts, AreParts-first, AreParts-all, AreParts-filter, AreParts-by}
+use Rattle.lot_exclusive.proofs.StepLemmas.{MatchBool-either, Running-from, Waiting-from, IsConsistent-step}
+use Rattle.lot_exclusive.proofs.WaiterLemmas.{statuses_with_taken-other, statuses_with_taken-among}
+use Rattle.lot_tools.specs.Journal.{Entry, journal_steps, journal_answers, fits, set_aside_by, with_aside, needed}
 
 -- as much is set aside for a thread of this status as its park may still take
 abbrev pub IsBacked : Status → ℕ → Type 0
@@ -309,7 +310,7 @@ pub record Backing (m : Machine) (asides : List ℕ) : Type 0 where
   pub backed : AreBacked m.status asides
 
 pub Backing-run : (journal : List Entry) (m : Machine) (asides : List ℕ) (last : Machine) → Backing m asides
-    → IsRun m (steps_of journal) (answers_of journal) last
+    → IsRun m (journal_steps journal) (journal_answers journal) last
     → Backing last (fold (λ now entry. with_aside now (set_aside_by entry.0 entry.1)) asides journal)
 Backing-run [] m asides last backing ran = subst (λ n. Backing n asides) ran backing
 Backing-run (entry ∷ journal) m asides last backing (next, does, ran) =

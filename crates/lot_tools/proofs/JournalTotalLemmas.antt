@@ -6,20 +6,20 @@ use Rattle.std.proofs.lemmas.List.{map-append, length-append}
 use Rattle.std.proofs.lemmas.List.Sums.{sum_by-append, sum_by-cons}
 use Rattle.std.specs.Prelude.{Result, Ok, Err}
 use Rattle.std.specs.List.{count_by, range_with_len, sum, sum_by}
-use Rattle.parking_lot_core.specs.declared.lot.Status.{Status}
-use Rattle.parking_lot_core.specs.declared.lot.Status.TheVariants as status
-use Rattle.parking_lot_core.specs.declared.schedule.Answer.{Answer}
-use Rattle.parking_lot_core.specs.declared.schedule.Answer.TheVariants as answer
-use Rattle.parking_lot_core.specs.declared.schedule.Step.{Step}
-use Rattle.parking_lot_core.specs.Lot.{machine}
-use Rattle.parking_lot_core.specs.Machine.{Machine, new_machine}
-use Rattle.parking_lot_core.specs.Status.{is_taken}
-use Rattle.parking_lot_core.specs.Totals.{unparked_by, returned_by, taken_threads_of}
-use Rattle.parking_lot_core.proofs.StepLemmas.{IsConsistent-new}
-use Rattle.parking_lot_core.proofs.TotalLemmas.{IsRun-balances}
+use Rattle.lot_exclusive.specs.declared.lot.Status.{Status}
+use Rattle.lot_exclusive.specs.declared.lot.Status.TheVariants as status
+use Rattle.lot_exclusive.specs.declared.schedule.Answer.{Answer}
+use Rattle.lot_exclusive.specs.declared.schedule.Answer.TheVariants as answer
+use Rattle.lot_exclusive.specs.declared.schedule.Step.{Step}
+use Rattle.lot_exclusive.specs.Lot.{machine}
+use Rattle.lot_exclusive.specs.Machine.{Machine, new_machine}
+use Rattle.lot_exclusive.specs.Status.{is_taken}
+use Rattle.lot_exclusive.specs.Totals.{unparked_by, returned_by, taken_threads_of}
+use Rattle.lot_exclusive.proofs.StepLemmas.{IsConsistent-new}
+use Rattle.lot_exclusive.proofs.TotalLemmas.{IsRun-balances}
 use Rattle.lot_tools.specs.declared.record.RecordError.{RecordError}
 use Rattle.lot_tools.specs.declared.record.RecordError.TheVariants as refused
-use Rattle.lot_tools.specs.Journal.{Entry, steps_of, answers_of, asides_of, woken_in, unparked_in}
+use Rattle.lot_tools.specs.Journal.{Entry, journal_steps, journal_answers, asides_of, woken_in, unparked_total}
 use Rattle.lot_tools.specs.JournalLaws.{UnparkedAreWokenOrTaken, TotalsHaveRoom}
 use Rattle.lot_tools.specs.RecordState.{RecordState}
 use Rattle.lot_tools.specs.Record.{IsRecorded, told, entries_for}
@@ -35,7 +35,7 @@ count_by-none a (suc n) =
 
 pub unparked_are_woken_or_taken : UnparkedAreWokenOrTaken
 unparked_are_woken_or_taken max_threads journal m ran =
-    let balance = IsRun-balances (new_machine max_threads) (steps_of journal) (answers_of journal) m
+    let balance = IsRun-balances (new_machine max_threads) (journal_steps journal) (journal_answers journal) m
     (IsConsistent-new max_threads) ran in
     let none = count_by-none 0 max_threads in
     omega (arith, balance, none)
@@ -43,7 +43,7 @@ unparked_are_woken_or_taken max_threads journal m ran =
 woken_in-le : (journal : List Entry) → woken_in journal ≤ length journal
 woken_in-le [] = omega arith
 woken_in-le (entry ∷ journal) =
-    let first = sum_by-cons returned_by entry.1 (answers_of journal) in
+    let first = sum_by-cons returned_by entry.1 (journal_answers journal) in
     omega (arith, first, woken_in-le journal, one entry.1)
   where
     one : (given : Answer) → returned_by given ≤ 1
@@ -103,7 +103,7 @@ totals_have_room state is =
 pub record AddsWhatIsTold (old : RecordState) (result : Result Answer RecordError) (new : RecordState) : Type 0 where
   pub count : length new.journal ≡ length old.journal + count_of result
   pub woken : woken_in new.journal ≡ woken_in old.journal + woken_of result
-  pub unparked : unparked_in new.journal ≡ unparked_in old.journal + unparked_of result
+  pub unparked : unparked_total new.journal ≡ unparked_total old.journal + unparked_of result
 
 length-entries_for : (step : Step) (given : Answer) → length (entries_for step given) ≡ count_of (told given)
 length-entries_for step answer.Misfit = refl
@@ -116,15 +116,16 @@ woken-entries_for step answer.NoMemory = refl
 woken-entries_for step _ = omega arith
 
 unparked-entries_for : (step : Step) (given : Answer)
-    → unparked_in (entries_for step given) ≡ unparked_of (told given)
+    → unparked_total (entries_for step given) ≡ unparked_of (told given)
 unparked-entries_for step answer.Misfit = refl
 unparked-entries_for step answer.NoMemory = refl
 unparked-entries_for step _ = omega arith
 
 sum-journal : (f : Answer → ℕ) (old more : List Entry)
-    → sum_by f (answers_of (old ++ more)) ≡ sum_by f (answers_of old) + sum_by f (answers_of more)
+    → sum_by f (journal_answers (old ++ more)) ≡ sum_by f (journal_answers old) + sum_by f (journal_answers more)
 sum-journal f old more =
-    ap (sum_by f) (map-append (λ entry. entry.1) old more) ∙ sum_by-append f (answers_of old) (answers_of more)
+    ap (sum_by f) (map-append (λ entry. entry.1) old more)
+    ∙ sum_by-append f (journal_answers old) (journal_answers more)
 
 module _ (old : RecordState) (step : Step) (new : RecordState) where
   -- a step that was done
@@ -138,7 +139,7 @@ module _ (old : RecordState) (step : Step) (new : RecordState) where
         let more = ap woken_in journal ∙ sum-journal returned_by old.journal (entries_for step given) in
         omega (arith, more, woken-entries_for step given);
     unparked =
-        let more = ap unparked_in journal ∙ sum-journal unparked_by old.journal (entries_for step given) in
+        let more = ap unparked_total journal ∙ sum-journal unparked_by old.journal (entries_for step given) in
         omega (arith, more, unparked-entries_for step given);
   }
 
@@ -147,7 +148,7 @@ module _ (old : RecordState) (step : Step) (new : RecordState) where
   IsRecorded-adds (Err refused.JournalFull) (lacks, same) = record {
     count = ap (λ state. length state.journal) same ∙ omega arith;
     woken = ap (λ state. woken_in state.journal) same ∙ omega arith;
-    unparked = ap (λ state. unparked_in state.journal) same ∙ omega arith;
+    unparked = ap (λ state. unparked_total state.journal) same ∙ omega arith;
   }
   IsRecorded-adds (Err refused.NoMemory) (roomy, given, is, does, journal, capacity, size) =
       subst (λ result. AddsWhatIsTold old result new) (sym is) (AddsWhatIsTold-done given journal)

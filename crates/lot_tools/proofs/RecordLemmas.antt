@@ -5,17 +5,18 @@ use Rattle.std.proofs.lemmas.Bool.{cases_lt, false≢true}
 use Rattle.std.proofs.lemmas.List.{map-append, length-replicate}
 use Rattle.std.proofs.lemmas.List.Sums.{fold-append}
 use Rattle.std.specs.List.{sum}
-use Rattle.parking_lot_core.specs.declared.schedule.Answer.{Answer}
-use Rattle.parking_lot_core.specs.declared.schedule.Answer.TheVariants as answer
-use Rattle.parking_lot_core.specs.declared.schedule.Step.{Step}
-use Rattle.parking_lot_core.specs.LotState.{LotState}
-use Rattle.parking_lot_core.specs.Lot.{machine}
-use Rattle.parking_lot_core.specs.Machine.{Machine, new_machine, threads_of}
-use Rattle.parking_lot_core.specs.Size.{IsSizeAfter}
-use Rattle.parking_lot_core.specs.Steps.{IsStep, IsRun}
-use Rattle.parking_lot_core.proofs.ScheduleLemmas.{IsRun-push}
-use Rattle.parking_lot_core.proofs.StepLemmas.{IsConsistent-new}
-use Rattle.lot_tools.specs.Journal.{steps_of, answers_of, Entry, Replays, asides_of, set_aside_by, with_aside, needed}
+use Rattle.lot_exclusive.specs.declared.schedule.Answer.{Answer}
+use Rattle.lot_exclusive.specs.declared.schedule.Answer.TheVariants as answer
+use Rattle.lot_exclusive.specs.declared.schedule.Step.{Step}
+use Rattle.lot_exclusive.specs.LotState.{LotState}
+use Rattle.lot_exclusive.specs.Lot.{machine}
+use Rattle.lot_exclusive.specs.Machine.{Machine, new_machine, threads_of}
+use Rattle.lot_exclusive.specs.Size.{IsSizeAfter}
+use Rattle.lot_exclusive.specs.Steps.{IsStep, IsRun}
+use Rattle.lot_exclusive.proofs.ScheduleLemmas.{IsRun-push}
+use Rattle.lot_exclusive.proofs.StepLemmas.{IsConsistent-new}
+use Rattle.lot_tools.specs.Journal.{journal_steps, journal_answers, Entry, Replays, asides_of, set_aside_by}
+use Rattle.lot_tools.specs.Journal.{with_aside, needed}
 use Rattle.lot_tools.specs.RecordState.{RecordState}
 use Rattle.lot_tools.specs.Record.{IsRecord, LacksRoom, IsRecorded, aside, told, entries_for}
 use Rattle.lot_tools.proofs.JournalLemmas.{Backing, Backing-run, Keeps, IsStep-keeps}
@@ -97,11 +98,12 @@ module _ (old : RecordState) (is : IsRecord old) (step : Step) (given : Answer) 
       replays : Replays (machine lot).max_threads pushed.journal (machine lot)
       replays =
           subst (λ n. Replays n pushed.journal (machine lot)) (sym keeps.max_threads)
-          (subst (λ steps. IsRun (new_machine max) steps (answers_of pushed.journal) (machine lot))
+          (subst (λ steps. IsRun (new_machine max) steps (journal_answers pushed.journal) (machine lot))
           (sym (map-append (λ entry. entry.0) old.journal ((step, given) ∷ [])))
-          (subst (λ answers. IsRun (new_machine max) (steps_of old.journal ++ step ∷ []) answers (machine lot))
+          (subst (λ answers. IsRun (new_machine max) (journal_steps old.journal ++ step ∷ []) answers (machine lot))
           (sym (map-append (λ entry. entry.1) old.journal ((step, given) ∷ [])))
-          (IsRun-push (new_machine max) (steps_of old.journal) (answers_of old.journal) (machine old.lot) (machine lot)
+          (IsRun-push (new_machine max) (journal_steps old.journal) (journal_answers old.journal) (machine old.lot)
+          (machine lot)
           step given is.replays does)))
 
       room : length pushed.journal + aside pushed ≤ old.capacity

@@ -1,16 +1,16 @@
 -- Which steps fit, and which never lack room.
 use Rattle.std.proofs.Common.{◌≡◌, ◌≢◌, ◌↔◌, ℕ, ◌≤◌, Bool, true, false, MatchBool, refl, sym, ◌∙◌, subst, arith}
 use Rattle.std.proofs.lemmas.Bool.{false≢true}
-use Rattle.parking_lot_core.specs.declared.lot.Status.{Status}
-use Rattle.parking_lot_core.specs.declared.lot.Status.TheVariants as status
-use Rattle.parking_lot_core.specs.declared.schedule.Answer.{Answer}
-use Rattle.parking_lot_core.specs.declared.schedule.Answer.TheVariants as answer
-use Rattle.parking_lot_core.specs.declared.schedule.Op.TheVariants.{One, All, Filter, Requeue}
-use Rattle.parking_lot_core.specs.declared.schedule.Step.TheVariants.{Register, Retire, Enter, Unpark, Deadline}
-use Rattle.parking_lot_core.specs.declared.schedule.Step.TheVariants.{Resolve, Return, Acquire, Release}
-use Rattle.parking_lot_core.specs.Machine.{Machine}
-use Rattle.parking_lot_core.specs.Status.{is_parked, is_taken, can_resolve, awaits_deadline}
-use Rattle.parking_lot_core.specs.Steps.{Gives, IsMisfit, IsRegister, IsReturn, IsResolve, IsAcquire}
+use Rattle.lot_exclusive.specs.declared.lot.Status.{Status}
+use Rattle.lot_exclusive.specs.declared.lot.Status.TheVariants as status
+use Rattle.lot_exclusive.specs.declared.schedule.Answer.{Answer}
+use Rattle.lot_exclusive.specs.declared.schedule.Answer.TheVariants as answer
+use Rattle.lot_exclusive.specs.declared.schedule.Op.TheVariants.{One, All, Filter, Requeue}
+use Rattle.lot_exclusive.specs.declared.schedule.Step.TheVariants.{Register, Retire, Enter, Unpark, Deadline}
+use Rattle.lot_exclusive.specs.declared.schedule.Step.TheVariants.{Resolve, Return, Acquire, Release}
+use Rattle.lot_exclusive.specs.Machine.{Machine}
+use Rattle.lot_exclusive.specs.Status.{is_parked, is_taken, can_resolve, awaits_deadline}
+use Rattle.lot_exclusive.specs.Steps.{Gives, IsMisfit, IsRegister, IsReturn, IsResolve, IsAcquire}
 use Rattle.lot_tools.specs.JournalLaws.{MisfitsDoNotFit, ParksHaveEntries, EndsHaveRoom}
 use Rattle.lot_tools.proofs.JournalLemmas.{IsBacked}
 use Rattle.lot_tools.proofs.RecordLemmas.{Replays-backing}

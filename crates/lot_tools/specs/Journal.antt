@@ -3,29 +3,29 @@
 use Rattle.std.specs.Prelude.{ℕ, Bool, true, if◌then◌else◌, List, map, replicate, slice_set}
 use Rattle.std.specs.Prelude.{Option, Some, None}
 use Rattle.std.specs.List.{fold, sum_by}
-use Rattle.parking_lot_core.specs.declared.schedule.Answer.{Answer}
-use Rattle.parking_lot_core.specs.declared.schedule.Answer.TheVariants as answer
-use Rattle.parking_lot_core.specs.declared.schedule.Step.{Step}
-use Rattle.parking_lot_core.specs.declared.schedule.Step.TheVariants.{Register, Retire, Enter, Unpark, Deadline}
-use Rattle.parking_lot_core.specs.declared.schedule.Step.TheVariants.{Resolve, Return, Acquire, Release}
-use Rattle.parking_lot_core.specs.Machine.{Machine, new_machine}
-use Rattle.parking_lot_core.specs.Status.{is_running, awaits_deadline, is_taken, can_resolve}
-use Rattle.parking_lot_core.specs.Steps.{IsRun}
-use Rattle.parking_lot_core.specs.Totals.{unparked_by, returned_by}
+use Rattle.lot_exclusive.specs.declared.schedule.Answer.{Answer}
+use Rattle.lot_exclusive.specs.declared.schedule.Answer.TheVariants as answer
+use Rattle.lot_exclusive.specs.declared.schedule.Step.{Step}
+use Rattle.lot_exclusive.specs.declared.schedule.Step.TheVariants.{Register, Retire, Enter, Unpark, Deadline}
+use Rattle.lot_exclusive.specs.declared.schedule.Step.TheVariants.{Resolve, Return, Acquire, Release}
+use Rattle.lot_exclusive.specs.Machine.{Machine, new_machine}
+use Rattle.lot_exclusive.specs.Status.{is_running, awaits_deadline, is_taken, can_resolve}
+use Rattle.lot_exclusive.specs.Steps.{IsRun}
+use Rattle.lot_exclusive.specs.Totals.{unparked_by, returned_by}
 
 -- a step and its answer
 abbrev pub Entry : Type 0
 Entry = Step × Answer
 
-abbrev pub steps_of : List Entry → List Step
-steps_of journal = map (λ entry. entry.0) journal
+abbrev pub journal_steps : List Entry → List Step
+journal_steps journal = map (λ entry. entry.0) journal
 
-abbrev pub answers_of : List Entry → List Answer
-answers_of journal = map (λ entry. entry.1) journal
+abbrev pub journal_answers : List Entry → List Answer
+journal_answers journal = map (λ entry. entry.1) journal
 
 -- the journal replays to this machine: its steps with its answers are a run from a new machine for so many threads
 abbrev pub Replays : ℕ → List Entry → Machine → Type 0
-Replays max_threads journal m = IsRun (new_machine max_threads) (steps_of journal) (answers_of journal) m
+Replays max_threads journal m = IsRun (new_machine max_threads) (journal_steps journal) (journal_answers journal) m
 
 -- the step fits the status of its thread
 abbrev pub fits : Machine → Step → Bool
@@ -67,8 +67,8 @@ needed (Return _) = 0
 needed _ = 1
 
 -- how many threads the journal's unparks unparked, and how many came back
-abbrev pub unparked_in : List Entry → ℕ
-unparked_in journal = sum_by unparked_by (answers_of journal)
+abbrev pub unparked_total : List Entry → ℕ
+unparked_total journal = sum_by unparked_by (journal_answers journal)
 
 abbrev pub woken_in : List Entry → ℕ
-woken_in journal = sum_by returned_by (answers_of journal)
+woken_in journal = sum_by returned_by (journal_answers journal)

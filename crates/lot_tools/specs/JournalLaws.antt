@@ -1,14 +1,14 @@
 -- What follows for every journal and every record.
 use Rattle.std.specs.Prelude.{◌≡◌, ◌↔◌, ℕ, true, false, ◌+◌, ◌≤◌, List, length, slice_index_or}
-use Rattle.parking_lot_core.specs.declared.schedule.Answer.{Answer}
-use Rattle.parking_lot_core.specs.declared.schedule.Answer.TheVariants.{Misfit}
-use Rattle.parking_lot_core.specs.declared.schedule.Step.{Step}
-use Rattle.parking_lot_core.specs.declared.schedule.Step.TheVariants.{Deadline, Resolve, Return}
-use Rattle.parking_lot_core.specs.Machine.{Machine}
-use Rattle.parking_lot_core.specs.Status.{is_parked, awaits_deadline}
-use Rattle.parking_lot_core.specs.Steps.{IsStep}
-use Rattle.parking_lot_core.specs.Totals.{taken_threads_of}
-use Rattle.lot_tools.specs.Journal.{Entry, Replays, fits, asides_of, woken_in, unparked_in}
+use Rattle.lot_exclusive.specs.declared.schedule.Answer.{Answer}
+use Rattle.lot_exclusive.specs.declared.schedule.Answer.TheVariants.{Misfit}
+use Rattle.lot_exclusive.specs.declared.schedule.Step.{Step}
+use Rattle.lot_exclusive.specs.declared.schedule.Step.TheVariants.{Deadline, Resolve, Return}
+use Rattle.lot_exclusive.specs.Machine.{Machine}
+use Rattle.lot_exclusive.specs.Status.{is_parked, awaits_deadline}
+use Rattle.lot_exclusive.specs.Steps.{IsStep}
+use Rattle.lot_exclusive.specs.Totals.{taken_threads_of}
+use Rattle.lot_tools.specs.Journal.{Entry, Replays, fits, asides_of, woken_in, unparked_total}
 use Rattle.lot_tools.specs.RecordState.{RecordState}
 use Rattle.lot_tools.specs.Record.{IsRecord, LacksRoom}
 
@@ -33,9 +33,9 @@ EndsHaveRoom = (state : RecordState) (thread : ℕ) → IsRecord state →
 -- the threads that a journal's unparks unparked are as many as those that have come back and those that are left taken
 abbrev pub UnparkedAreWokenOrTaken : Type 0
 UnparkedAreWokenOrTaken = (max_threads : ℕ) (journal : List Entry) (m : Machine) → Replays max_threads journal m
-    → unparked_in journal ≡ woken_in journal + taken_threads_of m
+    → unparked_total journal ≡ woken_in journal + taken_threads_of m
 
 -- no total of a record's journal is above the journal's room
 abbrev pub TotalsHaveRoom : Type 0
 TotalsHaveRoom = (state : RecordState) → IsRecord state → (length state.journal ≤ state.capacity)
-    × (woken_in state.journal ≤ state.capacity) × (unparked_in state.journal ≤ state.capacity)
+    × (woken_in state.journal ≤ state.capacity) × (unparked_total state.journal ≤ state.capacity)

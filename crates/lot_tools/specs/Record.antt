@@ -1,13 +1,13 @@
 -- What every record keeps, and what a step on a record does.
 use Rattle.std.specs.Prelude.{◌≡◌, ℕ, ◌+◌, ◌<◌, ◌≤◌, true, List, [], ◌∷◌, ◌++◌, length, Result, Ok, Err}
 use Rattle.std.specs.List.{sum}
-use Rattle.parking_lot_core.specs.declared.schedule.Answer.{Answer}
-use Rattle.parking_lot_core.specs.declared.schedule.Answer.TheVariants as answer
-use Rattle.parking_lot_core.specs.declared.schedule.Step.{Step}
-use Rattle.parking_lot_core.specs.Lot.{machine}
-use Rattle.parking_lot_core.specs.Machine.{threads_of}
-use Rattle.parking_lot_core.specs.Size.{IsSizeAfter}
-use Rattle.parking_lot_core.specs.Steps.{IsStep}
+use Rattle.lot_exclusive.specs.declared.schedule.Answer.{Answer}
+use Rattle.lot_exclusive.specs.declared.schedule.Answer.TheVariants as answer
+use Rattle.lot_exclusive.specs.declared.schedule.Step.{Step}
+use Rattle.lot_exclusive.specs.Lot.{machine}
+use Rattle.lot_exclusive.specs.Machine.{threads_of}
+use Rattle.lot_exclusive.specs.Size.{IsSizeAfter}
+use Rattle.lot_exclusive.specs.Steps.{IsStep}
 use Rattle.lot_tools.specs.declared.record.RecordError.{RecordError}
 use Rattle.lot_tools.specs.declared.record.RecordError.TheVariants as refused
 use Rattle.lot_tools.specs.declared.record.TheConstants.{MAX_JOURNAL}

@@ -1,6 +1,6 @@
 -- A record as contracts see it.
 use Rattle.std.specs.Prelude.{ℕ, List}
-use Rattle.parking_lot_core.specs.LotState.{LotState}
+use Rattle.lot_exclusive.specs.LotState.{LotState}
 use Rattle.lot_tools.specs.Journal.{Entry}
 
 -- the lot, the journal of what was done on it, and how many entries the journal has room for

@@ -2,13 +2,13 @@
 use Rattle.std.specs.Prelude.{◌≡◌, ℕ, List, [], ◌∷◌, map, length, codes, IsTrue}
 use Rattle.lot_base.specs.declared.token.UnparkResult.{UnparkResult}
 use Rattle.lot_base.specs.Waiting.{has_any}
-use Rattle.parking_lot_core.specs.declared.schedule.Answer.{Answer}
-use Rattle.parking_lot_core.specs.declared.schedule.Answer.TheVariants as answer
-use Rattle.parking_lot_core.specs.Machine.{Machine, new_machine, threads_of}
-use Rattle.parking_lot_core.specs.LotState.{LotState}
-use Rattle.parking_lot_core.specs.Lot.{machine}
-use Rattle.parking_lot_core.specs.Steps.{IsStep}
-use Rattle.parking_lot_core.specs.Size.{IsSizeAfter}
+use Rattle.lot_exclusive.specs.declared.schedule.Answer.{Answer}
+use Rattle.lot_exclusive.specs.declared.schedule.Answer.TheVariants as answer
+use Rattle.lot_exclusive.specs.Machine.{Machine, new_machine, threads_of}
+use Rattle.lot_exclusive.specs.LotState.{LotState}
+use Rattle.lot_exclusive.specs.Lot.{machine}
+use Rattle.lot_exclusive.specs.Steps.{IsStep}
+use Rattle.lot_exclusive.specs.Size.{IsSizeAfter}
 use Rattle.lot_tools.specs.declared.script.command.Command.{Command}
 use Rattle.lot_tools.specs.declared.script.command.Command.TheVariants as command
 use Rattle.lot_tools.specs.declared.script.reply.Reply.{Reply}

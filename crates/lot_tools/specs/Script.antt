@@ -1,7 +1,7 @@
 -- What a script does of its lines, and what it writes.
 use Rattle.std.specs.Prelude.{◌≡◌, ℕ, ◌+◌, ◌<◌, ◌≤◌, List, [], ◌∷◌, ◌++◌, length, codes, Option, Some, None, IsNone}
 use Rattle.std.specs.Prelude.{Result, Ok, Err}
-use Rattle.parking_lot_core.specs.declared.table.TheConstants.{MAX_THREADS}
+use Rattle.lot_exclusive.specs.declared.table.TheConstants.{MAX_THREADS}
 use Rattle.lot_tools.specs.declared.script.command.Command.{Command}
 use Rattle.lot_tools.specs.declared.script.reply.Reply.{Reply}
 use Rattle.lot_tools.specs.declared.script.fault.Cause.{Cause}

@@ -1,8 +1,8 @@
 //! Records: an exclusive lot with a journal of what was done on it.
 
 ghost use Rattle.std.specs.Prelude.{◌≡◌, ◌≢◌, ◌↔◌, ◌<◌, ◌≤◌, ◌+◌, [], IsErrOf, IfOk, Err, IsTrue, length};
-ghost use Rattle.parking_lot_core.specs.Lot.{machine};
-ghost use Rattle.parking_lot_core.specs.Machine.{new_machine};
+ghost use Rattle.lot_exclusive.specs.Lot.{machine};
+ghost use Rattle.lot_exclusive.specs.Machine.{new_machine};
 ghost use Rattle.lot_tools.specs.Journal.{Replays, fits, needed, set_aside_by};
 ghost use Rattle.lot_tools.specs.JournalLaws.{MisfitsDoNotFit, ParksHaveEntries, EndsHaveRoom};
 ghost use Rattle.lot_tools.specs.Record.{IsRecord, LacksRoom, IsRecorded, told};
@@ -10,10 +10,10 @@ ghost use Rattle.lot_tools.specs.Record.{IsRecord, LacksRoom, IsRecorded, told};
 mod aside;
 
 use aside::Aside;
-use parking_lot_core::LotError;
-use parking_lot_core::lot::{Lot, Status};
-use parking_lot_core::schedule::{Answer, Step};
-use parking_lot_core::table::MAX_THREADS;
+use lot_base::token::LotError;
+use lot_exclusive::lot::{Lot, Status};
+use lot_exclusive::schedule::{Answer, Step};
+use lot_exclusive::table::MAX_THREADS;
 use std::alloc::Global;
 use std::marker::Model;
 use thiserror::Error;
@@ -52,7 +52,7 @@ pub struct Record {
 
 impl Model for Record {
     ghost use Rattle.std.specs.Prelude.{◌≡◌, ◌≤◌, vec_capacity};
-    ghost use Rattle.parking_lot_core.specs.Lot.{machine};
+    ghost use Rattle.lot_exclusive.specs.Lot.{machine};
     ghost use Rattle.lot_tools.specs.Journal.{asides_of};
     ghost use Rattle.lot_tools.specs.RecordState.{RecordState};
     ghost use Rattle.lot_tools.specs.Record.{IsRecord};
@@ -145,6 +145,7 @@ impl Record {
             return Ok(Answer::Misfit);
         }
         self.aside.change(entries_aside(&step, answer));
+        // The room for all entries was asked for when the record was made.
         self.journal.push((step, answer)).unwrap();
         answer_told(answer)
     }

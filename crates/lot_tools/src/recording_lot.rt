@@ -2,7 +2,7 @@
 
 ghost use Rattle.std.specs.Prelude.{◌≡◌, ◌≢◌, ◌↔◌, ◌<◌, ◌≤◌, ◌+◌, ◌⊎◌, IsErrOf, IfOk, Err, All, length, vec_len};
 ghost use Rattle.std.specs.List.{sum_by};
-ghost use Rattle.lot_tools.specs.Journal.{woken_in, unparked_in};
+ghost use Rattle.lot_tools.specs.Journal.{woken_in, unparked_total};
 ghost use Rattle.lot_tools.specs.Record.{IsRecord, IsRecorded};
 ghost use Rattle.lot_tools.specs.RecordState.{RecordState};
 ghost use Rattle.lot_tools.specs.TicketState.{new_ticket, after_answer, count_of, woken_of, unparked_of};
@@ -14,9 +14,9 @@ mod ticket;
 
 use crate::record::{MAX_JOURNAL, Record, RecordError};
 use counted::{Counted, Rest};
-use parking_lot_core::LotError;
-use parking_lot_core::schedule::{Answer, Step};
-use parking_lot_core::table::MAX_THREADS;
+use lot_base::token::LotError;
+use lot_exclusive::schedule::{Answer, Step};
+use lot_exclusive::table::MAX_THREADS;
 use std::alloc::Global;
 use std::sync::ledger::{Blank, Ledger};
 use std::sync::{Mutex, Wait};
@@ -127,7 +127,7 @@ impl<C: Ledger, W: Ledger, U: Ledger> RecordingLot<C, W, U> {
             × (U.parts ≡ vec_len tickets) }
         ensures count { length result.journal ≡ sum_by (λ ticket. ticket.count) tickets.items }
         ensures woken { woken_in result.journal ≡ sum_by (λ ticket. ticket.woken) tickets.items }
-        ensures unparked { unparked_in result.journal
+        ensures unparked { unparked_total result.journal
             ≡ sum_by (λ ticket. ticket.unparked) tickets.items }
     {
         self.counted.into_inner().close(tickets)

@@ -25,10 +25,10 @@ mod words;
 
 pub use fault::{Cause, Fault};
 use input::{MAX_LINE, Next, read_line};
+use lot_base::token::LotError;
+use lot_exclusive::lot::Lot;
+use lot_exclusive::table::MAX_THREADS;
 use output::put;
-use parking_lot_core::LotError;
-use parking_lot_core::lot::Lot;
-use parking_lot_core::table::MAX_THREADS;
 use parse::{parse_command, parse_lot};
 use print::print_reply;
 use reply::reply_to;
@@ -60,6 +60,7 @@ pub fn script<R: BufRead + Drop, W: Write>(
 {
     let mut line = Vec::new(alloc);
     let mut lot = None;
+    // Lines are counted in a `usize`, and so the loop has an end. No input has so many.
     for number in 1..usize::MAX {
         match turn(alloc, &mut lot, &mut input, output, &mut line) {
             Ok(Next::Line) => {}

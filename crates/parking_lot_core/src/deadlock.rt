@@ -2,7 +2,7 @@
 //! deadlock reads them.
 
 ghost use Rattle.std.specs.Prelude.{◌≡◌, OnOk, OnErr};
-ghost use Rattle.parking_lot_core.specs.Records.{times_recorded, one_more, one_less};
+ghost use Rattle.lot_exclusive.specs.Records.{times_recorded, one_more, one_less};
 
 use crate::parking_lot::ThreadData;
 use lot_base::token::NoMemory;

@@ -3,12 +3,7 @@
 #![tactic(auto)]
 
 pub mod deadlock;
-pub mod interleaved;
-pub mod laws;
-pub mod lot;
 pub mod parking_lot;
-mod records;
-pub mod schedule;
 pub mod table;
 
 pub use lot_base::bucket::{Bucket, place};
@@ -22,6 +17,8 @@ pub use lot_base::token::{
     DEFAULT_PARK_TOKEN, DEFAULT_UNPARK_TOKEN, FilterOp, LotError, Misfit, NoMemory, ParkResult,
     ParkToken, RequeueOp, StepError, UnparkResult, UnparkToken,
 };
+pub use lot_exclusive::{laws, lot, schedule};
+pub use lot_interleaved::interleaved;
 pub use parking_lot::{
     ParkingLot, ThreadData, park, unpark_all, unpark_filter, unpark_one, unpark_requeue,
 };

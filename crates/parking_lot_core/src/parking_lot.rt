@@ -7,21 +7,21 @@ ghost use Rattle.parking_lot_core.specs.Threaded.{IsCallableForOne, IsUnparkOfOn
 mod buckets;
 mod handles;
 mod sections;
+mod threads;
 
-use crate::records::Records;
-use crate::table::MAX_THREADS;
 use buckets::Buckets;
-use handles::{HANDLES, Handles, Room};
 use lot_base::queue::Node;
-use lot_base::thread_parker::{ThreadParkerT, UnparkHandleT};
+use lot_base::thread_parker::ThreadParkerT;
 use lot_base::token::{
     FilterOp, LotError, NoMemory, ParkResult, ParkToken, RequeueOp, UnparkResult, UnparkToken,
 };
+use lot_exclusive::records::Records;
+use lot_exclusive::table::MAX_THREADS;
 use std::alloc::Global;
 use std::marker::Model;
 use std::sync::Wait;
-use std::sync::atomic::AtomicUsize;
 use std::time::{Clock, Instant};
+use threads::{PerThread, for_each_number};
 
 /// A registered thread: its number, its node while it does not wait, and the records of what it
 /// holds, which `deadlock` changes. It belongs to the lot that gave it. With another lot's data
@@ -59,14 +59,6 @@ impl ThreadData {
     {
         self.number
     }
-}
-
-// What the lot keeps for one thread number from the first: its parker, and the key of the queue
-// that its thread entered last, or was moved to.
-#[derive(Drop)]
-struct PerThread<P: ThreadParkerT> {
-    parker: P,
-    key: AtomicUsize,
 }
 
 /// A parking lot: threads park on keys and are unparked by others, through the free functions of
@@ -180,50 +172,6 @@ impl<P: ThreadParkerT> ParkingLot<P> {
     pub fn list<R: Wait>(&self, rt: &R, alloc: Global, key: usize) -> Result<Vec<usize>, NoMemory> {
         self.waiting_on(rt, alloc, key)
     }
-
-    // The parker of the thread of this number.
-    fn parker(&self, number: usize) -> &P
-        requires { number < self.now.max_threads }
-        ensures { P.owner result.now ≡ number }
-    {
-        &self.threads[number].parker
-    }
-
-    // Wakes the thread whose unpark was committed.
-    fn wake(&self, handle: P::UnparkHandle) {
-        let number = handle.number();
-        if number < self.threads.len() {
-            handle.unpark(self.parker(number));
-        }
-    }
-
-    // Wakes the threads whose unparks were committed.
-    fn wake_all(&self, mut handles: Handles<P::UnparkHandle>) {
-        for _ in 0..HANDLES {
-            let Some(handle) = handles.take() else {
-                return;
-            };
-            self.wake(handle);
-        }
-    }
-}
-
-// A parker and a key word for each number below `max_threads`.
-fn for_each_number<P: ThreadParkerT>(
-    alloc: Global,
-    max_threads: usize,
-) -> Result<Vec<PerThread<P>>, NoMemory>
-    ensures { IfOk result (λ threads. map (λ thread. P.owner thread.parker) threads.items
-        ≡ range_with_len 0 max_threads) }
-{
-    let mut threads = Vec::with_capacity(alloc, max_threads)?;
-    for number in 0..max_threads {
-        threads.push(PerThread {
-            parker: P::new(number)?,
-            key: AtomicUsize::new(0),
-        })?;
-    }
-    Ok(threads)
 }
 
 /// Parks the thread of this data in the queue of the key, until another thread unparks it. The
@@ -283,6 +231,7 @@ pub fn park<
 {
     let number = thread_data.number;
     let parker = lot.parker(number);
+    // The data of a thread that does not wait has its node: its type keeps that.
     let mut node = thread_data.node.take().unwrap();
     node.prepare(key, park_token, timeout.is_some());
 

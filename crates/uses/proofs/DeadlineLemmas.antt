@@ -2,11 +2,11 @@
 use Rattle.std.proofs.Common.{◌≡◌, ◌≢◌, ◌⊎◌, ◌↔◌, ℕ, true, false, ◌||◌, Result, Ok, Err}
 use Rattle.std.proofs.Common.{IsOk, OnOk, OnErr, inl, inr, refl, sym, ap, subst, ◌∙◌, ⊎_elim}
 use Rattle.lot_base.proofs.ValueLemmas.{with_value-same}
-use Rattle.parking_lot_core.specs.declared.lot.Status.{Status}
-use Rattle.parking_lot_core.specs.declared.lot.Status.TheVariants.{Free, Running, Waiting, Late, Taken}
-use Rattle.parking_lot_core.specs.Status.{is_timed, is_taken, can_resolve}
-use Rattle.parking_lot_core.specs.Machine.{Machine, StandsAt, with_status, after_timeout}
-use Rattle.parking_lot_core.proofs.MachineLemmas.{same_machine}
+use Rattle.lot_exclusive.specs.declared.lot.Status.{Status}
+use Rattle.lot_exclusive.specs.declared.lot.Status.TheVariants.{Free, Running, Waiting, Late, Taken}
+use Rattle.lot_exclusive.specs.Status.{is_timed, is_taken, can_resolve}
+use Rattle.lot_exclusive.specs.Machine.{Machine, StandsAt, with_status, after_timeout}
+use Rattle.lot_exclusive.proofs.StandingLemmas.{same_machine}
 use Rattle.uses.proofs.ValueLemmas.{with_value-twice}
 
 -- it has passed, or the thread awaited none

@@ -1,12 +1,12 @@
 -- The end of a park on a record.
 use Rattle.std.proofs.Common.{◌≡◌, ℕ, Result, Ok, Err, refl, subst}
 use Rattle.std.specs.Prelude.{IsOk}
-use Rattle.parking_lot_core.specs.Lot.{machine}
-use Rattle.parking_lot_core.specs.Steps.{IsStep}
-use Rattle.parking_lot_core.specs.declared.schedule.Answer.{Answer}
-use Rattle.parking_lot_core.specs.declared.schedule.Answer.TheVariants as answer
-use Rattle.parking_lot_core.specs.declared.schedule.Step.TheVariants.{Resolve}
-use Rattle.parking_lot_core.proofs.AnswerLemmas.{memory-open}
+use Rattle.lot_exclusive.specs.Lot.{machine}
+use Rattle.lot_exclusive.specs.Steps.{IsStep}
+use Rattle.lot_exclusive.specs.declared.schedule.Answer.{Answer}
+use Rattle.lot_exclusive.specs.declared.schedule.Answer.TheVariants as answer
+use Rattle.lot_exclusive.specs.declared.schedule.Step.TheVariants.{Resolve}
+use Rattle.lot_exclusive.proofs.AnswerLemmas.{memory-open}
 use Rattle.lot_tools.specs.JournalLaws.{EndsHaveRoom}
 use Rattle.lot_tools.specs.Record.{IsRecord, IsRecorded, told}
 use Rattle.lot_tools.specs.RecordState.{RecordState}

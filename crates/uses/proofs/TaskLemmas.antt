@@ -8,10 +8,10 @@ use Rattle.lot_base.specs.declared.token.ParkToken.{ParkToken}
 use Rattle.lot_base.specs.declared.token.UnparkToken.{UnparkToken}
 use Rattle.lot_base.specs.Waiting.{split_first}
 use Rattle.lot_base.proofs.ValueLemmas.{with_value-same, with_value-other}
-use Rattle.parking_lot_core.specs.declared.lot.Status.TheVariants.{Running, Waiting, Taken}
-use Rattle.parking_lot_core.specs.Machine.{Machine, Waiter, IsFull, IsLeastFree, times_in, new_machine, with_status}
-use Rattle.parking_lot_core.specs.Machine.{after_enter, after_unpark}
-use Rattle.parking_lot_core.proofs.WaiterLemmas.{times_in-own, statuses_with_taken-among}
+use Rattle.lot_exclusive.specs.declared.lot.Status.TheVariants.{Running, Waiting, Taken}
+use Rattle.lot_exclusive.specs.Machine.{Machine, Waiter, IsFull, IsLeastFree, times_in, new_machine, with_status}
+use Rattle.lot_exclusive.specs.Machine.{after_enter, after_unpark}
+use Rattle.lot_exclusive.proofs.WaiterLemmas.{times_in-own, statuses_with_taken-among}
 use Rattle.uses.specs.declared.semaphore.Acquired.{Acquired}
 use Rattle.uses.specs.declared.semaphore.Acquired.TheVariants.{Now, Parked}
 

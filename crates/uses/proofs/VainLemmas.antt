@@ -6,18 +6,18 @@ use Rattle.std.proofs.lemmas.Bool.{MatchBool-at_false}
 use Rattle.lot_base.specs.declared.token.ParkToken.{ParkToken}
 use Rattle.lot_base.proofs.ValueLemmas.{with_value-same, with_value-other, with_value-same_value}
 use Rattle.lot_base.specs.Waiting.{without_first}
-use Rattle.parking_lot_core.specs.declared.lot.Status.{Status}
-use Rattle.parking_lot_core.specs.declared.lot.Status.TheVariants.{Running, Waiting, Late}
-use Rattle.parking_lot_core.specs.declared.schedule.Answer.{Answer}
-use Rattle.parking_lot_core.specs.declared.schedule.Answer.TheVariants as answer
-use Rattle.parking_lot_core.specs.declared.schedule.Step.{Step}
-use Rattle.parking_lot_core.specs.declared.schedule.Step.TheVariants.{Enter, Deadline, Resolve}
-use Rattle.parking_lot_core.specs.Status.{is_running, awaits_deadline, is_queued}
-use Rattle.parking_lot_core.specs.Machine.{Machine, Waiter, StandsAt, IsConsistent, times_in, with_status, after_enter}
-use Rattle.parking_lot_core.specs.Machine.{after_timeout, list_without}
-use Rattle.parking_lot_core.specs.Steps.{IsRun, IsResolve}
-use Rattle.parking_lot_core.proofs.MachineLemmas.{same_machine}
-use Rattle.parking_lot_core.proofs.WaiterLemmas.{times_in-append, times_in-own}
+use Rattle.lot_exclusive.specs.declared.lot.Status.{Status}
+use Rattle.lot_exclusive.specs.declared.lot.Status.TheVariants.{Running, Waiting, Late}
+use Rattle.lot_exclusive.specs.declared.schedule.Answer.{Answer}
+use Rattle.lot_exclusive.specs.declared.schedule.Answer.TheVariants as answer
+use Rattle.lot_exclusive.specs.declared.schedule.Step.{Step}
+use Rattle.lot_exclusive.specs.declared.schedule.Step.TheVariants.{Enter, Deadline, Resolve}
+use Rattle.lot_exclusive.specs.Status.{is_running, awaits_deadline, is_queued}
+use Rattle.lot_exclusive.specs.Machine.{Machine, Waiter, StandsAt, IsConsistent, times_in, with_status, after_enter}
+use Rattle.lot_exclusive.specs.Machine.{after_timeout, list_without}
+use Rattle.lot_exclusive.specs.Steps.{IsRun, IsResolve}
+use Rattle.lot_exclusive.proofs.StandingLemmas.{same_machine}
+use Rattle.lot_exclusive.proofs.WaiterLemmas.{times_in-append, times_in-own}
 use Rattle.uses.proofs.ValueLemmas.{with_value-twice}
 
 -- a waiter that stands last, and nowhere before, leaves the list that it found

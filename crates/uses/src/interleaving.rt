@@ -1,8 +1,8 @@
 //! Interleaved schedules: what they answer on a new lot, and what they amount to.
 
 ghost use Rattle.std.specs.Prelude.{IfOk};
-ghost use Rattle.parking_lot_core.specs.InterleavedRun.{AmountsTo};
-ghost use Rattle.parking_lot_core.specs.InterleavedState.{FineState, new_fine_state};
+ghost use Rattle.lot_interleaved.specs.InterleavedRun.{AmountsTo};
+ghost use Rattle.lot_interleaved.specs.InterleavedState.{FineState, new_fine_state};
 
 use parking_lot_core::LotError;
 use parking_lot_core::interleaved::{FineAnswer, FineLot, FineStep, run_fine};

@@ -1,7 +1,7 @@
 //! What threads did on a recording lot, and the same once more on a lot of one's own.
 
 ghost use Rattle.std.specs.Prelude.{◌≡◌, ◌≤◌, IfOk, Ok};
-ghost use Rattle.parking_lot_core.specs.Lot.{machine};
+ghost use Rattle.lot_exclusive.specs.Lot.{machine};
 ghost use Rattle.lot_tools.specs.Record.{IsRecorded};
 ghost use Rattle.lot_tools.specs.declared.record.TheConstants.{MAX_JOURNAL};
 

@@ -2,8 +2,8 @@
 
 ghost use Rattle.std.specs.Prelude.{◌≡◌, ◌↔◌, ◌+◌, ◌-◌, ◌<◌, ◌^◌, [], IsTrue, IsOk, IfOk, OnErr, IsFalse};
 ghost use Rattle.lot_base.specs.Waiting.{split_first, has_any};
-ghost use Rattle.parking_lot_core.specs.Machine.{after_enter, after_unpark};
-ghost use Rattle.parking_lot_core.specs.Lot.{machine};
+ghost use Rattle.lot_exclusive.specs.Machine.{after_enter, after_unpark};
+ghost use Rattle.lot_exclusive.specs.Lot.{machine};
 
 use parking_lot_core::lot::{Lot, Status};
 use parking_lot_core::{DEFAULT_PARK_TOKEN, Misfit, UnparkToken};

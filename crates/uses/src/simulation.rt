@@ -2,9 +2,9 @@
 
 ghost use Rattle.std.specs.Prelude.{◌≡◌, ◌≢◌, ℕ, if◌then◌else◌, not, true, [], ◌∷◌, IfOk, OnErr, OnOk};
 ghost use Rattle.lot_base.specs.Waiting.{has_any};
-ghost use Rattle.parking_lot_core.specs.Status.{is_parked};
-ghost use Rattle.parking_lot_core.specs.Steps.{IsRun, OutcomesAlternate};
-ghost use Rattle.parking_lot_core.specs.Lot.{machine};
+ghost use Rattle.lot_exclusive.specs.Status.{is_parked};
+ghost use Rattle.lot_exclusive.specs.Steps.{IsRun, OutcomesAlternate};
+ghost use Rattle.lot_exclusive.specs.Lot.{machine};
 
 use crate::semaphore::{PERMIT, Semaphore};
 use crate::timeout::let_time_out;

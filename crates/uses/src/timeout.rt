@@ -1,9 +1,9 @@
 //! Threads that wait for a limited time.
 
 ghost use Rattle.std.specs.Prelude.{◌≡◌, ◌↔◌, ◌||◌, ℕ, true, Ok, IsTrue, IsOk, OnErr};
-ghost use Rattle.parking_lot_core.specs.Status.{is_timed, is_taken};
-ghost use Rattle.parking_lot_core.specs.Machine.{with_status, after_timeout, StandsAt};
-ghost use Rattle.parking_lot_core.specs.Lot.{machine};
+ghost use Rattle.lot_exclusive.specs.Status.{is_timed, is_taken};
+ghost use Rattle.lot_exclusive.specs.Machine.{with_status, after_timeout, StandsAt};
+ghost use Rattle.lot_exclusive.specs.Lot.{machine};
 
 use parking_lot_core::lot::{Lot, Status};
 use parking_lot_core::{Misfit, ParkResult};

@@ -2,7 +2,7 @@
 
 ghost use Rattle.std.specs.Prelude.{◌≡◌, ◌≢◌, ℕ, List, ◌+◌, ◌-◌, ◌*◌, ◌/◌, ◌%◌, ◌^◌, ◌<◌, ◌≤◌, [], ◌∷◌, length, None, IfSome, IsTrue, IsFalse};
 ghost use Rattle.lot_base.specs.WordLockInvariant.{IsAwake};
-ghost use Rattle.lot_base.specs.WordPlaces.{head, behind, LeadsTo, IsPlace};
+ghost use Rattle.lot_base.specs.WordPlaces.{head, behind, LinkLeadsTo, IsPlace};
 ghost use Rattle.lot_base.specs.WordView.{resting, leaving, seen_by, owed_by};
 ghost use Rattle.lot_base.specs.declared.word_lock.view.View.TheVariants.{Enqueued, Holding, Leaving};
 
@@ -240,7 +240,7 @@ impl<T: Fits> WordLock<T> {
         ensures home { (seat_of caller.new).1 ≡ (seat_of caller.old).1 }
         ensures last { result ≡ 1 → seat_of caller.new ≡ seat_of caller.old }
         ensures next { result ≢ 1 → Sees caller.new (behind (seen_by (seat_of caller.old).0)) }
-        ensures link { LeadsTo result (behind (behind (seen_by (seat_of caller.old).0))) }
+        ensures link { LinkLeadsTo result (behind (behind (seen_by (seat_of caller.old).0))) }
     {
         self.table.shared.load::<ReadNext>(&mut caller.seat, place)
     }

@@ -4,9 +4,9 @@
 use crate::interleaved::plain::FinePlain;
 use crate::interleaved::same::is_same;
 use lot_base::token::{LotError, NoMemory};
-use parking_lot_core::interleaved::{FineAnswer, FineLot, FineStep, run_fine};
-use parking_lot_core::lot::Lot;
-use parking_lot_core::schedule::{Answer, Step, run};
+use lot_exclusive::lot::Lot;
+use lot_exclusive::schedule::{Answer, Step, run};
+use lot_interleaved::interleaved::{FineAnswer, FineLot, FineStep, run_fine};
 use std::alloc::Global;
 use std::process::Abort;
 use std::slice;

@@ -6,9 +6,9 @@
 use crate::interleaved::steps::{MISFIT, answer, unpark};
 use crate::schedule::plain::Plain;
 use lot_base::token::{NoMemory, ParkToken, UnparkToken};
-use parking_lot_core::interleaved::{FineAnswer, FineStep};
-use parking_lot_core::lot::Status;
-use parking_lot_core::schedule::{Answer, Op, Step};
+use lot_exclusive::lot::Status;
+use lot_exclusive::schedule::{Answer, Op, Step};
+use lot_interleaved::interleaved::{FineAnswer, FineStep};
 use std::alloc::Global;
 
 // What an open section holds and has, and the token of those that it has.

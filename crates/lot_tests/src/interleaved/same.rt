@@ -1,6 +1,6 @@
 //! Whether two steps of a lot are the same.
 
-use parking_lot_core::schedule::{Op, Step};
+use lot_exclusive::schedule::{Op, Step};
 
 fn is_same_op(op: &Op, other: &Op) -> bool {
     match (op, other) {

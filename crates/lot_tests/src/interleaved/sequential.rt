@@ -8,8 +8,8 @@ use crate::interleaved::steps::{
     begin_all, begin_filter, begin_one, begin_requeue, enter, enter_invalid,
 };
 use lot_base::token::{FilterOp, LotError, NoMemory, RequeueOp};
-use parking_lot_core::interleaved::{FineAnswer, FineStep};
-use parking_lot_core::schedule::{Answer, Step};
+use lot_exclusive::schedule::{Answer, Step};
+use lot_interleaved::interleaved::{FineAnswer, FineStep};
 use std::alloc::Global;
 use std::process::Abort;
 use std::test::Fail;

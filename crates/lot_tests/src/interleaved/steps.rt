@@ -3,8 +3,8 @@
 use lot_base::token::{
     DEFAULT_PARK_TOKEN, FilterOp, NoMemory, RequeueOp, UnparkResult, UnparkToken,
 };
-use parking_lot_core::interleaved::{FineAnswer, FineStep};
-use parking_lot_core::schedule::{Answer, Op, Step};
+use lot_exclusive::schedule::{Answer, Op, Step};
+use lot_interleaved::interleaved::{FineAnswer, FineStep};
 use std::alloc::Global;
 
 /// An answer that a step of a lot gives too.

@@ -2,9 +2,9 @@
 
 use crate::schedule::plain::Plain;
 use lot_base::token::NoMemory;
+use lot_exclusive::lot::Status;
+use lot_exclusive::schedule::{Answer, Step};
 use lot_tools::record::RecordError;
-use parking_lot_core::lot::Status;
-use parking_lot_core::schedule::{Answer, Step};
 use std::alloc::Global;
 
 // What may still come of a thread's park: its end, and with a timeout first its deadline.

@@ -2,7 +2,7 @@
 
 use crate::schedule::steps::{acquire, all, enter, enter_invalid, filter, one, release, requeue};
 use lot_base::token::{FilterOp, NoMemory, RequeueOp};
-use parking_lot_core::schedule::Step;
+use lot_exclusive::schedule::Step;
 use std::alloc::Global;
 
 /// The keys of arbitrary steps. 0 and 13 have place 0 of 16.

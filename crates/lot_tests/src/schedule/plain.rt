@@ -6,8 +6,8 @@
 
 use crate::schedule::split::{Split, split_all, split_by, split_filter, split_first};
 use lot_base::token::{NoMemory, RequeueOp, UnparkResult, UnparkToken};
-use parking_lot_core::lot::Status;
-use parking_lot_core::schedule::{Answer, Op, Step};
+use lot_exclusive::lot::Status;
+use lot_exclusive::schedule::{Answer, Op, Step};
 use std::alloc::Global;
 
 // The numbers of the threads that wait on a key, in order.

@@ -2,7 +2,7 @@
 //! numbers.
 
 use lot_base::token::{FilterOp, NoMemory, RequeueOp, UnparkResult};
-use parking_lot_core::schedule::Answer;
+use lot_exclusive::schedule::Answer;
 use std::alloc::Global;
 
 /// What becomes of the waiters of a key.

@@ -3,7 +3,7 @@
 use lot_base::token::{
     DEFAULT_PARK_TOKEN, FilterOp, NoMemory, RequeueOp, UnparkResult, UnparkToken,
 };
-use parking_lot_core::schedule::{Answer, Op, Step};
+use lot_exclusive::schedule::{Answer, Op, Step};
 use std::alloc::Global;
 
 /// An answer of `One`, `Filter` or `Requeue`.

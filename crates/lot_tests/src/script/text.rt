@@ -1,7 +1,7 @@
 //! Steps and answers as a script writes them.
 
 use lot_base::token::{FilterOp, RequeueOp};
-use parking_lot_core::schedule::{Answer, Op, Step};
+use lot_exclusive::schedule::{Answer, Op, Step};
 use std::alloc::AllocError;
 use std::fmt::Write;
 

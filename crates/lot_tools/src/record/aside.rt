@@ -4,7 +4,7 @@ ghost use Rattle.std.specs.Prelude.{◌≡◌, ◌+◌, ◌<◌, ◌^◌, IfOk, 
 ghost use Rattle.std.specs.List.{sum};
 ghost use Rattle.lot_tools.specs.Journal.{with_aside};
 
-use parking_lot_core::NoMemory;
+use lot_base::token::NoMemory;
 use std::alloc::Global;
 use std::mem;
 

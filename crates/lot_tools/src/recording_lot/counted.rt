@@ -2,13 +2,13 @@
 
 ghost use Rattle.std.specs.Prelude.{◌≡◌, length, vec_len};
 ghost use Rattle.std.specs.List.{sum_by};
-ghost use Rattle.lot_tools.specs.Journal.{woken_in, unparked_in};
+ghost use Rattle.lot_tools.specs.Journal.{woken_in, unparked_total};
 ghost use Rattle.lot_tools.specs.Record.{IsRecord, IsRecorded};
 ghost use Rattle.lot_tools.specs.TicketState.{after_answer, count_of, woken_of, unparked_of};
 
 use super::ticket::Ticket;
 use crate::record::{Record, RecordError};
-use parking_lot_core::schedule::{Answer, Step};
+use lot_exclusive::schedule::{Answer, Step};
 use std::sync::ledger::{Book, Ledger, Share};
 
 // A record, the books in which its journal's totals stand, and what is left of their shares.
@@ -21,7 +21,7 @@ pub(super) struct Counted<C: Ledger, W: Ledger, U: Ledger> {
     pub(super) rest: Rest<C, W, U>,
     ghost counted: { length recorded.journal ≡ counts.total },
     ghost woken: { woken_in recorded.journal ≡ wakes.total },
-    ghost unparked: { unparked_in recorded.journal ≡ unparks.total },
+    ghost unparked: { unparked_total recorded.journal ≡ unparks.total },
 }
 
 // What is left of the three ledgers' shares once each ticket has its part.
@@ -60,7 +60,7 @@ impl<C: Ledger, W: Ledger, U: Ledger> Counted<C, W, U> {
             × (U.parts ≡ vec_len tickets) }
         ensures count { length result.journal ≡ sum_by (λ ticket. ticket.count) tickets.items }
         ensures woken { woken_in result.journal ≡ sum_by (λ ticket. ticket.woken) tickets.items }
-        ensures unparked { unparked_in result.journal
+        ensures unparked { unparked_total result.journal
             ≡ sum_by (λ ticket. ticket.unparked) tickets.items }
     {
         let Counted {

@@ -1,6 +1,6 @@
 //! What a line of a script asks for.
 
-use parking_lot_core::schedule::Step;
+use lot_exclusive::schedule::Step;
 
 // A line but the first.
 #[derive(Drop)]

@@ -47,6 +47,7 @@ fn read_byte<R: BufRead>(input: &mut R) -> Result<Option<u8>, Cause>
     ensures failed { IfErr result (λ cause. cause ≡ Cause.ReadFailed) }
 {
     let mut byte = [0u8];
+    // A read that was interrupted is tried again, so often that it comes to an end all the same.
     for _ in 0..u64::MAX {
         match input.read(&mut byte) {
             Ok(0) => return Ok(None),

@@ -8,8 +8,8 @@ ghost use Rattle.lot_tools.specs.Private.Turns.{Writes};
 
 use super::output::{NotWritten, put, put_number};
 use super::reply::Reply;
-use parking_lot_core::UnparkResult;
-use parking_lot_core::schedule::Answer;
+use lot_base::token::UnparkResult;
+use lot_exclusive::schedule::Answer;
 use std::io::Write;
 
 // Writes the reply and a line feed.

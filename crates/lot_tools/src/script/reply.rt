@@ -3,8 +3,8 @@
 ghost use Rattle.lot_tools.specs.Reply.{state_of, IsReply};
 
 use super::command::Command;
-use parking_lot_core::lot::Lot;
-use parking_lot_core::schedule::Answer;
+use lot_exclusive::lot::Lot;
+use lot_exclusive::schedule::Answer;
 
 #[derive(Drop)]
 pub(super) enum Reply {

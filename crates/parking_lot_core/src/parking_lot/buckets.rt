@@ -4,18 +4,18 @@
 ghost use Rattle.std.specs.Prelude.{◌≡◌, ◌≢◌, ◌+◌, ◌^◌, ◌<◌, ◌↔◌, IsTrue, IsErrOf, IfOk, OnErr, IfSome, Err, MatchOption, length, slice_set};
 ghost use Rattle.lot_base.specs.Place.{IsTableSize};
 ghost use Rattle.lot_base.specs.WordLock.{IsHeldOf};
-ghost use Rattle.parking_lot_core.specs.Represents.{Represents, waiters_in};
-ghost use Rattle.parking_lot_core.specs.Size.{IsSizeFor};
-ghost use Rattle.parking_lot_core.specs.Table.{IsRowOf, count_registered, IsLeastUnregistered};
+ghost use Rattle.lot_exclusive.specs.Represents.{Represents, waiters_in};
+ghost use Rattle.lot_exclusive.specs.Size.{IsSizeFor};
+ghost use Rattle.lot_exclusive.specs.Table.{IsRowOf, count_registered, IsLeastUnregistered};
 ghost use Rattle.parking_lot_core.specs.Private.Section.{HasPlaceOf, AreApart};
 
 mod registry;
 
-use crate::table::growth::{INITIAL_BUCKETS, empty_buckets, rehash_bucket};
-use crate::table::{MAX_THREADS, Use};
 use lot_base::bucket::{Bucket, place};
 use lot_base::token::{LotError, NoMemory};
 use lot_base::word_lock::{Held, WordLock};
+use lot_exclusive::table::growth::{INITIAL_BUCKETS, empty_buckets, rehash_bucket};
+use lot_exclusive::table::{MAX_THREADS, Use};
 use registry::Registry;
 use std::alloc::Global;
 use std::marker::Model;

@@ -5,7 +5,8 @@ ghost use Rattle.std.specs.Prelude.{◌≡◌, ◌+◌, ◌≤◌, ℕ, IsSome, 
 /// How many handles there is room for.
 pub(super) const HANDLES: usize = 8;
 
-/// Room for eight handles.
+/// Room for eight handles. It is a nest of pairs, since an array of a type parameter's values is
+/// not provable today.
 pub(super) type Handles<H> = Pair<Pair<Pair<Option<H>>>>;
 
 /// Room for some handles. Those that are kept before any is taken come out in the order in which

@@ -16,16 +16,15 @@ ghost use Rattle.parking_lot_core.specs.Threaded.{IsCallableForOne, IsUnparkOfOn
 
 use super::ParkingLot;
 use super::buckets::unlock_if_any;
-use super::handles::{HANDLES, Handles, Room};
+use super::handles::{HANDLES, Handles};
 use lot_base::bucket::Bucket;
-use lot_base::queue::{Node, Queue};
+use lot_base::queue::Node;
 use lot_base::thread_parker::ThreadParkerT;
 use lot_base::token::{
     FilterOp, NoMemory, ParkResult, ParkToken, RequeueOp, UnparkResult, UnparkToken,
 };
 use std::alloc::Global;
 use std::sync::Wait;
-use std::sync::atomic::Ordering;
 
 impl<P: ThreadParkerT> ParkingLot<P> {
     // The section of a list.
@@ -66,6 +65,11 @@ impl<P: ThreadParkerT> ParkingLot<P> {
     // The section in which a thread whose deadline has passed leaves its queue, unless an unpark of
     // it was committed before. A requeue may move the thread to another key until that key's bucket
     // is locked, and then it is looked for again.
+    //
+    // Where the slot is full, the wait for the node does not sleep: the slot is the thread's own,
+    // and nobody else takes from it. Where the slot is empty while the bucket of the thread's key
+    // is locked, the node is in that bucket, so its removal does not miss. No contract tells what a
+    // lock holds, so the loop looks again if it does.
     pub(super) fn leave<R: Wait, T: FnOnce(usize, bool)>(
         &self,
         rt: &R,
@@ -323,60 +327,6 @@ impl<P: ThreadParkerT> ParkingLot<P> {
         let mut moved = |number: usize| self.set_key(number, to);
         let (result, taken) = source.requeue_two(target, from, to, validate, callback, &mut moved);
         (result, self.commit_one(rt, taken))
-    }
-
-    // The key of the queue that the thread of this number entered last, or was moved to.
-    fn key(&self, number: usize) -> usize
-        requires { number < self.now.max_threads }
-    {
-        self.threads[number].key.load(Ordering::SeqCst)
-    }
-
-    // Notes in which queue the thread of this number is. A number that is no thread's of this lot
-    // is skipped.
-    fn set_key(&self, number: usize, key: usize) {
-        if let Some(thread) = self.threads.get(number) {
-            thread.key.store(key, Ordering::SeqCst);
-        }
-    }
-
-    // Hands the node to its thread: the commit of an unpark. A node whose number is no thread's of
-    // this lot is dropped.
-    fn hand_over<R: Wait>(&self, rt: &R, node: Box<Node>) -> Option<P::UnparkHandle>
-        ensures { handle_numbers P.UnparkHandle.number result
-            ≡ thread_numbers self.now.max_threads (fields node.value ∷ []) }
-    {
-        let number = node.number;
-        if number >= self.threads.len() {
-            return None;
-        }
-        Some(self.parker(number).unpark_lock(rt, node))
-    }
-
-    // Commits the unpark of the node that was taken, if there is one.
-    fn commit_one<R: Wait>(&self, rt: &R, mut taken: Queue) -> Option<P::UnparkHandle>
-        ensures { handle_numbers P.UnparkHandle.number result
-            ≡ thread_numbers self.now.max_threads (take 1 taken) }
-    {
-        let node = taken.pop_front()?;
-        self.hand_over(rt, node)
-    }
-
-    // Commits the unparks of all nodes that were taken, in order. It wakes those for whose handles
-    // there is no room.
-    fn commit<R: Wait>(&self, rt: &R, mut taken: Queue) -> Handles<P::UnparkHandle>
-        ensures { min HANDLES (length (thread_numbers self.now.max_threads taken))
-            ≤ kept_handles result }
-    {
-        let mut handles: Handles<P::UnparkHandle> = Room::empty();
-        while let Some(node) = taken.pop_front() {
-            if let Some(handle) = self.hand_over(rt, node)
-                && let Some(handle) = handles.put(handle)
-            {
-                self.wake(handle);
-            }
-        }
-        handles
     }
 }
 

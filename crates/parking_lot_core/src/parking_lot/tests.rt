@@ -4,11 +4,11 @@ mod sections;
 mod watched;
 
 use super::*;
-use lot_base::thread_parker::{ThreadParker, YieldParker};
+use lot_base::thread_parker::{ThreadParker, UnparkHandleT, YieldParker};
 use lot_base::token::{DEFAULT_PARK_TOKEN, DEFAULT_UNPARK_TOKEN};
 use std::cell::Cell;
 use std::process::Abort;
-use std::sync::atomic::{AtomicBool, Ordering};
+use std::sync::atomic::{AtomicBool, AtomicUsize, Ordering};
 use std::test::Fail;
 use std::thread;
 use std::thread::Threads;
@@ -62,8 +62,10 @@ fn the_table_grows_at_the_sixth_and_the_eleventh_thread(rt: HostRuntime) -> Resu
 
 // The key word of the thread 0.
 fn key_word<P: ThreadParkerT>(lot: &ParkingLot<P>) -> Option<usize> {
-    let thread = lot.threads.first()?;
-    Some(thread.key.load(Ordering::SeqCst))
+    if lot.max_threads() == 0 {
+        return None;
+    }
+    Some(lot.key(0))
 }
 
 // It refuses a requeue that notes where the thread went only after it called back.

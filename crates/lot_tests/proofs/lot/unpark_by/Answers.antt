@@ -1,6 +1,6 @@
 use Rattle.lot_base.proofs.FilterLemmas.{IsFilterCallable-always}
-use Rattle.parking_lot_core.specs.Lot.{machine}
-use Rattle.parking_lot_core.specs.Lot.{waiter_park_tokens}
+use Rattle.lot_exclusive.specs.Lot.{machine}
+use Rattle.lot_exclusive.specs.Lot.{waiter_park_tokens}
 use Rattle.lot_tests.proofs.lot.unpark_by.Goals as goal
 
 pub unpark_filter-result-requires-clause-filter : goal.unpark_filter-result-requires-clause-filter

@@ -2,13 +2,13 @@
 
 ghost use Rattle.std.specs.Prelude.{◌≡◌, ◌≢◌, ◌↔◌, ◌+◌, ◌*◌, ◌<◌, ◌≤◌, IfOk, OnOk, IsErrOf, Err, Some, length, slice_get, slice_set, replicate};
 ghost use Rattle.lot_base.specs.Place.{IsTableSize};
-ghost use Rattle.parking_lot_core.specs.Size.{IsSizeFor};
-ghost use Rattle.parking_lot_core.specs.Table.{count_registered, IsLeastUnregistered};
+ghost use Rattle.lot_exclusive.specs.Size.{IsSizeFor};
+ghost use Rattle.lot_exclusive.specs.Table.{count_registered, IsLeastUnregistered};
 
-use crate::table::growth::{INITIAL_BUCKETS, size_for};
-use crate::table::numbers::Numbers;
-use crate::table::{MAX_THREADS, Use};
 use lot_base::token::LotError;
+use lot_exclusive::table::growth::{INITIAL_BUCKETS, size_for};
+use lot_exclusive::table::numbers::Numbers;
+use lot_exclusive::table::{MAX_THREADS, Use};
 use std::alloc::Global;
 use std::marker::Model;
 
@@ -23,7 +23,7 @@ impl Model for Registry {
     ghost use Rattle.std.specs.Prelude.{◌*◌, ◌≤◌};
     ghost use Rattle.lot_base.specs.Place.{IsTableSize};
     ghost use Rattle.parking_lot_core.specs.Private.RegistryState.{RegistryState};
-    ghost use Rattle.parking_lot_core.specs.Table.{count_registered};
+    ghost use Rattle.lot_exclusive.specs.Table.{count_registered};
 
     ghost Value = { RegistryState };
 

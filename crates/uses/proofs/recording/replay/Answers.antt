@@ -1,10 +1,10 @@
 use Rattle.std.proofs.Common.{◌≡◌, ◌+◌, ◌<◌, ◌∙◌, drop, length, slice_index_or, ap, subst, arith}
-use Rattle.parking_lot_core.specs.Lot.{machine}
-use Rattle.parking_lot_core.specs.Steps.{IsStep, IsRun}
-use Rattle.parking_lot_core.proofs.AnswerLemmas.{IsStep-same_answer}
-use Rattle.parking_lot_core.proofs.LawLemmas.{IsStep-fixes}
-use Rattle.parking_lot_core.proofs.StepLemmas.{IsConsistent-step}
-use Rattle.lot_tools.specs.Journal.{steps_of, answers_of}
+use Rattle.lot_exclusive.specs.Lot.{machine}
+use Rattle.lot_exclusive.specs.Steps.{IsStep, IsRun}
+use Rattle.lot_exclusive.proofs.AnswerLemmas.{IsStep-same_answer}
+use Rattle.lot_exclusive.proofs.LawLemmas.{IsStep-fixes}
+use Rattle.lot_exclusive.proofs.StepLemmas.{IsConsistent-step}
+use Rattle.lot_tools.specs.Journal.{journal_steps, journal_answers}
 use Rattle.uses.proofs.ReplayLemmas.{next_entry}
 use Rattle.uses.proofs.recording.replay.Goals as goal
 
@@ -30,7 +30,7 @@ loop-step-preserved c =
     record {
       consistent = IsConsistent-step (machine c.loop-step.lot) c.loop-step-item.result.0 c.loop-step-item.result.1
           (machine c.apply.new.self) c.loop-step.invariant.consistent done;
-      left = subst (λ m. IsRun m (steps_of (drop (c.loop-step.step-index + 1) c.args.recorded.now.journal))
-          (answers_of (drop (c.loop-step.step-index + 1) c.args.recorded.now.journal))
+      left = subst (λ m. IsRun m (journal_steps (drop (c.loop-step.step-index + 1) c.args.recorded.now.journal))
+          (journal_answers (drop (c.loop-step.step-index + 1) c.args.recorded.now.journal))
           (machine c.args.recorded.now.lot)) met ran;
     }

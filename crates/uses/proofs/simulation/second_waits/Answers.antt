@@ -1,8 +1,8 @@
 use Rattle.std.proofs.Common.{◌≡◌, ◌∙◌, ◌<◌, ◌-◌, [], Err, is_ok, arith, ap}
 use Rattle.lot_base.specs.declared.token.TheConstants.{DEFAULT_PARK_TOKEN}
-use Rattle.parking_lot_core.specs.LotState.{LotState}
-use Rattle.parking_lot_core.specs.Machine.{Machine}
-use Rattle.parking_lot_core.specs.Lot.{machine}
+use Rattle.lot_exclusive.specs.LotState.{LotState}
+use Rattle.lot_exclusive.specs.Machine.{Machine}
+use Rattle.lot_exclusive.specs.Lot.{machine}
 use Rattle.uses.specs.SemaphoreState.{SemaphoreState}
 use Rattle.uses.proofs.TaskLemmas.{NoMemory-only, not_full, not_full-one, runs, still_runs, Now-free, Parked-none}
 use Rattle.uses.proofs.TaskLemmas.{waits, waits_alone}

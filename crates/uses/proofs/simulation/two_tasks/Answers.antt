@@ -2,12 +2,12 @@ use Rattle.std.proofs.Common.{◌≡◌, ◌∙◌, ◌||◌, true, IsOk, refl, 
 use Rattle.std.proofs.lemmas.Bool.{cond-true, cond-false}
 use Rattle.lot_base.specs.declared.token.ParkResult.TheVariants.{Unparked, TimedOut}
 use Rattle.lot_base.specs.Waiting.{has_any}
-use Rattle.parking_lot_core.specs.declared.lot.Status.{Status}
-use Rattle.parking_lot_core.specs.declared.lot.Status.TheVariants.{Waiting, Taken}
-use Rattle.parking_lot_core.specs.LotState.{LotState}
-use Rattle.parking_lot_core.specs.Machine.{Machine}
-use Rattle.parking_lot_core.specs.Status.{is_timed, is_taken}
-use Rattle.parking_lot_core.specs.Lot.{machine}
+use Rattle.lot_exclusive.specs.declared.lot.Status.{Status}
+use Rattle.lot_exclusive.specs.declared.lot.Status.TheVariants.{Waiting, Taken}
+use Rattle.lot_exclusive.specs.LotState.{LotState}
+use Rattle.lot_exclusive.specs.Machine.{Machine}
+use Rattle.lot_exclusive.specs.Status.{is_timed, is_taken}
+use Rattle.lot_exclusive.specs.Lot.{machine}
 use Rattle.uses.specs.declared.semaphore.TheConstants.{PERMIT}
 use Rattle.uses.proofs.TaskLemmas.{is_handed}
 use Rattle.uses.proofs.simulation.two_tasks.Goals as goal

@@ -1,6 +1,6 @@
 use Rattle.std.proofs.Common.{◌≡◌}
 use Rattle.std.proofs.lemmas.Result.{IfOk-weaker}
-use Rattle.parking_lot_core.specs.Lot.{machine}
+use Rattle.lot_exclusive.specs.Lot.{machine}
 use Rattle.uses.proofs.VainLemmas.{IsRun-in_vain}
 use Rattle.uses.proofs.simulation.wait_in_vain.Goals as goal
 

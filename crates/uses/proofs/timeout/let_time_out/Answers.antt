@@ -1,7 +1,7 @@
 use Rattle.std.proofs.Common.{◌∙◌, IsOk, sym, ap}
 use Rattle.std.proofs.lemmas.Result.{on_err_weaker}
-use Rattle.parking_lot_core.specs.Status.{is_timed, can_resolve}
-use Rattle.parking_lot_core.specs.Lot.{machine}
+use Rattle.lot_exclusive.specs.Status.{is_timed, can_resolve}
+use Rattle.lot_exclusive.specs.Lot.{machine}
 use Rattle.uses.proofs.DeadlineLemmas.{LateOrSame, LateOrSame-answer, Late-tried, StandsAt-tried, after_timeout-tried}
 use Rattle.uses.proofs.DeadlineLemmas.{can_resolve-tried, OnErr-both}
 use Rattle.uses.proofs.timeout.let_time_out.Goals as goal

@@ -4,7 +4,8 @@ use prog.Atomic.{either}
 use Rattle.atomic_table.specs.Table.{step}
 use Rattle.lot_base.specs.declared.word_lock.view.View.TheVariants.{Trying}
 use Rattle.lot_base.specs.WordSteps.{acquired}
-use Rattle.lot_base.proofs.WordKeeps.{acquires, at_view}
+use Rattle.lot_base.proofs.WordTries.{acquires}
+use Rattle.lot_base.proofs.WordKeeps.{at_view}
 use Rattle.lot_base.proofs.word_lock.WordLock.acquire.Goals as goal
 
 pub compare_exchange-requires : goal.compare_exchange-requires

@@ -3,7 +3,8 @@ use mathlib.Core.Option.{none}
 use Rattle.atomic_table.specs.Table.{step}
 use Rattle.lot_base.specs.declared.word_lock.view.View.TheVariants.{Holding}
 use Rattle.lot_base.specs.WordSteps.{cut}
-use Rattle.lot_base.proofs.WordKeeps.{cuts, seat_is, at_view}
+use Rattle.lot_base.proofs.WordHolds.{cuts}
+use Rattle.lot_base.proofs.WordKeeps.{seat_is, at_view}
 use Rattle.lot_base.proofs.word_lock.WordLock.cut.Goals as goal
 
 pub store-requires : goal.store-requires

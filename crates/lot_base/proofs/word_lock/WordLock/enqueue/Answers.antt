@@ -4,7 +4,8 @@ use prog.Atomic.{either}
 use Rattle.atomic_table.specs.Table.{step}
 use Rattle.lot_base.specs.declared.word_lock.view.View.TheVariants.{Trying}
 use Rattle.lot_base.specs.WordSteps.{enqueued}
-use Rattle.lot_base.proofs.WordKeeps.{enqueues, at_view}
+use Rattle.lot_base.proofs.WordWaits.{enqueues}
+use Rattle.lot_base.proofs.WordKeeps.{at_view}
 use Rattle.lot_base.proofs.word_lock.WordLock.enqueue.Goals as goal
 
 pub compare_exchange-requires : goal.compare_exchange-requires

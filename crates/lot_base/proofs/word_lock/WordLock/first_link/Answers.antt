@@ -5,7 +5,8 @@ use Rattle.lot_base.specs.declared.word_lock.view.View.{View}
 use Rattle.lot_base.specs.WordPlaces.{behind}
 use Rattle.lot_base.specs.WordView.{seen_by}
 use Rattle.lot_base.specs.WordSteps.{read_first}
-use Rattle.lot_base.proofs.WordKeeps.{reads_first, at_view, seat_is, seeing, seen_from}
+use Rattle.lot_base.proofs.WordHolds.{reads_first}
+use Rattle.lot_base.proofs.WordKeeps.{at_view, seat_is, seeing, seen_from}
 use Rattle.lot_base.proofs.word_lock.WordLock.first_link.Goals as goal
 
 pub load-requires : goal.load-requires

@@ -3,7 +3,8 @@ use mathlib.Core.Option.{none}
 use Rattle.atomic_table.specs.Table.{step}
 use Rattle.lot_base.specs.declared.word_lock.view.View.TheVariants.{Trying}
 use Rattle.lot_base.specs.WordSteps.{given_back}
-use Rattle.lot_base.proofs.WordKeeps.{gives_back, at_view}
+use Rattle.lot_base.proofs.WordTries.{gives_back}
+use Rattle.lot_base.proofs.WordKeeps.{at_view}
 use Rattle.lot_base.proofs.word_lock.WordLock.give_back.Goals as goal
 
 pub store-requires : goal.store-requires

@@ -3,7 +3,8 @@ use mathlib.Core.Option.{none}
 use Rattle.atomic_table.specs.Table.{step}
 use Rattle.lot_base.specs.declared.word_lock.view.View.TheVariants.{Holding}
 use Rattle.lot_base.specs.WordSteps.{read_next}
-use Rattle.lot_base.proofs.WordKeeps.{reads_next, seat_is, at_view}
+use Rattle.lot_base.proofs.WordHolds.{reads_next}
+use Rattle.lot_base.proofs.WordKeeps.{seat_is, at_view}
 use Rattle.lot_base.proofs.word_lock.WordLock.next_link.Goals as goal
 
 pub load-requires : goal.load-requires

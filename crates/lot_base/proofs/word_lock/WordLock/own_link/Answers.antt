@@ -3,7 +3,8 @@ use mathlib.Core.Option.{none}
 use Rattle.atomic_table.specs.Table.{step}
 use Rattle.lot_base.specs.declared.word_lock.view.View.TheVariants.{Enqueued}
 use Rattle.lot_base.specs.WordSteps.{looked}
-use Rattle.lot_base.proofs.WordKeeps.{looks, at_view}
+use Rattle.lot_base.proofs.WordWaits.{looks}
+use Rattle.lot_base.proofs.WordKeeps.{at_view}
 use Rattle.lot_base.proofs.word_lock.WordLock.own_link.Goals as goal
 
 pub load-requires : goal.load-requires

@@ -3,7 +3,8 @@ use mathlib.Core.Option.{none}
 use Rattle.atomic_table.specs.Table.{step}
 use Rattle.lot_base.specs.declared.word_lock.view.View.TheVariants.{Holding}
 use Rattle.lot_base.specs.WordSteps.{released_after_cut}
-use Rattle.lot_base.proofs.WordKeeps.{releases_after_cut, seat_is, at_view}
+use Rattle.lot_base.proofs.WordHolds.{releases_after_cut}
+use Rattle.lot_base.proofs.WordKeeps.{seat_is, at_view}
 use Rattle.lot_base.proofs.word_lock.WordLock.release_after_cut.Goals as goal
 
 pub fetch_sub-requires : goal.fetch_sub-requires

@@ -5,7 +5,8 @@ use Rattle.atomic_table.specs.Table.{step}
 use Rattle.lot_base.specs.WordView.{seen_by}
 use Rattle.lot_base.specs.WordSteps.{released_to_zero}
 use Rattle.lot_base.specs.declared.word_lock.view.View.TheVariants.{Holding}
-use Rattle.lot_base.proofs.WordKeeps.{releases_to_zero, seat_is, at_view}
+use Rattle.lot_base.proofs.WordHolds.{releases_to_zero}
+use Rattle.lot_base.proofs.WordKeeps.{seat_is, at_view}
 use Rattle.lot_base.proofs.word_lock.WordLock.release_to_zero.Goals as goal
 
 pub compare_exchange-requires : goal.compare_exchange-requires

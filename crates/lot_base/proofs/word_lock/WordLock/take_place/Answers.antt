@@ -6,7 +6,8 @@ use Rattle.lot_base.specs.declared.word_lock.view.View.{View}
 use Rattle.lot_base.specs.WordView.{with_place}
 use Rattle.lot_base.specs.WordSteps.{took_place}
 use Rattle.lot_base.specs.declared.word_lock.view.View.TheVariants.{Trying}
-use Rattle.lot_base.proofs.WordKeeps.{takes_place, at_view}
+use Rattle.lot_base.proofs.WordTries.{takes_place}
+use Rattle.lot_base.proofs.WordKeeps.{at_view}
 use Rattle.lot_base.proofs.word_lock.WordLock.take_place.Goals as goal
 
 pub compare_exchange-requires : goal.compare_exchange-requires

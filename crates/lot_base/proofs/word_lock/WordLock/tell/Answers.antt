@@ -3,7 +3,8 @@ use mathlib.Core.Option.{none}
 use Rattle.atomic_table.specs.Table.{step}
 use Rattle.lot_base.specs.declared.word_lock.view.View.TheVariants.{Leaving}
 use Rattle.lot_base.specs.WordSteps.{told}
-use Rattle.lot_base.proofs.WordKeeps.{tells, at_view}
+use Rattle.lot_base.proofs.WordHolds.{tells}
+use Rattle.lot_base.proofs.WordKeeps.{at_view}
 use Rattle.lot_base.proofs.word_lock.WordLock.tell.Goals as goal
 
 pub store-requires : goal.store-requires

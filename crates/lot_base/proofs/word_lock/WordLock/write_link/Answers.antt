@@ -3,7 +3,8 @@ use mathlib.Core.Option.{none}
 use Rattle.atomic_table.specs.Table.{step}
 use Rattle.lot_base.specs.declared.word_lock.view.View.TheVariants.{Trying}
 use Rattle.lot_base.specs.WordSteps.{linked}
-use Rattle.lot_base.proofs.WordKeeps.{links_own, at_view}
+use Rattle.lot_base.proofs.WordWaits.{links_own}
+use Rattle.lot_base.proofs.WordKeeps.{at_view}
 use Rattle.lot_base.proofs.word_lock.WordLock.write_link.Goals as goal
 
 pub store-requires : goal.store-requires

@@ -1,5 +1,5 @@
 use Rattle.std.proofs.Common.{◌∙◌, ap, length}
-use Rattle.parking_lot_core.specs.Lot.{machine}
+use Rattle.lot_exclusive.specs.Lot.{machine}
 use Rattle.lot_tools.proofs.RecordLemmas.{IsRecord-backing}
 use Rattle.lot_tools.proofs.record.Record.max_threads.Goals as goal
 

@@ -1,7 +1,7 @@
 use Rattle.std.proofs.Common.{◌∷◌, [], ◌∙◌, sym, ap, subst, arith}
 use Rattle.std.proofs.lemmas.List.{length-append}
 use Rattle.std.specs.Result.{is_ok}
-use Rattle.parking_lot_core.specs.Lot.{machine}
+use Rattle.lot_exclusive.specs.Lot.{machine}
 use Rattle.lot_tools.specs.Journal.{asides_of, set_aside_by, with_aside}
 use Rattle.lot_tools.specs.Record.{IsRecord, IsRecorded}
 use Rattle.lot_tools.proofs.RecordLemmas.{record_of, has_room, journal-pushed, pushed}

@@ -1,6 +1,6 @@
 use Rattle.std.proofs.Common.{length}
-use Rattle.parking_lot_core.specs.Represents.{waiters_in, Represents}
-use Rattle.parking_lot_core.specs.Table.{IsRowOf}
+use Rattle.lot_exclusive.specs.Represents.{waiters_in, Represents}
+use Rattle.lot_exclusive.specs.Table.{IsRowOf}
 use Rattle.parking_lot_core.proofs.parking_lot.buckets.Row.rehash.Given as goal
 
 abbrev pub invariant-loop-cell : goal.invariant-loop-cell

@@ -1,5 +1,5 @@
 use Rattle.std.proofs.Common.{arith}
-use Rattle.parking_lot_core.proofs.NumberLemmas.{count_registered-free}
+use Rattle.lot_exclusive.proofs.NumberLemmas.{count_registered-free}
 use Rattle.parking_lot_core.proofs.parking_lot.buckets.registry.Registry.least_free.Goals as goal
 
 pub returns-clause-full : goal.returns-clause-full

@@ -1,0 +1,72 @@
+-- Thread numbers, and the sizes of tables.
+use Rattle.std.proofs.Common.{◌≡◌, ℕ, ◌+◌, ◌/◌, ◌^◌, ◌<◌, ◌≤◌, List, [], ◌∷◌, length, get_or, max, slice_get, slice_set}
+use Rattle.std.proofs.Common.{Some, refl, ap, ◌∙◌, ⊎_elim, arith, suc, zero, cond}
+use Rattle.std.proofs.lemmas.Bool.{cases_lt}
+use Rattle.std.proofs.lemmas.Nat.{pow_below}
+use Rattle.std.proofs.lemmas.List.Sums.{count_by-le-length, sum_by-cons, sum_by-set}
+use Rattle.std.proofs.lemmas.Option.{none-some, get_or_from_slice_get, slice_get_within}
+use Rattle.std.specs.Int.{IsPowerOfTwo}
+use Rattle.lot_base.specs.Place.{IsTableSize}
+use Rattle.lot_exclusive.specs.declared.table.Use.{Use}
+use Rattle.lot_exclusive.specs.declared.table.Use.TheVariants.{Free, Registered}
+use Rattle.lot_exclusive.specs.Table.{is_in_use, count_registered}
+
+-- one number more, and what is counted then
+count-free : (numbers : List Use) → count_registered (Free ∷ numbers) ≡ count_registered numbers
+count-free numbers = refl
+
+count-registered : (numbers : List Use) → count_registered (Registered ∷ numbers) ≡ 1 + count_registered numbers
+count-registered numbers = sum_by-cons (λ number. cond (is_in_use number) 1 0) Registered numbers
+
+-- all numbers are registered, or one is free
+pub count_registered-all : (numbers : List Use) → ((k : ℕ) → k < length numbers → slice_get numbers k ≡ Some Registered)
+    → count_registered numbers ≡ length numbers
+count_registered-all [] all = refl
+count_registered-all (Registered ∷ numbers) all =
+    let rest = count_registered-all numbers (λ k low. all (suc k) (omega arith)) in
+    omega (arith, count-registered numbers)
+count_registered-all (Free ∷ numbers) all = absurd (let e = all 0 (omega arith) in cc)
+
+count_registered-most : (numbers : List Use) → count_registered numbers ≤ length numbers
+count_registered-most numbers = count_by-le-length is_in_use numbers
+
+pub count_registered-free : (numbers : List Use) (k : ℕ) → slice_get numbers k ≡ Some Free
+    → count_registered numbers < length numbers
+count_registered-free [] k free = absurd (none-some Free free)
+count_registered-free (Free ∷ numbers) k free =
+    omega (arith, count-free numbers, count_registered-most numbers)
+count_registered-free (Registered ∷ numbers) zero free = absurd cc
+count_registered-free (Registered ∷ numbers) (suc k) free =
+    omega (arith, count-registered numbers, count_registered-free numbers k free)
+
+-- a free number is registered
+pub count_registered-set : (numbers : List Use) (k : ℕ) → slice_get numbers k ≡ Some Free
+    → count_registered (slice_set numbers k Registered) ≡ count_registered numbers + 1
+count_registered-set numbers k free =
+    let weight : Use → ℕ = λ number. cond (is_in_use number) 1 0 in
+    let was : weight (get_or numbers k Free) ≡ 0 = ap weight (get_or_from_slice_get numbers k Free Free free) in
+    omega (arith, was, sum_by-set weight numbers k Registered Free (slice_get_within numbers k Free free))
+
+-- a power of two of this range is the size of a table
+pub IsTableSize-power : (size : ℕ) → IsPowerOfTwo size → 16 ≤ size → size ≤ 65536 → IsTableSize size
+IsTableSize-power size power low high = record {
+  bits = power.0;
+  at_least_4 = ⊎_elim (λ (h : power.0 < 4). absurd (let p = pow_below power.0 4 h in omega (arith, power.1)))
+      (λ (h : 4 ≤ power.0). h) (cases_lt power.0 4);
+  at_most_16 = ⊎_elim (λ (h : 16 < power.0). absurd (let p = pow_below 16 power.0 h in omega (arith, power.1)))
+      (λ (h : power.0 ≤ 16). h) (cases_lt 16 power.0);
+  is_power = power.1;
+}
+
+pub IsTableSize-least : (size : ℕ) → IsTableSize size → 16 ≤ size
+IsTableSize-least size table =
+    ⊎_elim (λ (h : 4 < table.bits). let p = pow_below 4 table.bits h in omega (arith, table.is_power))
+    (λ (h : table.bits ≤ 4). let e : table.bits ≡ 4 = omega (arith, table.at_least_4) in
+    omega (arith, table.is_power ∙ ap (λ n. 2 ^ n) e))
+    (cases_lt 4 table.bits)
+
+-- the next power of two after so many buckets is the size of a table
+pub IsTableSize-grown : (old wanted size : ℕ) → IsTableSize old → old < wanted → wanted ≤ 3072 → IsPowerOfTwo size
+    → wanted ≤ size → size / 2 < max 1 wanted → IsTableSize size
+IsTableSize-grown old wanted size table more few power not_below least =
+    let low = IsTableSize-least old table in IsTableSize-power size power (omega arith) (omega arith)

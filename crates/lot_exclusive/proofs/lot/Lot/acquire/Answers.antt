@@ -1,0 +1,33 @@
+use Rattle.std.proofs.Common.{◌≡◌, ◌∙◌, sym, slice_set}
+use Rattle.lot_exclusive.specs.declared.lot.Status.TheVariants.{Running}
+use Rattle.lot_exclusive.specs.Machine.{after_acquire}
+use Rattle.lot_exclusive.specs.Lot.{machine}
+use Rattle.lot_exclusive.proofs.LotThreadLemmas.{lot_of, IsLotStep, IsLotStep-acquired, uses-recorded}
+use Rattle.lot_exclusive.proofs.lot.Lot.acquire.Goals as goal
+use Rattle.lot_exclusive.proofs.lot.Lot.acquire.Goals.{In_ok-acquire}
+
+runs : (c : In_ok-acquire) → Running ≡ c.in-Some.thread.now.status
+runs c = sym (c.in_ok-acquire.ensures.fits.0 (λ refused. cc))
+
+step : (c : In_ok-acquire)
+    →
+    IsLotStep
+    (record {
+      buckets = c.self.inside.table.cells;
+      threads = slice_set c.self.inside.threads.items c.args.number c.acquire.new.self;
+    }) (after_acquire (machine (lot_of c.self.inside)) c.args.number c.args.key)
+step c =
+    IsLotStep-acquired (lot_of c.self.inside) c.args.number c.args.key c.in-Some.thread.now c.acquire.new.self
+    c.self.invariant.0 c.in-Some.ensures.item.3.0 (c.in-Some.ensures.item.3.1 _) c.in_ok-acquire.ensures.kept
+    c.in_ok-acquire.ensures.ok (runs c)
+
+pub invariant_of-self-2 : goal.invariant_of-self-2
+invariant_of-self-2 c = (
+  (step c).is_lot,
+  c.self.invariant.1
+      ∙ sym (uses-recorded (lot_of c.self.inside) c.args.number c.in-Some.thread.now c.acquire.new.self
+      (c.in-Some.ensures.item.3.1 _) c.in_ok-acquire.ensures.kept),
+)
+
+pub returns-clause-ok : goal.returns-clause-ok
+returns-clause-ok c = rw (← c.self.view_is) (step c).means

@@ -1,0 +1,35 @@
+use Rattle.std.proofs.Common.{◌≡◌, ◌∙◌, sym, ap, refl, slice_set, true}
+use Rattle.lot_exclusive.specs.declared.lot.Status.TheVariants.{Waiting, Late}
+use Rattle.lot_exclusive.specs.Status.{is_queued, is_timed}
+use Rattle.lot_exclusive.specs.Machine.{with_status}
+use Rattle.lot_exclusive.specs.Lot.{machine, use_of}
+use Rattle.lot_exclusive.proofs.LotThreadLemmas.{lot_of, IsLotStep, IsLotStep-status, uses-status}
+use Rattle.lot_exclusive.proofs.lot.Lot.deadline.Goals as goal
+use Rattle.lot_exclusive.proofs.lot.Lot.deadline.Goals.{In_ok-deadline}
+
+waited : (c : In_ok-deadline) → Waiting true ≡ c.in-Some.thread.now.status
+waited c = sym (c.in_ok-deadline.ensures.fits.0 refl)
+
+step : (c : In_ok-deadline)
+    →
+    IsLotStep
+    (record {
+      buckets = c.self.inside.table.cells;
+      threads = slice_set c.self.inside.threads.items c.args.number c.deadline.new.self;
+    }) (with_status (machine (lot_of c.self.inside)) c.args.number Late)
+step c =
+    IsLotStep-status (lot_of c.self.inside) c.args.number c.in-Some.thread.now c.deadline.new.self Late
+    c.self.invariant.0 c.in-Some.ensures.item.3.0 (c.in-Some.ensures.item.3.1 _) c.in_ok-deadline.ensures.ok
+    (ap is_queued (waited c)) (ap is_timed (waited c)) (λ same. cc)
+
+pub invariant_of-self-2 : goal.invariant_of-self-2
+invariant_of-self-2 c = (
+  (step c).is_lot,
+  c.self.invariant.1
+      ∙ sym (uses-status (lot_of c.self.inside) c.args.number c.in-Some.thread.now c.deadline.new.self Late
+      c.self.invariant.0 c.in-Some.ensures.item.3.0 (c.in-Some.ensures.item.3.1 _) c.in_ok-deadline.ensures.ok
+      (ap use_of (waited c))),
+)
+
+pub returns-clause-ok : goal.returns-clause-ok
+returns-clause-ok c = rw (← c.self.view_is) (step c).means

@@ -1,0 +1,33 @@
+use Rattle.std.proofs.Common.{◌≡◌, ◌∙◌, sym, refl, slice_set}
+use Rattle.lot_exclusive.specs.declared.lot.Status.TheVariants.{Running}
+use Rattle.lot_exclusive.specs.Machine.{after_release}
+use Rattle.lot_exclusive.specs.Lot.{machine}
+use Rattle.lot_exclusive.proofs.LotThreadLemmas.{lot_of, IsLotStep, IsLotStep-released, uses-recorded}
+use Rattle.lot_exclusive.proofs.lot.Lot.release.Goals as goal
+use Rattle.lot_exclusive.proofs.lot.Lot.release.Goals.{In_ok-release}
+
+runs : (c : In_ok-release) → Running ≡ c.in-Some.thread.now.status
+runs c = sym (c.in_ok-release.ensures.fits.0 refl)
+
+step : (c : In_ok-release)
+    →
+    IsLotStep
+    (record {
+      buckets = c.self.inside.table.cells;
+      threads = slice_set c.self.inside.threads.items c.args.number c.release.new.self;
+    }) (after_release (machine (lot_of c.self.inside)) c.args.number c.args.key)
+step c =
+    IsLotStep-released (lot_of c.self.inside) c.args.number c.args.key c.in-Some.thread.now c.release.new.self
+    c.self.invariant.0 c.in-Some.ensures.item.3.0 (c.in-Some.ensures.item.3.1 _) c.in_ok-release.ensures.kept
+    c.in_ok-release.ensures.ok (runs c)
+
+pub invariant_of-self-2 : goal.invariant_of-self-2
+invariant_of-self-2 c = (
+  (step c).is_lot,
+  c.self.invariant.1
+      ∙ sym (uses-recorded (lot_of c.self.inside) c.args.number c.in-Some.thread.now c.release.new.self
+      (c.in-Some.ensures.item.3.1 _) c.in_ok-release.ensures.kept),
+)
+
+pub returns-clause-ok : goal.returns-clause-ok
+returns-clause-ok c = rw (← c.self.view_is) (step c).means

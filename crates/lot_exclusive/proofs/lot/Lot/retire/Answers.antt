@@ -1,0 +1,37 @@
+use Rattle.std.proofs.Common.{◌≡◌, ◌∙◌, sym, ap, refl, slice_set}
+use Rattle.lot_exclusive.specs.declared.lot.Status.TheVariants.{Running}
+use Rattle.lot_exclusive.specs.declared.table.Use.TheVariants as use_is
+use Rattle.lot_exclusive.specs.Machine.{after_retire}
+use Rattle.lot_exclusive.specs.LotState.{ThreadState}
+use Rattle.lot_exclusive.specs.Lot.{machine, use_of, uses}
+use Rattle.lot_exclusive.proofs.CommitLemmas.{uses-set}
+use Rattle.lot_exclusive.proofs.LotThreadLemmas.{lot_of, IsLotStep, IsLotStep-after_retire}
+use Rattle.lot_exclusive.proofs.lot.Lot.retire.Goals as goal
+use Rattle.lot_exclusive.proofs.lot.Lot.retire.Goals.{After-release}
+
+ran : (c : After-release) → Running ≡ c.in-Some.thread.now.status
+ran c = sym (c.in_ok-retire.ensures.fits.0 refl)
+
+step : (c : After-release)
+    →
+    IsLotStep
+    (record {
+      buckets = c.release.new.self.cells;
+      threads = slice_set c.self.inside.threads.items c.args.number c.retire.new.self;
+    }) (after_retire (machine (lot_of c.self.inside)) c.args.number)
+step c =
+    rw c.release.ensures.cells
+    (IsLotStep-after_retire (lot_of c.self.inside) c.args.number c.in-Some.thread.now c.retire.new.self
+    c.self.invariant.0 c.in-Some.ensures.item.3.0 (c.in-Some.ensures.item.3.1 _) c.in_ok-retire.ensures.ok (ran c))
+
+pub invariant_of-self-2 : goal.invariant_of-self-2
+invariant_of-self-2 c = (
+  (step c).is_lot,
+  c.release.ensures.numbers ∙ ap (λ numbers. slice_set numbers c.args.number use_is.Free) c.self.invariant.1
+      ∙ sym (uses-set c.self.inside.threads.items c.args.number c.retire.new.self
+      ∙ ap (λ (thread : ThreadState). slice_set (uses c.self.inside.threads.items) c.args.number (use_of thread.status))
+      c.in_ok-retire.ensures.ok),
+)
+
+pub returns-clause-ok : goal.returns-clause-ok
+returns-clause-ok c = rw (← c.self.view_is) (step c).means

@@ -1,0 +1,3 @@
+pub mod Committed
+pub mod Decisions
+pub mod Thread

@@ -1,0 +1,128 @@
+-- The steps of the machine, its runs, and that parks and outcomes alternate. `status.` and `answer.` stand before the
+-- variants of `Status` and `Answer`.
+use Rattle.std.specs.Prelude.{◌≡◌, ℕ, ◌==◌, Bool, true, false, ◌&&◌, MatchBool, ⊤, List, ◌∷◌, length, []}
+use Rattle.lot_base.specs.Waiting.{Split, split_first, split_all, split_filter, split_by, result_of, requeue_result}
+use Rattle.lot_exclusive.specs.declared.lot.Status.{Status}
+use Rattle.lot_exclusive.specs.declared.lot.Status.TheVariants as status
+use Rattle.lot_exclusive.specs.declared.schedule.Answer.{Answer}
+use Rattle.lot_exclusive.specs.declared.schedule.Answer.TheVariants as answer
+use Rattle.lot_exclusive.specs.declared.schedule.Op.{Op}
+use Rattle.lot_exclusive.specs.declared.schedule.Op.TheVariants.{One, All, Filter, Requeue}
+use Rattle.lot_exclusive.specs.declared.schedule.Step.{Step}
+use Rattle.lot_exclusive.specs.declared.schedule.Step.TheVariants.{Register, Retire, Enter, Unpark, Deadline}
+use Rattle.lot_exclusive.specs.declared.schedule.Step.TheVariants.{Resolve, Return, Acquire, Release}
+use Rattle.lot_exclusive.specs.Status.{is_running, awaits_deadline}
+use Rattle.lot_exclusive.specs.Machine.{Machine, Waiter, IsLeastFree, IsFull, StandsAt, is_last, with_status}
+use Rattle.lot_exclusive.specs.Machine.{after_retire, after_acquire, after_release, after_enter, after_unpark}
+use Rattle.lot_exclusive.specs.Machine.{after_requeue, after_timeout}
+
+-- the step should give the answer `expected` and leave the machine `after`: it gave `given` and left `new`
+abbrev pub Gives : Machine → Answer → Answer → Machine → Type 0
+Gives after expected given new = (given ≡ expected) × (new ≡ after)
+
+-- a step that does not fit changes nothing
+abbrev pub IsMisfit : Machine → Answer → Machine → Type 0
+IsMisfit m given new = Gives m answer.Misfit given new
+
+-- Register: the least free number, whose thread has no records, since a free number has none; or that there is no free
+-- number; memory may be refused only where there is one
+abbrev pub IsRegister : Machine → Answer → Machine → Type 0
+IsRegister m (answer.Registered number) new = IsLeastFree m number × (new ≡ with_status m number status.Running)
+IsRegister m answer.Full new = IsFull m × (new ≡ m)
+IsRegister m answer.NoMemory new = (IsFull m → ⊥) × (new ≡ m)
+IsRegister m _ new = ⊥
+
+-- One, All, Filter and Requeue
+abbrev pub IsUnpark : Machine → Op → Answer → Machine → Type 0
+IsUnpark m (One key token) given new =
+    let split : Split Waiter = split_first (m.lists key) in
+    Gives (after_unpark m key split token) (answer.Unpark (result_of split)) given new
+IsUnpark m (All key token) given new =
+    let split : Split Waiter = split_all (m.lists key) in
+    Gives (after_unpark m key split token) (answer.Count (length split.taken)) given new
+IsUnpark m (Filter key decisions token) given new =
+    let split : Split Waiter = split_filter decisions.items (m.lists key) in
+    Gives (after_unpark m key split token) (answer.Unpark (result_of split)) given new
+IsUnpark m (Requeue from to op token) given new =
+    let split : Split Waiter = split_by op (m.lists from) in
+    Gives (after_requeue m from to split token) (answer.Unpark (requeue_result op split)) given new
+
+-- Return, where the thread has this status: one that was taken runs again, with its token; it ends the park of a thread
+-- that was woken
+abbrev pub IsReturn : Machine → ℕ → Status → Answer → Machine → Type 0
+IsReturn m thread (status.Taken token) given new =
+    Gives (with_status m thread status.Running) (answer.Unparked token) given new
+IsReturn m thread _ given new = IsMisfit m given new
+
+-- Resolve, where the thread has this status: a late one leaves its list, and one that was taken does as in Return; it
+-- ends the park of a thread whose deadline has passed, and which may have been unparked before
+abbrev pub IsResolve : Machine → ℕ → Status → Answer → Machine → Type 0
+IsResolve m thread status.Late given new =
+    (key : ℕ) × StandsAt m thread key × Gives (after_timeout m thread key)
+    (answer.TimedOut key (is_last m thread key)) given new
+IsResolve m thread s given new = IsReturn m thread s given new
+
+-- Acquire, of a running thread: it is recorded, or memory is wanting
+abbrev pub IsAcquire : Machine → ℕ → ℕ → Answer → Machine → Type 0
+IsAcquire m thread key answer.Recorded new = new ≡ after_acquire m thread key
+IsAcquire m thread key answer.NoMemory new = new ≡ m
+IsAcquire m thread key _ new = ⊥
+
+-- one step: the state before, the step, its answer and the state after
+abbrev pub IsStep : Machine → Step → Answer → Machine → Type 0
+IsStep m Register given new = IsRegister m given new
+IsStep m (Retire thread) given new =
+    MatchBool (is_running (m.status thread)) (Gives (after_retire m thread) answer.Retired given new)
+    (IsMisfit m given new)
+IsStep m (Enter thread key valid park_token timed) given new =
+    MatchBool (is_running (m.status thread))
+    (MatchBool valid (Gives (after_enter m thread key park_token timed) answer.Entered given new)
+    (Gives m answer.Invalid given new))
+    (IsMisfit m given new)
+IsStep m (Unpark op) given new = IsUnpark m op given new
+IsStep m (Deadline thread) given new =
+    MatchBool (awaits_deadline (m.status thread)) (Gives (with_status m thread status.Late) answer.Late given new)
+    (IsMisfit m given new)
+IsStep m (Resolve thread) given new = IsResolve m thread (m.status thread) given new
+IsStep m (Return thread) given new = IsReturn m thread (m.status thread) given new
+IsStep m (Acquire thread key) given new =
+    MatchBool (is_running (m.status thread)) (IsAcquire m thread key given new) (IsMisfit m given new)
+IsStep m (Release thread key) given new =
+    MatchBool (is_running (m.status thread)) (Gives (after_release m thread key) answer.Released given new)
+    (IsMisfit m given new)
+
+-- a run: a list of steps with an answer each, in which each step begins where the one before ended
+abbrev pub IsRun : Machine → List Step → List Answer → Machine → Type 0
+IsRun m [] [] last = m ≡ last
+IsRun m [] (_ ∷ _) last = ⊥
+IsRun m (_ ∷ _) [] last = ⊥
+IsRun m (step ∷ steps) (given ∷ answers) last = (next : Machine) × IsStep m step given next
+    × IsRun next steps answers last
+
+-- an answer that is the outcome of a park
+abbrev pub is_outcome : Answer → Bool
+is_outcome (answer.TimedOut _ _) = true
+is_outcome (answer.Unparked _) = true
+is_outcome _ = false
+
+-- whether this thread parked in a step
+abbrev pub parks : ℕ → Step → Answer → Bool
+parks number (Enter thread _ _ _ _) answer.Entered = thread == number
+parks number _ _ = false
+
+-- whether a step gave this thread the outcome of its park
+abbrev pub ends_park : ℕ → Step → Answer → Bool
+ends_park number (Resolve thread) given = is_outcome given && thread == number
+ends_park number (Return thread) given = is_outcome given && thread == number
+ends_park number _ given = false
+
+-- the parks of a thread and their outcomes take turns, where it is parked or not before the first step: it parks only
+-- where it is not parked, and has an outcome only where it is
+abbrev pub OutcomesAlternate : Bool → ℕ → List Step → List Answer → Type 0
+OutcomesAlternate parked number [] [] = ⊤
+OutcomesAlternate parked number [] (_ ∷ _) = ⊥
+OutcomesAlternate parked number (_ ∷ _) [] = ⊥
+OutcomesAlternate parked number (step ∷ steps) (given ∷ answers) =
+    MatchBool (parks number step given) ((parked ≡ false) × OutcomesAlternate true number steps answers)
+    (MatchBool (ends_park number step given) ((parked ≡ true) × OutcomesAlternate false number steps answers)
+    (OutcomesAlternate parked number steps answers))

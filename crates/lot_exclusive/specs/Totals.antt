@@ -1,0 +1,31 @@
+-- How many threads unparks took, and how many of them came back.
+use Rattle.std.specs.Prelude.{◌≡◌, ℕ, ◌+◌, List}
+use Rattle.std.specs.List.{count_by, range_with_len, sum_by}
+use Rattle.lot_exclusive.specs.declared.schedule.Answer.{Answer}
+use Rattle.lot_exclusive.specs.declared.schedule.Answer.TheVariants as answer
+use Rattle.lot_exclusive.specs.declared.schedule.Step.{Step}
+use Rattle.lot_exclusive.specs.Machine.{Machine, IsConsistent}
+use Rattle.lot_exclusive.specs.Status.{is_taken}
+use Rattle.lot_exclusive.specs.Steps.{IsRun}
+
+-- how many threads an answer tells of that were unparked
+abbrev pub unparked_by : Answer → ℕ
+unparked_by (answer.Unpark result) = result.unparked_threads
+unparked_by (answer.Count count) = count
+unparked_by _ = 0
+
+-- and that came back, unparked
+abbrev pub returned_by : Answer → ℕ
+returned_by (answer.Unparked token) = 1
+returned_by _ = 0
+
+-- how many threads were taken and have not come back
+abbrev pub taken_threads_of : Machine → ℕ
+taken_threads_of m = count_by (λ number. is_taken (m.status number)) (range_with_len 0 m.max_threads)
+
+-- in every run those that were taken before, and those that its unparks took, are as many as those that come back and
+-- those that are left
+abbrev pub UnparkedThreadsComeBack : Type 0
+UnparkedThreadsComeBack = (m : Machine) (steps : List Step) (answers : List Answer) (last : Machine) → IsConsistent m
+    → IsRun m steps answers last →
+    taken_threads_of m + sum_by unparked_by answers ≡ sum_by returned_by answers + taken_threads_of last

@@ -1,0 +1,286 @@
+//! What an exclusive lot keeps for each thread number, and where the thread's node is.
+
+ghost use Rattle.std.specs.Prelude.{◌≡◌, ◌≢◌, ◌↔◌, true, [], Err, IsTrue, IsOk, IfOk, OnOk, OnErr, map, slice_set};
+ghost use Rattle.std.specs.List.{range_with_len};
+ghost use Rattle.lot_base.specs.Node.{fields};
+ghost use Rattle.lot_exclusive.specs.Lot.{statuses, thread_at, free_thread};
+ghost use Rattle.lot_exclusive.specs.Records.{times_recorded, one_more, one_less};
+ghost use Rattle.lot_exclusive.specs.Status.{is_queued, is_taken};
+ghost use Rattle.lot_exclusive.specs.Private.Committed.{threads_with_key, committed, CanCommit};
+
+use super::Status;
+use crate::records::Records;
+use lot_base::queue::{Node, Queue};
+use lot_base::thread_parker::Slot;
+use lot_base::token::{Misfit, NoMemory, StepError, UnparkToken};
+use std::alloc::Global;
+use std::marker::Model;
+use std::mem;
+
+// What a thread number is doing, with the thread's node while that is with the thread.
+#[derive(Drop)]
+enum State {
+    Free,
+    Running(Box<Node>),
+    Waiting { timed: bool },
+    Late,
+    Taken(UnparkToken),
+}
+
+// What the lot keeps for a thread number. The node of a registered thread is in its state while it
+// runs, in a bucket while it waits, and in its slot from the unpark on. The key is the one that the
+// thread waits on, or waited on last. The records are of what the thread holds.
+#[derive(Drop)]
+pub(super) struct Thread {
+    key: usize,
+    state: State,
+    slot: Slot,
+    records: Records,
+}
+
+impl Model for Thread {
+    ghost use Rattle.lot_exclusive.specs.LotState.{ThreadState};
+
+    ghost Value = { ThreadState };
+
+    ghost use Rattle.lot_exclusive.specs.Private.Thread.{status_of, HasItsNode};
+
+    ghost view = { λ thread. record {
+      number = thread.slot.owner;
+      key = thread.key;
+      status = status_of thread.state;
+      records = thread.records;
+    } };
+
+    ghost invariant = { λ thread. HasItsNode thread.state thread.slot };
+}
+
+impl Thread {
+    fn new(alloc: Global, number: usize) -> Thread
+        ensures { result ≡ free_thread number }
+    {
+        Thread {
+            key: 0,
+            state: State::Free,
+            slot: Slot::new(number),
+            records: Records::new(alloc),
+        }
+    }
+
+    pub(super) fn key(&self) -> usize
+        ensures { result ≡ self.now.key }
+    {
+        self.key
+    }
+
+    fn set_key(&mut self, key: usize)
+        ensures { self.new ≡ record self.old { key = key } }
+    {
+        self.key = key;
+    }
+
+    pub(super) fn status(&self) -> Status
+        ensures { result ≡ self.now.status }
+    {
+        match &self.state {
+            State::Free => Status::Free,
+            State::Running(_) => Status::Running,
+            State::Waiting { timed } => Status::Waiting { timed: *timed },
+            State::Late => Status::Late,
+            State::Taken(token) => Status::Taken(*token),
+        }
+    }
+
+    // Gives the thread of a free number its node, and lets it run.
+    pub(super) fn register(&mut self, node: Box<Node>)
+        requires number { (fields node.value).number ≡ self.old.number }
+        requires free { self.old.status ≡ Status.Free }
+        ensures { self.new ≡ record self.old { status = Status.Running } }
+    {
+        self.state = State::Running(node);
+    }
+
+    // Drops the node and the records of a running thread.
+    pub(super) fn retire(&mut self) -> Result<(), Misfit>
+        ensures fits { IsOk result ↔ (self.old.status ≡ Status.Running) }
+        ensures ok { OnOk result (self.new
+            ≡ record self.old { status = Status.Free; records = [] }) }
+        ensures err { OnErr result (self.new ≡ self.old) }
+    {
+        match mem::replace(&mut self.state, State::Free) {
+            State::Running(_) => {
+                self.records.clear();
+                Ok(())
+            }
+            state => {
+                self.state = state;
+                Err(Misfit)
+            }
+        }
+    }
+
+    // Takes the node of a running thread, which waits on the key from then on.
+    fn start_waiting(&mut self, key: usize, timed: bool) -> Result<Box<Node>, Misfit>
+        ensures fits { IsOk result ↔ (self.old.status ≡ Status.Running) }
+        ensures ok { IfOk result (λ node. ((fields node.value).number ≡ self.old.number)
+            × (self.new ≡ record self.old { key = key; status = Status.Waiting timed })) }
+        ensures err { OnErr result (self.new ≡ self.old) }
+    {
+        match mem::replace(&mut self.state, State::Waiting { timed }) {
+            State::Running(node) => {
+                self.key = key;
+                Ok(node)
+            }
+            state => {
+                self.state = state;
+                Err(Misfit)
+            }
+        }
+    }
+
+    // Gives its node back to a thread that waits in no queue any more.
+    pub(super) fn stop_waiting(&mut self, node: Box<Node>)
+        requires number { (fields node.value).number ≡ self.old.number }
+        requires queued { IsTrue (is_queued self.old.status) }
+        ensures { self.new ≡ record self.old { status = Status.Running } }
+    {
+        self.state = State::Running(node);
+    }
+
+    // Hands a waiting thread its node: this is the commit of an unpark.
+    fn unpark(&mut self, node: Box<Node>)
+        requires number { (fields node.value).number ≡ self.old.number }
+        requires queued { IsTrue (is_queued self.old.status) }
+        ensures { self.new ≡ record self.old {
+          status = Status.Taken
+              (fields node.value).unpark_token;
+        } }
+    {
+        self.state = State::Taken(node.unpark_token);
+        self.slot.put(node);
+    }
+
+    // Lets the deadline of a thread pass that waits with a timeout.
+    pub(super) fn deadline(&mut self) -> Result<(), Misfit>
+        ensures fits { IsOk result ↔ (self.old.status ≡ Status.Waiting true) }
+        ensures ok { OnOk result (self.new ≡ record self.old { status = Status.Late }) }
+        ensures err { OnErr result (self.new ≡ self.old) }
+    {
+        let State::Waiting { timed: true } = self.state else {
+            return Err(Misfit);
+        };
+        self.state = State::Late;
+        Ok(())
+    }
+
+    // How often the key is recorded.
+    pub(super) fn records(&self, key: usize) -> usize
+        ensures { result ≡ times_recorded self.now.records key }
+    {
+        self.records.times(key)
+    }
+
+    // Records the key once more for a running thread.
+    pub(super) fn acquire(&mut self, key: usize) -> Result<(), StepError>
+        ensures fits { result ≢ Err StepError.Misfit ↔ (self.old.status ≡ Status.Running) }
+        ensures kept { self.new ≡ record self.old { records = self.new.records } }
+        ensures ok { OnOk result (times_recorded self.new.records
+            ≡ one_more (times_recorded self.old.records) key) }
+        ensures err { OnErr result (self.new ≡ self.old) }
+    {
+        let State::Running(_) = &self.state else {
+            return Err(StepError::Misfit);
+        };
+        match self.records.acquire(key) {
+            Ok(()) => Ok(()),
+            Err(NoMemory) => Err(StepError::NoMemory),
+        }
+    }
+
+    // Records the key once less for a running thread, if it was recorded.
+    pub(super) fn release(&mut self, key: usize) -> Result<(), Misfit>
+        ensures fits { IsOk result ↔ (self.old.status ≡ Status.Running) }
+        ensures kept { self.new ≡ record self.old { records = self.new.records } }
+        ensures ok { OnOk result (times_recorded self.new.records
+            ≡ one_less (times_recorded self.old.records) key) }
+        ensures err { OnErr result (self.new ≡ self.old) }
+    {
+        let State::Running(_) = &self.state else {
+            return Err(Misfit);
+        };
+        self.records.release(key);
+        Ok(())
+    }
+
+    pub(super) fn give_back(&mut self) -> Result<UnparkToken, Misfit>
+        ensures fits { IsOk result ↔ IsTrue (is_taken self.old.status) }
+        ensures ok { IfOk result (λ token. (self.old.status ≡ Status.Taken token)
+            × (self.new ≡ record self.old { status = Status.Running })) }
+        ensures err { OnErr result (self.new ≡ self.old) }
+    {
+        let State::Taken(token) = self.state else {
+            return Err(Misfit);
+        };
+        // The node of a taken thread is in its slot: the type keeps that.
+        let node = self.slot.take().unwrap();
+        self.state = State::Running(node);
+        Ok(token)
+    }
+}
+
+// So many numbers, all of them free.
+pub(super) fn free_threads(alloc: Global, max_threads: usize) -> Result<Vec<Thread>, NoMemory>
+    ensures { IfOk result (λ threads. threads.items
+        ≡ map free_thread (range_with_len 0 max_threads)) }
+{
+    let mut threads = Vec::with_capacity(alloc, max_threads)?;
+    for number in 0..max_threads {
+        threads.push(Thread::new(alloc, number))?;
+    }
+    Ok(threads)
+}
+
+// Takes the node of a running thread, which waits on the key from then on.
+pub(super) fn start_waiting(
+    threads: &mut Vec<Thread>,
+    number: usize,
+    key: usize,
+    timed: bool,
+) -> Result<Box<Node>, Misfit>
+    requires { (thread_at threads.old.items number).number ≡ number }
+    ensures fits { IsOk result ↔ (statuses threads.old.items number ≡ Status.Running) }
+    ensures node { IfOk result (λ node. (fields node.value).number ≡ number) }
+    ensures ok { OnOk result (threads.new.items
+        ≡ slice_set threads.old.items number (record (thread_at threads.old.items number) {
+          key = key;
+          status = Status.Waiting timed;
+        })) }
+    ensures err { OnErr result (threads.new.items ≡ threads.old.items) }
+{
+    let Some(thread) = threads.get_mut(number) else {
+        return Err(Misfit);
+    };
+    let node = thread.start_waiting(key, timed)?;
+    Ok(node)
+}
+
+// Lets a waiting thread know that it waits on another key.
+pub(super) fn set_key(threads: &mut Vec<Thread>, number: usize, key: usize)
+    ensures { threads.new.items ≡ threads_with_key threads.old.items number key }
+{
+    if let Some(thread) = threads.get_mut(number) {
+        thread.set_key(key);
+    }
+}
+
+// Hands each of the nodes to its thread.
+pub(super) fn commit(threads: &mut Vec<Thread>, taken: Queue)
+    requires { CanCommit taken threads.old.items }
+    ensures { threads.new.items ≡ committed taken threads.old.items }
+{
+    let mut rest = taken;
+    while let Some(node) = rest.pop_front() {
+        let number = node.number;
+        threads[number].unpark(node);
+    }
+}

@@ -1,0 +1,41 @@
+use Rattle.std.proofs.Common.{◌≡◌, refl, slice_get, slice_set, Some}
+use Rattle.std.proofs.lemmas.Option.{slice_get_read}
+use Rattle.lot_interleaved.specs.declared.interleaved.FineAnswer.TheVariants as fine
+use Rattle.lot_interleaved.specs.declared.interleaved.FineStep.TheVariants.{End}
+use Rattle.lot_exclusive.specs.declared.schedule.Answer.TheVariants.{Misfit}
+use Rattle.lot_interleaved.specs.FineLot.{fine_state}
+use Rattle.lot_interleaved.proofs.FineCallerLemmas.{DoneStep-callers, DoneStep-kept_caller, End-done, End-misfit}
+use Rattle.lot_interleaved.proofs.FineLotLemmas.{fine_lot_of}
+use Rattle.lot_interleaved.proofs.FineStateLemmas.{DoneStep, step_of}
+use Rattle.lot_interleaved.proofs.interleaved.FineLot.end.Goals as goal
+use Rattle.lot_interleaved.proofs.interleaved.FineLot.end.Goals.{In_default-end}
+
+at : (c : In_default-end) → slice_get c.self.inside.callers.items c.args.caller ≡ Some c.in-Some.unparking.now
+at c = slice_get_read _ _ _ _ refl c.in-Some.ensures.item.3.0 (c.in-Some.ensures.item.3.1 _)
+
+step : (c : In_default-end) → DoneStep (fine_lot_of c.self.inside) (record (fine_lot_of c.self.inside) {
+  callers = slice_set c.self.inside.callers.items c.args.caller c.end.new.self;
+}) (End c.args.caller) fine.Ended
+step c =
+    let (section, opened, empty, set) = c.in_default-end.ensures.ok in
+    DoneStep-callers (fine_lot_of c.self.inside) (slice_set c.self.inside.callers.items c.args.caller c.end.new.self)
+    (End c.args.caller) fine.Ended c.self.invariant.0
+    (End-done (fine_state (fine_lot_of c.self.inside)) c.args.caller c.in-Some.unparking.now (at c) section opened
+    empty c.end.new.self set)
+
+pub invariant_of-self-2 : goal.invariant_of-self-2
+invariant_of-self-2 c = ((step c).is_lot, c.self.invariant.1)
+
+pub returns : goal.returns
+returns c = step_of c.self.view_is (step c)
+
+pub returns-in-Err : goal.returns-in-Err
+returns-in-Err c =
+    let lot = fine_lot_of c.self.inside in
+    let now = c.in-Some.unparking.now in
+    let at : slice_get lot.callers c.args.caller ≡ Some now =
+    slice_get_read _ _ _ _ refl c.in-Some.ensures.item.3.0 (c.in-Some.ensures.item.3.1 _) in
+    step_of c.self.view_is
+    (DoneStep-kept_caller lot c.args.caller now c.end.new.self at c.in-Err.ensures.err.0
+    (End c.args.caller) (fine.Answer Misfit) c.self.invariant.0
+    (End-misfit (fine_state lot) c.args.caller now at c.in-Err.ensures.err.1))

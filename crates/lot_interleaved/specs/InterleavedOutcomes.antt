@@ -1,0 +1,40 @@
+-- What interleaved answers tell of parks: their outcomes, and how many threads were unparked and came back.
+use Rattle.std.specs.Prelude.{◌≡◌, ℕ, ◌==◌, ◌&&◌, Bool, true, false, MatchBool, ⊤, List, ◌∷◌, []}
+use Rattle.lot_exclusive.specs.declared.schedule.Answer.TheVariants as answer
+use Rattle.lot_interleaved.specs.declared.interleaved.FineAnswer.{FineAnswer}
+use Rattle.lot_interleaved.specs.declared.interleaved.FineAnswer.TheVariants as fine
+use Rattle.lot_interleaved.specs.declared.interleaved.FineStep.{FineStep}
+use Rattle.lot_interleaved.specs.declared.interleaved.FineStep.TheVariants.{Look, Enter, Return}
+use Rattle.lot_exclusive.specs.Steps.{is_outcome}
+use Rattle.lot_exclusive.specs.Totals.{unparked_by, returned_by}
+
+-- how many threads an answer tells of that were unparked
+abbrev pub unparked_in : FineAnswer → ℕ
+unparked_in (fine.Answer given) = unparked_by given
+unparked_in _ = 0
+
+-- and that came back, unparked
+abbrev pub returned_in : FineAnswer → ℕ
+returned_in (fine.Answer given) = returned_by given
+returned_in _ = 0
+
+-- whether this thread parked in a step
+abbrev pub parks_in : ℕ → FineStep → FineAnswer → Bool
+parks_in number (Enter thread _ _ _ _) (fine.Answer answer.Entered) = thread == number
+parks_in number _ _ = false
+
+-- whether a step gave this thread the outcome of its park
+abbrev pub ends_park_in : ℕ → FineStep → FineAnswer → Bool
+ends_park_in number (Look thread) (fine.Answer given) = is_outcome given && thread == number
+ends_park_in number (Return thread) (fine.Answer given) = is_outcome given && thread == number
+ends_park_in number _ _ = false
+
+-- the parks of a thread and their outcomes take turns, as in `OutcomesAlternate`
+abbrev pub FineOutcomesAlternate : Bool → ℕ → List FineStep → List FineAnswer → Type 0
+FineOutcomesAlternate parked number [] [] = ⊤
+FineOutcomesAlternate parked number [] (_ ∷ _) = ⊥
+FineOutcomesAlternate parked number (_ ∷ _) [] = ⊥
+FineOutcomesAlternate parked number (step ∷ steps) (given ∷ answers) =
+    MatchBool (parks_in number step given) ((parked ≡ false) × FineOutcomesAlternate true number steps answers)
+    (MatchBool (ends_park_in number step given) ((parked ≡ true) × FineOutcomesAlternate false number steps answers)
+    (FineOutcomesAlternate parked number steps answers))

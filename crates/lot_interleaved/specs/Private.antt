@@ -1,0 +1,4 @@
+pub mod FineCaller
+pub mod FineSection
+pub mod FineThread
+pub mod FineTold

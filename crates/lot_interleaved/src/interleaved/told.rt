@@ -1,0 +1,162 @@
+//! The sequential steps to which an interleaved run amounts.
+
+ghost use Rattle.std.specs.Prelude.{◌≡◌, ◌+◌, ◌<◌, ◌≤◌, ◌++◌, ℕ, IfOk, OnErr, length, vec_capacity, vec_len, if◌then◌else◌};
+ghost use Rattle.std.specs.Option.{option_to_list};
+ghost use Rattle.lot_interleaved.specs.Copies.{AreCopies, IsCopyOfOp};
+ghost use Rattle.lot_interleaved.specs.Private.FineTold.{AreCopiesIn, IsCopyIn, is_time_out, told, told_by, told_late};
+
+use super::{FineAnswer, FineStep};
+use lot_base::token::NoMemory;
+use lot_exclusive::schedule::{Answer, Op, Step};
+use std::alloc::Global;
+use std::collections::VecDeque;
+
+// For each step a copy of its operation, if it begins a section.
+pub(super) fn copied_ops(
+    alloc: Global,
+    steps: &[FineStep],
+) -> Result<VecDeque<Option<Op>>, NoMemory>
+    ensures copies { IfOk result (λ copies. AreCopiesIn steps.now copies.items) }
+    ensures refused { OnErr result (0 < length steps.now) }
+{
+    let mut copies = VecDeque::with_capacity(alloc, steps.len())?;
+    for step in steps {
+        copies.push_back(copied_op(step)?)?;
+    }
+    Ok(copies)
+}
+
+fn copied_op(step: &FineStep) -> Result<Option<Op>, NoMemory>
+    ensures { IfOk result (λ copy. IsCopyIn step.now copy) }
+{
+    match step {
+        FineStep::Begin { op, .. } => Ok(Some(copy_of(op)?)),
+        _ => Ok(None),
+    }
+}
+
+fn copy_of(op: &Op) -> Result<Op, NoMemory>
+    ensures { IfOk result (λ copy. IsCopyOfOp op.now copy) }
+{
+    match op {
+        Op::One { key, token } => Ok(Op::One {
+            key: *key,
+            token: *token,
+        }),
+        Op::All { key, token } => Ok(Op::All {
+            key: *key,
+            token: *token,
+        }),
+        Op::Filter {
+            key,
+            decisions,
+            token,
+        } => Ok(Op::Filter {
+            key: *key,
+            decisions: decisions.clone()?,
+            token: *token,
+        }),
+        Op::Requeue {
+            from,
+            to,
+            op,
+            token,
+        } => Ok(Op::Requeue {
+            from: *from,
+            to: *to,
+            op: *op,
+            token: *token,
+        }),
+    }
+}
+
+// Appends the step, if there is one, to steps that have room for it.
+pub(super) fn push_if_any(steps: &mut Vec<Step>, step: Option<Step>)
+    requires { vec_len steps.old < vec_capacity steps.old }
+    ensures items { steps.new.items ≡ steps.old.items ++ option_to_list step }
+    ensures len { vec_len steps.new ≤ vec_len steps.old + 1 }
+    ensures capacity { vec_capacity steps.new ≡ vec_capacity steps.old }
+{
+    if let Some(step) = step {
+        steps.push_reserved(step);
+    }
+}
+
+// The sequential step to which a step with this answer amounts; `taken` says whether an open
+// section has the thread of a deadline.
+pub(super) fn tell(step: &FineStep, op: Option<Op>, given: FineAnswer, taken: bool) -> Option<Step>
+    requires { IsCopyIn step.now op }
+    ensures { AreCopies (told step.now given taken) (option_to_list result) }
+{
+    match given {
+        FineAnswer::Answer(answer) => tell_answered(step, op, answer),
+        FineAnswer::Late => tell_late(step, taken),
+        FineAnswer::Committed(_)
+        | FineAnswer::Ended
+        | FineAnswer::Woken
+        | FineAnswer::Read(_)
+        | FineAnswer::Retry
+        | FineAnswer::Blocked => None,
+    }
+}
+
+fn tell_late(step: &FineStep, taken: bool) -> Option<Step>
+    ensures { AreCopies (told_late step.now taken) (option_to_list result) }
+{
+    match step {
+        FineStep::Deadline { thread } if !taken => Some(Step::Deadline { thread: *thread }),
+        _ => None,
+    }
+}
+
+fn tell_answered(step: &FineStep, op: Option<Op>, given: Answer) -> Option<Step>
+    requires { IsCopyIn step.now op }
+    ensures { AreCopies (told_by step.now given) (option_to_list result) }
+{
+    if let Answer::Misfit = given {
+        return None;
+    }
+    match step {
+        FineStep::Begin { .. } => Some(Step::Unpark(op?)),
+        FineStep::Look { thread } => Some(outcome(*thread, given)),
+        FineStep::Enter {
+            thread,
+            key,
+            valid,
+            park_token,
+            timed,
+        } => Some(Step::Enter {
+            thread: *thread,
+            key: *key,
+            valid: *valid,
+            park_token: *park_token,
+            timed: *timed,
+        }),
+        FineStep::Return { thread } => Some(Step::Return { thread: *thread }),
+        FineStep::Register => Some(Step::Register),
+        FineStep::Retire { thread } => Some(Step::Retire { thread: *thread }),
+        FineStep::Acquire { thread, key } => Some(Step::Acquire {
+            thread: *thread,
+            key: *key,
+        }),
+        FineStep::Release { thread, key } => Some(Step::Release {
+            thread: *thread,
+            key: *key,
+        }),
+        FineStep::End { .. }
+        | FineStep::Wake { .. }
+        | FineStep::Deadline { .. }
+        | FineStep::ReadKey { .. }
+        | FineStep::Commit { .. } => None,
+    }
+}
+
+// The step by which a park ends that a look ended so.
+fn outcome(thread: usize, given: Answer) -> Step
+    ensures { result ≡ (if is_time_out given then Step.Resolve thread else Step.Return thread) }
+{
+    match given {
+        Answer::TimedOut { .. } => Step::Resolve { thread },
+        _ => Step::Return { thread },
+    }
+}

@@ -1,7 +1,0 @@
-use Rattle.parking_lot_core.proofs.interleaved.FineLot.apply.Goals as goal
-
-pub returns-in-Begin : goal.returns-in-Begin
-returns-in-Begin c = rw c.in-Begin.is c.begin.ensures
-
-pub returns-in-Release : goal.returns-in-Release
-returns-in-Release c = rw c.in-Release.is c.release.ensures

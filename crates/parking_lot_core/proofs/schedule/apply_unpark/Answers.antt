@@ -1,4 +1,0 @@
-use Rattle.parking_lot_core.proofs.schedule.apply_unpark.Goals as goal
-
-pub returns-in-Requeue : goal.returns-in-Requeue
-returns-in-Requeue c = rw c.in-Requeue.is c.apply_requeue.ensures

@@ -1,0 +1,124 @@
+//! What a threaded lot keeps for each thread number, the commit of an unpark, and the wake-up after
+//! it.
+
+ghost use Rattle.std.specs.Prelude.{◌≡◌, ◌<◌, ◌≤◌, [], ◌∷◌, IfOk, length, map, min, take};
+ghost use Rattle.std.specs.List.{range_with_len};
+ghost use Rattle.lot_base.specs.Node.{fields};
+ghost use Rattle.parking_lot_core.specs.Private.Handles.{handle_numbers, kept_handles, thread_numbers};
+
+use super::ParkingLot;
+use super::handles::{HANDLES, Handles, Room};
+use lot_base::queue::{Node, Queue};
+use lot_base::thread_parker::{ThreadParkerT, UnparkHandleT};
+use lot_base::token::NoMemory;
+use std::alloc::Global;
+use std::sync::Wait;
+use std::sync::atomic::{AtomicUsize, Ordering};
+
+// What the lot keeps for one thread number from the first: its parker, and the key of the queue
+// that its thread entered last, or was moved to.
+#[derive(Drop)]
+pub(super) struct PerThread<P: ThreadParkerT> {
+    parker: P,
+    key: AtomicUsize,
+}
+
+impl<P: ThreadParkerT> ParkingLot<P> {
+    // The parker of the thread of this number.
+    pub(super) fn parker(&self, number: usize) -> &P
+        requires { number < self.now.max_threads }
+        ensures { P.owner result.now ≡ number }
+    {
+        &self.threads[number].parker
+    }
+
+    // Wakes the thread whose unpark was committed.
+    pub(super) fn wake(&self, handle: P::UnparkHandle) {
+        let number = handle.number();
+        if number < self.threads.len() {
+            handle.unpark(self.parker(number));
+        }
+    }
+
+    // Wakes the threads whose unparks were committed.
+    pub(super) fn wake_all(&self, mut handles: Handles<P::UnparkHandle>) {
+        for _ in 0..HANDLES {
+            let Some(handle) = handles.take() else {
+                return;
+            };
+            self.wake(handle);
+        }
+    }
+
+    // The key of the queue that the thread of this number entered last, or was moved to.
+    pub(super) fn key(&self, number: usize) -> usize
+        requires { number < self.now.max_threads }
+    {
+        self.threads[number].key.load(Ordering::SeqCst)
+    }
+
+    // Notes in which queue the thread of this number is. A number that is no thread's of this lot
+    // is skipped.
+    pub(super) fn set_key(&self, number: usize, key: usize) {
+        if let Some(thread) = self.threads.get(number) {
+            thread.key.store(key, Ordering::SeqCst);
+        }
+    }
+
+    // Hands the node to its thread: the commit of an unpark. A node whose number is no thread's of
+    // this lot is dropped.
+    fn hand_over<R: Wait>(&self, rt: &R, node: Box<Node>) -> Option<P::UnparkHandle>
+        ensures { handle_numbers P.UnparkHandle.number result
+            ≡ thread_numbers self.now.max_threads (fields node.value ∷ []) }
+    {
+        let number = node.number;
+        if number >= self.threads.len() {
+            return None;
+        }
+        Some(self.parker(number).unpark_lock(rt, node))
+    }
+
+    // Commits the unpark of the node that was taken, if there is one.
+    pub(super) fn commit_one<R: Wait>(&self, rt: &R, mut taken: Queue) -> Option<P::UnparkHandle>
+        ensures { handle_numbers P.UnparkHandle.number result
+            ≡ thread_numbers self.now.max_threads (take 1 taken) }
+    {
+        let node = taken.pop_front()?;
+        self.hand_over(rt, node)
+    }
+
+    // Commits the unparks of all nodes that were taken, in order. It wakes those for whose handles
+    // there is no room.
+    pub(super) fn commit<R: Wait>(&self, rt: &R, mut taken: Queue) -> Handles<P::UnparkHandle>
+        ensures { min HANDLES (length (thread_numbers self.now.max_threads taken))
+            ≤ kept_handles result }
+    {
+        let mut handles: Handles<P::UnparkHandle> = Room::empty();
+        while let Some(node) = taken.pop_front() {
+            if let Some(handle) = self.hand_over(rt, node)
+                && let Some(handle) = handles.put(handle)
+            {
+                self.wake(handle);
+            }
+        }
+        handles
+    }
+}
+
+// A parker and a key word for each number below `max_threads`.
+pub(super) fn for_each_number<P: ThreadParkerT>(
+    alloc: Global,
+    max_threads: usize,
+) -> Result<Vec<PerThread<P>>, NoMemory>
+    ensures { IfOk result (λ threads. map (λ thread. P.owner thread.parker) threads.items
+        ≡ range_with_len 0 max_threads) }
+{
+    let mut threads = Vec::with_capacity(alloc, max_threads)?;
+    for number in 0..max_threads {
+        threads.push(PerThread {
+            parker: P::new(number)?,
+            key: AtomicUsize::new(0),
+        })?;
+    }
+    Ok(threads)
+}
