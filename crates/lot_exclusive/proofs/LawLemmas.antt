@@ -18,8 +18,9 @@ use Rattle.lot_exclusive.specs.Machine.{Machine, Waiter, IsConsistent, times_in,
 use Rattle.lot_exclusive.specs.Machine.{after_acquire, after_release}
 use Rattle.lot_exclusive.specs.Records.{one_more, one_less}
 use Rattle.lot_exclusive.specs.Status.{is_running, awaits_deadline, is_parked}
-use Rattle.lot_exclusive.specs.Steps.{Gives, IsRegister, IsUnpark, IsReturn, IsResolve, IsAcquire, IsStep, IsRun}
-use Rattle.lot_exclusive.specs.Steps.{parks, ends_park, OutcomesAlternate}
+use Rattle.lot_exclusive.specs.Steps.{Gives, IsRegister, IsUnpark, IsReturn, IsResolve, IsAcquire, IsStep}
+use Rattle.lot_exclusive.specs.Steps.{parks, ends_park}
+use Rattle.lot_exclusive.specs.Run.{IsRun, OutcomesAlternate}
 use Rattle.lot_exclusive.specs.Laws.{StepAndAnswerFixTheState, AnswersFixTheRun, ParksAndOutcomesAlternate}
 use Rattle.lot_exclusive.specs.Laws.{ReleaseUndoesAcquire}
 use Rattle.lot_base.proofs.ValueLemmas.{with_value-same, with_value-other}
@@ -99,7 +100,7 @@ IsRun-fixes m [] (_ ∷ _) last other none _ = absurd none
 IsRun-fixes m (_ ∷ _) [] last other none _ = absurd none
 IsRun-fixes m (step ∷ steps) (given ∷ answers) last other (next, does, ran) (other_next, other_does, other_ran) =
     let same : next ≡ other_next = IsStep-fixes m step given next other_next does other_does in
-    IsRun-fixes other_next steps answers last other (subst (λ n. IsRun n steps answers last) same ran) other_ran
+    IsRun-fixes other_next steps answers last other (subst (λ n. IsRun IsStep n steps answers last) same ran) other_ran
 
 -- one more of a key, and then one less
 one_less-one_more : (times : ℕ → ℕ) (key : ℕ) → one_less (one_more times key) key ≡ times
@@ -297,6 +298,6 @@ OutcomesAlternate-run m (_ ∷ _) [] last consistent ran number = ran
 OutcomesAlternate-run m (step ∷ steps) (given ∷ answers) last consistent (next, does, ran) number =
     from_before (parks number step given) (ends_park number step given) (is_parked (m.status number))
     (is_parked (next.status number))
-    (λ parked. OutcomesAlternate parked number steps answers)
+    (λ parked. OutcomesAlternate (parks number) (ends_park number) parked steps answers)
     (IsStep-turn m number given next step consistent does)
     (OutcomesAlternate-run next steps answers last (IsConsistent-step m step given next consistent does) ran number)

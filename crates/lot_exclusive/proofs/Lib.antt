@@ -19,6 +19,7 @@ pub mod KeyLemmas
 pub mod RequeuedLemmas
 pub mod RequeueRowLemmas
 pub mod RequeueLotLemmas
+pub mod RunLemmas
 pub mod ScheduleLemmas
 pub mod StepLemmas
 pub mod LawLemmas

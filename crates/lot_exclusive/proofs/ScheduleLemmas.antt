@@ -10,14 +10,16 @@ use Rattle.lot_base.specs.declared.token.ParkToken.{ParkToken}
 use Rattle.lot_base.proofs.FilterLemmas.{unpark≢stop, skip≢stop, IsFiltered-always_unpark}
 use Rattle.lot_base.proofs.LawLemmas.{split_filter-unpark_each}
 use Rattle.lot_exclusive.specs.Private.Decisions.{AnswersNext}
-use Rattle.lot_exclusive.specs.Machine.{Machine, Waiter, IsConsistent, threads_of}
+use Rattle.lot_exclusive.specs.Machine.{Waiter, IsConsistent, threads_of}
 use Rattle.lot_exclusive.specs.Lot.{waiter_park_tokens}
 use Rattle.lot_exclusive.specs.Size.{threads_after, IsSizeAfter, IsSizeAfterRun}
 use Rattle.lot_exclusive.specs.LotState.{LotState}
 use Rattle.lot_exclusive.specs.Lot.{machine}
 use Rattle.lot_exclusive.proofs.ThreadCountLemmas.{threads_of-step}
 use Rattle.lot_exclusive.proofs.StepLemmas.{IsConsistent-step}
-use Rattle.lot_exclusive.specs.Steps.{IsStep, IsRun}
+use Rattle.lot_exclusive.specs.Run.{IsRun}
+use Rattle.lot_exclusive.specs.Steps.{IsStep}
+use Rattle.lot_exclusive.proofs.RunLemmas.{IsRun-push}
 use Rattle.lot_exclusive.specs.declared.schedule.Answer.{Answer}
 use Rattle.lot_exclusive.specs.declared.schedule.Step.{Step}
 
@@ -63,17 +65,6 @@ module _ {A F : Type 0} (park_token : A → ParkToken) (calls : Mut F (ParkToken
           (λ other. alike other ∙ ap (λ decisions. split_filter decisions waiters) left)
           ∙ ap (λ d. split_filter (d ∷ decisions) (waiter ∷ waiters)) same
 
--- a run, and one step more
-pub IsRun-push : (m : Machine) (steps : List Step) (answers : List Answer) (now last : Machine) (step : Step)
-    (given : Answer) → IsRun m steps answers now → IsStep now step given last
-    → IsRun m (steps ++ step ∷ []) (answers ++ given ∷ []) last
-IsRun-push m [] [] now last step given same next =
-    (last, subst (λ n. IsStep n step given last) (sym same) next, refl)
-IsRun-push m [] (_ ∷ _) now last step given ran next = absurd ran
-IsRun-push m (_ ∷ _) [] now last step given ran next = absurd ran
-IsRun-push m (first ∷ steps) (answer ∷ answers) now last step given (after, does, rest) next =
-    (after, does, IsRun-push after steps answers now last step given rest next)
-
 -- how many threads are registered after steps with these answers
 abbrev threads_after_all : ℕ → List Answer → ℕ
 threads_after_all threads [] = threads
@@ -97,7 +88,7 @@ IsSizeAfterRun-push threads (first ∷ answers) old now new given (size, changes
 
 -- what a list of steps did to a lot
 pub record HasRun (before : LotState) (steps : List Step) (answers : List Answer) (now : LotState) : Type 0 where
-  pub run : IsRun (machine before) steps answers (machine now)
+  pub run : IsRun IsStep (machine before) steps answers (machine now)
   pub size : IsSizeAfterRun (threads_of (machine before)) answers (length before.buckets) (length now.buckets)
   pub threads : threads_of (machine now) ≡ threads_after_all (threads_of (machine before)) answers
   pub consistent : IsConsistent (machine now)
@@ -107,7 +98,7 @@ pub HasRun-push : (before : LotState) (steps : List Step) (answers : List Answer
     → IsSizeAfter given (threads_of (machine next)) (length now.buckets) (length next.buckets)
     → HasRun before (steps ++ step ∷ []) (answers ++ given ∷ []) next
 HasRun-push before steps answers now next step given ran does changes = record {
-  run = IsRun-push (machine before) steps answers (machine now) (machine next) step given ran.run does;
+  run = IsRun-push IsStep (machine before) steps answers (machine now) (machine next) step given ran.run does;
   size = IsSizeAfterRun-push (threads_of (machine before)) answers (length before.buckets) (length now.buckets)
       (length next.buckets) given ran.size
       (subst (λ threads. IsSizeAfter given threads (length now.buckets) (length next.buckets)) counted changes);

@@ -11,7 +11,8 @@ use Rattle.lot_exclusive.specs.declared.schedule.Step.TheVariants.{Register, Acq
 use Rattle.lot_exclusive.specs.Status.{is_parked}
 use Rattle.lot_exclusive.specs.Machine.{Machine, IsConsistent, IsFull, new_machine, threads_of, after_requeue}
 use Rattle.lot_exclusive.specs.Size.{threads_after}
-use Rattle.lot_exclusive.specs.Steps.{IsStep, IsRun, OutcomesAlternate}
+use Rattle.lot_exclusive.specs.Run.{IsRun, OutcomesAlternate}
+use Rattle.lot_exclusive.specs.Steps.{IsStep, parks, ends_park}
 
 -- from one machine, one step with one answer leads to one machine
 abbrev pub StepAndAnswerFixTheState : Type 0
@@ -21,7 +22,7 @@ StepAndAnswerFixTheState = (m : Machine) (step : Step) (given : Answer) (new oth
 -- and so does one list of steps with one list of answers
 abbrev pub AnswersFixTheRun : Type 0
 AnswersFixTheRun = (m : Machine) (steps : List Step) (answers : List Answer) (last other : Machine)
-    → IsRun m steps answers last → IsRun m steps answers other → last ≡ other
+    → IsRun IsStep m steps answers last → IsRun IsStep m steps answers other → last ≡ other
 
 -- every step of a consistent machine has an answer other than `NoMemory`
 abbrev pub EachStepHasAnAnswer : Type 0
@@ -75,5 +76,6 @@ AnswersCountThreads = (m : Machine) (step : Step) (given : Answer) (new : Machin
 -- in every run each thread's parks and their outcomes take turns, from what its status says at first
 abbrev pub ParksAndOutcomesAlternate : Type 0
 ParksAndOutcomesAlternate = (m : Machine) (steps : List Step) (answers : List Answer) (last : Machine) → IsConsistent m
-    → IsRun m steps answers last →
-    (number : ℕ) → OutcomesAlternate (is_parked (m.status number)) number steps answers
+    → IsRun IsStep m steps answers last →
+    (number : ℕ) →
+    OutcomesAlternate (parks number) (ends_park number) (is_parked (m.status number)) steps answers

@@ -6,6 +6,7 @@ pub mod Status
 pub mod Records
 pub mod Machine
 pub mod Steps
+pub mod Run
 pub mod Size
 -- Then which machine a lot means, and how its buckets represent that, after `Use` of src/table.rt.
 pub mod LotState

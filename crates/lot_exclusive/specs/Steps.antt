@@ -1,6 +1,6 @@
--- The steps of the machine, its runs, and that parks and outcomes alternate. `status.` and `answer.` stand before the
+-- The steps of the machine, and which of them park a thread and end its park. `status.` and `answer.` stand before the
 -- variants of `Status` and `Answer`.
-use Rattle.std.specs.Prelude.{◌≡◌, ℕ, ◌==◌, Bool, true, false, ◌&&◌, MatchBool, ⊤, List, ◌∷◌, length, []}
+use Rattle.std.specs.Prelude.{◌≡◌, ℕ, ◌==◌, Bool, true, false, ◌&&◌, MatchBool, length}
 use Rattle.lot_base.specs.Waiting.{Split, split_first, split_all, split_filter, split_by, result_of, requeue_result}
 use Rattle.lot_exclusive.specs.declared.lot.Status.{Status}
 use Rattle.lot_exclusive.specs.declared.lot.Status.TheVariants as status
@@ -91,14 +91,6 @@ IsStep m (Release thread key) given new =
     MatchBool (is_running (m.status thread)) (Gives (after_release m thread key) answer.Released given new)
     (IsMisfit m given new)
 
--- a run: a list of steps with an answer each, in which each step begins where the one before ended
-abbrev pub IsRun : Machine → List Step → List Answer → Machine → Type 0
-IsRun m [] [] last = m ≡ last
-IsRun m [] (_ ∷ _) last = ⊥
-IsRun m (_ ∷ _) [] last = ⊥
-IsRun m (step ∷ steps) (given ∷ answers) last = (next : Machine) × IsStep m step given next
-    × IsRun next steps answers last
-
 -- an answer that is the outcome of a park
 abbrev pub is_outcome : Answer → Bool
 is_outcome (answer.TimedOut _ _) = true
@@ -115,14 +107,3 @@ abbrev pub ends_park : ℕ → Step → Answer → Bool
 ends_park number (Resolve thread) given = is_outcome given && thread == number
 ends_park number (Return thread) given = is_outcome given && thread == number
 ends_park number _ given = false
-
--- the parks of a thread and their outcomes take turns, where it is parked or not before the first step: it parks only
--- where it is not parked, and has an outcome only where it is
-abbrev pub OutcomesAlternate : Bool → ℕ → List Step → List Answer → Type 0
-OutcomesAlternate parked number [] [] = ⊤
-OutcomesAlternate parked number [] (_ ∷ _) = ⊥
-OutcomesAlternate parked number (_ ∷ _) [] = ⊥
-OutcomesAlternate parked number (step ∷ steps) (given ∷ answers) =
-    MatchBool (parks number step given) ((parked ≡ false) × OutcomesAlternate true number steps answers)
-    (MatchBool (ends_park number step given) ((parked ≡ true) × OutcomesAlternate false number steps answers)
-    (OutcomesAlternate parked number steps answers))

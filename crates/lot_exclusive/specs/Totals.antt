@@ -6,7 +6,8 @@ use Rattle.lot_exclusive.specs.declared.schedule.Answer.TheVariants as answer
 use Rattle.lot_exclusive.specs.declared.schedule.Step.{Step}
 use Rattle.lot_exclusive.specs.Machine.{Machine, IsConsistent}
 use Rattle.lot_exclusive.specs.Status.{is_taken}
-use Rattle.lot_exclusive.specs.Steps.{IsRun}
+use Rattle.lot_exclusive.specs.Run.{IsRun}
+use Rattle.lot_exclusive.specs.Steps.{IsStep}
 
 -- how many threads an answer tells of that were unparked
 abbrev pub unparked_by : Answer → ℕ
@@ -27,5 +28,5 @@ taken_threads_of m = count_by (λ number. is_taken (m.status number)) (range_wit
 -- those that are left
 abbrev pub UnparkedThreadsComeBack : Type 0
 UnparkedThreadsComeBack = (m : Machine) (steps : List Step) (answers : List Answer) (last : Machine) → IsConsistent m
-    → IsRun m steps answers last →
+    → IsRun IsStep m steps answers last →
     taken_threads_of m + sum_by unparked_by answers ≡ sum_by returned_by answers + taken_threads_of last

@@ -4,9 +4,10 @@ ghost use Rattle.std.specs.Prelude.{◌≡◌, ℕ, ◌+◌, ◌<◌, ◌++◌, 
 ghost use Rattle.lot_exclusive.specs.declared.schedule.Answer.{Answer};
 ghost use Rattle.lot_exclusive.specs.Lot.{machine};
 ghost use Rattle.lot_exclusive.specs.Machine.{threads_of};
+ghost use Rattle.lot_exclusive.specs.Run.{IsRun, OutcomesAlternate};
 ghost use Rattle.lot_exclusive.specs.Size.{IsSizeAfterRun};
 ghost use Rattle.lot_exclusive.specs.Status.{is_parked};
-ghost use Rattle.lot_exclusive.specs.Steps.{IsRun, OutcomesAlternate};
+ghost use Rattle.lot_exclusive.specs.Steps.{IsStep, ends_park, parks};
 
 mod apply;
 
@@ -195,9 +196,9 @@ pub fn run(lot: &mut Lot, steps: &[Step], answers: &mut Vec<Answer>) -> Result<(
     ensures ran { OnOk result (record {
       given : List Answer;
       appended : answers.new.items ≡ answers.old.items ++ given;
-      run : IsRun (machine lot.old) steps.now given (machine lot.new);
-      outcomes : (number : ℕ) → OutcomesAlternate
-          (is_parked ((machine lot.old).status number)) number steps.now given;
+      run : IsRun IsStep (machine lot.old) steps.now given (machine lot.new);
+      outcomes : (number : ℕ) → OutcomesAlternate (parks number)
+          (ends_park number) (is_parked ((machine lot.old).status number)) steps.now given;
       size : IsSizeAfterRun (threads_of (machine lot.old)) given (length lot.old.buckets)
           (length lot.new.buckets);
     }) }

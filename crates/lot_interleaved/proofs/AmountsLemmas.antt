@@ -1,42 +1,25 @@
 -- What a step of an interleaved lot amounts to: of threads that are taken, of nothing, of a thread that reads its key.
-use Rattle.std.proofs.Common.{◌≡◌, ◌≢◌, ℕ, ◌+◌, ◌≤◌, ◌<◌, Bool, true, false, List, [], ◌∷◌, ◌++◌, map}
-use Rattle.std.proofs.Common.{refl, sym, ap, ◌∙◌, subst, arith, ⊎_elim, inl, Some, None, slice_get, slice_set}
-use Rattle.std.proofs.lemmas.Bool.{cases_eq, cond-true, cond-false, false≢true, MatchBool-at_true}
-use Rattle.std.proofs.lemmas.List.Elements.{All-nil, All-cons, All-head, All-tail, All-set, All-get_or}
-use Rattle.std.proofs.lemmas.Option.{get_or_from_slice_get, slice_get_within}
-use Rattle.std.specs.Option.{option_map_or}
-use Rattle.std.specs.Prelude.{Option, All, is_some, IsTrue, MatchBool, flat_map, option_and_then, if◌then◌else◌}
+use Rattle.std.proofs.Common.{◌≡◌, ◌≢◌, ℕ, false, List, [], ◌∷◌, map}
+use Rattle.std.proofs.Common.{refl, sym, ap, ◌∙◌, subst, arith, ⊎_elim, Some, None}
+use Rattle.std.proofs.lemmas.Bool.{cases_eq, false≢true}
+use Rattle.std.proofs.lemmas.List.Elements.{All-nil, All-cons, All-head, All-tail}
+use Rattle.std.specs.Prelude.{Option, All, is_some, IsTrue, flat_map}
 use Rattle.lot_base.specs.Place.{place_of}
 use Rattle.lot_base.specs.Waiting.{with_value}
-use Rattle.lot_base.specs.declared.token.ParkToken.{ParkToken}
-use Rattle.lot_base.specs.declared.token.UnparkToken.{UnparkToken}
 use Rattle.lot_base.proofs.ValueLemmas.{with_value-same, with_value-other}
-use Rattle.lot_exclusive.specs.declared.lot.Status.{Status}
 use Rattle.lot_exclusive.specs.declared.lot.Status.TheVariants as status
 use Rattle.lot_exclusive.specs.declared.schedule.Answer.{Answer}
-use Rattle.lot_exclusive.specs.declared.schedule.Answer.TheVariants as answer
 use Rattle.lot_exclusive.specs.declared.schedule.Step.{Step}
-use Rattle.lot_exclusive.specs.declared.schedule.Step.TheVariants as machine
 use Rattle.lot_interleaved.specs.InterleavedState.{FineState, Section, Caller, TakenThread}
-use Rattle.lot_interleaved.specs.InterleavedSteps.{holds, section_of, wakes_of, with_caller, after_outcome}
+use Rattle.lot_interleaved.specs.InterleavedSteps.{holds}
 use Rattle.lot_interleaved.specs.InterleavedView.{sequential_view, sequential_status, taken_of, times_taken, once_if}
 use Rattle.lot_interleaved.specs.InterleavedView.{taken_in, with_taken, with_slot, HoldsForTaken, IsFineConsistent}
-use Rattle.lot_interleaved.specs.InterleavedView.{answered}
-use Rattle.lot_exclusive.specs.Machine.{MatchesStatus, StandsAt, Waiter, with_status, after_timeout, is_last}
-use Rattle.lot_exclusive.specs.Machine.{with_records, after_retire, after_acquire, after_release, after_enter}
-use Rattle.lot_exclusive.specs.Records.{one_more, one_less}
-use Rattle.lot_exclusive.specs.Status.{is_queued, is_running, is_taken, is_timed, awaits_deadline}
-use Rattle.lot_exclusive.specs.Steps.{IsRun, IsReturn, IsResolve}
+use Rattle.lot_exclusive.specs.Status.{is_queued}
+use Rattle.lot_exclusive.specs.Steps.{IsStep}
+use Rattle.lot_exclusive.specs.Run.{IsRun}
 use Rattle.lot_interleaved.proofs.HandedLemmas.{times_taken-cons, times_taken-append, times_taken-own}
-use Rattle.lot_interleaved.proofs.HandedLemmas.{times_taken-other, with_taken-none}
-use Rattle.lot_interleaved.proofs.HandedLemmas.{with_taken-among, is_taken-among, with_taken-alike, with_taken-append}
-use Rattle.lot_interleaved.proofs.HandedLemmas.{None-from, once_if-most, TakenAround, taken_around, caller_at}
-use Rattle.lot_exclusive.proofs.StandingLemmas.{same_machine, MatchBool-from}
-use Rattle.lot_exclusive.proofs.MachineLemmas.{below_max_threads}
-use Rattle.lot_exclusive.proofs.MachineLemmas.{MatchesStatus-with_status, MatchesStatus-with_thread}
-use Rattle.lot_exclusive.proofs.MachineLemmas.{MatchesStatus-with_records}
-use Rattle.lot_exclusive.proofs.MachineLemmas.{MatchesStatus-after_enter, MatchesStatus-after_timeout}
-use Rattle.lot_exclusive.proofs.StepLemmas.{is_queued-taken}
+use Rattle.lot_interleaved.proofs.HandedLemmas.{with_taken-none}
+use Rattle.lot_interleaved.proofs.HandedLemmas.{None-from}
 
 -- threads that are taken keep their places where their key words do
 module _ (s : FineState) (key_words : ℕ → ℕ) (size : ℕ) where
@@ -71,7 +54,7 @@ module _ (s : FineState) (key_words : ℕ → ℕ) (size : ℕ) where
 
 -- what a step leaves, and the sequential steps that it amounts to
 pub record Amounts (s after : FineState) (whole : List (Step × Answer)) : Type 0 where
-  pub run : IsRun (sequential_view s) (map (λ p. p.0) whole) (map (λ p. p.1) whole) (sequential_view after)
+  pub run : IsRun IsStep (sequential_view s) (map (λ p. p.0) whole) (map (λ p. p.1) whole) (sequential_view after)
   pub consistent : IsFineConsistent after
 
 module _ (s : FineState) (c : IsFineConsistent s) where

@@ -16,14 +16,15 @@ use Rattle.lot_interleaved.specs.declared.interleaved.FineAnswer.{FineAnswer}
 use Rattle.lot_interleaved.specs.declared.interleaved.FineStep.{FineStep}
 use Rattle.lot_interleaved.specs.Copies.{IsCopyOfOp, IsCopyOf, AreCopies}
 use Rattle.lot_interleaved.specs.InterleavedState.{FineState}
-use Rattle.lot_interleaved.specs.InterleavedSteps.{IsFineRun, IsFineStep}
+use Rattle.lot_interleaved.specs.InterleavedSteps.{IsFineStep}
 use Rattle.lot_interleaved.specs.InterleavedRun.{AmountsTo}
 use Rattle.lot_interleaved.specs.InterleavedView.{IsFineConsistent, answers_of, sequential_step, sequential_steps}
 use Rattle.lot_interleaved.specs.InterleavedView.{sequential_view, steps_of}
 use Rattle.lot_exclusive.specs.Machine.{Machine, after_unpark}
 use Rattle.lot_interleaved.specs.Private.FineTold.{AreCopiesIn}
-use Rattle.lot_exclusive.specs.Steps.{Gives, IsRun, IsStep, IsUnpark}
-use Rattle.lot_interleaved.proofs.FineRunLemmas.{IsFineRun-push}
+use Rattle.lot_exclusive.specs.Steps.{Gives, IsStep, IsUnpark}
+use Rattle.lot_exclusive.specs.Run.{IsRun}
+use Rattle.lot_interleaved.proofs.FineRunLemmas.{IsRun-push-sequential}
 use Rattle.lot_interleaved.proofs.InterleavingLemmas.{IsRun-sequential}
 use Rattle.lot_interleaved.proofs.InterleavedOutcomeLemmas.{outcomes-interleaved, totals-interleaved}
 
@@ -53,7 +54,7 @@ IsStep-copy m (Acquire thread key) copy given new same does = subst (λ s. IsSte
 IsStep-copy m (Release thread key) copy given new same does = subst (λ s. IsStep m s given new) (sym same) does
 
 pub IsRun-copies : (m : Machine) (steps copies : List Step) (answers : List Answer) (last : Machine)
-    → AreCopies steps copies → IsRun m steps answers last → IsRun m copies answers last
+    → AreCopies steps copies → IsRun IsStep m steps answers last → IsRun IsStep m copies answers last
 IsRun-copies m [] [] answers last same ran = ran
 IsRun-copies m [] (_ ∷ _) answers last same ran = absurd same
 IsRun-copies m (_ ∷ _) [] answers last same ran = absurd same
@@ -71,7 +72,7 @@ AreCopies-append (step ∷ steps) (copy ∷ copies) more others (one, same) rest
 
 -- the steps so far have run, and these are their sequential steps, told anew
 abbrev pub Tells : FineState → List FineStep → List FineAnswer → FineState → List Step → Type 0
-Tells s steps answers now told = (ran : IsFineRun s steps answers now)
+Tells s steps answers now told = (ran : IsRun IsFineStep s steps answers now)
     × AreCopies (steps_of (sequential_steps s steps answers now ran)) told
 
 pub Tells-push : (s : FineState) (steps : List FineStep) (answers : List FineAnswer) (now last : FineState)
@@ -79,7 +80,7 @@ pub Tells-push : (s : FineState) (steps : List FineStep) (answers : List FineAns
     → IsFineStep now step given last → AreCopies (steps_of (sequential_step now step given)) more
     → Tells s (steps ++ step ∷ []) (answers ++ given ∷ []) last (told ++ more)
 Tells-push s steps answers now last step given told more (ran, same) next copied =
-    let (longer, sequential) = IsFineRun-push s steps answers now last step given ran next in (
+    let (longer, sequential) = IsRun-push-sequential s steps answers now last step given ran next in (
       longer,
       subst (λ (copied : List Step). AreCopies copied (told ++ more))
           (sym (ap steps_of sequential

@@ -1,41 +1,25 @@
 -- What a deadline amounts to.
-use Rattle.std.proofs.Common.{◌≡◌, ◌≢◌, ℕ, ◌+◌, ◌≤◌, ◌<◌, Bool, true, false, List, [], ◌∷◌, ◌++◌, map}
-use Rattle.std.proofs.Common.{refl, sym, ap, ◌∙◌, subst, arith, ⊎_elim, inl, Some, None, slice_get, slice_set}
-use Rattle.std.proofs.lemmas.Bool.{cases_eq, cond-true, cond-false, false≢true, MatchBool-at_true}
-use Rattle.std.proofs.lemmas.List.Elements.{All-nil, All-cons, All-head, All-tail, All-set, All-get_or}
-use Rattle.std.proofs.lemmas.Option.{get_or_from_slice_get, slice_get_within}
-use Rattle.std.specs.Option.{option_map_or}
-use Rattle.std.specs.Prelude.{Option, All, is_some, IsTrue, MatchBool, flat_map, option_and_then, if◌then◌else◌}
-use Rattle.lot_base.specs.Place.{place_of}
+use Rattle.std.proofs.Common.{◌≡◌, ◌≢◌, ℕ, true, false, []}
+use Rattle.std.proofs.Common.{refl, sym, ap, ◌∙◌, subst, arith, ⊎_elim, None}
+use Rattle.std.proofs.lemmas.Bool.{cases_eq, cond-true, cond-false, false≢true}
+use Rattle.std.specs.Prelude.{is_some, IsTrue, if◌then◌else◌}
 use Rattle.lot_base.specs.Waiting.{with_value}
-use Rattle.lot_base.specs.declared.token.ParkToken.{ParkToken}
-use Rattle.lot_base.specs.declared.token.UnparkToken.{UnparkToken}
 use Rattle.lot_base.proofs.ValueLemmas.{with_value-same, with_value-other}
 use Rattle.lot_exclusive.specs.declared.lot.Status.{Status}
 use Rattle.lot_exclusive.specs.declared.lot.Status.TheVariants as status
-use Rattle.lot_exclusive.specs.declared.schedule.Answer.{Answer}
 use Rattle.lot_exclusive.specs.declared.schedule.Answer.TheVariants as answer
-use Rattle.lot_exclusive.specs.declared.schedule.Step.{Step}
 use Rattle.lot_exclusive.specs.declared.schedule.Step.TheVariants as machine
-use Rattle.lot_interleaved.specs.InterleavedState.{FineState, Section, Caller, TakenThread}
-use Rattle.lot_interleaved.specs.InterleavedSteps.{holds, section_of, wakes_of, with_caller, after_outcome}
+use Rattle.lot_interleaved.specs.InterleavedState.{FineState}
 use Rattle.lot_interleaved.specs.InterleavedView.{sequential_view, sequential_status, taken_of, times_taken, once_if}
-use Rattle.lot_interleaved.specs.InterleavedView.{taken_in, with_taken, with_slot, HoldsForTaken, IsFineConsistent}
+use Rattle.lot_interleaved.specs.InterleavedView.{with_taken, with_slot, IsFineConsistent}
 use Rattle.lot_interleaved.specs.InterleavedView.{answered}
-use Rattle.lot_exclusive.specs.Machine.{MatchesStatus, StandsAt, Waiter, with_status, after_timeout, is_last}
-use Rattle.lot_exclusive.specs.Machine.{with_records, after_retire, after_acquire, after_release, after_enter}
-use Rattle.lot_exclusive.specs.Records.{one_more, one_less}
-use Rattle.lot_exclusive.specs.Status.{is_queued, is_running, is_taken, is_timed, awaits_deadline}
-use Rattle.lot_exclusive.specs.Steps.{IsRun, IsReturn, IsResolve}
-use Rattle.lot_interleaved.proofs.HandedLemmas.{times_taken-cons, times_taken-append, times_taken-own}
-use Rattle.lot_interleaved.proofs.HandedLemmas.{times_taken-other, with_taken-none}
-use Rattle.lot_interleaved.proofs.HandedLemmas.{with_taken-among, is_taken-among, with_taken-alike, with_taken-append}
-use Rattle.lot_interleaved.proofs.HandedLemmas.{None-from, once_if-most, TakenAround, taken_around, caller_at}
+use Rattle.lot_exclusive.specs.Machine.{MatchesStatus, with_status}
+use Rattle.lot_exclusive.specs.Status.{is_queued, is_taken, is_timed, awaits_deadline}
+use Rattle.lot_interleaved.proofs.HandedLemmas.{with_taken-none}
+use Rattle.lot_interleaved.proofs.HandedLemmas.{with_taken-among, is_taken-among, with_taken-alike}
 use Rattle.lot_exclusive.proofs.StandingLemmas.{same_machine, MatchBool-from}
 use Rattle.lot_exclusive.proofs.MachineLemmas.{below_max_threads}
-use Rattle.lot_exclusive.proofs.MachineLemmas.{MatchesStatus-with_status, MatchesStatus-with_thread}
-use Rattle.lot_exclusive.proofs.MachineLemmas.{MatchesStatus-with_records}
-use Rattle.lot_exclusive.proofs.MachineLemmas.{MatchesStatus-after_enter, MatchesStatus-after_timeout}
+use Rattle.lot_exclusive.proofs.MachineLemmas.{MatchesStatus-with_status}
 use Rattle.lot_exclusive.proofs.StepLemmas.{is_queued-taken}
 use Rattle.lot_interleaved.proofs.AmountsLemmas.{Amounts, own_status}
 

@@ -20,13 +20,13 @@ use Rattle.lot_interleaved.specs.declared.interleaved.FineStep.TheVariants.{Read
 use Rattle.lot_interleaved.specs.declared.interleaved.FineStep.TheVariants.{Retire, Acquire, Release}
 use Rattle.lot_interleaved.specs.InterleavedLaws.{InterleavedOutcomesAlternate, InterleavedThreadsComeBack}
 use Rattle.lot_interleaved.specs.InterleavedOutcomes.{unparked_in, returned_in, parks_in, ends_park_in}
-use Rattle.lot_interleaved.specs.InterleavedOutcomes.{FineOutcomesAlternate}
 use Rattle.lot_interleaved.specs.InterleavedState.{FineState, Section, TakenThread}
-use Rattle.lot_interleaved.specs.InterleavedSteps.{IsCommit, IsFineStep, IsFineRun, IsReadKey, section_of}
+use Rattle.lot_interleaved.specs.InterleavedSteps.{IsCommit, IsFineStep, IsReadKey, section_of}
 use Rattle.lot_interleaved.specs.InterleavedView.{answered, answers_of, sequential_step}
 use Rattle.lot_interleaved.specs.InterleavedView.{sequential_status, sequential_steps, sequential_view, steps_of}
 use Rattle.lot_exclusive.specs.Status.{is_queued, is_parked}
-use Rattle.lot_exclusive.specs.Steps.{parks, ends_park, OutcomesAlternate}
+use Rattle.lot_exclusive.specs.Steps.{parks, ends_park}
+use Rattle.lot_exclusive.specs.Run.{IsRun, OutcomesAlternate}
 use Rattle.lot_exclusive.specs.Totals.{unparked_by, returned_by}
 use Rattle.lot_interleaved.proofs.InterleavingLemmas.{IsRun-sequential, MatchOption-either}
 use Rattle.lot_exclusive.proofs.LawLemmas.{OutcomesAlternate-run}
@@ -88,36 +88,40 @@ MatchBool-map : (b : Bool) {P Q R S : Type 0} → (P → R) → (Q → S) → Ma
 MatchBool-map true f g p = f p
 MatchBool-map false f g q = g q
 
+-- the parks of a thread and their outcomes take turns in interleaved steps
+abbrev InTurns : ℕ → Bool → List FineStep → List FineAnswer → Type 0
+InTurns number parked steps answers = OutcomesAlternate (parks_in number) (ends_park_in number) parked steps answers
+
 -- one step, where those behind it are such
 alternate-step : (number : ℕ) (parked : Bool) (step : FineStep) (given : FineAnswer) (steps : List FineStep)
     (answers : List FineAnswer) (told rest : List (Step × Answer)) → TellsSame number step given told
-    → ((now : Bool) → OutcomesAlternate now number (steps_of rest) (answers_of rest)
-    → FineOutcomesAlternate now number steps answers)
-    → OutcomesAlternate parked number (steps_of (told ++ rest)) (answers_of (told ++ rest))
-    → FineOutcomesAlternate parked number (step ∷ steps) (given ∷ answers)
+    → ((now : Bool) → OutcomesAlternate (parks number) (ends_park number) now (steps_of rest) (answers_of rest)
+    → InTurns number now steps answers)
+    → OutcomesAlternate (parks number) (ends_park number) parked (steps_of (told ++ rest)) (answers_of (told ++ rest))
+    → InTurns number parked (step ∷ steps) (given ∷ answers)
 alternate-step number parked step given steps answers [] rest (parks_not, ends_not) further turns =
-    subst (λ b. MatchBool b ((parked ≡ false) × FineOutcomesAlternate true number steps answers)
+    subst (λ b. MatchBool b ((parked ≡ false) × InTurns number true steps answers)
     (MatchBool (ends_park_in number step given)
-    ((parked ≡ true) × FineOutcomesAlternate false number steps answers)
-    (FineOutcomesAlternate parked number steps answers))) (sym parks_not)
-    (subst (λ b. MatchBool b ((parked ≡ true) × FineOutcomesAlternate false number steps answers)
-    (FineOutcomesAlternate parked number steps answers)) (sym ends_not) (further parked turns))
+    ((parked ≡ true) × InTurns number false steps answers)
+    (InTurns number parked steps answers))) (sym parks_not)
+    (subst (λ b. MatchBool b ((parked ≡ true) × InTurns number false steps answers)
+    (InTurns number parked steps answers)) (sym ends_not) (further parked turns))
 alternate-step number parked step given steps answers (told ∷ []) rest (parks_so, ends_so) further turns =
-    subst (λ b. MatchBool b ((parked ≡ false) × FineOutcomesAlternate true number steps answers)
+    subst (λ b. MatchBool b ((parked ≡ false) × InTurns number true steps answers)
     (MatchBool (ends_park_in number step given)
-    ((parked ≡ true) × FineOutcomesAlternate false number steps answers)
-    (FineOutcomesAlternate parked number steps answers))) parks_so
+    ((parked ≡ true) × InTurns number false steps answers)
+    (InTurns number parked steps answers))) parks_so
     (MatchBool-map (parks number told.0 told.1) (λ (not_parked, behind). (not_parked, further true behind))
-    (λ others. subst (λ b. MatchBool b ((parked ≡ true) × FineOutcomesAlternate false number steps answers)
-    (FineOutcomesAlternate parked number steps answers)) ends_so
+    (λ others. subst (λ b. MatchBool b ((parked ≡ true) × InTurns number false steps answers)
+    (InTurns number parked steps answers)) ends_so
     (MatchBool-map (ends_park number told.0 told.1) (λ (was_parked, behind). (was_parked, further false behind))
     (further parked) others)) turns)
 alternate-step number parked step given steps answers (_ ∷ _ ∷ _) rest none further turns = absurd none
 
 alternate : (s : FineState) (steps : List FineStep) (answers : List FineAnswer) (last : FineState)
-    (ran : IsFineRun s steps answers last) (number : ℕ) (parked : Bool)
-    → OutcomesAlternate parked number (steps_of (sequential_steps s steps answers last ran))
-    (answers_of (sequential_steps s steps answers last ran)) → FineOutcomesAlternate parked number steps answers
+    (ran : IsRun IsFineStep s steps answers last) (number : ℕ) (parked : Bool)
+    → OutcomesAlternate (parks number) (ends_park number) parked (steps_of (sequential_steps s steps answers last ran))
+    (answers_of (sequential_steps s steps answers last ran)) → InTurns number parked steps answers
 alternate s [] [] last ran number parked turns = turns
 alternate s [] (_ ∷ _) last none number parked turns = absurd none
 alternate s (_ ∷ _) [] last none number parked turns = absurd none
@@ -231,7 +235,7 @@ module _ (f : Answer → ℕ) (of_misfit : f answer.Misfit ≡ 0) (of_late : f a
   sum-told s (Release thread key) _ new does = omega (arith, of_misfit)
 
   sums-told : (s : FineState) (steps : List FineStep) (answers : List FineAnswer) (last : FineState)
-      (ran : IsFineRun s steps answers last) → sum_by f (answers_of (sequential_steps s steps answers last ran))
+      (ran : IsRun IsFineStep s steps answers last) → sum_by f (answers_of (sequential_steps s steps answers last ran))
       ≡ sum_by (λ given. f (answer_in given)) answers
   sums-told s [] [] last ran = refl
   sums-told s [] (_ ∷ _) last none = absurd none

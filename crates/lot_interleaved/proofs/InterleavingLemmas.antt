@@ -34,6 +34,7 @@ use Rattle.lot_interleaved.specs.InterleavedLaws.{FineStepsKeepConsistency, Ever
 use Rattle.lot_interleaved.specs.InterleavedLaws.{EachNodeIsInOnePlace, NoNodeIsInAnotherList}
 use Rattle.lot_exclusive.specs.Machine.{Machine, StandsAt, after_enter, after_retire, after_release, times_in}
 use Rattle.lot_exclusive.specs.Status.{is_queued, is_registered, is_running, is_taken, awaits_deadline}
+use Rattle.lot_exclusive.specs.Run.{IsRun}
 use Rattle.lot_exclusive.specs.Steps as steps
 use Rattle.lot_interleaved.proofs.BeginLemmas.{begin-amounts, taken_nowhere}
 use Rattle.lot_interleaved.proofs.HandedLemmas.{None-from_test, times_taken-append, times_taken-other}
@@ -284,10 +285,10 @@ IsFineConsistent-step s step given new c does = (IsFineStep-amounts s step given
 
 -- one run after another
 IsRun-append : (first rest : List (Step × Answer)) (m mid last : Machine)
-    → steps.IsRun m (steps_of first) (answers_of first) mid → steps.IsRun mid (steps_of rest) (answers_of rest) last
-    → steps.IsRun m (steps_of (first ++ rest)) (answers_of (first ++ rest)) last
+    → IsRun steps.IsStep m (steps_of first) (answers_of first) mid → IsRun steps.IsStep mid (steps_of rest) (answers_of rest) last
+    → IsRun steps.IsStep m (steps_of (first ++ rest)) (answers_of (first ++ rest)) last
 IsRun-append [] rest m mid last same ran =
-    subst (λ n. steps.IsRun n (steps_of rest) (answers_of rest) last) (sym same) ran
+    subst (λ n. IsRun steps.IsStep n (steps_of rest) (answers_of rest) last) (sym same) ran
 IsRun-append (pair ∷ first) rest m mid last (next, does, begins) ran =
     (next, does, IsRun-append first rest next mid last begins ran)
 

@@ -4,14 +4,15 @@ use Rattle.std.specs.List.{sum_by}
 use Rattle.lot_interleaved.specs.declared.interleaved.FineAnswer.{FineAnswer}
 use Rattle.lot_interleaved.specs.declared.interleaved.FineStep.{FineStep}
 use Rattle.lot_interleaved.specs.InterleavedState.{FineState, new_fine_state}
-use Rattle.lot_interleaved.specs.InterleavedSteps.{IsFineStep, IsFineRun}
+use Rattle.lot_interleaved.specs.InterleavedSteps.{IsFineStep}
 use Rattle.lot_interleaved.specs.InterleavedView.{sequential_view, sequential_steps, steps_of, answers_of}
 use Rattle.lot_interleaved.specs.InterleavedView.{IsFineConsistent, taken_of, times_taken, once_if}
 use Rattle.lot_exclusive.specs.Machine.{new_machine, times_in}
 use Rattle.lot_exclusive.specs.Status.{is_parked, is_registered, is_running}
-use Rattle.lot_interleaved.specs.InterleavedOutcomes.{unparked_in, returned_in, FineOutcomesAlternate}
+use Rattle.lot_interleaved.specs.InterleavedOutcomes.{unparked_in, returned_in, parks_in, ends_park_in}
 use Rattle.lot_exclusive.specs.Totals.{taken_threads_of}
-use Rattle.lot_exclusive.specs.Steps.{IsRun}
+use Rattle.lot_exclusive.specs.Run.{IsRun, OutcomesAlternate}
+use Rattle.lot_exclusive.specs.Steps.{IsStep}
 
 -- a new interleaved state stands for a new machine
 abbrev pub NewStatesStandForNewMachines : Type 0
@@ -49,20 +50,21 @@ FineAnswersFixTheState = (s : FineState) (step : FineStep) (given : FineAnswer) 
 -- other
 abbrev pub EveryInterleavingIsARun : Type 0
 EveryInterleavingIsARun = (s : FineState) (steps : List FineStep) (answers : List FineAnswer) (last : FineState)
-    → IsFineConsistent s → (ran : IsFineRun s steps answers last) →
-    IsRun (sequential_view s) (steps_of (sequential_steps s steps answers last ran))
+    → IsFineConsistent s → (ran : IsRun IsFineStep s steps answers last) →
+    IsRun IsStep (sequential_view s) (steps_of (sequential_steps s steps answers last ran))
     (answers_of (sequential_steps s steps answers last ran)) (sequential_view last)
 
 -- and in its answers each thread's parks and their outcomes take turns
 abbrev pub InterleavedOutcomesAlternate : Type 0
 InterleavedOutcomesAlternate = (s : FineState) (steps : List FineStep) (answers : List FineAnswer) (last : FineState)
-    → IsFineConsistent s → IsFineRun s steps answers last → (number : ℕ) →
-    FineOutcomesAlternate (is_parked ((sequential_view s).status number)) number steps answers
+    → IsFineConsistent s → IsRun IsFineStep s steps answers last → (number : ℕ) →
+    OutcomesAlternate (parks_in number) (ends_park_in number) (is_parked ((sequential_view s).status number)) steps
+    answers
 
 -- those that were taken before, and those that its answers count as unparked, are as many as those that its answers
 -- tell of as come back and those that are left
 abbrev pub InterleavedThreadsComeBack : Type 0
 InterleavedThreadsComeBack = (s : FineState) (steps : List FineStep) (answers : List FineAnswer) (last : FineState)
-    → IsFineConsistent s → IsFineRun s steps answers last →
+    → IsFineConsistent s → IsRun IsFineStep s steps answers last →
     taken_threads_of (sequential_view s) + sum_by unparked_in answers
     ≡ sum_by returned_in answers + taken_threads_of (sequential_view last)

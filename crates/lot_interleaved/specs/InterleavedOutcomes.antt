@@ -1,5 +1,5 @@
 -- What interleaved answers tell of parks: their outcomes, and how many threads were unparked and came back.
-use Rattle.std.specs.Prelude.{◌≡◌, ℕ, ◌==◌, ◌&&◌, Bool, true, false, MatchBool, ⊤, List, ◌∷◌, []}
+use Rattle.std.specs.Prelude.{ℕ, ◌==◌, ◌&&◌, Bool, false}
 use Rattle.lot_exclusive.specs.declared.schedule.Answer.TheVariants as answer
 use Rattle.lot_interleaved.specs.declared.interleaved.FineAnswer.{FineAnswer}
 use Rattle.lot_interleaved.specs.declared.interleaved.FineAnswer.TheVariants as fine
@@ -28,13 +28,3 @@ abbrev pub ends_park_in : ℕ → FineStep → FineAnswer → Bool
 ends_park_in number (Look thread) (fine.Answer given) = is_outcome given && thread == number
 ends_park_in number (Return thread) (fine.Answer given) = is_outcome given && thread == number
 ends_park_in number _ _ = false
-
--- the parks of a thread and their outcomes take turns, as in `OutcomesAlternate`
-abbrev pub FineOutcomesAlternate : Bool → ℕ → List FineStep → List FineAnswer → Type 0
-FineOutcomesAlternate parked number [] [] = ⊤
-FineOutcomesAlternate parked number [] (_ ∷ _) = ⊥
-FineOutcomesAlternate parked number (_ ∷ _) [] = ⊥
-FineOutcomesAlternate parked number (step ∷ steps) (given ∷ answers) =
-    MatchBool (parks_in number step given) ((parked ≡ false) × FineOutcomesAlternate true number steps answers)
-    (MatchBool (ends_park_in number step given) ((parked ≡ true) × FineOutcomesAlternate false number steps answers)
-    (FineOutcomesAlternate parked number steps answers))

@@ -263,11 +263,3 @@ IsFineStep s Register given new = IsFineRegister s given new
 IsFineStep s (Retire thread) given new = IsMachineStep s (machine.Retire thread) given new
 IsFineStep s (Acquire thread key) given new = IsMachineStep s (machine.Acquire thread key) given new
 IsFineStep s (Release thread key) given new = IsMachineStep s (machine.Release thread key) given new
-
--- a run: a list of steps with an answer each, in which each step begins where the one before ended
-abbrev pub IsFineRun : FineState → List FineStep → List FineAnswer → FineState → Type 0
-IsFineRun s [] [] last = s ≡ last
-IsFineRun s [] (_ ∷ _) last = ⊥
-IsFineRun s (_ ∷ _) [] last = ⊥
-IsFineRun s (step ∷ steps) (given ∷ answers) last = (next : FineState) × IsFineStep s step given next
-    × IsFineRun next steps answers last

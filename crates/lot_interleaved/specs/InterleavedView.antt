@@ -18,7 +18,8 @@ use Rattle.lot_interleaved.specs.declared.interleaved.FineStep.{FineStep}
 use Rattle.lot_interleaved.specs.declared.interleaved.FineStep.TheVariants.{Begin, Deadline, Look, Enter, Return}
 use Rattle.lot_interleaved.specs.declared.interleaved.FineStep.TheVariants.{Register, Retire, Acquire, Release}
 use Rattle.lot_interleaved.specs.InterleavedState.{FineState, Section, Caller, TakenThread}
-use Rattle.lot_interleaved.specs.InterleavedSteps.{IsFineRun, holds}
+use Rattle.lot_interleaved.specs.InterleavedSteps.{IsFineStep, holds}
+use Rattle.lot_exclusive.specs.Run.{IsRun}
 use Rattle.lot_exclusive.specs.Machine.{Machine, MatchesStatus}
 use Rattle.lot_exclusive.specs.Status.{is_queued, is_taken}
 
@@ -105,7 +106,7 @@ sequential_step s _ _ = []
 
 -- the sequential steps of a run, with their answers
 abbrev pub sequential_steps : (s : FineState) (steps : List FineStep) (answers : List FineAnswer) (last : FineState)
-    → IsFineRun s steps answers last → List (Step × Answer)
+    → IsRun IsFineStep s steps answers last → List (Step × Answer)
 sequential_steps s [] [] last ran = []
 sequential_steps s [] (_ ∷ _) last none = absurd none
 sequential_steps s (_ ∷ _) [] last none = absurd none

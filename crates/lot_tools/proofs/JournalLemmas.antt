@@ -21,7 +21,8 @@ use Rattle.lot_exclusive.specs.declared.schedule.Step.TheVariants.{Register, Ret
 use Rattle.lot_exclusive.specs.declared.schedule.Step.TheVariants.{Resolve, Return, Acquire, Release}
 use Rattle.lot_exclusive.specs.Machine.{Machine, Waiter, MatchesStatus, IsConsistent, times_in, statuses_with_taken}
 use Rattle.lot_exclusive.specs.Status.{is_queued, is_running, is_taken, awaits_deadline, can_resolve}
-use Rattle.lot_exclusive.specs.Steps.{Gives, IsRegister, IsUnpark, IsReturn, IsResolve, IsAcquire, IsStep, IsRun}
+use Rattle.lot_exclusive.specs.Steps.{Gives, IsRegister, IsUnpark, IsReturn, IsResolve, IsAcquire, IsStep}
+use Rattle.lot_exclusive.specs.Run.{IsRun}
 use Rattle.lot_exclusive.proofs.StandingLemmas.{is_queued-standing}
 use Rattle.lot_exclusive.proofs.MachineLemmas.{below_max_threads}
 use Rattle.lot_exclusive.proofs.SplitLemmas.{AreParts, AreParts-first, AreParts-all, AreParts-filter, AreParts-by}
@@ -310,7 +311,7 @@ pub record Backing (m : Machine) (asides : List ℕ) : Type 0 where
   pub backed : AreBacked m.status asides
 
 pub Backing-run : (journal : List Entry) (m : Machine) (asides : List ℕ) (last : Machine) → Backing m asides
-    → IsRun m (journal_steps journal) (journal_answers journal) last
+    → IsRun IsStep m (journal_steps journal) (journal_answers journal) last
     → Backing last (fold (λ now entry. with_aside now (set_aside_by entry.0 entry.1)) asides journal)
 Backing-run [] m asides last backing ran = subst (λ n. Backing n asides) ran backing
 Backing-run (entry ∷ journal) m asides last backing (next, does, ran) =

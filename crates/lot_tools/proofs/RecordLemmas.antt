@@ -12,8 +12,9 @@ use Rattle.lot_exclusive.specs.LotState.{LotState}
 use Rattle.lot_exclusive.specs.Lot.{machine}
 use Rattle.lot_exclusive.specs.Machine.{Machine, new_machine, threads_of}
 use Rattle.lot_exclusive.specs.Size.{IsSizeAfter}
-use Rattle.lot_exclusive.specs.Steps.{IsStep, IsRun}
-use Rattle.lot_exclusive.proofs.ScheduleLemmas.{IsRun-push}
+use Rattle.lot_exclusive.specs.Run.{IsRun}
+use Rattle.lot_exclusive.specs.Steps.{IsStep}
+use Rattle.lot_exclusive.proofs.RunLemmas.{IsRun-push}
 use Rattle.lot_exclusive.proofs.StepLemmas.{IsConsistent-new}
 use Rattle.lot_tools.specs.Journal.{journal_steps, journal_answers, Entry, Replays, asides_of, set_aside_by}
 use Rattle.lot_tools.specs.Journal.{with_aside, needed}
@@ -98,11 +99,11 @@ module _ (old : RecordState) (is : IsRecord old) (step : Step) (given : Answer) 
       replays : Replays (machine lot).max_threads pushed.journal (machine lot)
       replays =
           subst (λ n. Replays n pushed.journal (machine lot)) (sym keeps.max_threads)
-          (subst (λ steps. IsRun (new_machine max) steps (journal_answers pushed.journal) (machine lot))
+          (subst (λ steps. IsRun IsStep (new_machine max) steps (journal_answers pushed.journal) (machine lot))
           (sym (map-append (λ entry. entry.0) old.journal ((step, given) ∷ [])))
-          (subst (λ answers. IsRun (new_machine max) (journal_steps old.journal ++ step ∷ []) answers (machine lot))
+          (subst (λ answers. IsRun IsStep (new_machine max) (journal_steps old.journal ++ step ∷ []) answers (machine lot))
           (sym (map-append (λ entry. entry.1) old.journal ((step, given) ∷ [])))
-          (IsRun-push (new_machine max) (journal_steps old.journal) (journal_answers old.journal) (machine old.lot)
+          (IsRun-push IsStep (new_machine max) (journal_steps old.journal) (journal_answers old.journal) (machine old.lot)
           (machine lot)
           step given is.replays does)))
 

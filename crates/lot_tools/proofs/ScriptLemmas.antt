@@ -11,21 +11,13 @@ use Rattle.lot_tools.specs.declared.script.fault.Fault.{Fault}
 use Rattle.lot_tools.specs.declared.script.input.Next.{Next}
 use Rattle.lot_tools.specs.declared.script.input.Next.TheVariants as next
 use Rattle.lot_tools.specs.declared.script.input.TheConstants.{MAX_LINE}
+use Rattle.lot_exclusive.specs.Run.{IsRun}
+use Rattle.lot_exclusive.proofs.RunLemmas.{IsRun-push}
 use Rattle.lot_tools.specs.Lines.{lines_of, bytes_of}
 use Rattle.lot_tools.specs.Reply.{State}
-use Rattle.lot_tools.specs.Script.{HasForm, IsAnswered, AreAnswered, MayStop, IsStopped, IsDone, IsScript}
+use Rattle.lot_tools.specs.Script.{IsAnswered, MayStop, IsStopped, IsDone, IsScript}
 use Rattle.lot_tools.specs.Private.Turns.{IsTurn, IsLineRead, Answers}
 use Rattle.std.proofs.KnownBytes.{Appends-trans, Appends-nil, Appends-kept}
-
-pub AreAnswered-push : (old : Option State) (lines answers : List (List ℕ)) (mid : Option State) (line answer : List ℕ)
-    (new : Option State) → AreAnswered old lines answers mid → IsAnswered mid line answer new
-    → AreAnswered old (lines ++ line ∷ []) (answers ++ answer ∷ []) new
-AreAnswered-push old [] [] mid line answer new run last =
-    (new, subst (λ state. IsAnswered state line answer new) run last, refl)
-AreAnswered-push old [] (_ ∷ _) mid line answer new run last = absurd run
-AreAnswered-push old (_ ∷ _) [] mid line answer new run last = absurd run
-AreAnswered-push old (_ ∷ lines) (_ ∷ answers) mid line answer new run last =
-    (run.0, run.1, AreAnswered-push run.0 lines answers mid line answer new run.2 last)
 
 bytes_of-push : (answers : List (List ℕ)) (answer : List ℕ)
     → bytes_of (answers ++ answer ∷ []) ≡ bytes_of answers ++ (answer ++ 10 ∷ [])
@@ -46,13 +38,13 @@ pub record HasLast (old : Option State) (lines answers : List (List ℕ)) (new :
   pub answer : List ℕ
   pub answers_cut : answers ≡ first_answers ++ answer ∷ []
   pub state : Option State
-  pub answered : AreAnswered old before first_answers state
+  pub answered : IsRun IsAnswered old before first_answers state
   pub last : IsAnswered state line answer new
 
-pub AreAnswered-last : (old : Option State) (line : List ℕ) (lines answers : List (List ℕ)) (new : Option State)
-    → AreAnswered old (line ∷ lines) answers new → HasLast old (line ∷ lines) answers new
-AreAnswered-last old line lines [] new run = absurd run
-AreAnswered-last old line [] (answer ∷ []) new run = record {
+pub IsAnswered-last : (old : Option State) (line : List ℕ) (lines answers : List (List ℕ)) (new : Option State)
+    → IsRun IsAnswered old (line ∷ lines) answers new → HasLast old (line ∷ lines) answers new
+IsAnswered-last old line lines [] new run = absurd run
+IsAnswered-last old line [] (answer ∷ []) new run = record {
   before = [];
   line = line;
   cut = refl;
@@ -61,11 +53,11 @@ AreAnswered-last old line [] (answer ∷ []) new run = record {
   answers_cut = refl;
   state = old;
   answered = refl;
-  last = subst (λ state. IsAnswered old line answer state) (sym run.2) run.1;
+  last = subst (λ state. IsAnswered old line answer state) run.2 run.1;
 }
-AreAnswered-last old line [] (answer ∷ _ ∷ _) new run = absurd run.2
-AreAnswered-last old line (next ∷ lines) (answer ∷ answers) new run =
-    let rest = AreAnswered-last run.0 next lines answers new run.2 in
+IsAnswered-last old line [] (answer ∷ _ ∷ _) new run = absurd run.2
+IsAnswered-last old line (next ∷ lines) (answer ∷ answers) new run =
+    let rest = IsAnswered-last run.0 next lines answers new run.2 in
     record {
       before = line ∷ rest.before;
       line = rest.line;
@@ -78,7 +70,7 @@ AreAnswered-last old line (next ∷ lines) (answer ∷ answers) new run =
       last = rest.last;
     }
 
-no_lines : (answers : List (List ℕ)) (state : State) → AreAnswered None [] answers (Some state) → ⊥
+no_lines : (answers : List (List ℕ)) (state : State) → IsRun IsAnswered None [] answers (Some state) → ⊥
 no_lines [] state run = cc run
 no_lines (_ ∷ _) state run = run
 
@@ -91,7 +83,7 @@ pub record Progress (bytes : List ℕ) (known old new : Option (List ℕ)) (stat
   pub cut : lines_of bytes ≡ before ++ lines_of rest
   pub count : number ≡ length before + 1
   pub answers : List (List ℕ)
-  pub answered : AreAnswered None before answers state
+  pub answered : IsRun IsAnswered None before answers state
   pub written : Appends old new (bytes_of answers)
 
 pub Progress-start : (bytes : List ℕ) (known old : Option (List ℕ)) → known ≡ Some bytes
@@ -123,7 +115,7 @@ module _ (bytes : List ℕ) (known old new after : Option (List ℕ)) (state : O
             ∙ sym (append_assoc progress.before (line ∷ []) (lines_of rest));
         count = omega (arith, progress.count, length-append progress.before (line ∷ []));
         answers = progress.answers ++ answer ∷ [];
-        answered = AreAnswered-push None progress.before progress.answers state line answer next_state
+        answered = IsRun-push IsAnswered None progress.before progress.answers state next_state line answer
             progress.answered answered;
         written = subst (Appends old after) (sym (bytes_of-push progress.answers answer))
             (Appends-trans old new after (bytes_of progress.answers) (answer ++ 10 ∷ []) progress.written
@@ -132,7 +124,7 @@ module _ (bytes : List ℕ) (known old new after : Option (List ℕ)) (state : O
 
   -- a line that cannot be done
   pub Progress-stop : (refusal : Cause) (front : List ℕ) → Appends new after front
-      → MayStop state (lines_of progress.rest) refusal front
+      → MayStop refusal state (lines_of progress.rest) front
       → (written : List ℕ) × Appends old after written
       × IsStopped (lines_of bytes) (record { line = number; cause = refusal }) written
   Progress-stop refusal front appended stops = (
@@ -165,8 +157,8 @@ module _ (bytes : List ℕ) (known old new after : Option (List ℕ)) (state : O
         record {
           answers = progress.answers;
           state = made;
-          answered = subst (λ lines. AreAnswered None lines progress.answers (Some made)) (sym all)
-              (subst (AreAnswered None progress.before progress.answers) is progress.answered);
+          answered = subst (λ lines. IsRun IsAnswered None lines progress.answers (Some made)) (sym all)
+              (subst (IsRun IsAnswered None progress.before progress.answers) is progress.answered);
           written = refl;
         },
         omega (arith, progress.count, ap length all),
@@ -177,7 +169,7 @@ pub IsStopped-flush : (lines : List (List ℕ)) (written : List ℕ) (fault : Fa
     → fault.line ≡ length lines → fault.cause ≡ cause.WriteFailed → IsStopped lines fault written
 IsStopped-flush [] written fault done is why = absurd (no_lines done.answers done.state done.answered)
 IsStopped-flush (first ∷ lines) written fault done is why =
-    let parts = AreAnswered-last None first lines done.answers (Some done.state) done.answered in
+    let parts = IsAnswered-last None first lines done.answers (Some done.state) done.answered in
     record {
       before = parts.before;
       left = parts.line ∷ [];
@@ -187,7 +179,7 @@ IsStopped-flush (first ∷ lines) written fault done is why =
       state = parts.state;
       answered = parts.answered;
       front = parts.answer ++ 10 ∷ [];
-      cause = subst (λ given. MayStop parts.state (parts.line ∷ []) given (parts.answer ++ 10 ∷ [])) (sym why)
+      cause = subst (λ given. MayStop given parts.state (parts.line ∷ []) (parts.answer ++ 10 ∷ [])) (sym why)
           (parts.answer, Some done.state, parts.last, [], sym (append-nil (parts.answer ++ 10 ∷ [])));
       written = done.written ∙ ap bytes_of parts.answers_cut ∙ bytes_of-push parts.first_answers parts.answer;
     }
@@ -198,23 +190,25 @@ pub Answers-stop : (old : Option State) (line answer : List ℕ) (next new : Opt
     → answer ++ 10 ∷ [] ≡ front ++ rest → Answers old line r front new
 Answers-stop old line answer next new (Ok _) front rest is answered cut = absurd is
 Answers-stop old line answer next new (Err refusal) front rest is answered cut =
-    subst (λ given. MayStop old (line ∷ []) given front) (sym is) (answer, next, answered, rest, cut)
+    subst (λ given. MayStop given old (line ∷ []) front) (sym is) (answer, next, answered, rest, cut)
 
 -- a line that was refused before its answer
 pub Answers-refused : (old new : Option State) (line : List ℕ) (r : Result (Unit {0}) Cause) (given : Cause)
-    → IsErrAnd r (λ refusal. refusal ≡ given) → MayStop old (line ∷ []) given [] → Answers old line r [] new
+    → IsErrAnd r (λ refusal. refusal ≡ given) → MayStop given old (line ∷ []) [] → Answers old line r [] new
 Answers-refused old new line (Ok _) given is stops = absurd is
 Answers-refused old new line (Err refusal) given is stops =
-    subst (λ other. MayStop old (line ∷ []) other []) (sym is) stops
+    subst (λ other. MayStop other old (line ∷ []) []) (sym is) stops
 
 -- what lines follow does not matter
-MayStop-behind : (state : Option State) (line : List ℕ) (left other : List (List ℕ)) (refusal : Cause) (front : List ℕ)
-    → MayStop state (line ∷ left) refusal front → MayStop state (line ∷ other) refusal front
-MayStop-behind state line left other cause.BadStep front stops = stops
-MayStop-behind state line left other cause.TooManyThreads front stops = stops
-MayStop-behind state line left other cause.NoMemory front stops = stops
-MayStop-behind state line left other cause.ReadFailed front stops = stops
-MayStop-behind state line left other cause.WriteFailed front stops = stops
+MayStop-behind : (refusal : Cause) (state : Option State) (line : List ℕ) (left other : List (List ℕ)) (front : List ℕ)
+    → MayStop refusal state (line ∷ left) front → MayStop refusal state (line ∷ other) front
+MayStop-behind cause.BadStep None line left other front stops = stops
+MayStop-behind cause.BadStep (Some _) line left other front stops = stops
+MayStop-behind cause.TooManyThreads None line left other front stops = stops
+MayStop-behind cause.TooManyThreads (Some _) line left other front stops = absurd stops
+MayStop-behind cause.NoMemory state line left other front stops = stops
+MayStop-behind cause.ReadFailed state line left other front stops = stops
+MayStop-behind cause.WriteFailed state line left other front stops = stops
 
 -- a line that was read and answered is a turn
 pub IsTurn-line : (known left a b : Option (List ℕ)) (line : List ℕ) (old new : Option State)
@@ -238,20 +232,21 @@ IsTurn-refused (Some bytes) left a b line old new given (Ok _) read answered is 
 IsTurn-refused (Some bytes) left a b line old new given (Err refusal) read answered is = (
   answered.0,
   answered.1,
-  subst (λ other. MayStop old (lines_of bytes) other answered.0) (sym is)
-      (subst (λ lines. MayStop old lines given answered.0) (sym read.2)
-      (MayStop-behind old line [] (lines_of read.0) given answered.0 answered.2)),
+  subst (λ other. MayStop other old (lines_of bytes) answered.0) (sym is)
+      (subst (λ lines. MayStop given old lines answered.0) (sym read.2)
+      (MayStop-behind given old line [] (lines_of read.0) answered.0 answered.2)),
 )
 
 -- what a line that could not be read says of the script
-refused_line : (state : Option State) (long : List ℕ) → MAX_LINE < length long → HasForm state long → ⊥
-refused_line None long over form = omega (arith, over, form.1.short)
-refused_line (Some _) long over form = omega (arith, over, form.1.short)
+refused_line : (state : Option State) (long : List ℕ) (rest : List (List ℕ)) → MAX_LINE < length long
+    → MayStop cause.BadStep state (long ∷ rest) []
+refused_line None long rest over = (refl, λ max_threads form. omega (arith, over, form.short))
+refused_line (Some _) long rest over = (refl, λ command form. omega (arith, over, form.short))
 
 MayStop-read : (bytes line : List ℕ) (left : Option (List ℕ)) (state : Option State) (refusal : Cause)
-    → IsLineRead bytes left (Err refusal) line → MayStop state (lines_of bytes) refusal []
+    → IsLineRead bytes left (Err refusal) line → MayStop refusal state (lines_of bytes) []
 MayStop-read bytes line left state cause.BadStep read =
-    subst (λ lines. MayStop state lines cause.BadStep []) (sym read.3) (refl, refused_line state read.0 read.1)
+    subst (λ lines. MayStop cause.BadStep state lines []) (sym read.3) (refused_line state read.0 read.2 read.1)
 MayStop-read bytes line left state cause.NoMemory read = refl
 MayStop-read bytes line left state cause.ReadFailed read = refl
 MayStop-read bytes line left state cause.TooManyThreads read = absurd read
@@ -266,7 +261,7 @@ IsTurn-unread (Some bytes) left a line old new given (Ok _) read is = absurd is
 IsTurn-unread (Some bytes) left a line old new given (Err refusal) read is = (
   [],
   Appends-nil a,
-  subst (λ other. MayStop old (lines_of bytes) other []) (sym is) (MayStop-read bytes line left old given read),
+  subst (λ other. MayStop other old (lines_of bytes) []) (sym is) (MayStop-read bytes line left old given read),
 )
 
 at_some : {A : Type 0} (o : Option A) (a : A) (P : A → Type 0) → o ≡ Some a → IfSome o P → P a
@@ -298,7 +293,7 @@ module _ (start known left old new after : Option (List ℕ)) (state next_state 
 
   -- a line could not be done
   pub script-stop : (refusal : Cause) → IfSome known (λ rest. (written : List ℕ) × Appends new after written
-      × MayStop state (lines_of rest) refusal written)
+      × MayStop refusal state (lines_of rest) written)
       → IfSome start (λ bytes. (written : List ℕ) × Appends old after written
       × IsStopped (lines_of bytes) (record { line = number; cause = refusal }) written)
   script-stop refusal turn = stopped start so_far
@@ -309,7 +304,7 @@ module _ (start known left old new after : Option (List ℕ)) (state next_state 
       stopped None progress = tt
       stopped (Some bytes) progress =
           let done = at_some known progress.rest (λ rest. (written : List ℕ) × Appends new after written
-          × MayStop state (lines_of rest) refusal written) progress.left turn in
+          × MayStop refusal state (lines_of rest) written) progress.left turn in
           Progress-stop bytes known old new after state number progress refusal done.0 done.1 done.2
 
   -- no line was left, and the writer was flushed

@@ -10,7 +10,8 @@ use Rattle.lot_exclusive.specs.declared.schedule.Step.TheVariants.{Register, Ret
 use Rattle.lot_exclusive.specs.declared.schedule.Step.TheVariants.{Resolve, Return, Acquire, Release}
 use Rattle.lot_exclusive.specs.Machine.{Machine, new_machine}
 use Rattle.lot_exclusive.specs.Status.{is_running, awaits_deadline, is_taken, can_resolve}
-use Rattle.lot_exclusive.specs.Steps.{IsRun}
+use Rattle.lot_exclusive.specs.Run.{IsRun}
+use Rattle.lot_exclusive.specs.Steps.{IsStep}
 use Rattle.lot_exclusive.specs.Totals.{unparked_by, returned_by}
 
 -- a step and its answer
@@ -25,7 +26,8 @@ journal_answers journal = map (λ entry. entry.1) journal
 
 -- the journal replays to this machine: its steps with its answers are a run from a new machine for so many threads
 abbrev pub Replays : ℕ → List Entry → Machine → Type 0
-Replays max_threads journal m = IsRun (new_machine max_threads) (journal_steps journal) (journal_answers journal) m
+Replays max_threads journal m =
+    IsRun IsStep (new_machine max_threads) (journal_steps journal) (journal_answers journal) m
 
 -- the step fits the status of its thread
 abbrev pub fits : Machine → Step → Bool

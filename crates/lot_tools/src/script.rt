@@ -145,7 +145,7 @@ fn make_lot(alloc: Global, line: &[u8]) -> Result<Lot, Cause>
     requires { length line.now ≤ MAX_LINE }
     ensures made { IfOk result (λ lot. (max_threads : ℕ) × IsLine (lot_words max_threads) line.now
         × (max_threads ≤ MAX_THREADS) × (state_of lot ≡ new_state max_threads)) }
-    ensures refused { IfErr result (λ cause. MayStop None (line.now ∷ []) cause []) }
+    ensures refused { IfErr result (λ cause. MayStop cause None (line.now ∷ []) []) }
 {
     let Some(max_threads) = parse_lot(line) else {
         return Err(Cause::BadStep);

@@ -5,6 +5,7 @@ pub use Rattle.lot_exclusive.specs.Status
 pub use Rattle.lot_exclusive.specs.Records
 pub use Rattle.lot_exclusive.specs.Machine
 pub use Rattle.lot_exclusive.specs.Steps
+pub use Rattle.lot_exclusive.specs.Run
 pub use Rattle.lot_exclusive.specs.Size
 pub use Rattle.lot_exclusive.specs.LotState
 pub use Rattle.lot_exclusive.specs.Represents

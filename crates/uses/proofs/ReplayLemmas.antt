@@ -3,15 +3,16 @@ use Rattle.std.proofs.Common.{◌≡◌, ℕ, ◌+◌, ◌<◌, ◌∷◌, List,
 use Rattle.std.proofs.Common.{drop, slice_index_or}
 use Rattle.std.proofs.lemmas.List.{drop_more}
 use Rattle.lot_exclusive.specs.Machine.{Machine}
-use Rattle.lot_exclusive.specs.Steps.{IsStep, IsRun}
+use Rattle.lot_exclusive.specs.Steps.{IsStep}
+use Rattle.lot_exclusive.specs.Run.{IsRun}
 use Rattle.lot_tools.specs.Journal.{Entry, journal_steps, journal_answers}
 
 -- a run of what is left begins with the next entry
 pub next_entry : (m last : Machine) (journal : List Entry) (i : ℕ) (entry : Entry) → i < length journal
     → entry ≡ slice_index_or journal i entry
-    → IsRun m (journal_steps (drop i journal)) (journal_answers (drop i journal)) last
+    → IsRun IsStep m (journal_steps (drop i journal)) (journal_answers (drop i journal)) last
     → (next : Machine) × IsStep m entry.0 entry.1 next
-    × IsRun next (journal_steps (drop (i + 1) journal)) (journal_answers (drop (i + 1) journal)) last
+    × IsRun IsStep next (journal_steps (drop (i + 1) journal)) (journal_answers (drop (i + 1) journal)) last
 next_entry m last journal i entry low is ran =
-    subst (λ rest. IsRun m (journal_steps rest) (journal_answers rest) last)
+    subst (λ rest. IsRun IsStep m (journal_steps rest) (journal_answers rest) last)
     (drop_more journal i entry low ∙ ap (λ first. first ∷ drop (i + 1) journal) (sym is)) ran

@@ -15,7 +15,8 @@ use Rattle.lot_exclusive.specs.declared.schedule.Step.TheVariants.{Enter, Deadli
 use Rattle.lot_exclusive.specs.Status.{is_running, awaits_deadline, is_queued}
 use Rattle.lot_exclusive.specs.Machine.{Machine, Waiter, StandsAt, IsConsistent, times_in, with_status, after_enter}
 use Rattle.lot_exclusive.specs.Machine.{after_timeout, list_without}
-use Rattle.lot_exclusive.specs.Steps.{IsRun, IsResolve}
+use Rattle.lot_exclusive.specs.Steps.{IsStep, IsResolve}
+use Rattle.lot_exclusive.specs.Run.{IsRun}
 use Rattle.lot_exclusive.proofs.StandingLemmas.{same_machine}
 use Rattle.lot_exclusive.proofs.WaiterLemmas.{times_in-append, times_in-own}
 use Rattle.uses.proofs.ValueLemmas.{with_value-twice}
@@ -93,7 +94,7 @@ module _ (m : Machine) (thread key : ℕ) (park_token : ParkToken) (consistent :
   resolved given last (k, stands, (told, left_so)) = left_so ∙ ap (after_timeout late thread) (at_key k stands) ∙ left
 
   -- the three steps lead back
-  pub IsRun-in_vain : (answers : List Answer) (last : Machine) → IsRun m vain_steps answers last → last ≡ m
+  pub IsRun-in_vain : (answers : List Answer) (last : Machine) → IsRun IsStep m vain_steps answers last → last ≡ m
   IsRun-in_vain [] last none = absurd none
   IsRun-in_vain (a ∷ []) last (_, _, none) = absurd none
   IsRun-in_vain (a ∷ b ∷ []) last (_, _, (_, _, none)) = absurd none

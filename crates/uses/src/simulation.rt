@@ -3,7 +3,8 @@
 ghost use Rattle.std.specs.Prelude.{◌≡◌, ◌≢◌, ℕ, if◌then◌else◌, not, true, [], ◌∷◌, IfOk, OnErr, OnOk};
 ghost use Rattle.lot_base.specs.Waiting.{has_any};
 ghost use Rattle.lot_exclusive.specs.Status.{is_parked};
-ghost use Rattle.lot_exclusive.specs.Steps.{IsRun, OutcomesAlternate};
+ghost use Rattle.lot_exclusive.specs.Run.{IsRun, OutcomesAlternate};
+ghost use Rattle.lot_exclusive.specs.Steps.{IsStep, ends_park, parks};
 ghost use Rattle.lot_exclusive.specs.Lot.{machine};
 
 use crate::semaphore::{PERMIT, Semaphore};
@@ -23,10 +24,10 @@ use std::alloc::Global;
 /// `NoMemory` if room for the answers cannot be had. Nothing changed then.
 pub fn simulate(alloc: Global, lot: &mut Lot, steps: &[Step]) -> Result<Vec<Answer>, NoMemory>
     ensures run { IfOk result (λ answers.
-        IsRun (machine lot.old) steps.now answers.items (machine lot.new)) }
+        IsRun IsStep (machine lot.old) steps.now answers.items (machine lot.new)) }
     ensures outcomes { IfOk result (λ answers. (thread : ℕ)
-        → OutcomesAlternate (is_parked ((machine lot.old).status thread)) thread steps.now
-        answers.items) }
+        → OutcomesAlternate (parks thread) (ends_park thread)
+        (is_parked ((machine lot.old).status thread)) steps.now answers.items) }
     ensures err { OnErr result (lot.new ≡ lot.old) }
 {
     let mut answers = Vec::new(alloc);

@@ -41,9 +41,9 @@ IsTurn old bytes left (Ok next.Line) written new =
     × (answer : List ℕ) × IsAnswered old line answer new × (written ≡ answer ++ 10 ∷ [])
 IsTurn old bytes left (Ok next.End) written new =
     (lines_of bytes ≡ []) × (written ≡ []) × (new ≡ old) × IsSome old
-IsTurn old bytes left (Err refusal) written new = MayStop old (lines_of bytes) refusal written
+IsTurn old bytes left (Err refusal) written new = MayStop refusal old (lines_of bytes) written
 
 -- a line was answered, or the script may stop so at it
 abbrev pub Answers : Option State → List ℕ → Result (Unit {0}) Cause → List ℕ → Option State → Type 0
 Answers old line (Ok _) written new = (answer : List ℕ) × IsAnswered old line answer new × (written ≡ answer ++ 10 ∷ [])
-Answers old line (Err refusal) written new = MayStop old (line ∷ []) refusal written
+Answers old line (Err refusal) written new = MayStop refusal old (line ∷ []) written

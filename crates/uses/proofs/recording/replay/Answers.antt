@@ -1,6 +1,7 @@
 use Rattle.std.proofs.Common.{◌≡◌, ◌+◌, ◌<◌, ◌∙◌, drop, length, slice_index_or, ap, subst, arith}
 use Rattle.lot_exclusive.specs.Lot.{machine}
-use Rattle.lot_exclusive.specs.Steps.{IsStep, IsRun}
+use Rattle.lot_exclusive.specs.Steps.{IsStep}
+use Rattle.lot_exclusive.specs.Run.{IsRun}
 use Rattle.lot_exclusive.proofs.AnswerLemmas.{IsStep-same_answer}
 use Rattle.lot_exclusive.proofs.LawLemmas.{IsStep-fixes}
 use Rattle.lot_exclusive.proofs.StepLemmas.{IsConsistent-step}
@@ -30,7 +31,7 @@ loop-step-preserved c =
     record {
       consistent = IsConsistent-step (machine c.loop-step.lot) c.loop-step-item.result.0 c.loop-step-item.result.1
           (machine c.apply.new.self) c.loop-step.invariant.consistent done;
-      left = subst (λ m. IsRun m (journal_steps (drop (c.loop-step.step-index + 1) c.args.recorded.now.journal))
+      left = subst (λ m. IsRun IsStep m (journal_steps (drop (c.loop-step.step-index + 1) c.args.recorded.now.journal))
           (journal_answers (drop (c.loop-step.step-index + 1) c.args.recorded.now.journal))
           (machine c.args.recorded.now.lot)) met ran;
     }
