@@ -18,3 +18,4 @@ pub mod FineRunLemmas
 pub mod CopyLemmas
 pub mod ToldLemmas
 pub mod InterleavedOutcomeLemmas
+pub mod FineAnswerLemmas

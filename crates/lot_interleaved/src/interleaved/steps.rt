@@ -7,6 +7,7 @@ ghost use Rattle.lot_interleaved.specs.Copies.{AreCopies};
 ghost use Rattle.lot_interleaved.specs.FineLot.{fine_state};
 ghost use Rattle.lot_interleaved.specs.InterleavedView.{sequential_step, steps_of};
 ghost use Rattle.lot_interleaved.specs.Private.FineTold.{IsCopyIn, is_with_caller};
+ghost use Rattle.lot_interleaved.specs.Private.FineAnswers.{answer_for};
 ghost use Rattle.lot_interleaved.specs.InterleavedSteps.{IsFineStep, can_begin, keys_of, is_held, is_any_open, is_full, is_growth_blocked};
 
 use super::caller::{Caller, Held};
@@ -18,9 +19,6 @@ use lot_base::queue::Node;
 use lot_base::token::{Misfit, ParkToken, StepError};
 use lot_exclusive::lot::Status;
 use lot_exclusive::schedule::{Answer, Op, Step};
-
-// What a step answers that does not fit.
-const MISFIT: FineAnswer = FineAnswer::Answer(Answer::Misfit);
 
 impl FineLot {
     // Does the step, and tells the sequential step to which it amounts. `op` is the copy of its
@@ -58,6 +56,15 @@ impl FineLot {
     pub(super) fn apply(&mut self, step: &FineStep) -> FineAnswer
         ensures { IsFineStep (fine_state self.old) step.now result (fine_state self.new) }
     {
+        self.try_step(step)
+            .unwrap_or(FineAnswer::Answer(Answer::Misfit))
+    }
+
+    // Does the step if it fits.
+    fn try_step(&mut self, step: &FineStep) -> Result<FineAnswer, Misfit>
+        ensures { IsFineStep (fine_state self.old) step.now (answer_for result)
+            (fine_state self.new) }
+    {
         match step {
             FineStep::Begin { caller, op } => self.begin(*caller, op),
             FineStep::Commit { caller } => self.commit(*caller),
@@ -74,27 +81,25 @@ impl FineLot {
                 timed,
             } => self.enter(*thread, *key, *valid, *park_token, *timed),
             FineStep::Return { thread } => self.give_back(*thread),
-            FineStep::Register => self.register(),
+            FineStep::Register => Ok(self.register()),
             FineStep::Retire { thread } => self.retire(*thread),
             FineStep::Acquire { thread, key } => self.acquire(*thread, *key),
             FineStep::Release { thread, key } => self.release(*thread, *key),
         }
     }
 
-    fn begin(&mut self, caller: usize, op: &Op) -> FineAnswer
-        ensures { IsFineStep (fine_state self.old) (FineStep.Begin caller op.now) result
+    fn begin(&mut self, caller: usize, op: &Op) -> Result<FineAnswer, Misfit>
+        ensures { IsFineStep (fine_state self.old) (FineStep.Begin caller op.now) (answer_for result)
             (fine_state self.new) }
     {
-        let Some(unparking) = self.callers.get(caller) else {
-            return MISFIT;
-        };
+        let unparking = self.callers.get(caller).ok_or(Misfit)?;
         if !unparking.is_idle() {
-            return MISFIT;
+            return Err(Misfit);
         }
         if self.is_any_held(op) {
-            return FineAnswer::Blocked;
+            return Ok(FineAnswer::Blocked);
         }
-        self.open_section(caller, op)
+        Ok(self.open_section(caller, op))
     }
 
     // Opens a section of a caller that may begin one, on buckets that no section holds.
@@ -110,142 +115,97 @@ impl FineLot {
         FineAnswer::Answer(answer)
     }
 
-    fn deadline(&mut self, thread: usize) -> FineAnswer
-        ensures { IsFineStep (fine_state self.old) (FineStep.Deadline thread) result
+    fn deadline(&mut self, thread: usize) -> Result<FineAnswer, Misfit>
+        ensures { IsFineStep (fine_state self.old) (FineStep.Deadline thread) (answer_for result)
             (fine_state self.new) }
     {
-        let Some(late) = self.threads.get_mut(thread) else {
-            return MISFIT;
-        };
-        if let Err(Misfit) = late.deadline() {
-            return MISFIT;
-        }
-        FineAnswer::Late
+        self.threads.get_mut(thread).ok_or(Misfit)?.deadline()?;
+        Ok(FineAnswer::Late)
     }
 
-    fn read_key(&mut self, thread: usize) -> FineAnswer
-        ensures { IsFineStep (fine_state self.old) (FineStep.ReadKey thread) result
+    fn read_key(&mut self, thread: usize) -> Result<FineAnswer, Misfit>
+        ensures { IsFineStep (fine_state self.old) (FineStep.ReadKey thread) (answer_for result)
             (fine_state self.new) }
     {
-        let Some(late) = self.threads.get_mut(thread) else {
-            return MISFIT;
-        };
-        let Ok(key) = late.read_key() else {
-            return MISFIT;
-        };
-        FineAnswer::Read(key)
+        let key = self.threads.get_mut(thread).ok_or(Misfit)?.read_key()?;
+        Ok(FineAnswer::Read(key))
     }
 
-    fn give_back(&mut self, thread: usize) -> FineAnswer
-        ensures { IsFineStep (fine_state self.old) (FineStep.Return thread) result
+    fn give_back(&mut self, thread: usize) -> Result<FineAnswer, Misfit>
+        ensures { IsFineStep (fine_state self.old) (FineStep.Return thread) (answer_for result)
             (fine_state self.new) }
     {
-        let Some(waiting) = self.threads.get_mut(thread) else {
-            return MISFIT;
-        };
-        let Ok(token) = waiting.give_back() else {
-            return MISFIT;
-        };
-        FineAnswer::Answer(Answer::Unparked(token))
+        let token = self.threads.get_mut(thread).ok_or(Misfit)?.give_back()?;
+        Ok(FineAnswer::Answer(Answer::Unparked(token)))
     }
 
-    fn retire(&mut self, thread: usize) -> FineAnswer
-        ensures { IsFineStep (fine_state self.old) (FineStep.Retire thread) result
+    fn retire(&mut self, thread: usize) -> Result<FineAnswer, Misfit>
+        ensures { IsFineStep (fine_state self.old) (FineStep.Retire thread) (answer_for result)
             (fine_state self.new) }
     {
-        let Some(running) = self.threads.get_mut(thread) else {
-            return MISFIT;
-        };
-        if let Err(Misfit) = running.retire() {
-            return MISFIT;
-        }
+        self.threads.get_mut(thread).ok_or(Misfit)?.retire()?;
         self.table.release(thread);
-        FineAnswer::Answer(Answer::Retired)
+        Ok(FineAnswer::Answer(Answer::Retired))
     }
 
-    fn acquire(&mut self, thread: usize, key: usize) -> FineAnswer
-        ensures { IsFineStep (fine_state self.old) (FineStep.Acquire thread key) result
+    fn acquire(&mut self, thread: usize, key: usize) -> Result<FineAnswer, Misfit>
+        ensures { IsFineStep (fine_state self.old) (FineStep.Acquire thread key) (answer_for result)
             (fine_state self.new) }
     {
-        let Some(running) = self.threads.get_mut(thread) else {
-            return MISFIT;
-        };
+        let running = self.threads.get_mut(thread).ok_or(Misfit)?;
         match running.acquire(key) {
             Ok(()) => {}
-            Err(StepError::NoMemory) => return FineAnswer::Answer(Answer::NoMemory),
-            Err(StepError::Misfit) => return MISFIT,
+            Err(StepError::NoMemory) => return Ok(FineAnswer::Answer(Answer::NoMemory)),
+            Err(StepError::Misfit) => return Err(Misfit),
         }
-        FineAnswer::Answer(Answer::Recorded)
+        Ok(FineAnswer::Answer(Answer::Recorded))
     }
 
-    fn release(&mut self, thread: usize, key: usize) -> FineAnswer
-        ensures { IsFineStep (fine_state self.old) (FineStep.Release thread key) result
+    fn release(&mut self, thread: usize, key: usize) -> Result<FineAnswer, Misfit>
+        ensures { IsFineStep (fine_state self.old) (FineStep.Release thread key) (answer_for result)
             (fine_state self.new) }
     {
-        let Some(running) = self.threads.get_mut(thread) else {
-            return MISFIT;
-        };
-        if let Err(Misfit) = running.release(key) {
-            return MISFIT;
-        }
-        FineAnswer::Answer(Answer::Released)
+        self.threads.get_mut(thread).ok_or(Misfit)?.release(key)?;
+        Ok(FineAnswer::Answer(Answer::Released))
     }
 
-    fn commit(&mut self, caller: usize) -> FineAnswer
-        ensures { IsFineStep (fine_state self.old) (FineStep.Commit caller) result
+    fn commit(&mut self, caller: usize) -> Result<FineAnswer, Misfit>
+        ensures { IsFineStep (fine_state self.old) (FineStep.Commit caller) (answer_for result)
             (fine_state self.new) }
     {
-        let Some(unparking) = self.callers.get_mut(caller) else {
-            return MISFIT;
-        };
-        let Some(node) = unparking.hand_on() else {
-            return MISFIT;
-        };
+        let unparking = self.callers.get_mut(caller).ok_or(Misfit)?;
+        let node = unparking.hand_on().ok_or(Misfit)?;
         let number = node.number;
         self.threads[number].unpark(node);
-        FineAnswer::Committed(number)
+        Ok(FineAnswer::Committed(number))
     }
 
-    fn end(&mut self, caller: usize) -> FineAnswer
-        ensures { IsFineStep (fine_state self.old) (FineStep.End caller) result
+    fn end(&mut self, caller: usize) -> Result<FineAnswer, Misfit>
+        ensures { IsFineStep (fine_state self.old) (FineStep.End caller) (answer_for result)
             (fine_state self.new) }
     {
-        let Some(unparking) = self.callers.get_mut(caller) else {
-            return MISFIT;
-        };
-        if let Err(Misfit) = unparking.end() {
-            return MISFIT;
-        }
-        FineAnswer::Ended
+        self.callers.get_mut(caller).ok_or(Misfit)?.end()?;
+        Ok(FineAnswer::Ended)
     }
 
-    fn wake(&mut self, caller: usize) -> FineAnswer
-        ensures { IsFineStep (fine_state self.old) (FineStep.Wake caller) result
+    fn wake(&mut self, caller: usize) -> Result<FineAnswer, Misfit>
+        ensures { IsFineStep (fine_state self.old) (FineStep.Wake caller) (answer_for result)
             (fine_state self.new) }
     {
-        let Some(waking) = self.callers.get_mut(caller) else {
-            return MISFIT;
-        };
-        if let Err(Misfit) = waking.wake() {
-            return MISFIT;
-        }
-        FineAnswer::Woken
+        self.callers.get_mut(caller).ok_or(Misfit)?.wake()?;
+        Ok(FineAnswer::Woken)
     }
 
-    fn look(&mut self, thread: usize) -> FineAnswer
-        ensures { IsFineStep (fine_state self.old) (FineStep.Look thread) result
+    fn look(&mut self, thread: usize) -> Result<FineAnswer, Misfit>
+        ensures { IsFineStep (fine_state self.old) (FineStep.Look thread) (answer_for result)
             (fine_state self.new) }
     {
-        let Some(late) = self.threads.get(thread) else {
-            return MISFIT;
-        };
-        let Some(key) = late.key_read() else {
-            return MISFIT;
-        };
+        let late = self.threads.get(thread).ok_or(Misfit)?;
+        let key = late.key_read().ok_or(Misfit)?;
         if self.is_held(key) {
-            return FineAnswer::Blocked;
+            return Ok(FineAnswer::Blocked);
         }
-        self.look_in(thread, key)
+        Ok(self.look_in(thread, key))
     }
 
     // Looks by a key that a thread has read and whose bucket no section holds.
@@ -289,20 +249,19 @@ impl FineLot {
         valid: bool,
         park_token: ParkToken,
         timed: bool,
-    ) -> FineAnswer
+    ) -> Result<FineAnswer, Misfit>
         ensures { IsFineStep (fine_state self.old)
-            (FineStep.Enter thread key valid park_token timed) result (fine_state self.new) }
+            (FineStep.Enter thread key valid park_token timed) (answer_for result)
+            (fine_state self.new) }
     {
-        let Some(running) = self.threads.get(thread) else {
-            return MISFIT;
-        };
+        let running = self.threads.get(thread).ok_or(Misfit)?;
         if !running.is_running() {
-            return MISFIT;
+            return Err(Misfit);
         }
         if self.is_held(key) {
-            return FineAnswer::Blocked;
+            return Ok(FineAnswer::Blocked);
         }
-        self.enter_list(thread, key, valid, park_token, timed)
+        Ok(self.enter_list(thread, key, valid, park_token, timed))
     }
 
     // Puts a running thread last in the list of a key whose bucket no section holds, if it is

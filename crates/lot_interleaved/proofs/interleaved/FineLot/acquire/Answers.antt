@@ -3,6 +3,7 @@ use Rattle.lot_interleaved.specs.declared.interleaved.FineAnswer.TheVariants as 
 use Rattle.lot_interleaved.specs.declared.interleaved.FineStep.TheVariants.{Acquire}
 use Rattle.lot_exclusive.specs.declared.schedule.Answer.TheVariants.{Misfit, Recorded}
 use Rattle.lot_interleaved.specs.FineLot.{fine_state}
+use Rattle.lot_interleaved.proofs.FineAnswerLemmas.{answer_for-misfit, None-refused}
 use Rattle.lot_interleaved.proofs.FineLotLemmas.{fine_lot_of}
 use Rattle.lot_interleaved.proofs.FineStateLemmas.{DoneStep, DoneStep-kept, set_lot, status_is, status-past, step_of}
 use Rattle.lot_interleaved.proofs.FineStateLemmas.{uses-recorded}
@@ -14,16 +15,16 @@ step : (c : In-Ok) → DoneStep (fine_lot_of c.self.inside)
     (set_lot (fine_lot_of c.self.inside) c.args.thread c.acquire.new.self c.self.inside.table.cells
     c.self.inside.callers.items) (Acquire c.args.thread c.args.key) (fine.Answer Recorded)
 step c =
-    DoneStep-acquire (fine_lot_of c.self.inside) c.self.invariant.0 c.args.thread c.in-Some.running.now
-    c.acquire.new.self c.in-Some.ensures.item.3.0 (c.in-Some.ensures.item.3.1 _) c.args.key
+    DoneStep-acquire (fine_lot_of c.self.inside) c.self.invariant.0 c.args.thread c.in_ok-running.running.now
+    c.acquire.new.self (rw c.in_ok-running.ensures.ok_part at c.get_mut.ensures.item).3.0 ((rw c.in_ok-running.ensures.ok_part at c.get_mut.ensures.item).3.1 _) c.args.key
     (c.in-Ok.ensures.fits.0 (λ refused. cc)) c.in-Ok.ensures.kept c.in-Ok.ensures.ok
 
 pub invariant_of-self-2 : goal.invariant_of-self-2
 invariant_of-self-2 c = (
   (step c).is_lot,
   c.self.invariant.1
-      ∙ sym (uses-recorded (fine_lot_of c.self.inside) c.self.invariant.0 c.args.thread c.in-Some.running.now
-      c.acquire.new.self c.in-Some.ensures.item.3.0 (c.in-Some.ensures.item.3.1 _) _ c.acquire.ensures.kept refl),
+      ∙ sym (uses-recorded (fine_lot_of c.self.inside) c.self.invariant.0 c.args.thread c.in_ok-running.running.now
+      c.acquire.new.self (rw c.in_ok-running.ensures.ok_part at c.get_mut.ensures.item).3.0 ((rw c.in_ok-running.ensures.ok_part at c.get_mut.ensures.item).3.1 _) _ c.acquire.ensures.kept refl),
 )
 
 pub returns : goal.returns
@@ -33,16 +34,16 @@ pub returns-in-Err-NoMemory : goal.returns-in-Err-NoMemory
 returns-in-Err-NoMemory c =
     let fits = rw c.in-Err-NoMemory.field-0-is at c.in-Err-NoMemory.ensures.fits in
     step_of c.self.view_is
-    (DoneStep-unrecorded (fine_lot_of c.self.inside) c.self.invariant.0 c.args.thread c.in-Some.running.now
-    c.acquire.new.self c.in-Some.ensures.item.3.0 (c.in-Some.ensures.item.3.1 _) c.args.key
+    (DoneStep-unrecorded (fine_lot_of c.self.inside) c.self.invariant.0 c.args.thread c.in_ok-running.running.now
+    c.acquire.new.self (rw c.in_ok-running.ensures.ok_part at c.get_mut.ensures.item).3.0 ((rw c.in_ok-running.ensures.ok_part at c.get_mut.ensures.item).3.1 _) c.args.key
     (fits.0 (λ refused. cc)) c.in-Err-NoMemory.ensures.err)
 
 pub returns-in-Err-Misfit : goal.returns-in-Err-Misfit
 returns-in-Err-Misfit c =
     let lot = fine_lot_of c.self.inside in
-    let now = c.in-Some.running.now in
-    let below = c.in-Some.ensures.item.3.0 in
-    let read = c.in-Some.ensures.item.3.1 _ in
+    let now = c.in_ok-running.running.now in
+    let below = (rw c.in_ok-running.ensures.ok_part at c.get_mut.ensures.item).3.0 in
+    let read = (rw c.in_ok-running.ensures.ok_part at c.get_mut.ensures.item).3.1 _ in
     let at = status_is lot c.self.invariant.0 c.args.thread now c.acquire.new.self below read in
     let fits = rw c.in-Err-Misfit.field-0-is at c.in-Err-Misfit.ensures.fits in
     step_of c.self.view_is
@@ -50,9 +51,10 @@ returns-in-Err-Misfit c =
     (Acquire c.args.thread c.args.key) (fine.Answer Misfit) c.in-Err-Misfit.ensures.err
     (unfit-acquire (fine_state lot) c.args.thread c.args.key (λ runs. fits.1 (sym at ∙ runs) refl)))
 
-pub returns-in_default : goal.returns-in_default
-returns-in_default c =
+pub returns-in_err-running : goal.returns-in_err-running
+returns-in_err-running c =
     let lot = fine_lot_of c.self.inside in
-    rw (← c.self.view_is)
+    let none = None-refused c.get_mut.result _ _ c.in_err-running.ensures.value in
+    rw (← c.self.view_is, answer_for-misfit c.from_residual.result _ c.from_residual.ensures.1)
     (unfit-acquire (fine_state lot) c.args.thread c.args.key
-    (λ runs. let free = status-past lot c.args.thread c.in_default.ensures.item.3 in cc))
+    (λ runs. let free = status-past lot c.args.thread (rw none at c.get_mut.ensures.item).3 in cc))

@@ -10,34 +10,35 @@ use Rattle.lot_interleaved.specs.InterleavedState.{TakenThread}
 use Rattle.lot_exclusive.specs.Status.{is_queued}
 use Rattle.lot_interleaved.proofs.FineCallerLemmas.{Commit-misfit, DoneStep-commit, DoneStep-kept_caller, HandsOn}
 use Rattle.lot_interleaved.proofs.FineCallerLemmas.{hands_on}
+use Rattle.lot_interleaved.proofs.FineAnswerLemmas.{step_of_misfit, None-refused}
 use Rattle.lot_interleaved.proofs.FineLotLemmas.{fine_lot_of}
 use Rattle.lot_interleaved.proofs.FineStateLemmas.{DoneStep, number_is, set_lot, slot_is, status_is, step_of}
 use Rattle.lot_interleaved.proofs.FineStateLemmas.{uses-changed}
 use Rattle.lot_interleaved.proofs.interleaved.FineLot.commit.Goals as goal
 use Rattle.lot_interleaved.proofs.interleaved.FineLot.commit.Goals.{After-deref}
 
-pub returns-in_default-hand_on : goal.returns-in_default-hand_on
-returns-in_default-hand_on c =
+pub returns-in_err-node : goal.returns-in_err-node
+returns-in_err-node c =
     let lot = fine_lot_of c.self.inside in
-    let now = c.in-Some.unparking.now in
+    let now = c.in_ok-unparking.unparking.now in
     let at : slice_get lot.callers c.args.caller ≡ Some now =
-    slice_get_read _ _ _ _ refl c.in-Some.ensures.item.3.0 (c.in-Some.ensures.item.3.1 _) in
-    let kept = c.in_default-hand_on.ensures.none in
-    step_of c.self.view_is
+    slice_get_read _ _ _ _ refl (rw c.in_ok-unparking.ensures.ok_part at c.get_mut.ensures.item).3.0 ((rw c.in_ok-unparking.ensures.ok_part at c.get_mut.ensures.item).3.1 _) in
+    let kept = rw (None-refused c.hand_on.result _ _ c.in_err-node.ensures.value) at c.hand_on.ensures.none in
+    step_of_misfit c.from_residual-in_err-node.result _ c.from_residual-in_err-node.ensures.1 c.self.view_is
     (DoneStep-kept_caller lot c.args.caller now c.hand_on.new.self at kept.0 (Commit c.args.caller)
     (fine.Answer Misfit) c.self.invariant.0 (Commit-misfit (fine_state lot) c.args.caller now at kept.1))
 
 -- the thread that is handed its node, by the number that was read of the node
 abbrev first : (c : After-deref) → TakenThread
-first c = record { number = c.deref.result.now.number; token = c.in-Some-hand_on.node.value.unpark_token }
+first c = record { number = c.deref.result.now.number; token = c.in_ok-node.node.value.unpark_token }
 
 hands : (c : After-deref) → HandsOn (fine_lot_of c.self.inside) c.args.caller c.hand_on.new.self (first c)
 hands c =
-    let (section, rest, opened, takes, set) = c.in-Some-hand_on.ensures.some in
-    hands_on (fine_lot_of c.self.inside) c.self.invariant.0 c.args.caller c.in-Some.unparking.now c.hand_on.new.self
-    (slice_get_read _ _ _ _ refl c.in-Some.ensures.item.3.0 (c.in-Some.ensures.item.3.1 _)) section (first c) rest
+    let (section, rest, opened, takes, set) = rw c.in_ok-node.ensures.ok_part at c.hand_on.ensures.some in
+    hands_on (fine_lot_of c.self.inside) c.self.invariant.0 c.args.caller c.in_ok-unparking.unparking.now c.hand_on.new.self
+    (slice_get_read _ _ _ _ refl (rw c.in_ok-unparking.ensures.ok_part at c.get_mut.ensures.item).3.0 ((rw c.in_ok-unparking.ensures.ok_part at c.get_mut.ensures.item).3.1 _)) section (first c) rest
     opened (takes
-    ∙ ap (λ number. record { number = number; token = c.in-Some-hand_on.node.value.unpark_token } ∷ rest)
+    ∙ ap (λ number. record { number = number; token = c.in_ok-node.node.value.unpark_token } ∷ rest)
     (ap (λ node. node.number) (sym c.deref.ensures))) set
 
 pub index_mut-requires : goal.index_mut-requires

@@ -7,6 +7,7 @@ use Rattle.lot_interleaved.specs.FineLot.{fine_state, plain_threads}
 use Rattle.lot_interleaved.specs.FineLotState.{FineThreadState}
 use Rattle.lot_exclusive.specs.Lot.{use_of, uses}
 use Rattle.lot_exclusive.proofs.CommitLemmas.{uses-set}
+use Rattle.lot_interleaved.proofs.FineAnswerLemmas.{step_of_misfit, answer_for-misfit, None-refused}
 use Rattle.lot_interleaved.proofs.FineLotLemmas.{fine_lot_of}
 use Rattle.lot_interleaved.proofs.FineStateLemmas.{DoneStep, DoneStep-kept, plain-set, set_lot, step_of, status_is}
 use Rattle.lot_interleaved.proofs.FineStateLemmas.{status-past}
@@ -18,9 +19,9 @@ step : (c : After-release) → DoneStep (fine_lot_of c.self.inside)
     (set_lot (fine_lot_of c.self.inside) c.args.thread c.retire.new.self c.self.inside.table.cells
     c.self.inside.callers.items) (Retire c.args.thread) (fine.Answer Retired)
 step c =
-    DoneStep-retire (fine_lot_of c.self.inside) c.self.invariant.0 c.args.thread c.in-Some.running.now
-    c.retire.new.self c.in-Some.ensures.item.3.0 (c.in-Some.ensures.item.3.1 _)
-    (c.in_default-retire.ensures.fits.0 refl) c.in_default-retire.ensures.ok
+    DoneStep-retire (fine_lot_of c.self.inside) c.self.invariant.0 c.args.thread c.in_ok-ok_or.field-0.now
+    c.retire.new.self (rw c.in_ok-ok_or.ensures.ok_part at c.get_mut.ensures.item).3.0 ((rw c.in_ok-ok_or.ensures.ok_part at c.get_mut.ensures.item).3.1 _)
+    (c.in_ok-retire.ensures.fits.0 refl) c.in_ok-retire.ensures.ok
 
 pub invariant_of-self-2 : goal.invariant_of-self-2
 invariant_of-self-2 c =
@@ -30,28 +31,29 @@ invariant_of-self-2 c =
           ∙ sym (ap uses (plain-set c.self.inside.threads.items c.args.thread c.retire.new.self)
           ∙ uses-set (plain_threads c.self.inside.threads.items) c.args.thread c.retire.new.self.thread
           ∙ ap (λ (t : FineThreadState). slice_set (uses (plain_threads c.self.inside.threads.items)) c.args.thread
-          (use_of t.thread.status)) c.in_default-retire.ensures.ok),
+          (use_of t.thread.status)) c.in_ok-retire.ensures.ok),
     )
 
 pub returns : goal.returns
 returns c = rw (← c.self.view_is, c.release.ensures.cells) (step c).does
 
-pub returns-in-Err : goal.returns-in-Err
-returns-in-Err c =
+pub returns-in_err-retire : goal.returns-in_err-retire
+returns-in_err-retire c =
     let lot = fine_lot_of c.self.inside in
-    let now = c.in-Some.running.now in
-    let below = c.in-Some.ensures.item.3.0 in
-    let read = c.in-Some.ensures.item.3.1 _ in
+    let now = c.in_ok-ok_or.field-0.now in
+    let below = (rw c.in_ok-ok_or.ensures.ok_part at c.get_mut.ensures.item).3.0 in
+    let read = (rw c.in_ok-ok_or.ensures.ok_part at c.get_mut.ensures.item).3.1 _ in
     let at = status_is lot c.self.invariant.0 c.args.thread now c.retire.new.self below read in
-    step_of c.self.view_is
+    step_of_misfit c.from_residual-in_err-retire.result _ c.from_residual-in_err-retire.ensures.1 c.self.view_is
     (DoneStep-kept lot c.self.invariant.0 c.args.thread now c.retire.new.self below read (Retire c.args.thread)
-    (fine.Answer Misfit) c.in-Err.ensures.err
+    (fine.Answer Misfit) c.in_err-retire.ensures.err
     (unfit-retire (fine_state lot) c.args.thread
-    (λ runs. let fitted = c.in-Err.ensures.fits.1 (sym at ∙ runs) in cc)))
+    (λ runs. let fitted = c.in_err-retire.ensures.fits.1 (sym at ∙ runs) in cc)))
 
-pub returns-in_default : goal.returns-in_default
-returns-in_default c =
+pub returns-in_err-ok_or : goal.returns-in_err-ok_or
+returns-in_err-ok_or c =
     let lot = fine_lot_of c.self.inside in
-    rw (← c.self.view_is)
+    let none = None-refused c.get_mut.result _ _ c.in_err-ok_or.ensures.value in
+    rw (← c.self.view_is, answer_for-misfit c.from_residual.result _ c.from_residual.ensures.1)
     (unfit-retire (fine_state lot) c.args.thread
-    (λ runs. let free = status-past lot c.args.thread c.in_default.ensures.item.3 in cc))
+    (λ runs. let free = status-past lot c.args.thread (rw none at c.get_mut.ensures.item).3 in cc))

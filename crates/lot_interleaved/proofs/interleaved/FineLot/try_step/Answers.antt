@@ -1,4 +1,4 @@
-use Rattle.lot_interleaved.proofs.interleaved.FineLot.apply.Goals as goal
+use Rattle.lot_interleaved.proofs.interleaved.FineLot.try_step.Goals as goal
 
 pub returns-in-Begin : goal.returns-in-Begin
 returns-in-Begin c = rw c.in-Begin.is c.begin.ensures
