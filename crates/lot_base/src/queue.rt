@@ -259,6 +259,3 @@ impl<'a> Nodes<'a> {
         Some(node)
     }
 }
-
-#[cfg(test)]
-mod tests;

@@ -2,9 +2,6 @@
 
 ghost use Rattle.std.specs.Prelude.{◌≡◌, ◌<◌, ◌≤◌, ◌+◌, ◌↔◌, ℕ, IsTrue, min};
 
-#[cfg(test)]
-mod tests;
-
 use crate::thread_parker::thread_yield;
 use std::hint;
 use std::marker::Model;

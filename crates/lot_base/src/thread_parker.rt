@@ -10,8 +10,6 @@ ghost use Rattle.lot_base.specs.Node.{fields, option_nodes};
 
 mod generic;
 mod mutex;
-#[cfg(test)]
-mod tests;
 
 use crate::queue::{Node, Queue};
 use crate::token::NoMemory;

@@ -170,6 +170,3 @@ pub enum StepError {
     #[error("no memory")]
     NoMemory,
 }
-
-#[cfg(test)]
-mod tests;

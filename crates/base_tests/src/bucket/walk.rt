@@ -1,14 +1,14 @@
 //! All ways to fill two buckets with up to four threads, on two keys of one place and one key of
 //! another, and each step on each of them, compared with a plain computation on lists of numbers.
-#![tactic(auto, using(crate::proofs::TestLemmas::is_table_size_16))]
+#![tactic(auto, using(lot_base::proofs::TestLemmas::is_table_size_16))]
 
 ghost use Rattle.std.specs.Prelude.{◌<◌};
 
-use crate::bucket::Bucket;
-use crate::bucket::tests::steps::{
+use crate::bucket::steps::{
     Done, Taken, answer, enter, filter, list, note, requeue, take_all, take_one,
 };
-use crate::token::{FilterOp, NoMemory, ParkToken, RequeueOp, UnparkResult};
+use lot_base::bucket::Bucket;
+use lot_base::token::{FilterOp, NoMemory, ParkToken, RequeueOp, UnparkResult};
 use std::alloc::Global;
 use std::process::Abort;
 use std::test::Fail;

@@ -1,4 +1,8 @@
-use super::*;
+//! Tests of queues of nodes.
+
+use lot_base::queue::{Node, Queue};
+use lot_base::token::{NoMemory, ParkToken, UnparkToken};
+use std::alloc::Global;
 use std::process::Abort;
 use std::test::Fail;
 

@@ -1,7 +1,7 @@
 use Rattle.lot_base.specs.Filter.{park_tokens}
 use Rattle.lot_base.specs.NodeLists.{lists_of}
 use Rattle.lot_base.proofs.FilterLemmas.{IsFilterCallable-always}
-use Rattle.lot_base.proofs.bucket.tests.steps.filter.Goals as goal
+use Rattle.base_tests.proofs.bucket.steps.filter.Goals as goal
 
 pub take_filter-taken-requires-clause-filter : goal.take_filter-taken-requires-clause-filter
 take_filter-taken-requires-clause-filter g c =

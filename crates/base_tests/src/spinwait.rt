@@ -1,6 +1,6 @@
 //! Tests of `SpinWait`, by the answers of `spin`.
 
-use super::SpinWait;
+use lot_base::spinwait::SpinWait;
 use std::process::Abort;
 
 fn spins_ten_times(rt: &impl Abort, wait: &mut SpinWait) {

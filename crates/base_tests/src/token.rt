@@ -1,4 +1,6 @@
-use crate::token::{
+//! Tests of results, tokens and the texts of refusals.
+
+use lot_base::token::{
     DEFAULT_PARK_TOKEN, DEFAULT_UNPARK_TOKEN, LotError, Misfit, NoMemory, ParkResult, ParkToken,
     StepError, UnparkResult, UnparkToken,
 };

@@ -1,12 +1,12 @@
 //! Each step with closures that note what they were handed.
-#![tactic(auto, using(crate::proofs::TestLemmas::is_table_size_16))]
+#![tactic(auto, using(lot_base::proofs::TestLemmas::is_table_size_16))]
 
 ghost use Rattle.std.specs.Prelude.{◌≡◌, IfOk};
 ghost use Rattle.lot_base.specs.Node.{fields};
 
-use crate::bucket::{Bucket, place};
-use crate::queue::{Node, Queue};
-use crate::token::{FilterOp, NoMemory, ParkToken, RequeueOp, UnparkResult, UnparkToken};
+use lot_base::bucket::{Bucket, place};
+use lot_base::queue::{Node, Queue};
+use lot_base::token::{FilterOp, NoMemory, ParkToken, RequeueOp, UnparkResult, UnparkToken};
 use std::alloc::Global;
 use std::cell::Cell;
 use std::process::Abort;

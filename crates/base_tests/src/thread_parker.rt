@@ -3,9 +3,11 @@
 ghost use Rattle.std.specs.Prelude.{◌≡◌, IfOk};
 ghost use Rattle.lot_base.specs.Node.{fields};
 
-use super::{Slot, ThreadParker, ThreadParkerT, UnparkHandleT, YieldParker, thread_yield};
-use crate::queue::Node;
-use crate::token::{DEFAULT_PARK_TOKEN, NoMemory, UnparkToken};
+use lot_base::queue::Node;
+use lot_base::thread_parker::{
+    Slot, ThreadParker, ThreadParkerT, UnparkHandleT, YieldParker, thread_yield,
+};
+use lot_base::token::{DEFAULT_PARK_TOKEN, NoMemory, UnparkToken};
 use std::alloc::Global;
 use std::process::Abort;
 use std::sync::Wait;
