@@ -20,8 +20,8 @@ use Rattle.lot_base.specs.WordView.{resting, leaving}
 use Rattle.lot_base.specs.WordLockInvariant.{HasValue}
 use Rattle.lot_base.specs.WordRule.{holds_lock, has_place, waits_with, owes_place, SeatOk, PlaceOk}
 use Rattle.lot_base.specs.WordRule.{Orderly}
-use Rattle.lot_base.specs.WordSteps.{arrived, acquired, took_place, given_back, linked, enqueued, looked}
-use Rattle.lot_base.specs.WordSteps.{released_to_zero, read_first, read_next, cut, released_after_cut, told}
+use Rattle.lot_base.specs.WordSteps.{ArriveTells, AcquireTells, TakePlaceTells, GiveBackTells, LinkTells, EnqueueTells, LookTells}
+use Rattle.lot_base.specs.WordSteps.{ReleaseToZeroTells, ReadFirstTells, ReadNextTells, CutTells, ReleaseAfterCutTells, TellTells}
 use Rattle.lot_base.proofs.WordCounts.{total-append, total-set, one_term, two_terms, some_term, total_le}
 use Rattle.lot_base.proofs.WordCounts.{one_at-same, one_at-other, times-append, member_place, AllPlaces-behind}
 use Rattle.lot_base.proofs.WordCounts.{AllPlaces-cut, whole, chain_kept, chain_behind, head_cut, times_cut}

@@ -20,8 +20,8 @@ use Rattle.lot_base.specs.WordView.{resting, leaving}
 use Rattle.lot_base.specs.WordLockInvariant.{HasValue}
 use Rattle.lot_base.specs.WordRule.{holds_lock, has_place, waits_with, owes_place, SeatOk, PlaceOk}
 use Rattle.lot_base.specs.WordRule.{Orderly}
-use Rattle.lot_base.specs.WordSteps.{arrived, acquired, took_place, given_back, linked, enqueued, looked}
-use Rattle.lot_base.specs.WordSteps.{released_to_zero, read_first, read_next, cut, released_after_cut, told}
+use Rattle.lot_base.specs.WordSteps.{ArriveTells, AcquireTells, TakePlaceTells, GiveBackTells, LinkTells, EnqueueTells, LookTells}
+use Rattle.lot_base.specs.WordSteps.{ReleaseToZeroTells, ReadFirstTells, ReadNextTells, CutTells, ReleaseAfterCutTells, TellTells}
 use Rattle.lot_base.proofs.WordCounts.{total-append, total-set, one_term, two_terms, some_term, total_le}
 use Rattle.lot_base.proofs.WordCounts.{one_at-same, one_at-other, times-append, member_place, AllPlaces-behind}
 use Rattle.lot_base.proofs.WordCounts.{AllPlaces-cut, whole, chain_kept, chain_behind, head_cut, times_cut}
@@ -63,7 +63,7 @@ module _ {T : Type 0} (fits : T → Type 0) where
   pub releases_to_zero : (id : ℕ) (seen : List ℕ) (value : T) (old : ℕ) (said : maybe.Option (Option T))
       → length seen ≤ 1 → old ≡ 1 + 2 * head seen → fits value
       → Allows (Orderly fits) 1 id (Holding seen [], (0, Some value) ∷ []) 0 (λ y. either (eqb y old) 0 y)
-      (released_to_zero (step 1 0 old 0 said) (Holding seen [], (0, Some value) ∷ []))
+      (ReleaseToZeroTells (step 1 0 old 0 said) (Holding seen [], (0, Some value) ∷ []))
   releases_to_zero id seen value old said short is-old fit s o wide me _ =
       let m : Me (Option T) View = (Holding seen [], (0, Some value) ∷ []) in
       let held = held_by s o id m.0 me refl in
@@ -72,7 +72,7 @@ module _ {T : Type 0} (fits : T → Type 0) where
       let known = o.each_seat id m.0 me in
       let newer : List ℕ = known.0.0 in
       let suffix : o.list ≡ newer ++ seen = known.0.1 in
-      exchanged (get_or s.words 0 0) old 0 ((Goes fits) s 0 id m (released_to_zero (step 1 0 old 0 said) m))
+      exchanged (get_or s.words 0 0) old 0 ((Goes fits) s 0 id m (ReleaseToZeroTells (step 1 0 old 0 said) m))
       (λ hit.
       let same : o.list ≡ seen = whole o.list newer seen suffix short (omega arith) o.in_places (no_repeats s o) in
       let w : View = leaving seen in
@@ -128,7 +128,7 @@ module _ {T : Type 0} (fits : T → Type 0) where
   -- the holder reads the link of the first place that it has seen
   pub reads_first : (n id h : ℕ) (back : List ℕ) (c : List (ℕ × Option T))
       → Allows (Orderly fits) n id (Holding (h ∷ back) [], c) h (λ y. y)
-      (read_first (step n h 0 0 none) (Holding (h ∷ back) [], c))
+      (ReadFirstTells (step n h 0 0 none) (Holding (h ∷ back) [], c))
   reads_first n id h back c s o wide me _ =
       let v : View = Holding (h ∷ back) [] in
       let known = o.each_seat id v me in
@@ -141,7 +141,7 @@ module _ {T : Type 0} (fits : T → Type 0) where
   -- the holder reads the link of the second, and goes on to the third if there is one
   pub reads_next : (n id g h : ℕ) (back : List ℕ) (c : List (ℕ × Option T))
       → Allows (Orderly fits) n id (Holding (g ∷ h ∷ back) [], c) h (λ y. y)
-      (read_next (step n h 0 0 none) (Holding (g ∷ h ∷ back) [], c))
+      (ReadNextTells (step n h 0 0 none) (Holding (g ∷ h ∷ back) [], c))
   reads_next n id g h back c s o wide me _ =
       let v : View = Holding (g ∷ h ∷ back) [] in
       let known = o.each_seat id v me in
@@ -170,7 +170,7 @@ module _ {T : Type 0} (fits : T → Type 0) where
   -- the holder removes the oldest of several
   pub cuts : (n id b a : ℕ) (c : List (ℕ × Option T))
       → Allows (Orderly fits) n id (Holding (b ∷ a ∷ []) [], c) b (λ _. 1)
-      (λ _. cut (step n b 1 0 none) (Holding (b ∷ a ∷ []) [], c) 1)
+      (λ _. CutTells (step n b 1 0 none) (Holding (b ∷ a ∷ []) [], c) 1)
   cuts n id b a c s o wide me _ =
       let v : View = Holding (b ∷ a ∷ []) [] in
       let w : View = Holding [] (a ∷ []) in
@@ -233,7 +233,7 @@ module _ {T : Type 0} (fits : T → Type 0) where
   -- the holder lets go after a cut, whoever came since
   pub releases_after_cut : (id a : ℕ) (value : T) (k : ℕ) → k ≡ 1 → fits value
       → Allows (Orderly fits) 1 id (Holding [] (a ∷ []), (0, Some value) ∷ []) 0 (λ y. (y + (2 ^ 64 - k)) % 2 ^ 64)
-      (released_after_cut (step 1 0 k 0 none) (Holding [] (a ∷ []), (0, Some value) ∷ []))
+      (ReleaseAfterCutTells (step 1 0 k 0 none) (Holding [] (a ∷ []), (0, Some value) ∷ []))
   releases_after_cut id a value k one fit s o wide me below =
       let m : Me (Option T) View = (Holding [] (a ∷ []), (0, Some value) ∷ []) in
       let w : View = Leaving (a ∷ []) in
@@ -270,7 +270,7 @@ module _ {T : Type 0} (fits : T → Type 0) where
   -- whoever removed a place tells it
   pub tells : (n id p : ℕ) (c : List (ℕ × Option T))
       → Allows (Orderly fits) n id (Leaving (p ∷ []), c) p (λ _. 0)
-      (λ _. told (step n p 0 0 none) (Leaving (p ∷ []), c) 0)
+      (λ _. TellTells (step n p 0 0 none) (Leaving (p ∷ []), c) 0)
   tells n id p c s o wide me _ =
       let v : View = Leaving (p ∷ []) in
       let w : View = resting in

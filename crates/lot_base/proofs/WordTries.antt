@@ -20,8 +20,8 @@ use Rattle.lot_base.specs.WordView.{resting, leaving}
 use Rattle.lot_base.specs.WordLockInvariant.{HasValue}
 use Rattle.lot_base.specs.WordRule.{holds_lock, has_place, waits_with, owes_place, SeatOk, PlaceOk}
 use Rattle.lot_base.specs.WordRule.{Orderly}
-use Rattle.lot_base.specs.WordSteps.{arrived, acquired, took_place, given_back, linked, enqueued, looked}
-use Rattle.lot_base.specs.WordSteps.{released_to_zero, read_first, read_next, cut, released_after_cut, told}
+use Rattle.lot_base.specs.WordSteps.{ArriveTells, AcquireTells, TakePlaceTells, GiveBackTells, LinkTells, EnqueueTells, LookTells}
+use Rattle.lot_base.specs.WordSteps.{ReleaseToZeroTells, ReadFirstTells, ReadNextTells, CutTells, ReleaseAfterCutTells, TellTells}
 use Rattle.lot_base.proofs.WordCounts.{total-append, total-set, one_term, two_terms, some_term, total_le}
 use Rattle.lot_base.proofs.WordCounts.{one_at-same, one_at-other, times-append, member_place, AllPlaces-behind}
 use Rattle.lot_base.proofs.WordCounts.{AllPlaces-cut, whole, chain_kept, chain_behind, head_cut, times_cut}
@@ -34,7 +34,7 @@ use Rattle.lot_base.proofs.WordBoard.{St, board, rebuilt, unmoved, Goes, others_
 module _ {T : Type 0} (fits : T → Type 0) where
   -- a new caller
   pub arrives : (n i : ℕ) (m : Me (Option T) View) → Enters (Orderly fits) n i
-      (λ r w. arrived (step n i 0 0 none) m r (w, []))
+      (λ r w. ArriveTells (step n i 0 0 none) m r (w, []))
   arrives n i m s o wide _ = (
     resting,
     record {
@@ -71,10 +71,10 @@ module _ {T : Type 0} (fits : T → Type 0) where
 
   pub acquires : (id : ℕ) (woken : Bool) (old new : ℕ) (said : maybe.Option (Option T)) → old % 2 ≡ 0 → new ≡ old + 1
       → Allows (Orderly fits) 1 id (Trying woken 0 0, []) 0 (λ y. either (eqb y old) new y)
-      (acquired fits (step 1 0 old new said) (Trying woken 0 0, []))
+      (AcquireTells fits (step 1 0 old new said) (Trying woken 0 0, []))
   acquires id woken old new said even next s o wide me _ =
       let m : Me (Option T) View = (Trying woken 0 0, []) in
-      exchanged (get_or s.words 0 0) old new ((Goes fits) s 0 id m (acquired fits (step 1 0 old new said) m))
+      exchanged (get_or s.words 0 0) old new ((Goes fits) s 0 id m (AcquireTells fits (step 1 0 old new said) m))
       (λ hit.
       let word = o.word in
       let single = o.single in
@@ -160,11 +160,11 @@ module _ {T : Type 0} (fits : T → Type 0) where
   -- a caller takes a place
   pub takes_place : (n id : ℕ) (woken : Bool) (p : ℕ) (said : maybe.Option (Option T)) → IsPlace p
       → Allows (Orderly fits) n id (Trying woken 0 0, []) (p + 4) (λ y. either (eqb y 0) 1 y)
-      (took_place (step n (p + 4) 0 1 said) (Trying woken 0 0, []))
+      (TakePlaceTells (step n (p + 4) 0 1 said) (Trying woken 0 0, []))
   takes_place n id woken p said is s o wide me _ =
       let m : Me (Option T) View = (Trying woken 0 0, []) in
       let i : ℕ = p + 4 in
-      exchanged (get_or s.words i 0) 0 1 ((Goes fits) s i id m (took_place (step n i 0 1 said) m))
+      exchanged (get_or s.words i 0) 0 1 ((Goes fits) s i id m (TakePlaceTells (step n i 0 1 said) m))
       (λ hit.
       let low = is.0 in
       let link : ℕ = get_or s.words p 0 in (
@@ -188,7 +188,7 @@ module _ {T : Type 0} (fits : T → Type 0) where
   -- a caller gives its place back
   pub gives_back : (n id : ℕ) (woken : Bool) (p link : ℕ) → IsPlace p
       → Allows (Orderly fits) n id (Trying woken p link, []) (p + 4) (λ _. 0)
-      (λ _. given_back (step n (p + 4) 0 0 none) (Trying woken p link, []) 0)
+      (λ _. GiveBackTells (step n (p + 4) 0 0 none) (Trying woken p link, []) 0)
   gives_back n id woken p link is s o wide me _ =
       let low = is.0 in
       let ok = o.each_place p is in

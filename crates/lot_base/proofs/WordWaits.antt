@@ -20,8 +20,8 @@ use Rattle.lot_base.specs.WordView.{resting, leaving}
 use Rattle.lot_base.specs.WordLockInvariant.{HasValue}
 use Rattle.lot_base.specs.WordRule.{holds_lock, has_place, waits_with, owes_place, SeatOk, PlaceOk}
 use Rattle.lot_base.specs.WordRule.{Orderly}
-use Rattle.lot_base.specs.WordSteps.{arrived, acquired, took_place, given_back, linked, enqueued, looked}
-use Rattle.lot_base.specs.WordSteps.{released_to_zero, read_first, read_next, cut, released_after_cut, told}
+use Rattle.lot_base.specs.WordSteps.{ArriveTells, AcquireTells, TakePlaceTells, GiveBackTells, LinkTells, EnqueueTells, LookTells}
+use Rattle.lot_base.specs.WordSteps.{ReleaseToZeroTells, ReadFirstTells, ReadNextTells, CutTells, ReleaseAfterCutTells, TellTells}
 use Rattle.lot_base.proofs.WordCounts.{total-append, total-set, one_term, two_terms, some_term, total_le}
 use Rattle.lot_base.proofs.WordCounts.{one_at-same, one_at-other, times-append, member_place, AllPlaces-behind}
 use Rattle.lot_base.proofs.WordCounts.{AllPlaces-cut, whole, chain_kept, chain_behind, head_cut, times_cut}
@@ -35,7 +35,7 @@ module _ {T : Type 0} (fits : T → Type 0) where
   -- a caller writes the link of its place, which is not in the list
   pub links_own : (n id : ℕ) (woken : Bool) (p link k : ℕ) → IsPlace p
       → Allows (Orderly fits) n id (Trying woken p link, []) p (λ _. k)
-      (λ _. linked (step n p k 0 none) (Trying woken p link, []) k)
+      (λ _. LinkTells (step n p k 0 none) (Trying woken p link, []) k)
   links_own n id woken p link k is s o wide me _ =
       let m : Me (Option T) View = (Trying woken p link, []) in
       let low = is.0 in
@@ -95,10 +95,10 @@ module _ {T : Type 0} (fits : T → Type 0) where
   pub enqueues : (n id : ℕ) (woken : Bool) (p link old new : ℕ) (said : maybe.Option (Option T)) → IsPlace p
       → old % 2 ≡ 1 → link ≡ 1 + old / 2 → new ≡ 1 + 2 * p
       → Allows (Orderly fits) n id (Trying woken p link, []) 0 (λ y. either (eqb y old) new y)
-      (enqueued (step n 0 old new said) (Trying woken p link, []))
+      (EnqueueTells (step n 0 old new said) (Trying woken p link, []))
   enqueues n id woken p link old new said is odd linked-to next s o wide me _ =
       let m : Me (Option T) View = (Trying woken p link, []) in
-      exchanged (get_or s.words 0 0) old new ((Goes fits) s 0 id m (enqueued (step n 0 old new said) m))
+      exchanged (get_or s.words 0 0) old new ((Goes fits) s 0 id m (EnqueueTells (step n 0 old new said) m))
       (λ hit.
       let low = is.0 in
       let word = o.word in
@@ -157,7 +157,7 @@ module _ {T : Type 0} (fits : T → Type 0) where
 
   -- a waiting caller looks at its link
   pub looks : (n id p : ℕ) → IsPlace p → Allows (Orderly fits) n id (Enqueued p, []) p (λ y. y)
-      (looked (step n p 0 0 none) (Enqueued p, []))
+      (LookTells (step n p 0 0 none) (Enqueued p, []))
   looks n id p is s o wide me _ =
       let m : Me (Option T) View = (Enqueued p, []) in
       dite (ℕ_discrete (get_or s.words p 0) 0)

@@ -37,9 +37,6 @@ abbrev pub HasValue : {T : Type 0} → (T → Type 0) → List (maybe.Option (Op
 HasValue {T} fits homes = (value : T) × (get_elem? homes 0 ≡ some (some (Some value))) × fits value
 
 module _ {T : Type 0} (s : State (Option T) View) where
-  abbrev pub EachCaller : (View → Type 0) → Type 0
-  EachCaller P = (id : ℕ) (view : View) → get_elem? s.views id ≡ some view → P view
-
   abbrev pub SomeCaller : (View → Type 0) → Type 0
   SomeCaller P = (id : ℕ) × (view : View) × (get_elem? s.views id ≡ some view) × P view
 
@@ -50,10 +47,6 @@ module _ {T : Type 0} (s : State (Option T) View) where
   -- bit 0 of the lock's word
   abbrev pub IsLocked : Type 0
   IsLocked = slice_index s.words 0 % 2 ≡ 1
-
-  -- the other bits: the place that entered the list last, or 0
-  abbrev pub newest : ℕ
-  newest = slice_index s.words 0 / 2
 
   -- the link of a place: 0 once it was told that it is not in the list
   abbrev pub link : ℕ → ℕ
@@ -75,12 +68,13 @@ module _ {T : Type 0} (s : State (Option T) View) where
     pub removed : (p : ℕ) → SomeCaller (Owes p) → ¬ Contains list p
     pub untold : (p : ℕ) → SomeCaller (Owes p) → link p ≢ 0
     pub callers : (p : ℕ) → SomeCaller (Owes p) → SomeCaller (IsEnqueued p)
-    pub one : EachCaller (λ view. length (owed_by view) ≤ 1)
+    pub one : (id : ℕ) (view : View) → get_elem? s.views id ≡ some view → length (owed_by view) ≤ 1
 
-  -- 4. The waiting list, newest first, begins at the newest place and goes on by the links, repeats no place, and each
-  -- of its places is that of a caller inside `lock`; no two callers wait with the same place
+  -- 4. The waiting list, newest first, begins at the place that the other bits of the lock's word tell, or is empty
+  -- where they are 0; it goes on by the links, repeats no place, and each of its places is that of a caller inside
+  -- `lock`; no two callers wait with the same place
   pub record IsWaitingList (list : List ℕ) : Type 0 where
-    pub begins : newest ≡ head list
+    pub begins : slice_index s.words 0 / 2 ≡ head list
     pub goes_on : FollowsLinks s.words list
     pub once : (p : ℕ) → times p list ≤ 1
     pub callers : (p : ℕ) → Contains list p → SomeCaller (IsEnqueued p)

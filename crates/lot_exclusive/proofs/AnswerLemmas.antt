@@ -23,7 +23,7 @@ use Rattle.lot_exclusive.specs.Machine.{Machine, Waiter, IsConsistent, IsFull, I
 use Rattle.lot_exclusive.specs.Machine.{StandsAt, with_status}
 use Rattle.lot_exclusive.specs.Machine.{after_acquire, after_requeue}
 use Rattle.lot_exclusive.specs.Machine.{after_timeout, is_last}
-use Rattle.lot_exclusive.specs.Steps.{Gives, IsMisfit, IsRegister, IsUnpark, IsReturn, IsResolve, IsAcquire, IsStep}
+use Rattle.lot_exclusive.specs.Steps.{Gives, IsRegister, IsUnpark, IsReturn, IsResolve, IsAcquire, IsStep}
 use Rattle.lot_exclusive.specs.Laws.{EachStepHasAnAnswer, NoOtherAnswer, OnlyMemoryIsOpen, AbortChangesNothing}
 use Rattle.lot_exclusive.specs.Laws.{MayWantMemory, ListsAreShort}
 use Rattle.lot_exclusive.proofs.LawLemmas.{MatchBool-both}
@@ -137,7 +137,7 @@ HasAnswer-unpark m (Filter key decisions token) = (_, (λ same. cc), _, (refl, r
 HasAnswer-unpark m (Requeue from to op token) = (_, (λ same. cc), _, (refl, refl))
 
 HasAnswer-acquire : (m : Machine) (thread key : ℕ) (b : Bool)
-    → ((given : Answer) (new : Machine) → MatchBool b (IsAcquire m thread key given new) (IsMisfit m given new)
+    → ((given : Answer) (new : Machine) → MatchBool b (IsAcquire m thread key given new) (Gives m answer.Misfit given new)
     → IsStep m (Acquire thread key) given new) → HasAnswer m (Acquire thread key)
 HasAnswer-acquire m thread key true steps =
     let new = after_acquire m thread key in (answer.Recorded, (λ same. cc), new, steps answer.Recorded new refl)

@@ -11,7 +11,7 @@ use Rattle.lot_base.specs.declared.token.UnparkToken.{UnparkToken}
 use Rattle.lot_exclusive.specs.declared.lot.Status.{Status}
 use Rattle.lot_exclusive.specs.declared.lot.Status.TheVariants as status
 use Rattle.lot_exclusive.specs.declared.table.Use.TheVariants.{Registered}
-use Rattle.lot_exclusive.specs.Private.Committed.{taken_with, committed, CanCommit}
+use Rattle.lot_exclusive.specs.Private.Commit.{taken_with, threads_after_commit, CanCommit}
 use Rattle.lot_exclusive.specs.Lot.{thread_at, free_thread, statuses, thread_keys, thread_records, use_of, uses}
 use Rattle.lot_exclusive.specs.LotState.{ThreadState}
 use Rattle.lot_exclusive.specs.Records.{times_recorded}
@@ -123,50 +123,50 @@ use_of-registered (status.Taken _) other = refl
 pub use_of-queued : (s : Status) → IsTrue (is_queued s) → use_of s ≡ Registered
 use_of-queued s queued = use_of-registered s (ne-free-queued s queued)
 
-pub length-committed : (nodes : List NodeFields) (threads : List ThreadState)
-    → length (committed nodes threads) ≡ length threads
-length-committed [] threads = refl
-length-committed (node ∷ nodes) threads = length-committed nodes (taken_with node threads)
+pub length-after_commit : (nodes : List NodeFields) (threads : List ThreadState)
+    → length (threads_after_commit nodes threads) ≡ length threads
+length-after_commit [] threads = refl
+length-after_commit (node ∷ nodes) threads = length-after_commit nodes (taken_with node threads)
     ∙ length-set threads node.number _
 
 -- a commit keeps each number, its key, its use and its records
-pub numbers-committed : (nodes : List NodeFields) (threads : List ThreadState) → CanCommit nodes threads
-    → ((j : ℕ) → (thread_at threads j).number ≡ j) → (j : ℕ) → (thread_at (committed nodes threads) j).number ≡ j
-numbers-committed [] threads can numbers = numbers
-numbers-committed (node ∷ nodes) threads can numbers =
-    numbers-committed nodes (taken_with node threads) can.3 (numbers-set threads node.number _ can.0 can.1 numbers)
+pub numbers-after_commit : (nodes : List NodeFields) (threads : List ThreadState) → CanCommit nodes threads
+    → ((j : ℕ) → (thread_at threads j).number ≡ j) → (j : ℕ) → (thread_at (threads_after_commit nodes threads) j).number ≡ j
+numbers-after_commit [] threads can numbers = numbers
+numbers-after_commit (node ∷ nodes) threads can numbers =
+    numbers-after_commit nodes (taken_with node threads) can.3 (numbers-set threads node.number _ can.0 can.1 numbers)
 
-pub keys-committed : (nodes : List NodeFields) (threads : List ThreadState) → CanCommit nodes threads → (j : ℕ)
-    → thread_keys (committed nodes threads) j ≡ thread_keys threads j
-keys-committed [] threads can j = refl
-keys-committed (node ∷ nodes) threads can j =
-    keys-committed nodes (taken_with node threads) can.3 j
+pub keys-after_commit : (nodes : List NodeFields) (threads : List ThreadState) → CanCommit nodes threads → (j : ℕ)
+    → thread_keys (threads_after_commit nodes threads) j ≡ thread_keys threads j
+keys-after_commit [] threads can j = refl
+keys-after_commit (node ∷ nodes) threads can j =
+    keys-after_commit nodes (taken_with node threads) can.3 j
     ∙ ⊎_elim (λ (same : j ≡ node.number). ap (thread_keys (taken_with node threads)) same
     ∙ keys-set_same threads node.number _ can.0
     ∙ ap (thread_keys threads) (sym same)) (keys-set_other threads node.number _ j) (cases_eq j node.number)
 
-pub uses-committed : (nodes : List NodeFields) (threads : List ThreadState) → CanCommit nodes threads
-    → uses (committed nodes threads) ≡ uses threads
-uses-committed [] threads can = refl
-uses-committed (node ∷ nodes) threads can =
-    uses-committed nodes (taken_with node threads) can.3
+pub uses-after_commit : (nodes : List NodeFields) (threads : List ThreadState) → CanCommit nodes threads
+    → uses (threads_after_commit nodes threads) ≡ uses threads
+uses-after_commit [] threads can = refl
+uses-after_commit (node ∷ nodes) threads can =
+    uses-after_commit nodes (taken_with node threads) can.3
     ∙ uses-same threads node.number _ (sym (use_of-queued (statuses threads node.number) can.2))
 
-pub records-committed : (nodes : List NodeFields) (threads : List ThreadState) → CanCommit nodes threads → (j : ℕ)
-    → thread_records (committed nodes threads) j ≡ thread_records threads j
-records-committed [] threads can j = refl
-records-committed (node ∷ nodes) threads can j =
-    records-committed nodes (taken_with node threads) can.3 j
+pub records-after_commit : (nodes : List NodeFields) (threads : List ThreadState) → CanCommit nodes threads → (j : ℕ)
+    → thread_records (threads_after_commit nodes threads) j ≡ thread_records threads j
+records-after_commit [] threads can j = refl
+records-after_commit (node ∷ nodes) threads can j =
+    records-after_commit nodes (taken_with node threads) can.3 j
     ∙ records-kept threads node.number _ can.0 refl j
 
 -- the committed threads are those of the waiters, and they have the token
-pub statuses-committed : (token : UnparkToken) (nodes : List NodeFields) (threads : List ThreadState)
+pub statuses-after_commit : (token : UnparkToken) (nodes : List NodeFields) (threads : List ThreadState)
     → CanCommit (map (with_token token) nodes) threads → (j : ℕ)
-    → statuses (committed (map (with_token token) nodes) threads) j
+    → statuses (threads_after_commit (map (with_token token) nodes) threads) j
     ≡ statuses_with_taken token (map waiter_of nodes) (statuses threads) j
-statuses-committed token [] threads can j = refl
-statuses-committed token (node ∷ nodes) threads can j =
-    statuses-committed token nodes (taken_with (with_token token node) threads) can.3 j
+statuses-after_commit token [] threads can j = refl
+statuses-after_commit token (node ∷ nodes) threads can j =
+    statuses-after_commit token nodes (taken_with (with_token token node) threads) can.3 j
     ∙ ⊎_elim last among (cases_eq (times_in j (map waiter_of nodes)) 0)
   where
     rest : ℕ → Status

@@ -4,7 +4,7 @@ use Rattle.std.proofs.lemmas.Bool.{cases_eq, cases_lt}
 use Rattle.std.proofs.lemmas.List.{length-set, set_past}
 use Rattle.lot_base.specs.NodeFields.{NodeFields}
 use Rattle.lot_base.specs.Requeue.{numbers}
-use Rattle.lot_exclusive.specs.Private.Committed.{threads_with_key, threads_with_keys}
+use Rattle.lot_exclusive.specs.Private.Commit.{threads_with_key, threads_with_keys}
 use Rattle.lot_exclusive.specs.Lot.{thread_at, statuses, thread_keys, thread_records, uses}
 use Rattle.lot_exclusive.specs.LotState.{ThreadState}
 use Rattle.lot_exclusive.specs.Machine.{times_in}

@@ -34,10 +34,10 @@ use Rattle.lot_exclusive.specs.Lot.{uses, IsLot}
 use Rattle.lot_exclusive.specs.Represents.{bucket_at, waiter_of, waiters_in}
 use Rattle.lot_exclusive.specs.Table.{IsRowStep, IsTakenFrom, KeepsLists}
 use Rattle.lot_exclusive.specs.Represents.{nodes_in}
-use Rattle.lot_exclusive.specs.Private.Committed.{committed, threads_with_status, CanCommit}
+use Rattle.lot_exclusive.specs.Private.Commit.{threads_after_commit, threads_with_status, CanCommit}
 use Rattle.lot_exclusive.proofs.CommitLemmas.{statuses-set, uses-same, use_of-queued, keys-set_other}
 use Rattle.lot_exclusive.proofs.CommitLemmas.{numbers-set, below_from_status, ne-free-queued, ne-free-running}
-use Rattle.lot_exclusive.proofs.CommitLemmas.{uses-committed}
+use Rattle.lot_exclusive.proofs.CommitLemmas.{uses-after_commit}
 use Rattle.lot_exclusive.proofs.CommitLemmas.{records-kept}
 use Rattle.lot_exclusive.proofs.StandingLemmas.{same_machine}
 use Rattle.lot_exclusive.proofs.MachineLemmas.{MatchesStatus-after_timeout}
@@ -80,13 +80,13 @@ module _ (lot : LotState) (key : ℕ) (row : List BucketState) (split : Split No
       (AreMoved-nobody lot key is)))
 
   -- and the step is the machine's
-  pub IsLotStepOfUse-taken : IsLotStepOfUse lot (record { buckets = row; threads = committed taken lot.threads })
+  pub IsLotStepOfUse-taken : IsLotStepOfUse lot (record { buckets = row; threads = threads_after_commit taken lot.threads })
       (after_unpark (machine lot) key (waiter_split split) token)
   IsLotStepOfUse-taken = record {
-    step = subst (λ nodes. IsLotStep (record { buckets = row; threads = committed nodes lot.threads })
+    step = subst (λ nodes. IsLotStep (record { buckets = row; threads = threads_after_commit nodes lot.threads })
         (after_unpark (machine lot) key (waiter_split split) token)) (sym from.nodes)
         (IsLotStep-after_unpark lot key split token row unpark.nobody is unpark.parts from.rows);
-    uses = uses-committed taken lot.threads CanCommit-taken;
+    uses = uses-after_commit taken lot.threads CanCommit-taken;
   }
 
 -- a thread that waits or is late stands in the list of its key

@@ -19,10 +19,10 @@ use Rattle.lot_exclusive.specs.Lot.{IsLot}
 use Rattle.lot_exclusive.specs.Represents.{waiter_of, waiters_in}
 use Rattle.lot_exclusive.specs.Table.{IsRowStep}
 use Rattle.lot_exclusive.specs.Represents.{nodes_in}
-use Rattle.lot_exclusive.specs.Private.Committed.{committed, CanCommit}
-use Rattle.lot_exclusive.proofs.CommitLemmas.{length-committed, numbers-committed, keys-committed}
-use Rattle.lot_exclusive.proofs.CommitLemmas.{statuses-committed, CanCommit-standing}
-use Rattle.lot_exclusive.proofs.CommitLemmas.{records-committed}
+use Rattle.lot_exclusive.specs.Private.Commit.{threads_after_commit, CanCommit}
+use Rattle.lot_exclusive.proofs.CommitLemmas.{length-after_commit, numbers-after_commit, keys-after_commit}
+use Rattle.lot_exclusive.proofs.CommitLemmas.{statuses-after_commit, CanCommit-standing}
+use Rattle.lot_exclusive.proofs.CommitLemmas.{records-after_commit}
 use Rattle.lot_exclusive.proofs.StandingLemmas.{same_machine, is_queued-standing, StandsAt-standing}
 use Rattle.lot_exclusive.proofs.MachineLemmas.{MatchesStatus-after_requeue}
 use Rattle.lot_exclusive.proofs.StandingLemmas.{after_requeue-after_unpark}
@@ -68,25 +68,25 @@ pub IsLotStep-after_requeue : (lot : LotState) (from to : ℕ) (split : Split No
     (row : List BucketState) (threads : List ThreadState) → IsLot lot
     → AreParts (waiter_split split) (waiters_in lot.buckets from) → AreMoved lot (map waiter_of split.moved) to threads
     → IsRowStep lot.buckets row (lists_after_requeue (nodes_in lot.buckets) from to (split_to to split))
-    → IsLotStep (record { buckets = row; threads = committed (map (with_token token) split.taken) threads })
+    → IsLotStep (record { buckets = row; threads = threads_after_commit (map (with_token token) split.taken) threads })
     (after_requeue (machine lot) from to (waiter_split split) token)
 IsLotStep-after_requeue lot from to split token row threads is parts moved step =
     IsLotStep-from lot (record { buckets = row; threads = after }) _ is step.represents
-    (numbers-committed taken threads can moved.numbers)
-    (same_machine _ _ lists (λ j. statuses-committed token split.taken threads can j
+    (numbers-after_commit taken threads can moved.numbers)
+    (same_machine _ _ lists (λ j. statuses-after_commit token split.taken threads can j
     ∙ (λ i. statuses_with_taken token (map waiter_of split.taken) (λ k. moved.status k i) j))
-    (λ j. records-committed taken threads can j ∙ moved.records j)
-    (length-committed taken threads ∙ moved.count))
+    (λ j. records-after_commit taken threads can j ∙ moved.records j)
+    (length-after_commit taken threads ∙ moved.count))
     refl
     (MatchesStatus-after_requeue (thread_keys lot.threads) (thread_keys after) (machine lot) from to
-    (waiter_split split) token parts (λ j none. keys-committed taken threads can j ∙ moved.others j none)
-    (λ j some. keys-committed taken threads can j ∙ moved.own j some) is.consistent)
+    (waiter_split split) token parts (λ j none. keys-after_commit taken threads can j ∙ moved.others j none)
+    (λ j some. keys-after_commit taken threads can j ∙ moved.own j some) is.consistent)
   where
     taken : List NodeFields
     taken = map (with_token token) split.taken
 
     after : List ThreadState
-    after = committed taken threads
+    after = threads_after_commit taken threads
 
     can : CanCommit taken threads
     can = CanCommit-split lot from to split token threads is parts moved
@@ -114,10 +114,10 @@ IsLotStep-after_requeue lot from to split token row threads is parts moved step 
 pub IsLotStep-after_unpark : (lot : LotState) (key : ℕ) (split : Split NodeFields) (token : UnparkToken)
     (row : List BucketState) → split.moved ≡ [] → IsLot lot → AreParts (waiter_split split) (waiters_in lot.buckets key)
     → IsRowStep lot.buckets row (with_value (nodes_in lot.buckets) key split.left)
-    → IsLotStep (record { buckets = row; threads = committed (map (with_token token) split.taken) lot.threads })
+    → IsLotStep (record { buckets = row; threads = threads_after_commit (map (with_token token) split.taken) lot.threads })
     (after_unpark (machine lot) key (waiter_split split) token)
 IsLotStep-after_unpark lot key split token row none is parts step =
-    subst (IsLotStep (record { buckets = row; threads = committed (map (with_token token) split.taken) lot.threads }))
+    subst (IsLotStep (record { buckets = row; threads = threads_after_commit (map (with_token token) split.taken) lot.threads }))
     (after_requeue-after_unpark (machine lot) key (waiter_split split) token (ap (map waiter_of) none))
     (IsLotStep-after_requeue lot key key split token row lot.threads is parts
     (subst (λ moved. AreMoved lot (map waiter_of moved) key lot.threads) (sym none) (AreMoved-nobody lot key is))

@@ -13,8 +13,8 @@ use Rattle.lot_exclusive.specs.Lot.{thread_keys, machine, uses, IsLot}
 use Rattle.lot_exclusive.specs.Represents.{waiter_of, waiters_in}
 use Rattle.lot_exclusive.specs.Table.{IsRowStep}
 use Rattle.lot_exclusive.specs.Represents.{nodes_in}
-use Rattle.lot_exclusive.specs.Private.Committed.{threads_with_keys, committed, CanCommit}
-use Rattle.lot_exclusive.proofs.CommitLemmas.{below_from_status, ne-free-queued, uses-committed}
+use Rattle.lot_exclusive.specs.Private.Commit.{threads_with_keys, threads_after_commit, CanCommit}
+use Rattle.lot_exclusive.proofs.CommitLemmas.{below_from_status, ne-free-queued, uses-after_commit}
 use Rattle.lot_exclusive.proofs.KeyLemmas.{length-moved, numbers-moved, statuses-moved, uses-moved, keys-not_moved}
 use Rattle.lot_exclusive.proofs.KeyLemmas.{keys-moved, records-moved}
 use Rattle.lot_exclusive.proofs.LotRequeueLemmas.{AreMoved, CanCommit-split, IsLotStep-after_requeue}
@@ -61,21 +61,21 @@ module _ (lot : LotState) (from to : ℕ) (is : IsLot lot) (op : RequeueOp) wher
         (subst (CanCommit (map (with_token token) split.taken)) (sym moved)
         (CanCommit-split lot from to split token after is parts are_moved))
 
-    pub uses-requeue : uses (committed taken threads) ≡ uses lot.threads
-    uses-requeue = uses-committed taken threads CanCommit-requeue ∙ ap uses moved
+    pub uses-requeue : uses (threads_after_commit taken threads) ≡ uses lot.threads
+    uses-requeue = uses-after_commit taken threads CanCommit-requeue ∙ ap uses moved
         ∙ uses-moved to split.moved lot.threads
 
     pub IsLotStep-requeue : (row : List BucketState)
         → IsRowStep lot.buckets row
         (lists_after_requeue (nodes_in lot.buckets) from to (split_to to (split_by op (nodes_in lot.buckets from))))
-        → IsLotStep (record { buckets = row; threads = committed taken threads })
+        → IsLotStep (record { buckets = row; threads = threads_after_commit taken threads })
         (after_requeue (machine lot) from to (split_by op (waiters_in lot.buckets from)) token)
     IsLotStep-requeue row rows =
-        subst (λ parted. IsLotStep (record { buckets = row; threads = committed taken threads })
+        subst (λ parted. IsLotStep (record { buckets = row; threads = threads_after_commit taken threads })
         (after_requeue (machine lot) from to parted token)) (split_by-map op (nodes_in lot.buckets from))
-        (subst (λ nodes. IsLotStep (record { buckets = row; threads = committed nodes threads })
+        (subst (λ nodes. IsLotStep (record { buckets = row; threads = threads_after_commit nodes threads })
         (after_requeue (machine lot) from to (waiter_split split) token)) (sym takes)
         (subst (λ all. IsLotStep
-        (record { buckets = row; threads = committed (map (with_token token) split.taken) all })
+        (record { buckets = row; threads = threads_after_commit (map (with_token token) split.taken) all })
         (after_requeue (machine lot) from to (waiter_split split) token)) (sym moved)
         (IsLotStep-after_requeue lot from to split token row after is parts are_moved rows)))

@@ -1,3 +1,3 @@
-pub mod Committed
+pub mod Commit
 pub mod Decisions
 pub mod Thread

@@ -20,10 +20,6 @@ use Rattle.lot_exclusive.specs.Machine.{after_requeue, after_timeout}
 abbrev pub Gives : Machine → Answer → Answer → Machine → Type 0
 Gives after expected given new = (given ≡ expected) × (new ≡ after)
 
--- a step that does not fit changes nothing
-abbrev pub IsMisfit : Machine → Answer → Machine → Type 0
-IsMisfit m given new = Gives m answer.Misfit given new
-
 -- Register: the least free number, whose thread has no records, since a free number has none; or that there is no free
 -- number; memory may be refused only where there is one
 abbrev pub IsRegister : Machine → Answer → Machine → Type 0
@@ -52,7 +48,7 @@ IsUnpark m (Requeue from to op token) given new =
 abbrev pub IsReturn : Machine → ℕ → Status → Answer → Machine → Type 0
 IsReturn m thread (status.Taken token) given new =
     Gives (with_status m thread status.Running) (answer.Unparked token) given new
-IsReturn m thread _ given new = IsMisfit m given new
+IsReturn m thread _ given new = Gives m answer.Misfit given new
 
 -- Resolve, where the thread has this status: a late one leaves its list, and one that was taken does as in Return; it
 -- ends the park of a thread whose deadline has passed, and which may have been unparked before
@@ -68,28 +64,29 @@ IsAcquire m thread key answer.Recorded new = new ≡ after_acquire m thread key
 IsAcquire m thread key answer.NoMemory new = new ≡ m
 IsAcquire m thread key _ new = ⊥
 
--- one step: the state before, the step, its answer and the state after
+-- one step: the state before, the step, its answer and the state after; one that does not fit the status of its
+-- thread is answered by `Misfit`, and changes nothing
 abbrev pub IsStep : Machine → Step → Answer → Machine → Type 0
 IsStep m Register given new = IsRegister m given new
 IsStep m (Retire thread) given new =
     MatchBool (is_running (m.status thread)) (Gives (after_retire m thread) answer.Retired given new)
-    (IsMisfit m given new)
+    (Gives m answer.Misfit given new)
 IsStep m (Enter thread key valid park_token timed) given new =
     MatchBool (is_running (m.status thread))
     (MatchBool valid (Gives (after_enter m thread key park_token timed) answer.Entered given new)
     (Gives m answer.Invalid given new))
-    (IsMisfit m given new)
+    (Gives m answer.Misfit given new)
 IsStep m (Unpark op) given new = IsUnpark m op given new
 IsStep m (Deadline thread) given new =
     MatchBool (awaits_deadline (m.status thread)) (Gives (with_status m thread status.Late) answer.Late given new)
-    (IsMisfit m given new)
+    (Gives m answer.Misfit given new)
 IsStep m (Resolve thread) given new = IsResolve m thread (m.status thread) given new
 IsStep m (Return thread) given new = IsReturn m thread (m.status thread) given new
 IsStep m (Acquire thread key) given new =
-    MatchBool (is_running (m.status thread)) (IsAcquire m thread key given new) (IsMisfit m given new)
+    MatchBool (is_running (m.status thread)) (IsAcquire m thread key given new) (Gives m answer.Misfit given new)
 IsStep m (Release thread key) given new =
     MatchBool (is_running (m.status thread)) (Gives (after_release m thread key) answer.Released given new)
-    (IsMisfit m given new)
+    (Gives m answer.Misfit given new)
 
 -- an answer that is the outcome of a park
 abbrev pub is_outcome : Answer → Bool

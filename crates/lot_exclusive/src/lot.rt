@@ -145,10 +145,7 @@ impl Lot {
         ensures size { KeepsSize self.old self.new }
         ensures err { OnErr result (self.new ≡ self.old) }
     {
-        let Some(thread) = self.threads.get_mut(number) else {
-            return Err(Misfit);
-        };
-        thread.retire()?;
+        self.threads.get_mut(number).ok_or(Misfit)?.retire()?;
         self.table.release(number);
         Ok(())
     }
@@ -323,10 +320,7 @@ impl Lot {
         ensures size { KeepsSize self.old self.new }
         ensures err { OnErr result (self.new ≡ self.old) }
     {
-        let Some(thread) = self.threads.get_mut(number) else {
-            return Err(Misfit);
-        };
-        thread.deadline()?;
+        self.threads.get_mut(number).ok_or(Misfit)?.deadline()?;
         Ok(())
     }
 
@@ -343,10 +337,7 @@ impl Lot {
         ensures size { KeepsSize self.old self.new }
         ensures err { OnErr result (self.new ≡ self.old) }
     {
-        let Some(thread) = self.threads.get_mut(number) else {
-            return Err(Misfit);
-        };
-        let token = thread.give_back()?;
+        let token = self.threads.get_mut(number).ok_or(Misfit)?.give_back()?;
         Ok(token)
     }
 
@@ -430,9 +421,7 @@ impl Lot {
         ensures size { KeepsSize self.old self.new }
         ensures err { OnErr result (self.new ≡ self.old) }
     {
-        let Some(thread) = self.threads.get_mut(number) else {
-            return Err(StepError::Misfit);
-        };
+        let thread = self.threads.get_mut(number).ok_or(StepError::Misfit)?;
         thread.acquire(key)?;
         Ok(())
     }
@@ -453,10 +442,7 @@ impl Lot {
         ensures size { KeepsSize self.old self.new }
         ensures err { OnErr result (self.new ≡ self.old) }
     {
-        let Some(thread) = self.threads.get_mut(number) else {
-            return Err(Misfit);
-        };
-        thread.release(key)?;
+        self.threads.get_mut(number).ok_or(Misfit)?.release(key)?;
         Ok(())
     }
 

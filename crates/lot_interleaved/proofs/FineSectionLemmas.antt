@@ -31,7 +31,7 @@ use Rattle.lot_interleaved.specs.InterleavedView.{sequential_view}
 use Rattle.lot_exclusive.specs.Lot.{machine, statuses, thread_at, thread_keys, thread_records, uses}
 use Rattle.lot_exclusive.specs.LotState.{ThreadState}
 use Rattle.lot_exclusive.specs.Machine.{Machine, Waiter, after_requeue, after_unpark, entries_of, times_in}
-use Rattle.lot_exclusive.specs.Private.Committed.{threads_with_key, threads_with_keys}
+use Rattle.lot_exclusive.specs.Private.Commit.{threads_with_key, threads_with_keys}
 use Rattle.lot_interleaved.specs.Private.FineCaller.{taken_threads}
 use Rattle.lot_interleaved.specs.Private.FineSection.{IsTakenBy, fine_threads_with_key}
 use Rattle.lot_interleaved.specs.Private.FineSection.{fine_threads_with_keys}

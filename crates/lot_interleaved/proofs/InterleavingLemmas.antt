@@ -198,7 +198,7 @@ module _ (s : FineState) (c : IsFineConsistent s) where
     of_running : (step : FineStep) (thread : ℕ) (by_rule : Answer) (view : Machine) {P : Type 0}
         → (s.threads_view.status thread ≡ status.Running → P
         → Amounts s (record s { threads_view = view }) (sequential_step s step (fine.Answer by_rule)))
-        → MatchBool (is_running (s.threads_view.status thread)) P (steps.IsMisfit s.threads_view by_rule view)
+        → MatchBool (is_running (s.threads_view.status thread)) P (steps.Gives s.threads_view answer.Misfit by_rule view)
         → FineGives (record s { threads_view = view }) (fine.Answer by_rule) given new
         → Amounts s new (sequential_step s step given)
     of_running step thread by_rule view amounts does gives =

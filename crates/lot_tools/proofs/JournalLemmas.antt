@@ -28,7 +28,7 @@ use Rattle.lot_exclusive.proofs.MachineLemmas.{below_max_threads}
 use Rattle.lot_exclusive.proofs.SplitLemmas.{AreParts, AreParts-first, AreParts-all, AreParts-filter, AreParts-by}
 use Rattle.lot_exclusive.proofs.StepLemmas.{MatchBool-either, Running-from, Waiting-from, IsConsistent-step}
 use Rattle.lot_exclusive.proofs.WaiterLemmas.{statuses_with_taken-other, statuses_with_taken-among}
-use Rattle.lot_tools.specs.Journal.{Entry, journal_steps, journal_answers, fits, set_aside_by, with_aside, needed}
+use Rattle.lot_tools.specs.Journal.{Entry, journal_steps, journal_answers, fits, set_aside_by, with_aside, room_for}
 
 -- as much is set aside for a thread of this status as its park may still take
 abbrev pub IsBacked : Status → ℕ → Type 0
@@ -100,7 +100,7 @@ sum-set asides thread entries low = sum_by-set (λ x. x) asides thread entries 0
 -- step that does not fit is answered so, and it changes nothing
 pub record Keeps (m : Machine) (asides : List ℕ) (step : Step) (new : Machine) (given : Answer) : Type 0 where
   pub backed : AreBacked new.status (with_aside asides (set_aside_by step given))
-  pub room : given ≢ answer.Misfit → 1 + sum (with_aside asides (set_aside_by step given)) ≤ sum asides + needed step
+  pub room : given ≢ answer.Misfit → 1 + sum (with_aside asides (set_aside_by step given)) ≤ sum asides + room_for step
   pub max_threads : new.max_threads ≡ m.max_threads
   pub fitting : given ≢ answer.Misfit → fits m step ≡ true
   pub same : given ≡ answer.Misfit → new ≡ m
@@ -136,7 +136,7 @@ module _ (m : Machine) (given : Answer) (new : Machine) (asides : List ℕ) (key
       record {
         backed = subst (λ change. AreBacked (with_value m.status thread status.Running) (with_aside asides change))
             (sym ends) (AreBacked-set m.status asides thread status.Running 0 low tt backed);
-        room = λ _. subst (λ change. 1 + sum (with_aside asides change) ≤ sum asides + needed step) (sym ends)
+        room = λ _. subst (λ change. 1 + sum (with_aside asides change) ≤ sum asides + room_for step) (sym ends)
             (omega (arith, left, some));
         max_threads = refl;
         fitting = λ _. fitting;
@@ -165,12 +165,12 @@ module _ (m : Machine) (given : Answer) (new : Machine) (asides : List ℕ) (key
       (λ taken. can_resolve-taken (m.status thread) taken) now is
 
   -- a step that sets nothing aside, and leaves nobody who needs it
-  Keeps-quiet : (step : Step) (left : Machine) (told : Answer) → set_aside_by step told ≡ None → needed step ≡ 1
+  Keeps-quiet : (step : Step) (left : Machine) (told : Answer) → set_aside_by step told ≡ None → room_for step ≡ 1
       → AreBacked left.status asides → left.max_threads ≡ m.max_threads → fits m step ≡ true → told ≢ answer.Misfit
       → Keeps m asides step left told
   Keeps-quiet step left told none one all same fitting answered = record {
     backed = subst (λ change. AreBacked left.status (with_aside asides change)) (sym none) all;
-    room = λ _. subst (λ change. 1 + sum (with_aside asides change) ≤ sum asides + needed step) (sym none)
+    room = λ _. subst (λ change. 1 + sum (with_aside asides change) ≤ sum asides + room_for step) (sym none)
         (omega (arith, one));
     max_threads = same;
     fitting = λ _. fitting;

@@ -22,7 +22,7 @@ use Rattle.lot_tools.specs.declared.record.RecordError.TheVariants as refused
 use Rattle.lot_tools.specs.Journal.{Entry, journal_steps, journal_answers, asides_of, woken_in, unparked_total}
 use Rattle.lot_tools.specs.JournalLaws.{UnparkedAreWokenOrTaken, TotalsHaveRoom}
 use Rattle.lot_tools.specs.RecordState.{RecordState}
-use Rattle.lot_tools.specs.Record.{IsRecorded, told, entries_for}
+use Rattle.lot_tools.specs.Record.{IsRecorded, result_for, entries_for}
 use Rattle.lot_tools.specs.TicketState.{count_of, woken_of, unparked_of}
 use Rattle.lot_tools.proofs.JournalLemmas.{IsBacked, Backing}
 use Rattle.lot_tools.proofs.RecordLemmas.{IsRecord-backing}
@@ -105,18 +105,18 @@ pub record AddsWhatIsTold (old : RecordState) (result : Result Answer RecordErro
   pub woken : woken_in new.journal ≡ woken_in old.journal + woken_of result
   pub unparked : unparked_total new.journal ≡ unparked_total old.journal + unparked_of result
 
-length-entries_for : (step : Step) (given : Answer) → length (entries_for step given) ≡ count_of (told given)
+length-entries_for : (step : Step) (given : Answer) → length (entries_for step given) ≡ count_of (result_for given)
 length-entries_for step answer.Misfit = refl
 length-entries_for step answer.NoMemory = refl
 length-entries_for step _ = refl
 
-woken-entries_for : (step : Step) (given : Answer) → woken_in (entries_for step given) ≡ woken_of (told given)
+woken-entries_for : (step : Step) (given : Answer) → woken_in (entries_for step given) ≡ woken_of (result_for given)
 woken-entries_for step answer.Misfit = refl
 woken-entries_for step answer.NoMemory = refl
 woken-entries_for step _ = omega arith
 
 unparked-entries_for : (step : Step) (given : Answer)
-    → unparked_total (entries_for step given) ≡ unparked_of (told given)
+    → unparked_total (entries_for step given) ≡ unparked_of (result_for given)
 unparked-entries_for step answer.Misfit = refl
 unparked-entries_for step answer.NoMemory = refl
 unparked-entries_for step _ = omega arith
@@ -130,7 +130,7 @@ sum-journal f old more =
 module _ (old : RecordState) (step : Step) (new : RecordState) where
   -- a step that was done
   AddsWhatIsTold-done : (given : Answer) → new.journal ≡ old.journal ++ entries_for step given
-      → AddsWhatIsTold old (told given) new
+      → AddsWhatIsTold old (result_for given) new
   AddsWhatIsTold-done given journal = record {
     count =
         let longer = ap length journal ∙ length-append old.journal (entries_for step given) in

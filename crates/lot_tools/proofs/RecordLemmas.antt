@@ -17,9 +17,9 @@ use Rattle.lot_exclusive.specs.Steps.{IsStep}
 use Rattle.lot_exclusive.proofs.RunLemmas.{IsRun-push}
 use Rattle.lot_exclusive.proofs.StepLemmas.{IsConsistent-new}
 use Rattle.lot_tools.specs.Journal.{journal_steps, journal_answers, Entry, Replays, asides_of, set_aside_by}
-use Rattle.lot_tools.specs.Journal.{with_aside, needed}
+use Rattle.lot_tools.specs.Journal.{with_aside, room_for}
 use Rattle.lot_tools.specs.RecordState.{RecordState}
-use Rattle.lot_tools.specs.Record.{IsRecord, LacksRoom, IsRecorded, aside, told, entries_for}
+use Rattle.lot_tools.specs.Record.{IsRecord, LacksRoom, IsRecorded, aside, result_for, entries_for}
 use Rattle.lot_tools.proofs.JournalLemmas.{Backing, Backing-run, Keeps, IsStep-keeps}
 
 pub entries_for-fitting : (step : Step) (given : Answer) → given ≢ answer.Misfit
@@ -27,14 +27,14 @@ pub entries_for-fitting : (step : Step) (given : Answer) → given ≢ answer.Mi
 entries_for-fitting step answer.Misfit fitting = absurd (fitting refl)
 entries_for-fitting step _ fitting = refl
 
-pub IsRecorded-told : (old : RecordState) (step : Step) (given : Answer) (new : RecordState)
+pub IsRecorded-result_for : (old : RecordState) (step : Step) (given : Answer) (new : RecordState)
     → (LacksRoom old step → ⊥) → IsStep (machine old.lot) step given (machine new.lot)
     → new.journal ≡ old.journal ++ entries_for step given → new.capacity ≡ old.capacity
     → IsSizeAfter given (threads_of (machine new.lot)) (length old.lot.buckets) (length new.lot.buckets)
-    → IsRecorded old step (told given) new
-IsRecorded-told old step answer.NoMemory new roomy does journal capacity size =
+    → IsRecorded old step (result_for given) new
+IsRecorded-result_for old step answer.NoMemory new roomy does journal capacity size =
     (roomy, answer.NoMemory, refl, does, journal, capacity, size)
-IsRecorded-told old step given new roomy does journal capacity size =
+IsRecorded-result_for old step given new roomy does journal capacity size =
     (roomy, given, refl, does, journal, capacity, size)
 
 abbrev pub record_of : LotState → List Entry → ℕ → RecordState
@@ -109,11 +109,11 @@ module _ (old : RecordState) (is : IsRecord old) (step : Step) (given : Answer) 
 
       room : length pushed.journal + aside pushed ≤ old.capacity
       room =
-          let fits : needed step + (length old.journal + aside old) ≤ old.capacity =
-          ⊎_elim (λ (lacks : old.capacity < length old.journal + aside old + needed step).
+          let fits : room_for step + (length old.journal + aside old) ≤ old.capacity =
+          ⊎_elim (λ (lacks : old.capacity < length old.journal + aside old + room_for step).
           absurd (roomy (keeps.fitting fitting, lacks)))
-          (λ (enough : length old.journal + aside old + needed step ≤ old.capacity). omega (arith, enough))
-          (cases_lt old.capacity (length old.journal + aside old + needed step)) in
+          (λ (enough : length old.journal + aside old + room_for step ≤ old.capacity). omega (arith, enough))
+          (cases_lt old.capacity (length old.journal + aside old + room_for step)) in
           let longer = length-append old.journal ((step, given) ∷ []) in
           let taken = keeps.room fitting in
           let left = ap sum asides_of-pushed in
@@ -130,7 +130,7 @@ module _ (old : RecordState) (is : IsRecord old) (step : Step) (given : Answer) 
   pub IsRecorded-grown : (LacksRoom old step → ⊥) → given ≢ answer.Misfit → (journal : List Entry)
       → journal ≡ pushed.journal
       → IsSizeAfter given (threads_of (machine lot)) (length old.lot.buckets) (length lot.buckets)
-      → IsRecorded old step (told given) (record_of lot journal old.capacity)
+      → IsRecorded old step (result_for given) (record_of lot journal old.capacity)
   IsRecorded-grown roomy fitting journal same size =
-      IsRecorded-told old step given (record_of lot journal old.capacity) roomy does
+      IsRecorded-result_for old step given (record_of lot journal old.capacity) roomy does
       (same ∙ ap (λ entries. old.journal ++ entries) (sym (entries_for-fitting step given fitting))) refl size

@@ -10,7 +10,7 @@ use Rattle.lot_exclusive.specs.declared.schedule.Step.TheVariants.{Register, Ret
 use Rattle.lot_exclusive.specs.declared.schedule.Step.TheVariants.{Resolve, Return, Acquire, Release}
 use Rattle.lot_exclusive.specs.Machine.{Machine}
 use Rattle.lot_exclusive.specs.Status.{is_parked, is_taken, can_resolve, awaits_deadline}
-use Rattle.lot_exclusive.specs.Steps.{Gives, IsMisfit, IsRegister, IsReturn, IsResolve, IsAcquire}
+use Rattle.lot_exclusive.specs.Steps.{Gives, IsRegister, IsReturn, IsResolve, IsAcquire}
 use Rattle.lot_tools.specs.JournalLaws.{MisfitsDoNotFit, ParksHaveEntries, EndsHaveRoom}
 use Rattle.lot_tools.proofs.JournalLemmas.{IsBacked}
 use Rattle.lot_tools.proofs.RecordLemmas.{Replays-backing}
@@ -24,7 +24,7 @@ module _ (m : Machine) (given : Answer) (new : Machine) where
       → given ≢ answer.Misfit
   answers some (is, _) misfit = some (sym is ∙ misfit)
 
-  by_fit : (fit : Bool) {Does : Type 0} → (Does → given ≢ answer.Misfit) → MatchBool fit Does (IsMisfit m given new)
+  by_fit : (fit : Bool) {Does : Type 0} → (Does → given ≢ answer.Misfit) → MatchBool fit Does (Gives m answer.Misfit given new)
       → (fit ≡ false) ↔ (given ≡ answer.Misfit)
   by_fit true answered does = other (answered does)
   by_fit false answered (is, _) = (λ _. is, λ _. refl)

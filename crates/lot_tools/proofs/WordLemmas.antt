@@ -14,7 +14,7 @@ use Rattle.std.proofs.lemmas.Fmt.{digits_decimal, decimal_digit, decimal_step}
 use Rattle.std.proofs.lemmas.Str.Parse.{numerals_by_value, tells_by_index}
 use Rattle.std.proofs.lemmas.List.Elements.{All-from_get_or, All-from_recursion}
 use Rattle.lot_tools.specs.declared.script.input.TheConstants.{MAX_LINE}
-use Rattle.lot_tools.specs.Words.{Word, name, number, word_text, Fits, IsLine}
+use Rattle.lot_tools.specs.Words.{Word, name, number, word_text, HasUsize, IsLine}
 use Rattle.lot_tools.specs.Private.Parsing.{texts_in, AreWords}
 
 abbrev pub is_blank : ℕ → Bool
@@ -107,11 +107,11 @@ abbrev pub IsUncut : Word → Type 0
 IsUncut (name text) = has_no_blank text ≡ true
 IsUncut (number n) = Unit {0}
 
-HasNoBlank-word : (word : Word) → Fits word → IsUncut word → HasNoBlank (word_text word)
+HasNoBlank-word : (word : Word) → HasUsize word → IsUncut word → HasNoBlank (word_text word)
 HasNoBlank-word (name text) fits uncut = All-from_recursion (λ byte. is_blank byte ≡ false) text (by_test text uncut)
 HasNoBlank-word (number n) fits uncut = HasNoBlank-decimal n fits
 
-HasNoBlank-words : (words : List Word) → AllByRecursion Fits words → AllByRecursion IsUncut words
+HasNoBlank-words : (words : List Word) → AllByRecursion HasUsize words → AllByRecursion IsUncut words
     → AllByRecursion HasNoBlank (map word_text words)
 HasNoBlank-words [] fit uncut = tt
 HasNoBlank-words (word ∷ words) fit uncut =

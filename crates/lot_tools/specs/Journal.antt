@@ -61,12 +61,12 @@ asides_of max_threads journal =
     fold (λ asides entry. with_aside asides (set_aside_by entry.0 entry.1)) (replicate max_threads 0) journal
 
 -- how many entries a step needs that were not set aside for it: its own, and those that it sets aside
-abbrev pub needed : Step → ℕ
-needed (Enter _ _ true _ timed) = if timed then 3 else 2
-needed (Deadline _) = 0
-needed (Resolve _) = 0
-needed (Return _) = 0
-needed _ = 1
+abbrev pub room_for : Step → ℕ
+room_for (Enter _ _ true _ timed) = if timed then 3 else 2
+room_for (Deadline _) = 0
+room_for (Resolve _) = 0
+room_for (Return _) = 0
+room_for _ = 1
 
 -- how many threads the journal's unparks unparked, and how many came back
 abbrev pub unparked_total : List Entry → ℕ

@@ -11,7 +11,7 @@ use Rattle.lot_exclusive.specs.Steps.{IsStep}
 use Rattle.lot_tools.specs.declared.record.RecordError.{RecordError}
 use Rattle.lot_tools.specs.declared.record.RecordError.TheVariants as refused
 use Rattle.lot_tools.specs.declared.record.TheConstants.{MAX_JOURNAL}
-use Rattle.lot_tools.specs.Journal.{Entry, Replays, fits, asides_of, needed}
+use Rattle.lot_tools.specs.Journal.{Entry, Replays, fits, asides_of, room_for}
 use Rattle.lot_tools.specs.RecordState.{RecordState}
 
 -- how many entries are set aside
@@ -28,12 +28,12 @@ pub record IsRecord (state : RecordState) : Type 0 where
 -- the step fits, and there is no room for it
 abbrev pub LacksRoom : RecordState → Step → Type 0
 LacksRoom state step = (fits (machine state.lot) step ≡ true)
-    × (state.capacity < length state.journal + aside state + needed step)
+    × (state.capacity < length state.journal + aside state + room_for step)
 
--- what a caller is told of an answer of the machine
-abbrev pub told : Answer → Result Answer RecordError
-told answer.NoMemory = Err refused.NoMemory
-told given = Ok given
+-- the result of a step for an answer of the machine
+abbrev pub result_for : Answer → Result Answer RecordError
+result_for answer.NoMemory = Err refused.NoMemory
+result_for given = Ok given
 
 -- what is journalled of it
 abbrev pub entries_for : Step → Answer → List Entry
@@ -44,7 +44,7 @@ entries_for step given = (step, given) ∷ []
 abbrev pub IsRecorded : RecordState → Step → Result Answer RecordError → RecordState → Type 0
 IsRecorded old step (Err refused.JournalFull) new = LacksRoom old step × (new ≡ old)
 IsRecorded old step result new =
-    (LacksRoom old step → ⊥) × (given : Answer) × (result ≡ told given)
+    (LacksRoom old step → ⊥) × (given : Answer) × (result ≡ result_for given)
     × IsStep (machine old.lot) step given (machine new.lot)
     × (new.journal ≡ old.journal ++ entries_for step given) × (new.capacity ≡ old.capacity)
     × IsSizeAfter given (threads_of (machine new.lot)) (length old.lot.buckets) (length new.lot.buckets)

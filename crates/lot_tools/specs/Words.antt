@@ -18,14 +18,14 @@ abbrev pub line_of : List Word → List ℕ
 line_of words = join_with_byte 32 (map word_text words)
 
 -- a number that a word can have
-abbrev pub Fits : Word → Type 0
-Fits (name text) = ⊤
-Fits (number n) = n < 2 ^ 64
+abbrev pub HasUsize : Word → Type 0
+HasUsize (name text) = ⊤
+HasUsize (number n) = n < 2 ^ 64
 
 -- a line that is read has these words
 pub record IsLine (words : List Word) (line : List ℕ) : Type 0 where
   pub short : length line ≤ MAX_LINE
-  pub numbers : AllByRecursion Fits words
+  pub numbers : AllByRecursion HasUsize words
   pub text : line ≡ line_of words
 
 abbrev pub yes_or_no : Bool → Word

@@ -3,9 +3,9 @@
 ghost use Rattle.std.specs.Prelude.{◌≡◌, ◌≢◌, ◌↔◌, ◌<◌, ◌≤◌, ◌+◌, [], IsErrOf, IfOk, Err, IsTrue, length};
 ghost use Rattle.lot_exclusive.specs.Lot.{machine};
 ghost use Rattle.lot_exclusive.specs.Machine.{new_machine};
-ghost use Rattle.lot_tools.specs.Journal.{Replays, fits, needed, set_aside_by};
+ghost use Rattle.lot_tools.specs.Journal.{Replays, fits, room_for, set_aside_by};
 ghost use Rattle.lot_tools.specs.JournalLaws.{MisfitsDoNotFit, ParksHaveEntries, EndsHaveRoom};
-ghost use Rattle.lot_tools.specs.Record.{IsRecord, LacksRoom, IsRecorded, told};
+ghost use Rattle.lot_tools.specs.Record.{IsRecord, LacksRoom, IsRecorded, result_for};
 
 mod aside;
 
@@ -199,7 +199,7 @@ fn does_fit(lot: &Lot, step: &Step) -> bool
 
 // How many entries the step needs that were not set aside for it.
 fn entries_needed(step: &Step) -> usize
-    ensures needed { result ≡ needed step.now }
+    ensures room { result ≡ room_for step.now }
     ensures few { result ≤ 3 }
 {
     match step {
@@ -232,7 +232,7 @@ fn entries_aside(step: &Step, answer: Answer) -> Option<(usize, usize)>
 
 // What the caller is told of the lot's answer.
 fn answer_told(answer: Answer) -> Result<Answer, RecordError>
-    ensures { result ≡ told answer }
+    ensures { result ≡ result_for answer }
 {
     match answer {
         Answer::NoMemory => Err(RecordError::NoMemory),

@@ -170,7 +170,10 @@ impl<P: ThreadParkerT> ParkingLot<P> {
     ///
     /// `NoMemory` if memory for the list cannot be had. The empty list needs none.
     pub fn list<R: Wait>(&self, rt: &R, alloc: Global, key: usize) -> Result<Vec<usize>, NoMemory> {
-        self.waiting_on(rt, alloc, key)
+        let bucket = self.buckets.lock(rt, key);
+        let numbers = sections::list_of(&bucket.held.value, alloc, key);
+        bucket.unlock();
+        numbers
     }
 }
 

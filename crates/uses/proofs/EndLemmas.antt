@@ -8,14 +8,14 @@ use Rattle.lot_exclusive.specs.declared.schedule.Answer.TheVariants as answer
 use Rattle.lot_exclusive.specs.declared.schedule.Step.TheVariants.{Resolve}
 use Rattle.lot_exclusive.proofs.AnswerLemmas.{memory-open}
 use Rattle.lot_tools.specs.JournalLaws.{EndsHaveRoom}
-use Rattle.lot_tools.specs.Record.{IsRecord, IsRecorded, told}
+use Rattle.lot_tools.specs.Record.{IsRecord, IsRecorded, result_for}
 use Rattle.lot_tools.specs.RecordState.{RecordState}
 use Rattle.lot_tools.specs.declared.record.RecordError.{RecordError}
 use Rattle.lot_tools.specs.declared.record.RecordError.TheVariants as refused
 
-told-memory : (given : Answer) → Err refused.NoMemory ≡ told given → given ≡ answer.NoMemory
-told-memory answer.NoMemory is = refl
-told-memory _ is = cc
+result_for-memory : (given : Answer) → Err refused.NoMemory ≡ result_for given → given ≡ answer.NoMemory
+result_for-memory answer.NoMemory is = refl
+result_for-memory _ is = cc
 
 -- it is never refused
 pub end-done : (old new : RecordState) (thread : ℕ) (result : Result Answer RecordError) → IsRecord old → EndsHaveRoom
@@ -24,5 +24,5 @@ end-done old new thread (Ok given) kept room is = refl
 end-done old new thread (Err refused.JournalFull) kept room (lacks, _) = absurd ((room old thread kept).1 lacks)
 end-done old new thread (Err refused.NoMemory) kept room (roomy, given, is, does, journal, capacity, size) =
     absurd ((memory-open (machine old.lot) (Resolve thread) (machine new.lot)).0
-    (subst (λ answered. IsStep (machine old.lot) (Resolve thread) answered (machine new.lot)) (told-memory given is)
+    (subst (λ answered. IsStep (machine old.lot) (Resolve thread) answered (machine new.lot)) (result_for-memory given is)
     does)).0

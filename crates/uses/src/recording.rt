@@ -55,6 +55,7 @@ pub fn end_park(recorded: &mut Record, thread: usize) -> Answer
 {
     recorded.consistency();
     ends_have_room();
+    // Only a full journal refuses a resolve, and the law says that its entry has room.
     recorded.step(Step::Resolve { thread }).unwrap()
 }
 

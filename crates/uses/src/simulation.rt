@@ -89,6 +89,7 @@ pub fn two_tasks(alloc: Global, in_time: bool) -> Result<ParkResult, LotError>
     if in_time {
         semaphore.release(&mut lot);
     }
+    // The second waits with a timeout, or was unparked, and so its park can end.
     Ok(let_time_out(&mut lot, second).unwrap())
 }
 
@@ -105,6 +106,7 @@ fn second_waits(alloc: Global) -> Result<(Lot, Semaphore, usize), LotError>
     let first = lot.register()?;
     let second = lot.register()?;
     let mut semaphore = Semaphore::new(0, 1);
+    // Both have just registered and run, and so each may acquire.
     semaphore.acquire(&mut lot, first, false).unwrap();
     semaphore.acquire(&mut lot, second, true).unwrap();
     Ok((lot, semaphore, second))

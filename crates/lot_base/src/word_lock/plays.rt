@@ -3,7 +3,7 @@
 
 ghost use Rattle.lot_base.specs.WordView.{resting};
 ghost use Rattle.lot_base.specs.WordRule.{Orderly};
-ghost use Rattle.lot_base.specs.WordSteps.{arrived, acquired, took_place, given_back, linked, enqueued, looked, released_to_zero, read_first, read_next, cut, released_after_cut, told};
+ghost use Rattle.lot_base.specs.WordSteps.{ArriveTells, AcquireTells, TakePlaceTells, GiveBackTells, LinkTells, EnqueueTells, LookTells, ReleaseToZeroTells, ReadFirstTells, ReadNextTells, CutTells, ReleaseAfterCutTells, TellTells};
 
 use super::Fits;
 use super::view::View;
@@ -21,77 +21,77 @@ impl<T: Fits> TableRule<Option<T>, View, ()> for Order {
 pub(super) struct Arrive;
 
 impl<T> Play<Option<T>, View> for Arrive {
-    ghost then = { arrived };
+    ghost then = { ArriveTells };
 }
 
 pub(super) struct Acquire;
 
 impl<T: Fits> Play<Option<T>, View> for Acquire {
-    ghost then = { acquired T.fits };
+    ghost then = { AcquireTells T.fits };
 }
 
 pub(super) struct TakePlace;
 
 impl<T> Play<Option<T>, View> for TakePlace {
-    ghost then = { took_place };
+    ghost then = { TakePlaceTells };
 }
 
 pub(super) struct GiveBack;
 
 impl<T> Play<Option<T>, View> for GiveBack {
-    ghost then = { given_back };
+    ghost then = { GiveBackTells };
 }
 
 pub(super) struct Link;
 
 impl<T> Play<Option<T>, View> for Link {
-    ghost then = { linked };
+    ghost then = { LinkTells };
 }
 
 pub(super) struct Enqueue;
 
 impl<T> Play<Option<T>, View> for Enqueue {
-    ghost then = { enqueued };
+    ghost then = { EnqueueTells };
 }
 
 pub(super) struct Look;
 
 impl<T> Play<Option<T>, View> for Look {
-    ghost then = { looked };
+    ghost then = { LookTells };
 }
 
 pub(super) struct ReleaseToZero;
 
 impl<T> Play<Option<T>, View> for ReleaseToZero {
-    ghost then = { released_to_zero };
+    ghost then = { ReleaseToZeroTells };
 }
 
 pub(super) struct ReadFirst;
 
 impl<T> Play<Option<T>, View> for ReadFirst {
-    ghost then = { read_first };
+    ghost then = { ReadFirstTells };
 }
 
 pub(super) struct ReadNext;
 
 impl<T> Play<Option<T>, View> for ReadNext {
-    ghost then = { read_next };
+    ghost then = { ReadNextTells };
 }
 
 pub(super) struct Cut;
 
 impl<T> Play<Option<T>, View> for Cut {
-    ghost then = { cut };
+    ghost then = { CutTells };
 }
 
 pub(super) struct ReleaseAfterCut;
 
 impl<T> Play<Option<T>, View> for ReleaseAfterCut {
-    ghost then = { released_after_cut };
+    ghost then = { ReleaseAfterCutTells };
 }
 
 pub(super) struct Tell;
 
 impl<T> Play<Option<T>, View> for Tell {
-    ghost then = { told };
+    ghost then = { TellTells };
 }

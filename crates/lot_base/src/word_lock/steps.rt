@@ -98,6 +98,7 @@ impl<T: Fits> WordLock<T> {
         ensures out { seat_of caller.new ≡ (Holding [] [], (0, None) ∷ []) }
         ensures fits { T.fits result }
     {
+        // A caller that holds the lock and has not taken the value out has the slot full.
         self.table
             .shared
             .exchange(&mut caller.seat, VALUE, None)
@@ -287,7 +288,8 @@ impl<T: Fits> WordLock<T> {
         self.table.shared.wake_one(place);
     }
 
-    /// Sleeps while the link of the place is this one.
+    /// Sleeps while the link of the place is this one. The system compares the low 32 bits of a word
+    /// alone; a link is at most one above a place, and so they tell it.
     pub(super) fn sleep<R: Wait>(&self, rt: &R, place: usize, link: u64)
         requires { IsPlace place }
     {

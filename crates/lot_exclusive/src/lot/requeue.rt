@@ -8,7 +8,7 @@ ghost use Rattle.lot_base.specs.declared.token.RequeueOp.{RequeueOp};
 ghost use Rattle.lot_exclusive.specs.Represents.{waiters_in, Represents};
 ghost use Rattle.lot_exclusive.specs.Table.{IsRowStep};
 ghost use Rattle.lot_exclusive.specs.Represents.{nodes_in};
-ghost use Rattle.lot_exclusive.specs.Private.Committed.{threads_with_key, threads_with_keys};
+ghost use Rattle.lot_exclusive.specs.Private.Commit.{threads_with_key, threads_with_keys};
 
 use super::thread::{Thread, set_key};
 use crate::table::Table;

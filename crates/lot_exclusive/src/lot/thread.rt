@@ -6,7 +6,7 @@ ghost use Rattle.lot_base.specs.Node.{fields};
 ghost use Rattle.lot_exclusive.specs.Lot.{statuses, thread_at, free_thread};
 ghost use Rattle.lot_exclusive.specs.Records.{times_recorded, one_more, one_less};
 ghost use Rattle.lot_exclusive.specs.Status.{is_queued, is_taken};
-ghost use Rattle.lot_exclusive.specs.Private.Committed.{threads_with_key, committed, CanCommit};
+ghost use Rattle.lot_exclusive.specs.Private.Commit.{threads_with_key, threads_after_commit, CanCommit};
 
 use super::Status;
 use crate::records::Records;
@@ -257,9 +257,7 @@ pub(super) fn start_waiting(
         })) }
     ensures err { OnErr result (threads.new.items ≡ threads.old.items) }
 {
-    let Some(thread) = threads.get_mut(number) else {
-        return Err(Misfit);
-    };
+    let thread = threads.get_mut(number).ok_or(Misfit)?;
     let node = thread.start_waiting(key, timed)?;
     Ok(node)
 }
@@ -276,7 +274,7 @@ pub(super) fn set_key(threads: &mut Vec<Thread>, number: usize, key: usize)
 // Hands each of the nodes to its thread.
 pub(super) fn commit(threads: &mut Vec<Thread>, taken: Queue)
     requires { CanCommit taken threads.old.items }
-    ensures { threads.new.items ≡ committed taken threads.old.items }
+    ensures { threads.new.items ≡ threads_after_commit taken threads.old.items }
 {
     let mut rest = taken;
     while let Some(node) = rest.pop_front() {

@@ -8,7 +8,7 @@ use Rattle.lot_tools.specs.declared.script.command.Command.{Command}
 use Rattle.lot_tools.specs.declared.script.command.Command.TheVariants as command
 use Rattle.lot_tools.specs.declared.script.keyword.Keyword.{Keyword}
 use Rattle.lot_tools.specs.declared.script.keyword.Keyword.TheVariants as keyword
-use Rattle.lot_tools.specs.Words.{Word, name, number, word_text, Fits, yes_or_no, timed_or_untimed}
+use Rattle.lot_tools.specs.Words.{Word, name, number, word_text, HasUsize, yes_or_no, timed_or_untimed}
 use Rattle.lot_tools.specs.Command.{decisions_text, requeue_text}
 
 -- the texts between the blanks
@@ -22,7 +22,7 @@ texts_left (Some rest) = texts_in rest.now
 
 -- the texts are those of these words
 pub record AreWords (words : List Word) (pieces : List (List ℕ)) : Type 0 where
-  pub numbers : AllByRecursion Fits words
+  pub numbers : AllByRecursion HasUsize words
   pub texts : pieces ≡ map word_text words
 
 -- the first word of a line

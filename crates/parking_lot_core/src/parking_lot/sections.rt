@@ -27,19 +27,6 @@ use std::alloc::Global;
 use std::sync::Wait;
 
 impl<P: ThreadParkerT> ParkingLot<P> {
-    // The section of a list.
-    pub(super) fn waiting_on<R: Wait>(
-        &self,
-        rt: &R,
-        alloc: Global,
-        key: usize,
-    ) -> Result<Vec<usize>, NoMemory> {
-        let bucket = self.buckets.lock(rt, key);
-        let numbers = list_of(&bucket.held.value, alloc, key);
-        bucket.unlock();
-        numbers
-    }
-
     // The section in which a thread comes to park: puts its node last in the queue of its key, or
     // gives it back if `validate` answers false.
     pub(super) fn enter<R: Wait, V: FnOnce() -> bool>(
@@ -331,7 +318,7 @@ impl<P: ThreadParkerT> ParkingLot<P> {
 }
 
 // The list of the key, of the bucket that is the key's.
-fn list_of(bucket: &Bucket, alloc: Global, key: usize) -> Result<Vec<usize>, NoMemory>
+pub(super) fn list_of(bucket: &Bucket, alloc: Global, key: usize) -> Result<Vec<usize>, NoMemory>
     requires { HasPlaceOf key bucket.now }
     ensures refused { OnErr result (IsTrue (has_any (lists_of bucket.now.nodes key))) }
     ensures told { IfOk result (λ list. list.items ≡ numbers (lists_of bucket.now.nodes key)) }

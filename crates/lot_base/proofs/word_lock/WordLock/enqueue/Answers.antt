@@ -3,7 +3,7 @@ use mathlib.Core.Option.{none}
 use prog.Atomic.{either}
 use Rattle.atomic_table.specs.Table.{step}
 use Rattle.lot_base.specs.declared.word_lock.view.View.TheVariants.{Trying}
-use Rattle.lot_base.specs.WordSteps.{enqueued}
+use Rattle.lot_base.specs.WordSteps.{EnqueueTells}
 use Rattle.lot_base.proofs.WordWaits.{enqueues}
 use Rattle.lot_base.proofs.WordKeeps.{at_view}
 use Rattle.lot_base.proofs.word_lock.WordLock.enqueue.Goals as goal
@@ -18,7 +18,7 @@ compare_exchange-requires g c =
       search rules,
       search rules,
       at_view g.T.Fits.fits _ _ id _ (Trying linked.0 place (1 + word / 2), []) 0
-          (λ x. either (x == word) new x) (λ n m. enqueued (step n 0 word new none) m) refl linked.1
+          (λ x. either (x == word) new x) (λ n m. EnqueueTells (step n 0 word new none) m) refl linked.1
           (enqueues g.T.Fits.fits _ id linked.0 place (1 + word / 2) word new none c.requires.place c.requires.locked
           refl refl),
     )

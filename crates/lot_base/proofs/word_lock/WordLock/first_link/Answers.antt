@@ -4,7 +4,7 @@ use Rattle.atomic_table.specs.Table.{step}
 use Rattle.lot_base.specs.declared.word_lock.view.View.{View}
 use Rattle.lot_base.specs.WordPlaces.{behind}
 use Rattle.lot_base.specs.WordView.{seen_by}
-use Rattle.lot_base.specs.WordSteps.{read_first}
+use Rattle.lot_base.specs.WordSteps.{ReadFirstTells}
 use Rattle.lot_base.proofs.WordHolds.{reads_first}
 use Rattle.lot_base.proofs.WordKeeps.{at_view, seat_is, seeing, seen_from}
 use Rattle.lot_base.proofs.word_lock.WordLock.first_link.Goals as goal
@@ -18,7 +18,7 @@ load-requires g c =
       c.requires.lock,
       omega (arith, seen.1.1, c.args.self.now.sized.0),
       at_view g.T.Fits.fits _ _ c.args.caller.now.seat.id me (seeing (newest ∷ h.1), me.1) newest (λ x. x)
-          (λ n m. read_first (step n newest 0 0 none) m) refl
+          (λ n m. ReadFirstTells (step n newest 0 0 none) m) refl
           (seat_is me _ _ seen.0 refl) (reads_first g.T.Fits.fits _ c.args.caller.now.seat.id newest h.1 me.1),
     )
 

@@ -2,7 +2,7 @@ use Rattle.std.proofs.Common.{rules, ◌∷◌, [], refl, Some, ◌+◌, ◌-◌
 use mathlib.Core.Option.{none}
 use Rattle.atomic_table.specs.Table.{step}
 use Rattle.lot_base.specs.declared.word_lock.view.View.TheVariants.{Holding}
-use Rattle.lot_base.specs.WordSteps.{released_after_cut}
+use Rattle.lot_base.specs.WordSteps.{ReleaseAfterCutTells}
 use Rattle.lot_base.proofs.WordHolds.{releases_after_cut}
 use Rattle.lot_base.proofs.WordKeeps.{seat_is, at_view}
 use Rattle.lot_base.proofs.word_lock.WordLock.release_after_cut.Goals as goal
@@ -16,6 +16,6 @@ fetch_sub-requires g c =
       search rules,
       search rules,
       at_view g.T.Fits.fits _ 1 id me (Holding [] (owes.0 ∷ []), (0, Some home.0) ∷ []) 0
-          (λ x. (x + (2 ^ 64 - 1)) % 2 ^ 64) (λ n m. released_after_cut (step n 0 1 0 none) m) c.args.self.now.sized.1
+          (λ x. (x + (2 ^ 64 - 1)) % 2 ^ 64) (λ n m. ReleaseAfterCutTells (step n 0 1 0 none) m) c.args.self.now.sized.1
           (seat_is me _ _ owes.1 home.1) (releases_after_cut g.T.Fits.fits id owes.0 home.0 1 refl home.2),
     )

@@ -3,7 +3,7 @@ use mathlib.Core.Option.{none}
 use prog.Atomic.{either}
 use Rattle.atomic_table.specs.Table.{step}
 use Rattle.lot_base.specs.WordView.{seen_by}
-use Rattle.lot_base.specs.WordSteps.{released_to_zero}
+use Rattle.lot_base.specs.WordSteps.{ReleaseToZeroTells}
 use Rattle.lot_base.specs.declared.word_lock.view.View.TheVariants.{Holding}
 use Rattle.lot_base.proofs.WordHolds.{releases_to_zero}
 use Rattle.lot_base.proofs.WordKeeps.{seat_is, at_view}
@@ -19,7 +19,7 @@ compare_exchange-requires g c =
       search rules,
       search rules,
       at_view g.T.Fits.fits _ 1 id me (Holding seen [], (0, Some home.0) ∷ []) 0
-          (λ x. either (x == word) 0 x) (λ n m. released_to_zero (step n 0 word 0 none) m) c.args.self.now.sized.1
+          (λ x. either (x == word) 0 x) (λ n m. ReleaseToZeroTells (step n 0 word 0 none) m) c.args.self.now.sized.1
           (seat_is me _ _ c.requires.holds home.1) (releases_to_zero g.T.Fits.fits id seen home.0 word none
           c.requires.short c.requires.word home.2),
     )

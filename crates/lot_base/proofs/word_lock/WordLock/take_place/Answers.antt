@@ -4,7 +4,7 @@ use prog.Atomic.{either}
 use Rattle.atomic_table.specs.Table.{step, Me}
 use Rattle.lot_base.specs.declared.word_lock.view.View.{View}
 use Rattle.lot_base.specs.WordView.{with_place}
-use Rattle.lot_base.specs.WordSteps.{took_place}
+use Rattle.lot_base.specs.WordSteps.{TakePlaceTells}
 use Rattle.lot_base.specs.declared.word_lock.view.View.TheVariants.{Trying}
 use Rattle.lot_base.proofs.WordTries.{takes_place}
 use Rattle.lot_base.proofs.WordKeeps.{at_view}
@@ -18,7 +18,7 @@ compare_exchange-requires g c =
       search rules,
       search rules,
       at_view g.T.Fits.fits _ _ id _ (Trying tries.0 0 0, []) (place + 4)
-          (λ x. either (x == 0) 1 x) (λ n m. took_place (step n (place + 4) 0 1 none) m) refl tries.1
+          (λ x. either (x == 0) 1 x) (λ n m. TakePlaceTells (step n (place + 4) 0 1 none) m) refl tries.1
           (takes_place g.T.Fits.fits _ id tries.0 place none c.requires.place),
     )
 

@@ -2,7 +2,7 @@ use Rattle.std.proofs.Common.{rules, ◌+◌, [], refl}
 use mathlib.Core.Option.{none}
 use Rattle.atomic_table.specs.Table.{step}
 use Rattle.lot_base.specs.declared.word_lock.view.View.TheVariants.{Trying}
-use Rattle.lot_base.specs.WordSteps.{linked}
+use Rattle.lot_base.specs.WordSteps.{LinkTells}
 use Rattle.lot_base.proofs.WordWaits.{links_own}
 use Rattle.lot_base.proofs.WordKeeps.{at_view}
 use Rattle.lot_base.proofs.word_lock.WordLock.write_link.Goals as goal
@@ -16,6 +16,6 @@ store-requires g c =
       search rules,
       search rules,
       at_view g.T.Fits.fits _ _ id _ (Trying has.1.0 place has.0, []) place (λ _. new)
-          (λ n m _. linked (step n place new 0 none) m new) refl has.1.1
+          (λ n m _. LinkTells (step n place new 0 none) m new) refl has.1.1
           (links_own g.T.Fits.fits _ id has.1.0 place has.0 new c.requires.place),
     )

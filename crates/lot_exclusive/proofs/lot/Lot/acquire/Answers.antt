@@ -6,7 +6,7 @@ use Rattle.lot_exclusive.proofs.LotThreadLemmas.{lot_of, IsLotStep, IsLotStep-ac
 use Rattle.lot_exclusive.proofs.lot.Lot.acquire.Goals as goal
 use Rattle.lot_exclusive.proofs.lot.Lot.acquire.Goals.{In_ok-acquire}
 
-runs : (c : In_ok-acquire) → Running ≡ c.in-Some.thread.now.status
+runs : (c : In_ok-acquire) → Running ≡ c.in_ok-thread.thread.now.status
 runs c = sym (c.in_ok-acquire.ensures.fits.0 (λ refused. cc))
 
 step : (c : In_ok-acquire)
@@ -17,16 +17,16 @@ step : (c : In_ok-acquire)
       threads = slice_set c.self.inside.threads.items c.args.number c.acquire.new.self;
     }) (after_acquire (machine (lot_of c.self.inside)) c.args.number c.args.key)
 step c =
-    IsLotStep-acquired (lot_of c.self.inside) c.args.number c.args.key c.in-Some.thread.now c.acquire.new.self
-    c.self.invariant.0 c.in-Some.ensures.item.3.0 (c.in-Some.ensures.item.3.1 _) c.in_ok-acquire.ensures.kept
+    IsLotStep-acquired (lot_of c.self.inside) c.args.number c.args.key c.in_ok-thread.thread.now c.acquire.new.self
+    c.self.invariant.0 (rw c.in_ok-thread.ensures.ok_part at c.get_mut.ensures.item).3.0 ((rw c.in_ok-thread.ensures.ok_part at c.get_mut.ensures.item).3.1 _) c.in_ok-acquire.ensures.kept
     c.in_ok-acquire.ensures.ok (runs c)
 
 pub invariant_of-self-2 : goal.invariant_of-self-2
 invariant_of-self-2 c = (
   (step c).is_lot,
   c.self.invariant.1
-      ∙ sym (uses-recorded (lot_of c.self.inside) c.args.number c.in-Some.thread.now c.acquire.new.self
-      (c.in-Some.ensures.item.3.1 _) c.in_ok-acquire.ensures.kept),
+      ∙ sym (uses-recorded (lot_of c.self.inside) c.args.number c.in_ok-thread.thread.now c.acquire.new.self
+      ((rw c.in_ok-thread.ensures.ok_part at c.get_mut.ensures.item).3.1 _) c.in_ok-acquire.ensures.kept),
 )
 
 pub returns-clause-ok : goal.returns-clause-ok

@@ -7,7 +7,7 @@ use Rattle.lot_exclusive.proofs.LotThreadLemmas.{lot_of, IsLotStep, IsLotStep-st
 use Rattle.lot_exclusive.proofs.lot.Lot.deadline.Goals as goal
 use Rattle.lot_exclusive.proofs.lot.Lot.deadline.Goals.{In_ok-deadline}
 
-waited : (c : In_ok-deadline) → Waiting true ≡ c.in-Some.thread.now.status
+waited : (c : In_ok-deadline) → Waiting true ≡ c.in_ok-ok_or.field-0.now.status
 waited c = sym (c.in_ok-deadline.ensures.fits.0 refl)
 
 step : (c : In_ok-deadline)
@@ -18,16 +18,16 @@ step : (c : In_ok-deadline)
       threads = slice_set c.self.inside.threads.items c.args.number c.deadline.new.self;
     }) (with_status (machine (lot_of c.self.inside)) c.args.number Late)
 step c =
-    IsLotStep-status (lot_of c.self.inside) c.args.number c.in-Some.thread.now c.deadline.new.self Late
-    c.self.invariant.0 c.in-Some.ensures.item.3.0 (c.in-Some.ensures.item.3.1 _) c.in_ok-deadline.ensures.ok
+    IsLotStep-status (lot_of c.self.inside) c.args.number c.in_ok-ok_or.field-0.now c.deadline.new.self Late
+    c.self.invariant.0 (rw c.in_ok-ok_or.ensures.ok_part at c.get_mut.ensures.item).3.0 ((rw c.in_ok-ok_or.ensures.ok_part at c.get_mut.ensures.item).3.1 _) c.in_ok-deadline.ensures.ok
     (ap is_queued (waited c)) (ap is_timed (waited c)) (λ same. cc)
 
 pub invariant_of-self-2 : goal.invariant_of-self-2
 invariant_of-self-2 c = (
   (step c).is_lot,
   c.self.invariant.1
-      ∙ sym (uses-status (lot_of c.self.inside) c.args.number c.in-Some.thread.now c.deadline.new.self Late
-      c.self.invariant.0 c.in-Some.ensures.item.3.0 (c.in-Some.ensures.item.3.1 _) c.in_ok-deadline.ensures.ok
+      ∙ sym (uses-status (lot_of c.self.inside) c.args.number c.in_ok-ok_or.field-0.now c.deadline.new.self Late
+      c.self.invariant.0 (rw c.in_ok-ok_or.ensures.ok_part at c.get_mut.ensures.item).3.0 ((rw c.in_ok-ok_or.ensures.ok_part at c.get_mut.ensures.item).3.1 _) c.in_ok-deadline.ensures.ok
       (ap use_of (waited c))),
 )
 

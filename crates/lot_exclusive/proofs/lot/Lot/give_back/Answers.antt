@@ -7,7 +7,7 @@ use Rattle.lot_exclusive.proofs.LotThreadLemmas.{lot_of, IsLotStep, IsLotStep-st
 use Rattle.lot_exclusive.proofs.lot.Lot.give_back.Goals as goal
 use Rattle.lot_exclusive.proofs.lot.Lot.give_back.Goals.{In_ok-token}
 
-was_taken : (c : In_ok-token) → Taken c.in_ok-token.token ≡ c.in-Some.thread.now.status
+was_taken : (c : In_ok-token) → Taken c.in_ok-token.token ≡ c.in_ok-ok_or.field-0.now.status
 was_taken c = sym c.in_ok-token.ensures.ok.0
 
 step : (c : In_ok-token)
@@ -18,21 +18,21 @@ step : (c : In_ok-token)
       threads = slice_set c.self.inside.threads.items c.args.number c.give_back.new.self;
     }) (with_status (machine (lot_of c.self.inside)) c.args.number Running)
 step c =
-    IsLotStep-status (lot_of c.self.inside) c.args.number c.in-Some.thread.now c.give_back.new.self Running
-    c.self.invariant.0 c.in-Some.ensures.item.3.0 (c.in-Some.ensures.item.3.1 _) c.in_ok-token.ensures.ok.1
+    IsLotStep-status (lot_of c.self.inside) c.args.number c.in_ok-ok_or.field-0.now c.give_back.new.self Running
+    c.self.invariant.0 (rw c.in_ok-ok_or.ensures.ok_part at c.get_mut.ensures.item).3.0 ((rw c.in_ok-ok_or.ensures.ok_part at c.get_mut.ensures.item).3.1 _) c.in_ok-token.ensures.ok.1
     (ap is_queued (was_taken c)) (ap is_timed (was_taken c)) (λ same. cc)
 
 pub invariant_of-self-2 : goal.invariant_of-self-2
 invariant_of-self-2 c = (
   (step c).is_lot,
   c.self.invariant.1
-      ∙ sym (uses-status (lot_of c.self.inside) c.args.number c.in-Some.thread.now c.give_back.new.self Running
-      c.self.invariant.0 c.in-Some.ensures.item.3.0 (c.in-Some.ensures.item.3.1 _) c.in_ok-token.ensures.ok.1
+      ∙ sym (uses-status (lot_of c.self.inside) c.args.number c.in_ok-ok_or.field-0.now c.give_back.new.self Running
+      c.self.invariant.0 (rw c.in_ok-ok_or.ensures.ok_part at c.get_mut.ensures.item).3.0 ((rw c.in_ok-ok_or.ensures.ok_part at c.get_mut.ensures.item).3.1 _) c.in_ok-token.ensures.ok.1
       (ap use_of (was_taken c))),
 )
 
 pub returns-clause-ok : goal.returns-clause-ok
 returns-clause-ok c = (
-  rw (← c.self.view_is) (ap (λ thread. thread.status) (sym (c.in-Some.ensures.item.3.1 _)) ∙ sym (was_taken c)),
+  rw (← c.self.view_is) (ap (λ thread. thread.status) (sym ((rw c.in_ok-ok_or.ensures.ok_part at c.get_mut.ensures.item).3.1 _)) ∙ sym (was_taken c)),
   rw (← c.self.view_is) (step c).means,
 )

@@ -6,7 +6,7 @@ use Rattle.lot_exclusive.proofs.LotThreadLemmas.{lot_of, IsLotStep, IsLotStep-re
 use Rattle.lot_exclusive.proofs.lot.Lot.release.Goals as goal
 use Rattle.lot_exclusive.proofs.lot.Lot.release.Goals.{In_ok-release}
 
-runs : (c : In_ok-release) → Running ≡ c.in-Some.thread.now.status
+runs : (c : In_ok-release) → Running ≡ c.in_ok-ok_or.field-0.now.status
 runs c = sym (c.in_ok-release.ensures.fits.0 refl)
 
 step : (c : In_ok-release)
@@ -17,16 +17,16 @@ step : (c : In_ok-release)
       threads = slice_set c.self.inside.threads.items c.args.number c.release.new.self;
     }) (after_release (machine (lot_of c.self.inside)) c.args.number c.args.key)
 step c =
-    IsLotStep-released (lot_of c.self.inside) c.args.number c.args.key c.in-Some.thread.now c.release.new.self
-    c.self.invariant.0 c.in-Some.ensures.item.3.0 (c.in-Some.ensures.item.3.1 _) c.in_ok-release.ensures.kept
+    IsLotStep-released (lot_of c.self.inside) c.args.number c.args.key c.in_ok-ok_or.field-0.now c.release.new.self
+    c.self.invariant.0 (rw c.in_ok-ok_or.ensures.ok_part at c.get_mut.ensures.item).3.0 ((rw c.in_ok-ok_or.ensures.ok_part at c.get_mut.ensures.item).3.1 _) c.in_ok-release.ensures.kept
     c.in_ok-release.ensures.ok (runs c)
 
 pub invariant_of-self-2 : goal.invariant_of-self-2
 invariant_of-self-2 c = (
   (step c).is_lot,
   c.self.invariant.1
-      ∙ sym (uses-recorded (lot_of c.self.inside) c.args.number c.in-Some.thread.now c.release.new.self
-      (c.in-Some.ensures.item.3.1 _) c.in_ok-release.ensures.kept),
+      ∙ sym (uses-recorded (lot_of c.self.inside) c.args.number c.in_ok-ok_or.field-0.now c.release.new.self
+      ((rw c.in_ok-ok_or.ensures.ok_part at c.get_mut.ensures.item).3.1 _) c.in_ok-release.ensures.kept),
 )
 
 pub returns-clause-ok : goal.returns-clause-ok

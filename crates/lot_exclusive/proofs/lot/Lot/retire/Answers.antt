@@ -9,7 +9,7 @@ use Rattle.lot_exclusive.proofs.LotThreadLemmas.{lot_of, IsLotStep, IsLotStep-af
 use Rattle.lot_exclusive.proofs.lot.Lot.retire.Goals as goal
 use Rattle.lot_exclusive.proofs.lot.Lot.retire.Goals.{After-release}
 
-ran : (c : After-release) → Running ≡ c.in-Some.thread.now.status
+ran : (c : After-release) → Running ≡ c.in_ok-ok_or.field-0.now.status
 ran c = sym (c.in_ok-retire.ensures.fits.0 refl)
 
 step : (c : After-release)
@@ -21,8 +21,8 @@ step : (c : After-release)
     }) (after_retire (machine (lot_of c.self.inside)) c.args.number)
 step c =
     rw c.release.ensures.cells
-    (IsLotStep-after_retire (lot_of c.self.inside) c.args.number c.in-Some.thread.now c.retire.new.self
-    c.self.invariant.0 c.in-Some.ensures.item.3.0 (c.in-Some.ensures.item.3.1 _) c.in_ok-retire.ensures.ok (ran c))
+    (IsLotStep-after_retire (lot_of c.self.inside) c.args.number c.in_ok-ok_or.field-0.now c.retire.new.self
+    c.self.invariant.0 (rw c.in_ok-ok_or.ensures.ok_part at c.get_mut.ensures.item).3.0 ((rw c.in_ok-ok_or.ensures.ok_part at c.get_mut.ensures.item).3.1 _) c.in_ok-retire.ensures.ok (ran c))
 
 pub invariant_of-self-2 : goal.invariant_of-self-2
 invariant_of-self-2 c = (

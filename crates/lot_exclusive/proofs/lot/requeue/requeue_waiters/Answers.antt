@@ -1,5 +1,5 @@
 use Rattle.std.proofs.Common.{rules, ◌∙◌, sym, ap, refl, Vec}
-use Rattle.lot_exclusive.specs.Private.Committed.{threads_with_key, threads_with_keys}
+use Rattle.lot_exclusive.specs.Private.Commit.{threads_with_key, threads_with_keys}
 use Rattle.lot_exclusive.proofs.RequeuedLemmas.{keys_set, all_kept}
 use Rattle.lot_exclusive.proofs.lot.requeue.requeue_waiters.Goals as goal
 

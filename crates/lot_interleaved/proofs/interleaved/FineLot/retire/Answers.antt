@@ -9,7 +9,7 @@ use Rattle.lot_exclusive.specs.Lot.{use_of, uses}
 use Rattle.lot_exclusive.proofs.CommitLemmas.{uses-set}
 use Rattle.lot_interleaved.proofs.FineAnswerLemmas.{step_of_misfit, answer_for-misfit, None-refused}
 use Rattle.lot_interleaved.proofs.FineLotLemmas.{fine_lot_of}
-use Rattle.lot_interleaved.proofs.FineStateLemmas.{DoneStep, DoneStep-kept, plain-set, set_lot, step_of, status_is}
+use Rattle.lot_interleaved.proofs.FineStateLemmas.{DoneStep, DoneStep-kept, plain-set, set_lot, status_is}
 use Rattle.lot_interleaved.proofs.FineStateLemmas.{status-past}
 use Rattle.lot_interleaved.proofs.FineThreadLemmas.{DoneStep-retire, unfit-retire}
 use Rattle.lot_interleaved.proofs.interleaved.FineLot.retire.Goals as goal

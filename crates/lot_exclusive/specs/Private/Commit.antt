@@ -26,9 +26,9 @@ abbrev pub taken_with : NodeFields → List ThreadState → List ThreadState
 taken_with node threads = threads_with_status threads node.number (Taken node.unpark_token)
 
 -- the threads once each of the nodes was handed to its own
-abbrev pub committed : List NodeFields → List ThreadState → List ThreadState
-committed [] threads = threads
-committed (node ∷ nodes) threads = committed nodes (taken_with node threads)
+abbrev pub threads_after_commit : List NodeFields → List ThreadState → List ThreadState
+threads_after_commit [] threads = threads
+threads_after_commit (node ∷ nodes) threads = threads_after_commit nodes (taken_with node threads)
 
 -- each of the nodes is of a thread that waits for it
 abbrev pub CanCommit : List NodeFields → List ThreadState → Type 0
