@@ -1,4 +1,3 @@
-pub mod ThreadLemmas
 pub mod RecordLemmas
 pub mod CountLemmas
 pub mod WaiterLemmas

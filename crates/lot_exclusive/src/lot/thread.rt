@@ -11,30 +11,30 @@ ghost use Rattle.lot_exclusive.specs.Private.Commit.{threads_with_key, threads_a
 use super::Status;
 use crate::records::Records;
 use lot_base::queue::{Node, Queue};
-use lot_base::thread_parker::Slot;
 use lot_base::token::{Misfit, NoMemory, StepError, UnparkToken};
 use std::alloc::Global;
 use std::marker::Model;
 use std::mem;
 
-// What a thread number is doing, with the thread's node while that is with the thread.
+// What a thread number is doing, with the thread's node while that is with the thread: a taken one
+// has the token in it.
 #[derive(Drop)]
 enum State {
     Free,
     Running(Box<Node>),
     Waiting { timed: bool },
     Late,
-    Taken(UnparkToken),
+    Taken(Box<Node>),
 }
 
-// What the lot keeps for a thread number. The node of a registered thread is in its state while it
-// runs, in a bucket while it waits, and in its slot from the unpark on. The key is the one that the
-// thread waits on, or waited on last. The records are of what the thread holds.
+// What the lot keeps for a thread number. The node of a registered thread is in a bucket while it
+// waits, and else in its state, which has the thread's own. The key is the one that the thread
+// waits on, or waited on last. The records are of what the thread holds.
 #[derive(Drop)]
 pub(super) struct Thread {
+    number: usize,
     key: usize,
     state: State,
-    slot: Slot,
     records: Records,
 }
 
@@ -43,16 +43,16 @@ impl Model for Thread {
 
     ghost Value = { ThreadState };
 
-    ghost use Rattle.lot_exclusive.specs.Private.Thread.{status_of, HasItsNode};
+    ghost use Rattle.lot_exclusive.specs.Private.Thread.{status_of, HasOwnNode};
 
     ghost view = { λ thread. record {
-      number = thread.slot.owner;
+      number = thread.number;
       key = thread.key;
       status = status_of thread.state;
       records = thread.records;
     } };
 
-    ghost invariant = { λ thread. HasItsNode thread.state thread.slot };
+    ghost invariant = { λ thread. HasOwnNode thread.number thread.state };
 }
 
 impl Thread {
@@ -60,9 +60,9 @@ impl Thread {
         ensures { result ≡ free_thread number }
     {
         Thread {
+            number,
             key: 0,
             state: State::Free,
-            slot: Slot::new(number),
             records: Records::new(alloc),
         }
     }
@@ -87,7 +87,7 @@ impl Thread {
             State::Running(_) => Status::Running,
             State::Waiting { timed } => Status::Waiting { timed: *timed },
             State::Late => Status::Late,
-            State::Taken(token) => Status::Taken(*token),
+            State::Taken(node) => Status::Taken(node.unpark_token),
         }
     }
 
@@ -156,8 +156,7 @@ impl Thread {
               (fields node.value).unpark_token;
         } }
     {
-        self.state = State::Taken(node.unpark_token);
-        self.slot.put(node);
+        self.state = State::Taken(node);
     }
 
     // Lets the deadline of a thread pass that waits with a timeout.
@@ -218,13 +217,17 @@ impl Thread {
             × (self.new ≡ record self.old { status = Status.Running })) }
         ensures err { OnErr result (self.new ≡ self.old) }
     {
-        let State::Taken(token) = self.state else {
-            return Err(Misfit);
-        };
-        // The node of a taken thread is in its slot: the type keeps that.
-        let node = self.slot.take().unwrap();
-        self.state = State::Running(node);
-        Ok(token)
+        match mem::replace(&mut self.state, State::Free) {
+            State::Taken(node) => {
+                let token = node.unpark_token;
+                self.state = State::Running(node);
+                Ok(token)
+            }
+            state => {
+                self.state = state;
+                Err(Misfit)
+            }
+        }
     }
 }
 
