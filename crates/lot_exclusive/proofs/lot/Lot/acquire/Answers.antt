@@ -18,7 +18,8 @@ step : (c : In_ok-acquire)
     }) (after_acquire (machine (lot_of c.self.inside)) c.args.number c.args.key)
 step c =
     IsLotStep-acquired (lot_of c.self.inside) c.args.number c.args.key c.in_ok-thread.thread.now c.acquire.new.self
-    c.self.invariant.0 (rw c.in_ok-thread.ensures.ok_part at c.get_mut.ensures.item).3.0 ((rw c.in_ok-thread.ensures.ok_part at c.get_mut.ensures.item).3.1 _) c.in_ok-acquire.ensures.kept
+    c.self.invariant.0 (rw c.in_ok-thread.ensures.ok_part at c.get_mut.ensures.item).3.0
+    ((rw c.in_ok-thread.ensures.ok_part at c.get_mut.ensures.item).3.1 _) c.in_ok-acquire.ensures.kept
     c.in_ok-acquire.ensures.ok (runs c)
 
 pub invariant_of-self-2 : goal.invariant_of-self-2

@@ -19,7 +19,8 @@ step : (c : In_ok-deadline)
     }) (with_status (machine (lot_of c.self.inside)) c.args.number Late)
 step c =
     IsLotStep-status (lot_of c.self.inside) c.args.number c.in_ok-ok_or.field-0.now c.deadline.new.self Late
-    c.self.invariant.0 (rw c.in_ok-ok_or.ensures.ok_part at c.get_mut.ensures.item).3.0 ((rw c.in_ok-ok_or.ensures.ok_part at c.get_mut.ensures.item).3.1 _) c.in_ok-deadline.ensures.ok
+    c.self.invariant.0 (rw c.in_ok-ok_or.ensures.ok_part at c.get_mut.ensures.item).3.0
+    ((rw c.in_ok-ok_or.ensures.ok_part at c.get_mut.ensures.item).3.1 _) c.in_ok-deadline.ensures.ok
     (ap is_queued (waited c)) (ap is_timed (waited c)) (λ same. cc)
 
 pub invariant_of-self-2 : goal.invariant_of-self-2
@@ -27,7 +28,8 @@ invariant_of-self-2 c = (
   (step c).is_lot,
   c.self.invariant.1
       ∙ sym (uses-status (lot_of c.self.inside) c.args.number c.in_ok-ok_or.field-0.now c.deadline.new.self Late
-      c.self.invariant.0 (rw c.in_ok-ok_or.ensures.ok_part at c.get_mut.ensures.item).3.0 ((rw c.in_ok-ok_or.ensures.ok_part at c.get_mut.ensures.item).3.1 _) c.in_ok-deadline.ensures.ok
+      c.self.invariant.0 (rw c.in_ok-ok_or.ensures.ok_part at c.get_mut.ensures.item).3.0
+      ((rw c.in_ok-ok_or.ensures.ok_part at c.get_mut.ensures.item).3.1 _) c.in_ok-deadline.ensures.ok
       (ap use_of (waited c))),
 )
 

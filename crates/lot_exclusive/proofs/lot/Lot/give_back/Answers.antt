@@ -19,7 +19,8 @@ step : (c : In_ok-token)
     }) (with_status (machine (lot_of c.self.inside)) c.args.number Running)
 step c =
     IsLotStep-status (lot_of c.self.inside) c.args.number c.in_ok-ok_or.field-0.now c.give_back.new.self Running
-    c.self.invariant.0 (rw c.in_ok-ok_or.ensures.ok_part at c.get_mut.ensures.item).3.0 ((rw c.in_ok-ok_or.ensures.ok_part at c.get_mut.ensures.item).3.1 _) c.in_ok-token.ensures.ok.1
+    c.self.invariant.0 (rw c.in_ok-ok_or.ensures.ok_part at c.get_mut.ensures.item).3.0
+    ((rw c.in_ok-ok_or.ensures.ok_part at c.get_mut.ensures.item).3.1 _) c.in_ok-token.ensures.ok.1
     (ap is_queued (was_taken c)) (ap is_timed (was_taken c)) (λ same. cc)
 
 pub invariant_of-self-2 : goal.invariant_of-self-2
@@ -27,12 +28,14 @@ invariant_of-self-2 c = (
   (step c).is_lot,
   c.self.invariant.1
       ∙ sym (uses-status (lot_of c.self.inside) c.args.number c.in_ok-ok_or.field-0.now c.give_back.new.self Running
-      c.self.invariant.0 (rw c.in_ok-ok_or.ensures.ok_part at c.get_mut.ensures.item).3.0 ((rw c.in_ok-ok_or.ensures.ok_part at c.get_mut.ensures.item).3.1 _) c.in_ok-token.ensures.ok.1
+      c.self.invariant.0 (rw c.in_ok-ok_or.ensures.ok_part at c.get_mut.ensures.item).3.0
+      ((rw c.in_ok-ok_or.ensures.ok_part at c.get_mut.ensures.item).3.1 _) c.in_ok-token.ensures.ok.1
       (ap use_of (was_taken c))),
 )
 
 pub returns-clause-ok : goal.returns-clause-ok
 returns-clause-ok c = (
-  rw (← c.self.view_is) (ap (λ thread. thread.status) (sym ((rw c.in_ok-ok_or.ensures.ok_part at c.get_mut.ensures.item).3.1 _)) ∙ sym (was_taken c)),
+  rw (← c.self.view_is) (ap (λ thread. thread.status) (sym
+  ((rw c.in_ok-ok_or.ensures.ok_part at c.get_mut.ensures.item).3.1 _)) ∙ sym (was_taken c)),
   rw (← c.self.view_is) (step c).means,
 )

@@ -18,7 +18,8 @@ step : (c : In_ok-release)
     }) (after_release (machine (lot_of c.self.inside)) c.args.number c.args.key)
 step c =
     IsLotStep-released (lot_of c.self.inside) c.args.number c.args.key c.in_ok-ok_or.field-0.now c.release.new.self
-    c.self.invariant.0 (rw c.in_ok-ok_or.ensures.ok_part at c.get_mut.ensures.item).3.0 ((rw c.in_ok-ok_or.ensures.ok_part at c.get_mut.ensures.item).3.1 _) c.in_ok-release.ensures.kept
+    c.self.invariant.0 (rw c.in_ok-ok_or.ensures.ok_part at c.get_mut.ensures.item).3.0
+    ((rw c.in_ok-ok_or.ensures.ok_part at c.get_mut.ensures.item).3.1 _) c.in_ok-release.ensures.kept
     c.in_ok-release.ensures.ok (runs c)
 
 pub invariant_of-self-2 : goal.invariant_of-self-2

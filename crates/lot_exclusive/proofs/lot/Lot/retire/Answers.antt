@@ -22,7 +22,8 @@ step : (c : After-release)
 step c =
     rw c.release.ensures.cells
     (IsLotStep-after_retire (lot_of c.self.inside) c.args.number c.in_ok-ok_or.field-0.now c.retire.new.self
-    c.self.invariant.0 (rw c.in_ok-ok_or.ensures.ok_part at c.get_mut.ensures.item).3.0 ((rw c.in_ok-ok_or.ensures.ok_part at c.get_mut.ensures.item).3.1 _) c.in_ok-retire.ensures.ok (ran c))
+    c.self.invariant.0 (rw c.in_ok-ok_or.ensures.ok_part at c.get_mut.ensures.item).3.0
+    ((rw c.in_ok-ok_or.ensures.ok_part at c.get_mut.ensures.item).3.1 _) c.in_ok-retire.ensures.ok (ran c))
 
 pub invariant_of-self-2 : goal.invariant_of-self-2
 invariant_of-self-2 c = (
