@@ -36,6 +36,6 @@ invariant_of-self-2 c = (
 pub returns-clause-ok : goal.returns-clause-ok
 returns-clause-ok c = (
   rw (← c.self.view_is) (ap (λ thread. thread.status) (sym
-  ((rw c.in_ok-ok_or.ensures.ok_part at c.get_mut.ensures.item).3.1 _)) ∙ sym (was_taken c)),
+      ((rw c.in_ok-ok_or.ensures.ok_part at c.get_mut.ensures.item).3.1 _)) ∙ sym (was_taken c)),
   rw (← c.self.view_is) (step c).means,
 )
