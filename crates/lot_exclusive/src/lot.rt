@@ -15,7 +15,7 @@ ghost use Rattle.lot_exclusive.specs.Represents.{with_node};
 ghost use Rattle.lot_exclusive.specs.Lot.{machine};
 
 mod requeue;
-mod thread;
+pub mod thread;
 
 use crate::table::{MAX_THREADS, Table};
 use lot_base::queue::Node;

@@ -25,7 +25,7 @@ use lot_exclusive::schedule::{Answer, Op, Step};
 use lot_exclusive::table::{MAX_THREADS, Table};
 use std::alloc::Global;
 use std::marker::Model;
-use thread::{Thread, free_threads};
+use thread::{FineThread, free_threads};
 use told::{copied_ops, push_if_any};
 
 /// A step of an interleaved schedule: what one caller or one thread does without another between.
@@ -175,7 +175,7 @@ pub enum FineAnswer {
 #[derive(Drop)]
 pub struct FineLot {
     table: Table,
-    threads: Vec<Thread>,
+    threads: Vec<FineThread>,
     callers: Vec<Caller>,
 }
 

@@ -1,4 +1,4 @@
-//! What an exclusive lot keeps for each thread number, and where the thread's node is.
+//! What a lot keeps for each thread number, and where the thread's node is.
 
 ghost use Rattle.std.specs.Prelude.{◌≡◌, ◌≢◌, ◌↔◌, true, [], Err, IsTrue, IsOk, IfOk, OnOk, OnErr, map, slice_set};
 ghost use Rattle.std.specs.List.{range_with_len};
@@ -27,11 +27,14 @@ enum State {
     Taken(Box<Node>),
 }
 
-// What the lot keeps for a thread number. The node of a registered thread is in a bucket while it
-// waits, and else in its state, which has the thread's own. The key is the one that the thread
-// waits on, or waited on last. The records are of what the thread holds.
+/// What a lot keeps for a thread number: what the thread is doing, a key, its records of what it
+/// holds, and its node while that is not elsewhere.
+///
+/// Both lots without threads have one for each number: the exclusive lot as it stands, and the
+/// interleaved lot, for which no thread is ever taken, beside its slot. Upstream's `ThreadData` has
+/// parts of it.
 #[derive(Drop)]
-pub(super) struct Thread {
+pub struct Thread {
     number: usize,
     key: usize,
     state: State,
@@ -56,7 +59,8 @@ impl Model for Thread {
 }
 
 impl Thread {
-    fn new(alloc: Global, number: usize) -> Thread
+    /// A free number, with the key 0 and no records. It asks for no memory.
+    pub fn new(alloc: Global, number: usize) -> Thread
         ensures { result ≡ free_thread number }
     {
         Thread {
@@ -67,19 +71,22 @@ impl Thread {
         }
     }
 
-    pub(super) fn key(&self) -> usize
+    /// The key that was set last.
+    pub fn key(&self) -> usize
         ensures { result ≡ self.now.key }
     {
         self.key
     }
 
-    fn set_key(&mut self, key: usize)
+    /// Sets the key, which is that of the list in which a waiting thread stands.
+    pub fn set_key(&mut self, key: usize)
         ensures { self.new ≡ record self.old { key = key } }
     {
         self.key = key;
     }
 
-    pub(super) fn status(&self) -> Status
+    /// What the thread is doing.
+    pub fn status(&self) -> Status
         ensures { result ≡ self.now.status }
     {
         match &self.state {
@@ -91,8 +98,8 @@ impl Thread {
         }
     }
 
-    // Gives the thread of a free number its node, and lets it run.
-    pub(super) fn register(&mut self, node: Box<Node>)
+    /// Gives the thread of a free number its node, and lets it run.
+    pub fn register(&mut self, node: Box<Node>)
         requires number { (fields node.value).number ≡ self.old.number }
         requires free { self.old.status ≡ Status.Free }
         ensures { self.new ≡ record self.old { status = Status.Running } }
@@ -100,8 +107,12 @@ impl Thread {
         self.state = State::Running(node);
     }
 
-    // Drops the node and the records of a running thread.
-    pub(super) fn retire(&mut self) -> Result<(), Misfit>
+    /// Drops the node and the records of a running thread, whose number is free then.
+    ///
+    /// # Errors
+    ///
+    /// `Misfit` exactly if the thread is not running. Nothing changed then.
+    pub fn retire(&mut self) -> Result<(), Misfit>
         ensures fits { IsOk result ↔ (self.old.status ≡ Status.Running) }
         ensures ok { OnOk result (self.new
             ≡ record self.old { status = Status.Free; records = [] }) }
@@ -119,18 +130,19 @@ impl Thread {
         }
     }
 
-    // Takes the node of a running thread, which waits on the key from then on.
-    fn start_waiting(&mut self, key: usize, timed: bool) -> Result<Box<Node>, Misfit>
+    /// Takes the node of a running thread, which waits from then on. Its key stays.
+    ///
+    /// # Errors
+    ///
+    /// `Misfit` exactly if the thread is not running. Nothing changed then.
+    pub fn start_waiting(&mut self, timed: bool) -> Result<Box<Node>, Misfit>
         ensures fits { IsOk result ↔ (self.old.status ≡ Status.Running) }
         ensures ok { IfOk result (λ node. ((fields node.value).number ≡ self.old.number)
-            × (self.new ≡ record self.old { key = key; status = Status.Waiting timed })) }
+            × (self.new ≡ record self.old { status = Status.Waiting timed })) }
         ensures err { OnErr result (self.new ≡ self.old) }
     {
         match mem::replace(&mut self.state, State::Waiting { timed }) {
-            State::Running(node) => {
-                self.key = key;
-                Ok(node)
-            }
+            State::Running(node) => Ok(node),
             state => {
                 self.state = state;
                 Err(Misfit)
@@ -138,8 +150,8 @@ impl Thread {
         }
     }
 
-    // Gives its node back to a thread that waits in no queue any more.
-    pub(super) fn stop_waiting(&mut self, node: Box<Node>)
+    /// Gives a thread that waits in no queue any more its node back, and lets it run.
+    pub fn stop_waiting(&mut self, node: Box<Node>)
         requires number { (fields node.value).number ≡ self.old.number }
         requires queued { IsTrue (is_queued self.old.status) }
         ensures { self.new ≡ record self.old { status = Status.Running } }
@@ -159,8 +171,12 @@ impl Thread {
         self.state = State::Taken(node);
     }
 
-    // Lets the deadline of a thread pass that waits with a timeout.
-    pub(super) fn deadline(&mut self) -> Result<(), Misfit>
+    /// Lets the deadline of a thread pass that waits with a timeout.
+    ///
+    /// # Errors
+    ///
+    /// `Misfit` exactly if the thread does not wait with a timeout. Nothing changed then.
+    pub fn deadline(&mut self) -> Result<(), Misfit>
         ensures fits { IsOk result ↔ (self.old.status ≡ Status.Waiting true) }
         ensures ok { OnOk result (self.new ≡ record self.old { status = Status.Late }) }
         ensures err { OnErr result (self.new ≡ self.old) }
@@ -179,8 +195,13 @@ impl Thread {
         self.records.times(key)
     }
 
-    // Records the key once more for a running thread.
-    pub(super) fn acquire(&mut self, key: usize) -> Result<(), StepError>
+    /// Records the key once more for a running thread. It may ask for memory.
+    ///
+    /// # Errors
+    ///
+    /// `Misfit` exactly if the thread is not running, and else `NoMemory` if memory cannot be had.
+    /// Nothing changed then.
+    pub fn acquire(&mut self, key: usize) -> Result<(), StepError>
         ensures fits { result ≢ Err StepError.Misfit ↔ (self.old.status ≡ Status.Running) }
         ensures kept { self.new ≡ record self.old { records = self.new.records } }
         ensures ok { OnOk result (times_recorded self.new.records
@@ -196,8 +217,12 @@ impl Thread {
         }
     }
 
-    // Records the key once less for a running thread, if it was recorded.
-    pub(super) fn release(&mut self, key: usize) -> Result<(), Misfit>
+    /// Records the key once less for a running thread, if it was recorded.
+    ///
+    /// # Errors
+    ///
+    /// `Misfit` exactly if the thread is not running. Nothing changed then.
+    pub fn release(&mut self, key: usize) -> Result<(), Misfit>
         ensures fits { IsOk result ↔ (self.old.status ≡ Status.Running) }
         ensures kept { self.new ≡ record self.old { records = self.new.records } }
         ensures ok { OnOk result (times_recorded self.new.records
@@ -211,6 +236,7 @@ impl Thread {
         Ok(())
     }
 
+    // Lets a thread run that was handed its node, and answers the token in it.
     pub(super) fn give_back(&mut self) -> Result<UnparkToken, Misfit>
         ensures fits { IsOk result ↔ IsTrue (is_taken self.old.status) }
         ensures ok { IfOk result (λ token. (self.old.status ≡ Status.Taken token)
@@ -261,7 +287,8 @@ pub(super) fn start_waiting(
     ensures err { OnErr result (threads.new.items ≡ threads.old.items) }
 {
     let thread = threads.get_mut(number).ok_or(Misfit)?;
-    let node = thread.start_waiting(key, timed)?;
+    let node = thread.start_waiting(timed)?;
+    thread.set_key(key);
     Ok(node)
 }
 

@@ -9,7 +9,7 @@ ghost use Rattle.lot_interleaved.specs.Private.FineSection.{IsTakenBy, fine_thre
 ghost use Rattle.lot_exclusive.specs.Represents.{Represents, nodes_in, waiters_in};
 ghost use Rattle.lot_exclusive.specs.Table.{IsRowStep, IsTakenFrom};
 
-use super::thread::{Thread, set_key_word};
+use super::thread::{FineThread, set_key_word};
 use lot_base::queue::Queue;
 use lot_base::token::{FilterOp, ParkToken, RequeueOp, UnparkResult, UnparkToken};
 use lot_exclusive::schedule::{Answer, Op};
@@ -17,7 +17,7 @@ use lot_exclusive::table::Table;
 
 // Does to the lists what the operation says, and to the key words of those that move. Those that it
 // takes have the operation's token.
-pub(super) fn unpark(table: &mut Table, threads: &mut Vec<Thread>, op: &Op) -> (Answer, Queue)
+pub(super) fn unpark(table: &mut Table, threads: &mut Vec<FineThread>, op: &Op) -> (Answer, Queue)
     requires { Represents table.old.cells (waiters_in table.old.cells) }
     ensures numbers { table.new.numbers ≡ table.old.numbers }
     ensures threads { threads.new.items
@@ -104,7 +104,7 @@ fn take_filter(
 
 fn requeue(
     table: &mut Table,
-    threads: &mut Vec<Thread>,
+    threads: &mut Vec<FineThread>,
     from: usize,
     to: usize,
     op: RequeueOp,

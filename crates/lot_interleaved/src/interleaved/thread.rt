@@ -13,90 +13,71 @@ use lot_base::queue::Node;
 use lot_base::thread_parker::Slot;
 use lot_base::token::{Misfit, NoMemory, StepError, UnparkToken};
 use lot_exclusive::lot::Status;
-use lot_exclusive::records::Records;
+use lot_exclusive::lot::thread::Thread;
 use std::alloc::Global;
 use std::marker::Model;
-use std::mem;
 
-// What a thread is doing, to its own knowledge, with its node while that is with the thread.
+// What the lot keeps for a thread number. Its thread tells what it is doing to its own knowledge,
+// and its key is the key word. The node of a registered thread is with it while it runs, in a
+// bucket while it waits, with a section that took it until the commit, and in the slot from then
+// on. A late thread may have read its key word.
 #[derive(Drop)]
-enum State {
-    Free,
-    Running(Box<Node>),
-    Waiting { timed: bool },
-    Late { key_read: Option<usize> },
-}
-
-// What the lot keeps for a thread number. The node of a registered thread is in its state while it
-// runs, in a bucket while it waits, with a section that took it until the commit, and in its slot
-// from then on.
-#[derive(Drop)]
-pub(super) struct Thread {
-    key_word: usize,
-    state: State,
+pub(super) struct FineThread {
+    thread: Thread,
+    key_read: Option<usize>,
     slot: Slot,
-    records: Records,
 }
 
-impl Model for Thread {
+impl Model for FineThread {
     ghost use Rattle.lot_interleaved.specs.FineLotState.{FineThreadState};
 
     ghost Value = { FineThreadState };
 
-    ghost use Rattle.lot_interleaved.specs.Private.FineThread.{fine_status_of, key_read_of, first_token, MayHaveItsNode};
+    ghost use Rattle.lot_interleaved.specs.Private.FineThread.{first_token, MayHaveItsNode};
 
-    ghost view = { λ thread. record {
-      thread = record {
-        number = thread.slot.owner;
-        key = thread.key_word;
-        status = fine_status_of thread.state;
-        records = thread.records;
-      };
-      key_read = key_read_of thread.state;
-      slot = first_token thread.slot.nodes;
+    ghost view = { λ t. record {
+      thread = t.thread;
+      key_read = t.key_read;
+      slot = first_token t.slot.nodes;
     } };
 
-    ghost invariant = { λ thread. MayHaveItsNode thread.state thread.slot };
+    ghost invariant = { λ t. MayHaveItsNode t.thread t.key_read t.slot };
 }
 
-impl Thread {
-    fn new(alloc: Global, number: usize) -> Thread
+impl FineThread {
+    fn new(alloc: Global, number: usize) -> FineThread
         ensures { result ≡ free_fine_thread number }
     {
-        Thread {
-            key_word: 0,
-            state: State::Free,
+        FineThread {
+            thread: Thread::new(alloc, number),
+            key_read: None,
             slot: Slot::new(number),
-            records: Records::new(alloc),
         }
     }
 
     pub(super) fn key_word(&self) -> usize
         ensures { result ≡ self.now.thread.key }
     {
-        self.key_word
+        self.thread.key()
     }
 
     pub(super) fn set_key_word(&mut self, key: usize)
         ensures { self.new ≡ record self.old { thread = record self.old.thread { key = key } } }
     {
-        self.key_word = key;
+        self.thread.set_key(key);
     }
 
     // The key that the thread has read, if it is late and has read one.
     pub(super) fn key_read(&self) -> Option<usize>
         ensures { result ≡ self.now.key_read }
     {
-        match self.state {
-            State::Late { key_read } => key_read,
-            _ => None,
-        }
+        self.key_read
     }
 
     pub(super) fn is_running(&self) -> bool
         ensures { result ≡ is_running self.now.thread.status }
     {
-        matches!(&self.state, State::Running(_))
+        matches!(self.thread.status(), Status::Running)
     }
 
     // Gives the thread of a free number its node, and lets it run.
@@ -105,7 +86,7 @@ impl Thread {
         requires free { self.old.thread.status ≡ Status.Free }
         ensures { self.new ≡ with_state self.old Status.Running None }
     {
-        self.state = State::Running(node);
+        self.thread.register(node);
     }
 
     // Drops the node and the records of a running thread.
@@ -115,16 +96,7 @@ impl Thread {
             ≡ with_recorded (with_state self.old Status.Free None) []) }
         ensures err { OnErr result (self.new ≡ self.old) }
     {
-        match mem::replace(&mut self.state, State::Free) {
-            State::Running(_) => {
-                self.records.clear();
-                Ok(())
-            }
-            state => {
-                self.state = state;
-                Err(Misfit)
-            }
-        }
+        self.thread.retire()
     }
 
     // Takes the node of a running thread, which waits from then on.
@@ -135,13 +107,7 @@ impl Thread {
             × (self.new ≡ with_state self.old (Status.Waiting timed) None)) }
         ensures err { OnErr result (self.new ≡ self.old) }
     {
-        match mem::replace(&mut self.state, State::Waiting { timed }) {
-            State::Running(node) => Ok(node),
-            state => {
-                self.state = state;
-                Err(Misfit)
-            }
-        }
+        self.thread.start_waiting(timed)
     }
 
     // Gives its node back to a thread that waits in no list any more, and lets it run.
@@ -151,7 +117,8 @@ impl Thread {
         requires empty { self.old.slot ≡ None }
         ensures { self.new ≡ with_state self.old Status.Running None }
     {
-        self.state = State::Running(node);
+        self.key_read = None;
+        self.thread.stop_waiting(node);
     }
 
     // Puts the node of a thread that waits or is late into its slot: this is the commit of an
@@ -172,15 +139,11 @@ impl Thread {
         ensures ok { OnOk result (self.new ≡ with_state self.old Status.Late None) }
         ensures err { OnErr result (self.new ≡ self.old) }
     {
-        let State::Waiting { timed: true } = self.state else {
-            return Err(Misfit);
-        };
         if let Some(node) = self.slot.take() {
             self.slot.put(node);
             return Err(Misfit);
         }
-        self.state = State::Late { key_read: None };
-        Ok(())
+        self.thread.deadline()
     }
 
     // Reads the key word of a late thread, which is to look by it.
@@ -190,13 +153,12 @@ impl Thread {
             × (self.new ≡ record self.old { key_read = Some key })) }
         ensures err { OnErr result (self.new ≡ self.old) }
     {
-        let State::Late { .. } = self.state else {
+        let Status::Late = self.thread.status() else {
             return Err(Misfit);
         };
-        self.state = State::Late {
-            key_read: Some(self.key_word),
-        };
-        Ok(self.key_word)
+        let key = self.thread.key();
+        self.key_read = Some(key);
+        Ok(key)
     }
 
     // Lets a late thread forget the key that it has read.
@@ -204,7 +166,7 @@ impl Thread {
         requires { self.old.thread.status ≡ Status.Late }
         ensures { self.new ≡ record self.old { key_read = None } }
     {
-        self.state = State::Late { key_read: None };
+        self.key_read = None;
     }
 
     // Gives a thread that waits or is late its node, if that is in its slot, and lets it run.
@@ -217,7 +179,8 @@ impl Thread {
     {
         let node = self.slot.take()?;
         let token = node.unpark_token;
-        self.state = State::Running(node);
+        self.key_read = None;
+        self.thread.stop_waiting(node);
         Some(token)
     }
 
@@ -229,13 +192,10 @@ impl Thread {
         ensures err { OnErr result ((self.new ≡ self.old) × ((timed : Bool)
             → self.old.thread.status ≡ Status.Waiting timed → self.old.slot ≡ None)) }
     {
-        let State::Waiting { .. } = self.state else {
+        let Status::Waiting { .. } = self.thread.status() else {
             return Err(Misfit);
         };
-        match self.take_node() {
-            Some(token) => Ok(token),
-            None => Err(Misfit),
-        }
+        self.take_node().ok_or(Misfit)
     }
 
     // Records the key once more for a running thread.
@@ -247,13 +207,7 @@ impl Thread {
             ≡ one_more (times_recorded self.old.thread.records) key) }
         ensures err { OnErr result (self.new ≡ self.old) }
     {
-        let State::Running(_) = &self.state else {
-            return Err(StepError::Misfit);
-        };
-        match self.records.acquire(key) {
-            Ok(()) => Ok(()),
-            Err(NoMemory) => Err(StepError::NoMemory),
-        }
+        self.thread.acquire(key)
     }
 
     // Records the key once less for a running thread, if it was recorded.
@@ -264,28 +218,24 @@ impl Thread {
             ≡ one_less (times_recorded self.old.thread.records) key) }
         ensures err { OnErr result (self.new ≡ self.old) }
     {
-        let State::Running(_) = &self.state else {
-            return Err(Misfit);
-        };
-        self.records.release(key);
-        Ok(())
+        self.thread.release(key)
     }
 }
 
 // So many numbers, all of them free.
-pub(super) fn free_threads(alloc: Global, max_threads: usize) -> Result<Vec<Thread>, NoMemory>
+pub(super) fn free_threads(alloc: Global, max_threads: usize) -> Result<Vec<FineThread>, NoMemory>
     ensures { IfOk result (λ threads. threads.items
         ≡ map free_fine_thread (range_with_len 0 max_threads)) }
 {
     let mut threads = Vec::with_capacity(alloc, max_threads)?;
     for number in 0..max_threads {
-        threads.push(Thread::new(alloc, number))?;
+        threads.push(FineThread::new(alloc, number))?;
     }
     Ok(threads)
 }
 
 // Lets a waiting thread know that it waits on another key.
-pub(super) fn set_key_word(threads: &mut Vec<Thread>, number: usize, key: usize)
+pub(super) fn set_key_word(threads: &mut Vec<FineThread>, number: usize, key: usize)
     ensures { threads.new.items ≡ fine_threads_with_key threads.old.items number key }
 {
     if let Some(thread) = threads.get_mut(number) {

@@ -16,7 +16,8 @@ step : (c : In-Ok) → DoneStep (fine_lot_of c.self.inside)
     c.self.inside.callers.items) (Acquire c.args.thread c.args.key) (fine.Answer Recorded)
 step c =
     DoneStep-acquire (fine_lot_of c.self.inside) c.self.invariant.0 c.args.thread c.in_ok-running.running.now
-    c.acquire.new.self (rw c.in_ok-running.ensures.ok_part at c.get_mut.ensures.item).3.0 ((rw c.in_ok-running.ensures.ok_part at c.get_mut.ensures.item).3.1 _) c.args.key
+    c.acquire.new.self
+    (rw c.in_ok-running.ensures.ok_part at c.get_mut.ensures.item).3.0 ((rw c.in_ok-running.ensures.ok_part at c.get_mut.ensures.item).3.1 _) c.args.key
     (c.in-Ok.ensures.fits.0 (λ refused. cc)) c.in-Ok.ensures.kept c.in-Ok.ensures.ok
 
 pub invariant_of-self-2 : goal.invariant_of-self-2
@@ -24,7 +25,9 @@ invariant_of-self-2 c = (
   (step c).is_lot,
   c.self.invariant.1
       ∙ sym (uses-recorded (fine_lot_of c.self.inside) c.self.invariant.0 c.args.thread c.in_ok-running.running.now
-      c.acquire.new.self (rw c.in_ok-running.ensures.ok_part at c.get_mut.ensures.item).3.0 ((rw c.in_ok-running.ensures.ok_part at c.get_mut.ensures.item).3.1 _) _ c.acquire.ensures.kept refl),
+      c.acquire.new.self
+      (rw c.in_ok-running.ensures.ok_part at c.get_mut.ensures.item).3.0
+      ((rw c.in_ok-running.ensures.ok_part at c.get_mut.ensures.item).3.1 _) _ c.acquire.ensures.kept refl),
 )
 
 pub returns : goal.returns
@@ -35,7 +38,8 @@ returns-in-Err-NoMemory c =
     let fits = rw c.in-Err-NoMemory.field-0-is at c.in-Err-NoMemory.ensures.fits in
     step_of c.self.view_is
     (DoneStep-unrecorded (fine_lot_of c.self.inside) c.self.invariant.0 c.args.thread c.in_ok-running.running.now
-    c.acquire.new.self (rw c.in_ok-running.ensures.ok_part at c.get_mut.ensures.item).3.0 ((rw c.in_ok-running.ensures.ok_part at c.get_mut.ensures.item).3.1 _) c.args.key
+    c.acquire.new.self
+    (rw c.in_ok-running.ensures.ok_part at c.get_mut.ensures.item).3.0 ((rw c.in_ok-running.ensures.ok_part at c.get_mut.ensures.item).3.1 _) c.args.key
     (fits.0 (λ refused. cc)) c.in-Err-NoMemory.ensures.err)
 
 pub returns-in-Err-Misfit : goal.returns-in-Err-Misfit

@@ -22,7 +22,8 @@ returns-in_err-node c =
     let lot = fine_lot_of c.self.inside in
     let now = c.in_ok-unparking.unparking.now in
     let at : slice_get lot.callers c.args.caller ≡ Some now =
-    slice_get_read _ _ _ _ refl (rw c.in_ok-unparking.ensures.ok_part at c.get_mut.ensures.item).3.0 ((rw c.in_ok-unparking.ensures.ok_part at c.get_mut.ensures.item).3.1 _) in
+    slice_get_read _ _ _ _ refl
+    (rw c.in_ok-unparking.ensures.ok_part at c.get_mut.ensures.item).3.0 ((rw c.in_ok-unparking.ensures.ok_part at c.get_mut.ensures.item).3.1 _) in
     let kept = rw (None-refused c.hand_on.result _ _ c.in_err-node.ensures.value) at c.hand_on.ensures.none in
     step_of_misfit c.from_residual-in_err-node.result _ c.from_residual-in_err-node.ensures.1 c.self.view_is
     (DoneStep-kept_caller lot c.args.caller now c.hand_on.new.self at kept.0 (Commit c.args.caller)
@@ -36,7 +37,9 @@ hands : (c : After-deref) → HandsOn (fine_lot_of c.self.inside) c.args.caller 
 hands c =
     let (section, rest, opened, takes, set) = rw c.in_ok-node.ensures.ok_part at c.hand_on.ensures.some in
     hands_on (fine_lot_of c.self.inside) c.self.invariant.0 c.args.caller c.in_ok-unparking.unparking.now c.hand_on.new.self
-    (slice_get_read _ _ _ _ refl (rw c.in_ok-unparking.ensures.ok_part at c.get_mut.ensures.item).3.0 ((rw c.in_ok-unparking.ensures.ok_part at c.get_mut.ensures.item).3.1 _)) section (first c) rest
+    (slice_get_read _ _ _ _ refl
+    (rw c.in_ok-unparking.ensures.ok_part at c.get_mut.ensures.item).3.0
+    ((rw c.in_ok-unparking.ensures.ok_part at c.get_mut.ensures.item).3.1 _)) section (first c) rest
     opened (takes
     ∙ ap (λ number. record { number = number; token = c.in_ok-node.node.value.unpark_token } ∷ rest)
     (ap (λ node. node.number) (sym c.deref.ensures))) set

@@ -19,7 +19,8 @@ step : (c : In_ok-deadline) → DoneStep (fine_lot_of c.self.inside)
 step c =
     let fits = c.in_ok-deadline.ensures.fits.0 refl in
     DoneStep-deadline (fine_lot_of c.self.inside) c.self.invariant.0 c.args.thread c.in_ok-ok_or.field-0.now
-    c.deadline.new.self (rw c.in_ok-ok_or.ensures.ok_part at c.get_mut.ensures.item).3.0 ((rw c.in_ok-ok_or.ensures.ok_part at c.get_mut.ensures.item).3.1 _) fits.0 fits.1
+    c.deadline.new.self
+    (rw c.in_ok-ok_or.ensures.ok_part at c.get_mut.ensures.item).3.0 ((rw c.in_ok-ok_or.ensures.ok_part at c.get_mut.ensures.item).3.1 _) fits.0 fits.1
     c.in_ok-deadline.ensures.ok
 
 pub invariant_of-self-2 : goal.invariant_of-self-2
@@ -27,7 +28,9 @@ invariant_of-self-2 c = (
   (step c).is_lot,
   c.self.invariant.1
       ∙ sym (uses-changed (fine_lot_of c.self.inside) c.self.invariant.0 c.args.thread c.in_ok-ok_or.field-0.now
-      c.deadline.new.self (rw c.in_ok-ok_or.ensures.ok_part at c.get_mut.ensures.item).3.0 ((rw c.in_ok-ok_or.ensures.ok_part at c.get_mut.ensures.item).3.1 _) Late c.in_ok-ok_or.field-0.now.thread.key
+      c.deadline.new.self
+      (rw c.in_ok-ok_or.ensures.ok_part at c.get_mut.ensures.item).3.0
+      ((rw c.in_ok-ok_or.ensures.ok_part at c.get_mut.ensures.item).3.1 _) Late c.in_ok-ok_or.field-0.now.thread.key
       None c.in_ok-ok_or.field-0.now.slot c.in_ok-deadline.ensures.ok
       (ap use_of (sym (c.in_ok-deadline.ensures.fits.0 refl).0))),
 )

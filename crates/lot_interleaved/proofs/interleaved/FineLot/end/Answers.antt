@@ -12,7 +12,8 @@ use Rattle.lot_interleaved.proofs.interleaved.FineLot.end.Goals as goal
 use Rattle.lot_interleaved.proofs.interleaved.FineLot.end.Goals.{In_ok-end}
 
 at : (c : In_ok-end) → slice_get c.self.inside.callers.items c.args.caller ≡ Some c.in_ok-ok_or.field-0.now
-at c = slice_get_read _ _ _ _ refl (rw c.in_ok-ok_or.ensures.ok_part at c.get_mut.ensures.item).3.0 ((rw c.in_ok-ok_or.ensures.ok_part at c.get_mut.ensures.item).3.1 _)
+at c = slice_get_read _ _ _ _ refl
+    (rw c.in_ok-ok_or.ensures.ok_part at c.get_mut.ensures.item).3.0 ((rw c.in_ok-ok_or.ensures.ok_part at c.get_mut.ensures.item).3.1 _)
 
 step : (c : In_ok-end) → DoneStep (fine_lot_of c.self.inside) (record (fine_lot_of c.self.inside) {
   callers = slice_set c.self.inside.callers.items c.args.caller c.end.new.self;
@@ -35,7 +36,8 @@ returns-in_err-end c =
     let lot = fine_lot_of c.self.inside in
     let now = c.in_ok-ok_or.field-0.now in
     let at : slice_get lot.callers c.args.caller ≡ Some now =
-    slice_get_read _ _ _ _ refl (rw c.in_ok-ok_or.ensures.ok_part at c.get_mut.ensures.item).3.0 ((rw c.in_ok-ok_or.ensures.ok_part at c.get_mut.ensures.item).3.1 _) in
+    slice_get_read _ _ _ _ refl
+    (rw c.in_ok-ok_or.ensures.ok_part at c.get_mut.ensures.item).3.0 ((rw c.in_ok-ok_or.ensures.ok_part at c.get_mut.ensures.item).3.1 _) in
     step_of_misfit c.from_residual-in_err-end.result _ c.from_residual-in_err-end.ensures.1 c.self.view_is
     (DoneStep-kept_caller lot c.args.caller now c.end.new.self at c.in_err-end.ensures.err.0
     (End c.args.caller) (fine.Answer Misfit) c.self.invariant.0

@@ -19,7 +19,9 @@ step : (c : In_ok-token) → DoneStep (fine_lot_of c.self.inside)
 step c =
     let (timed, waits, full, set) = c.in_ok-token.ensures.ok in
     DoneStep-return (fine_lot_of c.self.inside) c.self.invariant.0 c.args.thread c.in_ok-ok_or.field-0.now
-    c.give_back.new.self (rw c.in_ok-ok_or.ensures.ok_part at c.get_mut.ensures.item).3.0 ((rw c.in_ok-ok_or.ensures.ok_part at c.get_mut.ensures.item).3.1 _) timed c.in_ok-token.token waits full set
+    c.give_back.new.self
+    (rw c.in_ok-ok_or.ensures.ok_part at c.get_mut.ensures.item).3.0
+    ((rw c.in_ok-ok_or.ensures.ok_part at c.get_mut.ensures.item).3.1 _) timed c.in_ok-token.token waits full set
 
 pub invariant_of-self-2 : goal.invariant_of-self-2
 invariant_of-self-2 c =
@@ -27,7 +29,8 @@ invariant_of-self-2 c =
       (step c).is_lot,
       c.self.invariant.1
           ∙ sym (uses-changed (fine_lot_of c.self.inside) c.self.invariant.0 c.args.thread c.in_ok-ok_or.field-0.now
-          c.give_back.new.self (rw c.in_ok-ok_or.ensures.ok_part at c.get_mut.ensures.item).3.0 ((rw c.in_ok-ok_or.ensures.ok_part at c.get_mut.ensures.item).3.1 _) Running
+          c.give_back.new.self
+          (rw c.in_ok-ok_or.ensures.ok_part at c.get_mut.ensures.item).3.0 ((rw c.in_ok-ok_or.ensures.ok_part at c.get_mut.ensures.item).3.1 _) Running
           c.in_ok-ok_or.field-0.now.thread.key None None set (ap use_of (sym waits))),
     )
 

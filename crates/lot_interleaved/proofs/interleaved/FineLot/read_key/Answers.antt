@@ -15,7 +15,9 @@ step : (c : In_ok-key) → DoneStep (fine_lot_of c.self.inside)
     c.self.inside.callers.items) (ReadKey c.args.thread) (fine.Read c.in_ok-key.key)
 step c =
     DoneStep-read_key (fine_lot_of c.self.inside) c.self.invariant.0 c.args.thread c.in_ok-ok_or.field-0.now
-    c.read_key.new.self (rw c.in_ok-ok_or.ensures.ok_part at c.get_mut.ensures.item).3.0 ((rw c.in_ok-ok_or.ensures.ok_part at c.get_mut.ensures.item).3.1 _) (c.in_ok-key.ensures.fits.0 refl)
+    c.read_key.new.self
+    (rw c.in_ok-ok_or.ensures.ok_part at c.get_mut.ensures.item).3.0
+    ((rw c.in_ok-ok_or.ensures.ok_part at c.get_mut.ensures.item).3.1 _) (c.in_ok-key.ensures.fits.0 refl)
     c.in_ok-key.key c.in_ok-key.ensures.ok.0 c.in_ok-key.ensures.ok.1
 
 pub invariant_of-self-2 : goal.invariant_of-self-2
@@ -24,7 +26,8 @@ invariant_of-self-2 c =
       (step c).is_lot,
       c.self.invariant.1
           ∙ sym (uses-changed (fine_lot_of c.self.inside) c.self.invariant.0 c.args.thread now c.read_key.new.self
-          (rw c.in_ok-ok_or.ensures.ok_part at c.get_mut.ensures.item).3.0 ((rw c.in_ok-ok_or.ensures.ok_part at c.get_mut.ensures.item).3.1 _) now.thread.status now.thread.key
+          (rw c.in_ok-ok_or.ensures.ok_part at c.get_mut.ensures.item).3.0
+          ((rw c.in_ok-ok_or.ensures.ok_part at c.get_mut.ensures.item).3.1 _) now.thread.status now.thread.key
           (Some c.in_ok-key.key) now.slot c.in_ok-key.ensures.ok.1 refl),
     )
 

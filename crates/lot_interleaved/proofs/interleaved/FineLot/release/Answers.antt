@@ -16,7 +16,8 @@ step : (c : In_ok-release) → DoneStep (fine_lot_of c.self.inside)
     c.self.inside.callers.items) (Release c.args.thread c.args.key) (fine.Answer Released)
 step c =
     DoneStep-release (fine_lot_of c.self.inside) c.self.invariant.0 c.args.thread c.in_ok-ok_or.field-0.now
-    c.release.new.self (rw c.in_ok-ok_or.ensures.ok_part at c.get_mut.ensures.item).3.0 ((rw c.in_ok-ok_or.ensures.ok_part at c.get_mut.ensures.item).3.1 _) c.args.key
+    c.release.new.self
+    (rw c.in_ok-ok_or.ensures.ok_part at c.get_mut.ensures.item).3.0 ((rw c.in_ok-ok_or.ensures.ok_part at c.get_mut.ensures.item).3.1 _) c.args.key
     (c.in_ok-release.ensures.fits.0 refl) c.in_ok-release.ensures.kept c.in_ok-release.ensures.ok
 
 pub invariant_of-self-2 : goal.invariant_of-self-2

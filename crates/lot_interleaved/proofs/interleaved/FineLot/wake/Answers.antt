@@ -13,7 +13,8 @@ use Rattle.lot_interleaved.proofs.interleaved.FineLot.wake.Goals as goal
 use Rattle.lot_interleaved.proofs.interleaved.FineLot.wake.Goals.{In_ok-wake}
 
 at : (c : In_ok-wake) → slice_get c.self.inside.callers.items c.args.caller ≡ Some c.in_ok-ok_or.field-0.now
-at c = slice_get_read _ _ _ _ refl (rw c.in_ok-ok_or.ensures.ok_part at c.get_mut.ensures.item).3.0 ((rw c.in_ok-ok_or.ensures.ok_part at c.get_mut.ensures.item).3.1 _)
+at c = slice_get_read _ _ _ _ refl
+    (rw c.in_ok-ok_or.ensures.ok_part at c.get_mut.ensures.item).3.0 ((rw c.in_ok-ok_or.ensures.ok_part at c.get_mut.ensures.item).3.1 _)
 
 step : (c : In_ok-wake) → DoneStep (fine_lot_of c.self.inside) (record (fine_lot_of c.self.inside) {
   callers = slice_set c.self.inside.callers.items c.args.caller c.wake.new.self;
@@ -35,7 +36,8 @@ returns-in_err-wake c =
     let lot = fine_lot_of c.self.inside in
     let now = c.in_ok-ok_or.field-0.now in
     let at : slice_get lot.callers c.args.caller ≡ Some now =
-    slice_get_read _ _ _ _ refl (rw c.in_ok-ok_or.ensures.ok_part at c.get_mut.ensures.item).3.0 ((rw c.in_ok-ok_or.ensures.ok_part at c.get_mut.ensures.item).3.1 _) in
+    slice_get_read _ _ _ _ refl
+    (rw c.in_ok-ok_or.ensures.ok_part at c.get_mut.ensures.item).3.0 ((rw c.in_ok-ok_or.ensures.ok_part at c.get_mut.ensures.item).3.1 _) in
     step_of_misfit c.from_residual-in_err-wake.result _ c.from_residual-in_err-wake.ensures.1 c.self.view_is
     (DoneStep-kept_caller lot c.args.caller now c.wake.new.self at c.in_err-wake.ensures.err
     (Wake c.args.caller) (fine.Answer Misfit) c.self.invariant.0
