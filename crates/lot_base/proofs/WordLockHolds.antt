@@ -138,6 +138,7 @@ module _ {T : Type 0} (fits : T → Type 0) (s : State (Option T) View) (o : Ord
       let single = o.single in
       record {
         begins = omega arith;
+        places = o.in_places;
         goes_on = o.chain;
         once = no_repeats fits s o;
         callers = λ p stands.

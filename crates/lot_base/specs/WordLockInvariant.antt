@@ -7,7 +7,7 @@ use lib.ListN.{get_elem?}
 use Rattle.atomic_table.specs.Table.{State}
 use Rattle.lot_base.specs.declared.word_lock.view.View.{View}
 use Rattle.lot_base.specs.declared.word_lock.view.View.TheVariants.{Trying, Enqueued, Holding, Leaving}
-use Rattle.lot_base.specs.WordPlaces.{times, head, FollowsLinks}
+use Rattle.lot_base.specs.WordPlaces.{AllPlaces, times, head, FollowsLinks}
 use Rattle.lot_base.specs.WordView.{owed_by}
 
 -- it holds the lock
@@ -32,7 +32,8 @@ IsEnqueued p view = view ≡ Enqueued p
 abbrev pub Owes : ℕ → View → Type 0
 Owes p view = Contains (owed_by view) p
 
--- the table has the slot, slot 0, and in it a value that fits
+-- the table has the slot, slot 0, and in it a value that fits. `homes` tells of each slot what lies in it, or `none` while
+-- a caller has it out; `some` and `none` are of the table's own options, and `Some` and `None` of the program's
 abbrev pub HasValue : {T : Type 0} → (T → Type 0) → List (maybe.Option (Option T)) → Type 0
 HasValue {T} fits homes = (value : T) × (get_elem? homes 0 ≡ some (some (Some value))) × fits value
 
@@ -57,7 +58,8 @@ module _ {T : Type 0} (s : State (Option T) View) where
     pub bit : IsLocked ↔ SomeCaller IsHolder
     pub one : AtMostOneCaller IsHolder
 
-  -- 2. While nobody holds the lock the table has the slot, with a value that fits; and else a caller has the slot
+  -- 2. While nobody holds the lock the table has the slot, with a value that fits; and else the slot is out with one
+  -- caller. That it is the holder is told to the holder itself
   pub record ValueAtHome (fits : T → Type 0) : Type 0 where
     pub free : ¬ IsLocked → HasValue fits s.homes
     pub held : IsLocked → get_elem? s.homes 0 ≡ some none
@@ -71,10 +73,11 @@ module _ {T : Type 0} (s : State (Option T) View) where
     pub one : (id : ℕ) (view : View) → get_elem? s.views id ≡ some view → length (owed_by view) ≤ 1
 
   -- 4. The waiting list, newest first, begins at the place that the other bits of the lock's word tell, or is empty
-  -- where they are 0; it goes on by the links, repeats no place, and each of its places is that of a caller inside
-  -- `lock`; no two callers wait with the same place
+  -- where they are 0, since 0 is no place; it goes on by the links, repeats no place, and each of its places is that of
+  -- a caller inside `lock`; no two callers wait with the same place
   pub record IsWaitingList (list : List ℕ) : Type 0 where
     pub begins : slice_index s.words 0 / 2 ≡ head list
+    pub places : AllPlaces list
     pub goes_on : FollowsLinks s.words list
     pub once : (p : ℕ) → times p list ≤ 1
     pub callers : (p : ℕ) → Contains list p → SomeCaller (IsEnqueued p)

@@ -21,7 +21,8 @@ pub struct Node {
     /// The number of the thread.
     pub number: usize,
 
-    /// The key that the thread waits on, or waited on last.
+    /// The key that the thread waits on, or last came to wait on, also where it was not let in; 0
+    /// at first.
     pub key: usize,
 
     /// What a filter sees of the thread while it waits.

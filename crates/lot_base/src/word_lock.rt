@@ -42,8 +42,8 @@ use atomic_table::{Refused, Table, TableRule};
 use std::alloc::Global;
 use std::sync::Wait;
 
-/// How many callers can wait in the list of a lock at once. Any others yield until a place is free.
-/// Upstream has no such limit.
+/// How many places a lock has, so how many callers can wait in its list at once. Any others yield
+/// until a place is free. Upstream has no such limit.
 pub const WORD_SLOTS: usize = 4;
 
 /// What a value behind a lock satisfies. `WordLock::new` and `unlock` ask it, and `lock` gives it.
@@ -183,7 +183,8 @@ impl<T: Fits> WordLock<T> {
     }
 
     // Waits in the list until the caller was removed from it. Answers false where no place is free,
-    // after a yield, and where the word is another by now.
+    // after a yield, where another caller took the place first, and where the word is another by
+    // now.
     fn wait<R: Wait>(&self, rt: &R, caller: &mut Caller<T>, word: u64) -> bool
         requires lock { IsCallerOf self.now caller.old }
         requires tries { IsTrying caller.old 0 0 }

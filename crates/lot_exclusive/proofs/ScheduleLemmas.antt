@@ -9,7 +9,7 @@ use Rattle.lot_base.specs.declared.token.FilterOp.TheVariants.{Unpark, Skip, Sto
 use Rattle.lot_base.specs.declared.token.ParkToken.{ParkToken}
 use Rattle.lot_base.proofs.FilterLemmas.{unpark≢stop, skip≢stop, IsFiltered-always_unpark}
 use Rattle.lot_base.proofs.LawLemmas.{split_filter-unpark_each}
-use Rattle.lot_exclusive.specs.Private.Decisions.{AnswersNext}
+use Rattle.lot_exclusive.specs.Decisions.{AnswersNext}
 use Rattle.lot_exclusive.specs.Machine.{Waiter, IsConsistent, threads_of}
 use Rattle.lot_exclusive.specs.Lot.{waiter_park_tokens}
 use Rattle.lot_exclusive.specs.Size.{threads_after, IsSizeAfter, IsSizeAfterRun}

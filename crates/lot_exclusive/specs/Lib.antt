@@ -18,5 +18,7 @@ pub mod Totals
 -- Then what a table keeps.
 pub mod TableState
 pub mod Table
+-- Then what a filter answers that is a list of decisions, as in steps of either lot.
+pub mod Decisions
 -- Last what only private contracts cite.
 pub mod Private

@@ -1,3 +1,2 @@
 pub mod Commit
-pub mod Decisions
 pub mod Thread

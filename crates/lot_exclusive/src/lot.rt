@@ -1,7 +1,6 @@
 //! The exclusive lot: the steps of parking on a lot that is borrowed for writing.
 
-ghost use Rattle.std.specs.Prelude.{◌≡◌, ℕ, ◌≢◌, ◌↔◌, ◌<◌, ◌≤◌, ◌*◌, List, Ok, Err, IsTrue, IsOk, IsErrOf, IfOk, IfErr, OnOk, OnErr, map, length, is_ok, true, if◌then◌else◌};
-ghost use Rattle.lot_base.specs.Node.{fields};
+ghost use Rattle.std.specs.Prelude.{◌≡◌, ℕ, ◌≢◌, ◌↔◌, ◌<◌, ◌≤◌, ◌*◌, List, Ok, Err, IsTrue, IsOk, IsErrOf, IfOk, OnOk, OnErr, map, length, true, if◌then◌else◌};
 ghost use Rattle.lot_base.specs.Filter.{IsFilterCallable, IsFiltered};
 ghost use Rattle.lot_base.specs.Place.{IsTableSize};
 ghost use Rattle.lot_base.specs.declared.token.RequeueOp.{RequeueOp};
@@ -11,7 +10,6 @@ ghost use Rattle.lot_exclusive.specs.Machine.{new_machine, threads_of, with_stat
 ghost use Rattle.lot_exclusive.specs.Lot.{waiter_park_tokens};
 ghost use Rattle.lot_exclusive.specs.Size.{IsSizeFor};
 ghost use Rattle.lot_exclusive.specs.LotState.{KeepsSize};
-ghost use Rattle.lot_exclusive.specs.Represents.{with_node};
 ghost use Rattle.lot_exclusive.specs.Lot.{machine};
 
 mod requeue;

@@ -23,6 +23,7 @@ impl Model for Records {
 }
 
 impl Records {
+    /// No records. It asks for no memory.
     pub fn new(alloc: Global) -> Records
         ensures { result ≡ [] }
     {
@@ -31,7 +32,11 @@ impl Records {
         }
     }
 
-    /// Records the key once more.
+    /// Records the key once more. It may ask for memory.
+    ///
+    /// # Errors
+    ///
+    /// `NoMemory` if memory cannot be had. Nothing changed then.
     pub fn acquire(&mut self, key: usize) -> Result<(), NoMemory>
         ensures ok { OnOk result (times_recorded self.new
             ≡ one_more (times_recorded self.old) key) }

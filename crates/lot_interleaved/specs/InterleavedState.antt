@@ -9,8 +9,8 @@ pub record TakenThread : Type 0 where
   pub number : ℕ
   pub token : UnparkToken
 
--- an open section: the places of the buckets that it holds, and the threads that it took and that do not have their
--- nodes yet, in order
+-- an open section: the places of the buckets that it holds, in the order of the operation's keys (a requeue within one
+-- bucket has its place twice), and the threads that it took and that do not have their nodes yet, in order
 pub record Section : Type 0 where
   pub held : List ℕ
   pub taken : List TakenThread
@@ -21,8 +21,9 @@ pub record Caller : Type 0 where
   pub wakes : ℕ
 
 pub record FineState : Type 0 where
-  -- what the threads know: the lists, the records, and who runs, waits or is late; one that was taken still waits or is
-  -- late here, until it has its node back, so this need not be a consistent machine
+  -- the lists as the buckets have them, the records, and what each thread knows of itself: that it runs, waits or is
+  -- late. One that was taken is in no list, and still waits or is late here, until it has its node back, so this need
+  -- not be a consistent machine
   pub threads_view : Machine
   -- of each number: its key word, which is the key that its last thread to wait waits on or waited on last, and 0 if
   -- none did; the key that it has read, if it is late and has read one to look by; and its slot, empty or with its

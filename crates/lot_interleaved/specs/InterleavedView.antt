@@ -73,7 +73,7 @@ pub record IsFineConsistent (s : FineState) : Type 0 where
   -- a thread was taken once at most, and only one that waits or is late
   pub handed : (number : ℕ) → times_taken number (taken_of s) + once_if (is_some (s.slots number))
       ≤ once_if (is_queued (s.threads_view.status number))
-  -- and it does not know it
+  -- and it does not know it: in the threads' view nobody is taken
   pub unaware : (number : ℕ) → is_taken (s.threads_view.status number) ≡ false
   -- only a late thread has read a key
   pub reading : (number : ℕ) → IsTrue (is_some (s.keys_read number)) → s.threads_view.status number ≡ Late

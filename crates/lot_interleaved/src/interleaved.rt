@@ -1,7 +1,7 @@
 //! Interleaved schedules: calls of the threaded lot cut into the steps between which other callers
 //! and threads can come.
 
-ghost use Rattle.std.specs.Prelude.{◌≡◌, ◌≢◌, ◌↔◌, ◌⊎◌, ℕ, ◌+◌, ◌<◌, ◌++◌, List, Err, IsTrue, IsErrOf, IfOk, OnOk, OnErr, is_some, length, map, vec_capacity, vec_len};
+ghost use Rattle.std.specs.Prelude.{◌≡◌, ◌≢◌, ◌↔◌, ◌⊎◌, ℕ, ◌+◌, ◌<◌, ◌++◌, List, Err, IsTrue, IsErrOf, IfOk, OnOk, OnErr, is_some, length, map};
 ghost use Rattle.lot_base.specs.Waiting.{has_any};
 ghost use Rattle.lot_interleaved.specs.FineLot.{fine_state};
 ghost use Rattle.lot_interleaved.specs.InterleavedState.{new_fine_state};

@@ -3,7 +3,7 @@
 ghost use Rattle.std.specs.Prelude.{◌≡◌, ◌≢◌, ◌↔◌, ◌<◌, ◌≤◌, ◌+◌, [], IsErrOf, IfOk, Err, IsTrue, length};
 ghost use Rattle.lot_exclusive.specs.Lot.{machine};
 ghost use Rattle.lot_exclusive.specs.Machine.{new_machine};
-ghost use Rattle.lot_tools.specs.Journal.{Replays, fits, room_for, set_aside_by};
+ghost use Rattle.lot_tools.specs.Journal.{fits, room_for, set_aside_by};
 ghost use Rattle.lot_tools.specs.JournalLaws.{MisfitsDoNotFit, ParksHaveEntries, EndsHaveRoom};
 ghost use Rattle.lot_tools.specs.Record.{IsRecord, LacksRoom, IsRecorded, result_for};
 

@@ -5,7 +5,7 @@ ghost use Rattle.std.specs.List.{sum_by};
 ghost use Rattle.lot_tools.specs.Journal.{woken_in, unparked_total};
 ghost use Rattle.lot_tools.specs.Record.{IsRecord, IsRecorded};
 ghost use Rattle.lot_tools.specs.RecordState.{RecordState};
-ghost use Rattle.lot_tools.specs.TicketState.{new_ticket, after_answer, count_of, woken_of, unparked_of};
+ghost use Rattle.lot_tools.specs.TicketState.{new_ticket, after_answer};
 ghost use Rattle.lot_tools.specs.JournalLaws.{UnparkedAreWokenOrTaken, TotalsHaveRoom};
 
 mod counted;

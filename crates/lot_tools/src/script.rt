@@ -4,7 +4,7 @@
 //! a question. A line is words with one blank between two, and at most 4,096 bytes; numbers are
 //! decimal, without leading zeros, up to `usize::MAX`. The last line may lack its line feed.
 
-ghost use Rattle.std.specs.Prelude.{◌≡◌, ℕ, ◌≤◌, ◌++◌, ◌∷◌, [], List, Some, None, length, map, option_map, IfSome, IfOk, IfErr, OnOk};
+ghost use Rattle.std.specs.Prelude.{◌≡◌, ℕ, ◌≤◌, ◌++◌, ◌∷◌, [], List, Some, None, length, option_map, IfSome, IfOk, IfErr};
 ghost use Rattle.std.specs.Io.KnownBytes.{Appends, Keeps};
 ghost use Rattle.lot_tools.specs.Words.{IsLine};
 ghost use Rattle.lot_tools.specs.Command.{lot_words};

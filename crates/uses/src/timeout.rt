@@ -1,6 +1,6 @@
 //! Threads that wait for a limited time.
 
-ghost use Rattle.std.specs.Prelude.{◌≡◌, ◌↔◌, ◌||◌, ℕ, true, Ok, IsTrue, IsOk, OnErr};
+ghost use Rattle.std.specs.Prelude.{◌≡◌, ◌↔◌, ◌||◌, ℕ, Ok, IsTrue, IsOk, OnErr};
 ghost use Rattle.lot_exclusive.specs.Status.{is_timed, is_taken};
 ghost use Rattle.lot_exclusive.specs.Machine.{with_status, after_timeout, StandsAt};
 ghost use Rattle.lot_exclusive.specs.Lot.{machine};

@@ -118,6 +118,7 @@ impl<T: Fits> WordLock<T> {
             .table
             .shared
             .exchange(&mut caller.seat, VALUE, Some(value));
+        // The value was taken out, so the slot was empty.
         let None = old else { unreachable!() };
     }
 

@@ -1,7 +1,7 @@
 //! A requeue on the table of an exclusive lot: within one bucket, or from one to another.
 
 ghost use Rattle.std.specs.Prelude.{◌≡◌, ◌≢◌, map};
-ghost use Rattle.lot_base.specs.Requeue.{AreCallable, AreCalled, numbers};
+ghost use Rattle.lot_base.specs.Requeue.{numbers};
 ghost use Rattle.lot_base.specs.Waiting.{lists_after_requeue, split_by, requeue_result};
 ghost use Rattle.lot_base.specs.NodeLists.{split_to, with_saturated_counts, with_token};
 ghost use Rattle.lot_base.specs.declared.token.RequeueOp.{RequeueOp};

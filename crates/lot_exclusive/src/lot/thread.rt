@@ -27,8 +27,8 @@ enum State {
     Taken(Box<Node>),
 }
 
-/// What a lot keeps for a thread number: what the thread is doing, a key, its records of what it
-/// holds, and its node while that is not elsewhere.
+/// What a lot keeps for a thread number: what the thread is doing, the key that it waits on or last
+/// came to wait on, its records of what it holds, and its node while it runs or is taken.
 ///
 /// Both lots without threads have one for each number: the exclusive lot as it stands, and the
 /// interleaved lot, for which no thread is ever taken, beside its slot. Upstream's `ThreadData` has

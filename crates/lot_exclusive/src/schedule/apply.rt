@@ -5,7 +5,7 @@ ghost use Rattle.lot_base.specs.Waiting.{result_of, split_filter};
 ghost use Rattle.lot_exclusive.specs.Lot.{machine};
 ghost use Rattle.lot_exclusive.specs.LotState.{KeepsSize};
 ghost use Rattle.lot_exclusive.specs.Machine.{after_unpark, threads_of};
-ghost use Rattle.lot_exclusive.specs.Private.Decisions.{AnswersNext};
+ghost use Rattle.lot_exclusive.specs.Decisions.{AnswersNext};
 ghost use Rattle.lot_exclusive.specs.Size.{IsSizeAfter};
 ghost use Rattle.lot_exclusive.specs.Steps.{IsRegister, IsUnpark, IsStep};
 

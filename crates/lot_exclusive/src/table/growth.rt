@@ -35,7 +35,11 @@ pub fn size_for(threads: usize, size: usize) -> usize
     wanted.next_power_of_two()
 }
 
-/// Empty buckets, one for each place of a table of this size.
+/// Empty buckets, one for each place of a table of this size. It allocates the row alone.
+///
+/// # Errors
+///
+/// `NoMemory` if memory cannot be had.
 pub fn empty_buckets(alloc: Global, size: usize) -> Result<Vec<Bucket>, NoMemory>
     requires { IsTableSize size }
     ensures count { IfOk result (λ row. length row.items ≡ size) }

@@ -39,8 +39,10 @@ impl Model for Numbers {
 impl Numbers {
     /// So many numbers, none of them registered. It allocates the room for all of them.
     ///
-    /// It is refused with `TooManyThreads` exactly if `max` is above `MAX_THREADS`, and with
-    /// `NoMemory` if memory cannot be had.
+    /// # Errors
+    ///
+    /// `TooManyThreads` exactly if `max` is above `MAX_THREADS`, and else `NoMemory` if memory
+    /// cannot be had.
     pub fn new(alloc: Global, max: usize) -> Result<Numbers, LotError>
         ensures too_many { IsErrOf result LotError.TooManyThreads ↔ (MAX_THREADS < max) }
         ensures not_full { result ≢ Err LotError.Full }

@@ -1,7 +1,7 @@
 //! The steps of parking on a table: each is done by the bucket of its key, or by those of its two
 //! keys, and told by what becomes of the lists of all keys.
 
-ghost use Rattle.std.specs.Prelude.{◌≡◌, List, IsTrue, IfErr, IfOk, IfSome, OnOk, OnErr, MatchOption, Some, None, is_ok, length, map, not};
+ghost use Rattle.std.specs.Prelude.{◌≡◌, List, IsTrue, IfErr, IfOk, IfSome, OnOk, OnErr, MatchOption, Some, None, is_ok, length, not};
 ghost use Rattle.std.specs.List.{find};
 ghost use Rattle.lot_base.specs.Filter.{IsFilterCallable, IsFiltered, park_tokens};
 ghost use Rattle.lot_base.specs.Node.{fields};

@@ -4,7 +4,7 @@ ghost use Rattle.std.specs.Prelude.{◌≡◌, length, map};
 ghost use Rattle.lot_base.specs.NodeLists.{saturated, split_to, with_saturated_counts, with_token};
 ghost use Rattle.lot_base.specs.Requeue.{numbers};
 ghost use Rattle.lot_base.specs.Waiting.{lists_after_requeue, requeue_result, result_of, split_all, split_by, split_filter, split_first};
-ghost use Rattle.lot_exclusive.specs.Private.Decisions.{AnswersNext};
+ghost use Rattle.lot_exclusive.specs.Decisions.{AnswersNext};
 ghost use Rattle.lot_interleaved.specs.Private.FineSection.{IsTakenBy, fine_threads_with_key, fine_threads_with_keys, node_split, threads_by};
 ghost use Rattle.lot_exclusive.specs.Represents.{Represents, nodes_in, waiters_in};
 ghost use Rattle.lot_exclusive.specs.Table.{IsRowStep, IsTakenFrom};

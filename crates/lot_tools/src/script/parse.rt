@@ -1,6 +1,6 @@
 //! From a line to what it asks for.
 
-ghost use Rattle.std.specs.Prelude.{◌≡◌, ◌≢◌, ℕ, ◌<◌, ◌≤◌, ◌^◌, ◌∷◌, [], List, decimal, length, Some, IfSome, IfNone, IfOk, IfErr, IsErrOf, IsSome, ◌⊎◌};
+ghost use Rattle.std.specs.Prelude.{◌≡◌, ◌≢◌, ℕ, ◌<◌, ◌≤◌, ◌^◌, ◌∷◌, [], List, decimal, length, Some, IfSome, IfNone, IfOk, IfErr, IsErrOf, ◌⊎◌};
 ghost use Rattle.lot_base.specs.declared.token.FilterOp.{FilterOp};
 ghost use Rattle.lot_base.specs.declared.token.RequeueOp.{RequeueOp};
 ghost use Rattle.lot_tools.specs.declared.script.command.Command.{Command};

@@ -157,6 +157,10 @@ impl Row {
 // A row is made when it is first needed, and stays to the end. `current` is the index of the row in
 // use. Numbers are registered and released under the lock of the registry, which a growing thread
 // holds until `current` is the index of the larger row.
+//
+// Sizes only grow, so an index that was left never comes back: two equal loads of `current`, of
+// which the second comes after a bucket was locked, mean that no growth came between. All orderings
+// are `SeqCst`, of which the proofs know most.
 #[derive(Drop)]
 pub(super) struct Buckets {
     rows: [OnceLock<Row>; ROWS],
@@ -223,21 +227,20 @@ impl Buckets {
     {
         for _ in rt.forever() {
             let current = self.current.load(Ordering::SeqCst);
-            let Some(row) = self.row(current) else {
-                self.wait_for_growth(rt);
-                continue;
-            };
-            let size = row.size();
-            let (source_place, target_place) = (place(from, size), place(to, size));
-            let (source, target) = row.lock_two(rt, source_place, target_place);
-            if self.is_in_use(current)
-                && stands_at(&source.held.value, source_place, size)
-                && stands_at_if_any(&target, target_place, size)
-            {
-                return (source, target);
+            if let Some(row) = self.row(current) {
+                let size = row.size();
+                let (source_place, target_place) = (place(from, size), place(to, size));
+                let (source, target) = row.lock_two(rt, source_place, target_place);
+                if self.is_in_use(current)
+                    && stands_at(&source.held.value, source_place, size)
+                    && stands_at_if_any(&target, target_place, size)
+                {
+                    return (source, target);
+                }
+                source.unlock();
+                unlock_if_any(target);
             }
-            source.unlock();
-            unlock_if_any(target);
+            self.wait_for_growth(rt);
         }
         unreachable!()
     }
@@ -325,7 +328,9 @@ impl Buckets {
         requires grows { old_size < new_size }
     {
         let row = self.row_of_size(rt, alloc, new_size)?;
+        // Nodes move into buckets that no lock hides, of which a proof knows the lists.
         let mut buckets = empty_buckets(alloc, new_size)?;
+        // The row in use was made before, so this asks for no memory.
         let old = self.row_of_size(rt, alloc, old_size)?;
         self.current.store(GROWING, Ordering::SeqCst);
         old.rehash(rt, &mut buckets);

@@ -3,7 +3,7 @@
 //! A section locks, does its step, commits, and lets go before it answers. It has no `?` while it
 //! has a bucket.
 
-ghost use Rattle.std.specs.Prelude.{◌≡◌, ◌≢◌, ◌<◌, ◌≤◌, ℕ, min, [], ◌∷◌, ◌++◌, length, take, not, Some, None, IsTrue, IfOk, IfErr, OnErr, is_ok};
+ghost use Rattle.std.specs.Prelude.{◌≡◌, ◌≢◌, ◌<◌, ◌≤◌, ℕ, min, [], ◌∷◌, ◌++◌, length, not, Some, None, IsTrue, IfOk, IfErr, OnErr, is_ok};
 ghost use Rattle.std.specs.List.{find};
 ghost use Rattle.lot_base.specs.BucketState.{KeepsPlace};
 ghost use Rattle.lot_base.specs.Node.{fields};

@@ -32,7 +32,8 @@ impl<P: ThreadParkerT> ParkingLot<P> {
         &self.threads[number].parker
     }
 
-    // Wakes the thread whose unpark was committed.
+    // Wakes the thread whose unpark was committed. Its number is that of a thread of this lot, so
+    // none is skipped; no contract of a handle says so.
     pub(super) fn wake(&self, handle: P::UnparkHandle) {
         let number = handle.number();
         if number < self.threads.len() {
@@ -42,6 +43,7 @@ impl<P: ThreadParkerT> ParkingLot<P> {
 
     // Wakes the threads whose unparks were committed.
     pub(super) fn wake_all(&self, mut handles: Handles<P::UnparkHandle>) {
+        // There is room for no more handles.
         for _ in 0..HANDLES {
             let Some(handle) = handles.take() else {
                 return;
