@@ -156,6 +156,3 @@ fn state_after(unpark: UnparkResult) -> u8
         UNLOCKED
     }
 }
-
-#[cfg(test)]
-mod tests;

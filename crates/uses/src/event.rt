@@ -83,6 +83,3 @@ impl Event {
         unpark_all(rt, lot, self.key, DEFAULT_UNPARK_TOKEN)
     }
 }
-
-#[cfg(test)]
-mod tests;

@@ -34,6 +34,3 @@ pub fn interleave(
     run_fine(&mut lot, steps, &mut answers, &mut sequential)?;
     Ok((answers, sequential))
 }
-
-#[cfg(test)]
-mod tests;

@@ -5,9 +5,6 @@ ghost use Rattle.lot_exclusive.specs.Lot.{machine};
 ghost use Rattle.lot_tools.specs.Record.{IsRecorded};
 ghost use Rattle.lot_tools.specs.declared.record.TheConstants.{MAX_JOURNAL};
 
-#[cfg(test)]
-mod tests;
-
 use lot_tools::record::{MAX_JOURNAL, Record, RecordError, ends_have_room};
 use lot_tools::recording_lot::{RecordingLot, Ticket};
 use parking_lot_core::lot::Lot;

@@ -109,6 +109,3 @@ impl Semaphore {
         false
     }
 }
-
-#[cfg(test)]
-mod tests;

@@ -111,6 +111,3 @@ fn second_waits(alloc: Global) -> Result<(Lot, Semaphore, usize), LotError>
     semaphore.acquire(&mut lot, second, true).unwrap();
     Ok((lot, semaphore, second))
 }
-
-#[cfg(test)]
-mod tests;

@@ -91,6 +91,3 @@ impl ThreadSemaphore {
         result.unparked_threads > 0
     }
 }
-
-#[cfg(test)]
-mod tests;

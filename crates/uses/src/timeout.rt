@@ -34,6 +34,3 @@ pub fn let_time_out(lot: &mut Lot, thread: usize) -> Result<ParkResult, Misfit>
     let _ = lot.deadline(thread);
     lot.resolve(thread, |_, _| ())
 }
-
-#[cfg(test)]
-mod tests;

@@ -1,11 +1,14 @@
-use super::*;
-use parking_lot_core::ThreadParker;
+//! Tests of the mutex among threads.
+
+use parking_lot_core::{ParkingLot, ThreadData, ThreadParker, ThreadParkerT};
 use std::alloc::Global;
-use std::sync::Arc;
-use std::sync::atomic::AtomicUsize;
+use std::sync::atomic::{AtomicUsize, Ordering};
+use std::sync::{Arc, Wait};
 use std::test::Fail;
 use std::thread;
 use std::thread::{JoinHandle, Threads};
+use std::time::Clock;
+use uses::byte_mutex::ByteMutex;
 
 const KEY: usize = 7;
 

@@ -1,7 +1,10 @@
-use super::*;
-use parking_lot_core::schedule::{Answer, Op};
+//! Tests of what an interleaved schedule amounts to.
+
+use parking_lot_core::interleaved::{FineAnswer, FineStep};
+use parking_lot_core::schedule::{Answer, Op, Step};
 use parking_lot_core::{DEFAULT_PARK_TOKEN, UnparkToken};
 use std::test::Fail;
+use uses::interleaving::interleave;
 
 // A thread's deadline passes while an unpark holds the bucket of its key.
 #[test]

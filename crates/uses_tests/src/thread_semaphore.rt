@@ -1,9 +1,14 @@
-use super::*;
-use parking_lot_core::ThreadParker;
+//! Tests of the semaphore among threads.
+
+use parking_lot_core::{ParkingLot, ThreadData, ThreadParker, ThreadParkerT};
 use std::alloc::AllocError;
+use std::sync::Wait;
+use std::sync::atomic::{AtomicUsize, Ordering};
 use std::test::Fail;
 use std::thread;
 use std::thread::Threads;
+use std::time::Clock;
+use uses::thread_semaphore::ThreadSemaphore;
 
 const KEY: usize = 7;
 
@@ -71,7 +76,7 @@ where
 #[test]
 fn as_many_threads_are_inside_as_there_are_permits(rt: HostRuntime) -> Result<(), Fail> {
     let shared = Shared {
-        lot: ParkingLot::<ThreadParker>::new(rt.alloc(), THREADS)?,
+        lot: ParkingLot::<ThreadParker>::new(rt.alloc(), THREADS + 1)?,
         semaphore: ThreadSemaphore::new(KEY, PERMITS),
         inside: AtomicUsize::new(0),
         came: AtomicUsize::new(0),
@@ -82,6 +87,10 @@ fn as_many_threads_are_inside_as_there_are_permits(rt: HostRuntime) -> Result<()
     }
     assert!(rt; visit_together(&rt, &shared, data)?);
     assert_eq!(rt; shared.came.load(Ordering::SeqCst), THREADS * ROUNDS);
-    assert_eq!(rt; shared.semaphore.permits.load(Ordering::SeqCst), PERMITS);
+
+    // All permits are free again.
+    let mut own = shared.lot.thread_data(&rt, rt.alloc())?;
+    let free = shared.semaphore.acquire(&rt, &shared.lot, &mut own);
+    assert_eq!(rt; free, PERMITS);
     Ok(())
 }

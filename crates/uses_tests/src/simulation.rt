@@ -1,7 +1,11 @@
-use super::*;
-use parking_lot_core::UnparkToken;
-use parking_lot_core::schedule::Op;
+//! Tests of simulations.
+
+use parking_lot_core::lot::{Lot, Status};
+use parking_lot_core::schedule::{Answer, Op, Step};
+use parking_lot_core::{DEFAULT_PARK_TOKEN, ParkResult, UnparkToken};
 use std::test::Fail;
+use uses::semaphore::PERMIT;
+use uses::simulation::{simulate, two_tasks, wait_in_vain};
 
 #[test]
 fn a_run_tells_each_answer(rt: HostRuntime) -> Result<(), Fail> {

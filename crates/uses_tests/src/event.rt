@@ -1,10 +1,13 @@
-use super::*;
-use parking_lot_core::ThreadParker;
+//! Tests of the event among threads.
+
+use parking_lot_core::{ParkingLot, ThreadData, ThreadParker, ThreadParkerT};
 use std::alloc::Global;
-use std::sync::Arc;
+use std::sync::{Arc, Wait};
 use std::test::Fail;
 use std::thread;
 use std::thread::{JoinHandle, Threads};
+use std::time::Clock;
+use uses::event::Event;
 
 const KEY: usize = 7;
 

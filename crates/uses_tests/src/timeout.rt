@@ -1,6 +1,9 @@
-use super::*;
-use parking_lot_core::{DEFAULT_PARK_TOKEN, UnparkToken};
+//! Tests of threads that wait for a limited time.
+
+use parking_lot_core::lot::{Lot, Status};
+use parking_lot_core::{DEFAULT_PARK_TOKEN, Misfit, ParkResult, UnparkToken};
 use std::test::Fail;
+use uses::timeout::let_time_out;
 
 #[test]
 fn each_park_with_a_timeout_ends(rt: HostRuntime) -> Result<(), Fail> {

@@ -1,8 +1,11 @@
-use super::*;
-use crate::timeout::let_time_out;
-use parking_lot_core::{LotError, ParkResult};
+//! Tests of the semaphore for the tasks of a simulation.
+
+use parking_lot_core::lot::Lot;
+use parking_lot_core::{LotError, Misfit, ParkResult};
 use std::alloc::Global;
 use std::test::Fail;
+use uses::semaphore::{Acquired, PERMIT, Semaphore};
+use uses::timeout::let_time_out;
 
 const A: usize = 0;
 

@@ -1,7 +1,12 @@
-use super::*;
-use parking_lot_core::lot::Status;
+//! Tests of recordings and their replay.
+
+use lot_tools::record::{Record, RecordError};
+use parking_lot_core::DEFAULT_PARK_TOKEN;
+use parking_lot_core::lot::{Lot, Status};
+use parking_lot_core::schedule::{Answer, Step};
 use std::process::Abort;
 use std::test::Fail;
+use uses::recording::{end_park, record_two, replay};
 
 // What two threads did can be done again by one, and has the same answers; also where the journal
 // has room for a few steps alone.
