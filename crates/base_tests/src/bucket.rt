@@ -11,14 +11,73 @@ use lot_base::token::{FilterOp, NoMemory, ParkToken, RequeueOp, UnparkResult};
 use std::alloc::Global;
 use std::process::Abort;
 use std::test::Fail;
-use steps::{answer, bucket_of, enter, filter, list, refused, remove, requeue, take_all, take_one};
+use steps::{
+    Done, Taken, answer, bucket_of, filter, list, refused, remove, requeue, take_all, take_one,
+};
+
+// Compares what a step took, and what it answered and handed to its callback.
+fn expect_taken(
+    rt: &impl Abort,
+    taken: &Taken,
+    expected: UnparkResult,
+    threads: &[(usize, usize)],
+) {
+    assert_eq!(rt; (taken.result, taken.told), (expected, Some(expected)));
+    assert_eq!(rt; taken.threads.as_slice(), threads);
+}
+
+// Compares the list of a key.
+fn expect_list(
+    rt: &impl Abort,
+    alloc: Global,
+    bucket: &Bucket,
+    key: usize,
+    numbers: &[usize],
+) -> Result<(), NoMemory> {
+    let found = list(alloc, bucket, key)?;
+    assert_eq!(rt; found.as_slice(), numbers, "key {key}");
+    Ok(())
+}
+
+// Takes one waiter of the key with the token 42, and compares.
+fn expect_one(
+    rt: &impl Abort,
+    alloc: Global,
+    bucket: &mut Bucket,
+    key: usize,
+    expected: UnparkResult,
+    threads: &[(usize, usize)],
+) -> Result<(), NoMemory> {
+    let taken = take_one(alloc, bucket, key, 42)?;
+    expect_taken(rt, &taken, expected, threads);
+    Ok(())
+}
+
+// A filter, with the token 42, of the waiters of key 1: compares what it takes and what it leaves.
+fn expect_filtered<F: FnMut(ParkToken) -> FilterOp>(
+    rt: &impl Abort,
+    alloc: Global,
+    waiters: &[(usize, usize)],
+    decide: F,
+    expected: UnparkResult,
+    threads: &[(usize, usize)],
+    left: &[usize],
+) -> Result<(), NoMemory>
+    requires { (state : F) (park_token : _) → F.pre state park_token }
+{
+    let mut bucket = bucket_of(rt, alloc, 9, waiters)?;
+    let taken = filter(alloc, &mut bucket, 1, decide, 42)?;
+    expect_taken(rt, &taken, expected, threads);
+    expect_list(rt, alloc, &bucket, 1, left)
+}
+
+const THREE: [(usize, usize); 3] = [(0, 1), (1, 1), (2, 1)];
 
 #[test]
 fn a_new_bucket_is_empty_and_knows_its_place_and_size(rt: HostRuntime) -> Result<(), Fail> {
     let bucket = Bucket::new(5, 32);
     assert_eq!(rt; (bucket.place(), bucket.size()), (5, 32));
-    assert!(rt; list(rt.alloc(), &bucket, 7)?.is_empty());
-    Ok(())
+    Ok(expect_list(&rt, rt.alloc(), &bucket, 7, &[])?)
 }
 
 #[test]
@@ -29,44 +88,34 @@ fn an_invalid_entry_gives_the_node_back(rt: HostRuntime) -> Result<(), Fail> {
         (back.number, back.key, back.park_token),
         (1, 7, ParkToken(1))
     );
-    assert_eq!(rt; list(rt.alloc(), &bucket, 7)?.as_slice(), [0].as_slice());
-    Ok(())
+    Ok(expect_list(&rt, rt.alloc(), &bucket, 7, &[0])?)
 }
 
 #[test]
 fn take_one_takes_the_waiters_of_a_key_in_order(rt: HostRuntime) -> Result<(), Fail> {
     let mut bucket = bucket_of(&rt, rt.alloc(), 5, &[(0, 7), (1, 7)])?;
-    let first = take_one(rt.alloc(), &mut bucket, 7, 42)?;
-    assert_eq!(rt;
-        (first.result, first.told),
-        (answer(1, 0, true), Some(answer(1, 0, true)))
-    );
-    assert_eq!(rt; first.threads.as_slice(), [(0, 42)].as_slice());
-
-    let second = take_one(rt.alloc(), &mut bucket, 7, 42)?;
-    assert_eq!(rt;
-        (second.result, second.told),
-        (answer(1, 0, false), Some(answer(1, 0, false)))
-    );
-    assert_eq!(rt; second.threads.as_slice(), [(1, 42)].as_slice());
-
-    let third = take_one(rt.alloc(), &mut bucket, 7, 42)?;
-    assert_eq!(rt;
-        (third.result, third.told),
-        (answer(0, 0, false), Some(answer(0, 0, false)))
-    );
-    assert!(rt; third.threads.is_empty());
+    for (result, threads) in [
+        (answer(1, 0, true), &[(0, 42)][..]),
+        (answer(1, 0, false), &[(1, 42)][..]),
+        (answer(0, 0, false), &[][..]),
+    ] {
+        expect_one(&rt, rt.alloc(), &mut bucket, 7, result, threads)?;
+    }
     Ok(())
 }
 
 #[test]
 fn take_one_leaves_the_other_keys_of_the_bucket(rt: HostRuntime) -> Result<(), Fail> {
     let mut bucket = bucket_of(&rt, rt.alloc(), 0, &[(0, 0), (1, 13)])?;
-    let taken = take_one(rt.alloc(), &mut bucket, 0, 42)?;
-    assert_eq!(rt; taken.result, answer(1, 0, false));
-    assert_eq!(rt; taken.threads.as_slice(), [(0, 42)].as_slice());
-    assert_eq!(rt; list(rt.alloc(), &bucket, 13)?.as_slice(), [1].as_slice());
-    Ok(())
+    expect_one(
+        &rt,
+        rt.alloc(),
+        &mut bucket,
+        0,
+        answer(1, 0, false),
+        &[(0, 42)],
+    )?;
+    Ok(expect_list(&rt, rt.alloc(), &bucket, 13, &[1])?)
 }
 
 #[test]
@@ -75,61 +124,51 @@ fn take_all_takes_every_waiter_of_a_key(rt: HostRuntime) -> Result<(), Fail> {
     let (count, threads) = take_all(rt.alloc(), &mut bucket, 0, 42)?;
     assert_eq!(rt; count, 2);
     assert_eq!(rt; threads.as_slice(), [(0, 42), (2, 42)].as_slice());
-    assert!(rt; list(rt.alloc(), &bucket, 0)?.is_empty());
-    assert_eq!(rt; list(rt.alloc(), &bucket, 13)?.as_slice(), [1].as_slice());
+    for (key, left) in [(0, &[][..]), (13, &[1][..])] {
+        expect_list(&rt, rt.alloc(), &bucket, key, left)?;
+    }
     Ok(())
 }
 
 #[test]
 fn a_filter_takes_what_it_unparks_and_leaves_the_rest(rt: HostRuntime) -> Result<(), Fail> {
-    let mut bucket = bucket_of(&rt, rt.alloc(), 9, &[(0, 1), (1, 1), (2, 1)])?;
     let decide = |token: ParkToken| match token {
         ParkToken(0) => FilterOp::Skip,
         ParkToken(1) => FilterOp::Unpark,
         ParkToken(_) => FilterOp::Stop,
     };
-    let taken = filter(rt.alloc(), &mut bucket, 1, decide, 42)?;
-    assert_eq!(rt;
-        (taken.result, taken.told),
-        (answer(1, 0, true), Some(answer(1, 0, true)))
-    );
-    assert_eq!(rt; taken.threads.as_slice(), [(1, 42)].as_slice());
-    assert_eq!(rt; list(rt.alloc(), &bucket, 1)?.as_slice(), [0, 2].as_slice());
-    Ok(())
+    let result = answer(1, 0, true);
+    Ok(expect_filtered(&rt, rt.alloc(), &THREE, decide, result, &[(1, 42)], &[0, 2])?)
 }
 
 #[test]
 fn a_filter_is_not_asked_again_after_stop(rt: HostRuntime) -> Result<(), Fail> {
-    let mut bucket = bucket_of(&rt, rt.alloc(), 9, &[(0, 1), (1, 1)])?;
     let mut next = FilterOp::Stop;
     let decide = |_| std::mem::replace(&mut next, FilterOp::Unpark);
-    let taken = filter(rt.alloc(), &mut bucket, 1, decide, 42)?;
-    assert_eq!(rt;
-        (taken.result, taken.told),
-        (answer(0, 0, true), Some(answer(0, 0, true)))
-    );
-    assert!(rt; taken.threads.is_empty());
-    assert_eq!(rt; list(rt.alloc(), &bucket, 1)?.as_slice(), [0, 1].as_slice());
-    Ok(())
+    let two = [(0, 1), (1, 1)];
+    Ok(expect_filtered(
+        &rt,
+        rt.alloc(),
+        &two,
+        decide,
+        answer(0, 0, true),
+        &[],
+        &[0, 1],
+    )?)
 }
 
 #[test]
 fn a_filter_that_only_skips_from_its_second_call_on_takes_the_first(
     rt: HostRuntime,
 ) -> Result<(), Fail> {
-    let mut bucket = bucket_of(&rt, rt.alloc(), 9, &[(0, 1), (1, 1), (2, 1)])?;
     let mut next = FilterOp::Unpark;
     let decide = |_| std::mem::replace(&mut next, FilterOp::Skip);
-    let taken = filter(rt.alloc(), &mut bucket, 1, decide, 42)?;
-    assert_eq!(rt; taken.result, answer(1, 0, true));
-    assert_eq!(rt; taken.threads.as_slice(), [(0, 42)].as_slice());
-    assert_eq!(rt; list(rt.alloc(), &bucket, 1)?.as_slice(), [1, 2].as_slice());
-    Ok(())
+    let result = answer(1, 0, true);
+    Ok(expect_filtered(&rt, rt.alloc(), &THREE, decide, result, &[(0, 42)], &[1, 2])?)
 }
 
 #[test]
 fn a_filter_may_count_its_calls(rt: HostRuntime) -> Result<(), Fail> {
-    let mut bucket = bucket_of(&rt, rt.alloc(), 9, &[(0, 1), (1, 1), (2, 1)])?;
     let mut calls = 0usize;
     let decide = |_| {
         calls = calls.wrapping_add(1);
@@ -139,27 +178,21 @@ fn a_filter_may_count_its_calls(rt: HostRuntime) -> Result<(), Fail> {
             FilterOp::Stop
         }
     };
-    let taken = filter(rt.alloc(), &mut bucket, 1, decide, 5)?;
+    let result = answer(1, 0, true);
+    expect_filtered(&rt, rt.alloc(), &THREE, decide, result, &[(0, 42)], &[1, 2])?;
     assert_eq!(rt; calls, 2);
-    assert_eq!(rt; taken.result, answer(1, 0, true));
-    assert_eq!(rt; taken.threads.as_slice(), [(0, 5)].as_slice());
     Ok(())
 }
 
 #[test]
 fn a_filter_of_an_empty_key_is_not_called_and_its_callback_is(rt: HostRuntime) -> Result<(), Fail> {
-    let mut bucket = bucket_of(&rt, rt.alloc(), 9, &[])?;
     let mut calls = 0usize;
     let decide = |_| {
         calls = calls.wrapping_add(1);
         FilterOp::Unpark
     };
-    let taken = filter(rt.alloc(), &mut bucket, 1, decide, 5)?;
+    expect_filtered(&rt, rt.alloc(), &[], decide, answer(0, 0, false), &[], &[])?;
     assert_eq!(rt; calls, 0);
-    assert_eq!(rt;
-        (taken.result, taken.told),
-        (answer(0, 0, false), Some(answer(0, 0, false)))
-    );
     Ok(())
 }
 
@@ -179,6 +212,18 @@ struct Row<'a> {
     on_second: &'a [usize],
 }
 
+// Compares what the requeue answered, handed to its callback, took and moved.
+fn expect_done(rt: &impl Abort, done: &Done, row: &Row<'_>, name: &str) {
+    let told = match row.op {
+        RequeueOp::Abort => None,
+        op => Some((op, row.result)),
+    };
+    assert_eq!(rt; (done.result, done.told), (row.result, told), "{name}");
+    assert_eq!(rt; done.threads.as_slice(), row.threads, "{name}");
+    assert_eq!(rt; done.moved.as_slice(), row.moved, "{name}");
+    assert_eq!(rt; done.moved_before, row.moved.len(), "{name}");
+}
+
 fn check_row(rt: &impl Abort, alloc: Global, row: &Row<'_>, name: &str) -> Result<(), NoMemory> {
     let (from, to) = row.keys;
     let mut bucket = bucket_of(rt, alloc, place(from, 16), row.nodes)?;
@@ -186,30 +231,19 @@ fn check_row(rt: &impl Abort, alloc: Global, row: &Row<'_>, name: &str) -> Resul
     let is_one = bucket.place() == target.place();
     let other = if is_one { None } else { Some(&mut target) };
     let done = requeue(rt, alloc, &mut bucket, other, row.keys, row.op, 9)?;
-    let told = match row.op {
-        RequeueOp::Abort => None,
-        op => Some((op, row.result)),
-    };
-    assert_eq!(rt; (done.result, done.told), (row.result, told), "{name}");
-    assert_eq!(rt; done.threads.as_slice(), row.threads, "{name}");
-    assert_eq!(rt;
-        (done.moved.as_slice(), done.moved_before),
-        (row.moved, row.moved.len()),
-        "{name}"
-    );
-    let on_second = list(alloc, if is_one { &bucket } else { &target }, to)?;
-    assert_eq!(rt;
-        list(alloc, &bucket, from)?.as_slice(),
-        row.on_first,
-        "{name}"
-    );
-    assert_eq!(rt; on_second.as_slice(), row.on_second, "{name}");
-    Ok(())
+    expect_done(rt, &done, row, name);
+    expect_list(rt, alloc, &bucket, from, row.on_first)?;
+    expect_list(
+        rt,
+        alloc,
+        if is_one { &bucket } else { &target },
+        to,
+        row.on_second,
+    )
 }
 
 #[test]
 fn requeues_are_those_of_the_table(rt: HostRuntime) -> Result<(), Fail> {
-    let three = [(0, 1), (1, 1), (2, 1)];
     for (name, row) in [
         (
             "all, behind the other key",
@@ -230,7 +264,7 @@ fn requeues_are_those_of_the_table(rt: HostRuntime) -> Result<(), Fail> {
             Row {
                 op: RequeueOp::UnparkOneRequeueRest,
                 keys: (1, 2),
-                nodes: &three,
+                nodes: &THREE,
                 beyond: &[(3, 2)],
                 result: answer(1, 2, false),
                 threads: &[(0, 9)],
@@ -244,7 +278,7 @@ fn requeues_are_those_of_the_table(rt: HostRuntime) -> Result<(), Fail> {
             Row {
                 op: RequeueOp::RequeueOne,
                 keys: (1, 1),
-                nodes: &three,
+                nodes: &THREE,
                 beyond: &[],
                 result: answer(0, 1, true),
                 threads: &[],
@@ -272,7 +306,7 @@ fn requeues_are_those_of_the_table(rt: HostRuntime) -> Result<(), Fail> {
             Row {
                 op: RequeueOp::RequeueAll,
                 keys: (1, 1),
-                nodes: &three,
+                nodes: &THREE,
                 beyond: &[],
                 result: answer(0, 3, false),
                 threads: &[],
@@ -318,13 +352,17 @@ fn requeues_are_those_of_the_table(rt: HostRuntime) -> Result<(), Fail> {
 #[test]
 fn a_node_is_removed_from_its_own_key_alone(rt: HostRuntime) -> Result<(), Fail> {
     let mut bucket = bucket_of(&rt, rt.alloc(), 0, &[(0, 0), (1, 13)])?;
-    let none = remove(&mut bucket, 1, 0);
-    assert_eq!(rt; (none.number, none.answered, none.told), (None, None, None));
-    let removed = remove(&mut bucket, 1, 13);
-    assert_eq!(rt; (removed.number, removed.answered), (Some(1), Some(77)));
-    assert_eq!(rt; removed.told, Some((13, true)));
-    assert_eq!(rt; list(rt.alloc(), &bucket, 0)?.as_slice(), [0].as_slice());
-    assert!(rt; list(rt.alloc(), &bucket, 13)?.is_empty());
+    for (key, number, answered, told) in [
+        (0, None, None, None),
+        (13, Some(1), Some(77), Some((13, true))),
+    ] {
+        let removed = remove(&mut bucket, 1, key);
+        let expected = (number, answered, told);
+        assert_eq!(rt; (removed.number, removed.answered, removed.told), expected);
+    }
+    for (key, left) in [(0, &[0][..]), (13, &[][..])] {
+        expect_list(&rt, rt.alloc(), &bucket, key, left)?;
+    }
     Ok(())
 }
 
@@ -333,20 +371,23 @@ fn a_removal_tells_of_a_waiter_that_is_left(rt: HostRuntime) -> Result<(), Fail>
     let mut bucket = bucket_of(&rt, rt.alloc(), 9, &[(0, 1), (1, 1)])?;
     let removed = remove(&mut bucket, 0, 1);
     assert_eq!(rt; (removed.number, removed.told), (Some(0), Some((1, false))));
-    assert_eq!(rt; list(rt.alloc(), &bucket, 1)?.as_slice(), [1].as_slice());
-    Ok(())
+    Ok(expect_list(&rt, rt.alloc(), &bucket, 1, &[1])?)
+}
+
+// Takes the first node, and tells its number and key.
+fn pop(bucket: &mut Bucket) -> Option<(usize, usize)> {
+    bucket.pop().map(|node| (node.number, node.key))
 }
 
 #[test]
 fn pop_takes_the_first_node_whatever_its_key(rt: HostRuntime) -> Result<(), Fail> {
     let mut bucket = bucket_of(&rt, rt.alloc(), 0, &[(0, 0), (1, 13), (2, 0)])?;
-    let first = bucket.pop().expect(&rt, "the first node");
-    assert_eq!(rt; (first.number, first.key), (0, 0));
-    let second = bucket.pop().expect(&rt, "the second node");
-    assert_eq!(rt; (second.number, second.key), (1, 13));
-    assert_eq!(rt; list(rt.alloc(), &bucket, 0)?.as_slice(), [2].as_slice());
-    assert_eq!(rt; bucket.pop().expect(&rt, "the third node").number, 2);
-    assert!(rt; bucket.pop().is_none());
+    assert_eq!(rt;
+        [pop(&mut bucket), pop(&mut bucket)],
+        [Some((0, 0)), Some((1, 13))]
+    );
+    expect_list(&rt, rt.alloc(), &bucket, 0, &[2])?;
+    assert_eq!(rt; [pop(&mut bucket), pop(&mut bucket)], [Some((2, 0)), None]);
     Ok(())
 }
 
@@ -354,8 +395,8 @@ fn pop_takes_the_first_node_whatever_its_key(rt: HostRuntime) -> Result<(), Fail
 #[test]
 fn a_list_has_the_numbers_of_one_key_in_order(rt: HostRuntime) -> Result<(), Fail> {
     let bucket = bucket_of(&rt, rt.alloc(), 0, &[(2, 0), (1, 13), (0, 0)])?;
-    assert_eq!(rt; bucket.list(rt.alloc(), 0)?.as_slice(), [2, 0].as_slice());
-    assert_eq!(rt; bucket.list(rt.alloc(), 13)?.as_slice(), [1].as_slice());
-    assert!(rt; bucket.list(rt.alloc(), 1)?.is_empty());
+    for (key, numbers) in [(0, &[2, 0][..]), (13, &[1][..]), (1, &[][..])] {
+        expect_list(&rt, rt.alloc(), &bucket, key, numbers)?;
+    }
     Ok(())
 }

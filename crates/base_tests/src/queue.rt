@@ -3,7 +3,6 @@
 use lot_base::queue::{Node, Queue};
 use lot_base::token::{NoMemory, ParkToken, UnparkToken};
 use std::alloc::Global;
-use std::process::Abort;
 use std::test::Fail;
 
 // A queue of nodes with these numbers, first to last. No clause refuses a `Node::new` that always
@@ -28,20 +27,97 @@ fn first(queue: &Queue) -> Option<usize> {
     queue.front().map(|node| node.number)
 }
 
-// Takes the first node and tells its number.
-fn take(rt: &impl Abort, queue: &mut Queue) -> usize {
-    queue.pop_front().expect(rt, "a node").number
+// Two queues, and the decimal number whose digits are the numbers of the nodes that were taken from
+// the first, with 0 where there was none.
+#[derive(Drop)]
+struct Queues {
+    queue: Queue,
+    other: Queue,
+    taken: usize,
 }
+
+// What is done to two queues.
+#[derive(Copy, Clone)]
+enum Step {
+    // A node with this number goes behind those of the first.
+    Push(usize),
+
+    // The same in the second.
+    PushToOther(usize),
+
+    // The first node of the first is taken.
+    Take,
+
+    // The first node of the first, if there is one, goes behind those of the second.
+    Move,
+
+    // The nodes of the second go behind those of the first.
+    Append,
+}
+
+impl Queues {
+    fn step(&mut self, alloc: Global, step: Step) -> Result<(), NoMemory> {
+        match step {
+            Step::Push(number) => self.queue.push_back(Node::new(alloc, number)?),
+            Step::PushToOther(number) => self.other.push_back(Node::new(alloc, number)?),
+            Step::Take => {
+                let number = self.queue.pop_front().map(|node| node.number);
+                self.taken = self
+                    .taken
+                    .wrapping_mul(10)
+                    .wrapping_add(number.unwrap_or(0));
+            }
+            Step::Move => {
+                if let Some(node) = self.queue.pop_front() {
+                    self.other.push_back(node);
+                }
+            }
+            Step::Append => self.queue.append(&mut self.other),
+        }
+        Ok(())
+    }
+}
+
+// What is left in a queue: its digits and its first node's number.
+type Left = (usize, Option<usize>);
+
+fn left(queue: &Queue) -> Left {
+    (digits(queue), first(queue))
+}
+
+// Does the steps on two queues of nodes with these numbers, and tells what was taken and what is
+// left in both.
+fn after(
+    alloc: Global,
+    numbers: &[usize],
+    others: &[usize],
+    steps: &[Step],
+) -> Result<(usize, Left, Left), NoMemory> {
+    let mut queues = Queues {
+        queue: queue_of(alloc, numbers)?,
+        other: queue_of(alloc, others)?,
+        taken: 0,
+    };
+    for step in steps {
+        queues.step(alloc, *step)?;
+    }
+    Ok((queues.taken, left(&queues.queue), left(&queues.other)))
+}
+
+const NOTHING: Left = (0, None);
 
 #[test]
 fn nodes_leave_in_the_order_in_which_they_came(rt: HostRuntime) -> Result<(), Fail> {
-    let mut queue = queue_of(rt.alloc(), &[3, 1, 2])?;
-    assert_eq!(rt; take(&rt, &mut queue), 3);
-    assert_eq!(rt; take(&rt, &mut queue), 1);
-    queue.push_back(Node::new(rt.alloc(), 4)?);
-    assert_eq!(rt; take(&rt, &mut queue), 2);
-    assert_eq!(rt; take(&rt, &mut queue), 4);
-    assert!(rt; queue.pop_front().is_none());
+    let steps = [
+        Step::Take,
+        Step::Take,
+        Step::Push(4),
+        Step::Take,
+        Step::Take,
+        Step::Take,
+    ];
+    let told = after(rt.alloc(), &[3, 1, 2], &[], &steps)?;
+    assert_eq!(rt; told, (31240, NOTHING, NOTHING));
     Ok(())
 }
 
@@ -57,38 +133,33 @@ fn a_fold_visits_the_nodes_in_order(rt: HostRuntime) -> Result<(), Fail> {
 
 #[test]
 fn an_append_puts_the_others_nodes_behind(rt: HostRuntime) -> Result<(), Fail> {
-    let mut queue = queue_of(rt.alloc(), &[1, 2])?;
-    let mut other = queue_of(rt.alloc(), &[3, 4])?;
-    queue.append(&mut other);
-    assert_eq!(rt; (digits(&queue), first(&other)), (1234, None));
+    let told = after(rt.alloc(), &[1, 2], &[3, 4], &[Step::Append])?;
+    assert_eq!(rt; told, (0, (1234, Some(1)), NOTHING));
     Ok(())
 }
 
 #[test]
 fn an_append_of_no_nodes_changes_nothing(rt: HostRuntime) -> Result<(), Fail> {
-    let mut queue = queue_of(rt.alloc(), &[1, 2, 3])?;
-    let mut empty = Queue::new();
-    queue.append(&mut empty);
-    assert_eq!(rt; (digits(&queue), first(&empty)), (123, None));
+    let told = after(rt.alloc(), &[1, 2, 3], &[], &[Step::Append])?;
+    assert_eq!(rt; told, (0, (123, Some(1)), NOTHING));
     Ok(())
 }
 
 #[test]
 fn an_append_to_no_nodes_moves_them_all(rt: HostRuntime) -> Result<(), Fail> {
-    let mut queue = Queue::new();
-    let mut other = queue_of(rt.alloc(), &[1, 2, 3])?;
-    queue.append(&mut other);
-    assert_eq!(rt; (digits(&queue), first(&other)), (123, None));
+    let told = after(rt.alloc(), &[], &[1, 2, 3], &[Step::Append])?;
+    assert_eq!(rt; told, (0, (123, Some(1)), NOTHING));
     Ok(())
 }
 
 #[test]
 fn a_queue_goes_on_after_its_only_node_left(rt: HostRuntime) -> Result<(), Fail> {
-    let mut queue = queue_of(rt.alloc(), &[1])?;
-    assert_eq!(rt; take(&rt, &mut queue), 1);
-    assert_eq!(rt; first(&queue), None);
-    queue.push_back(Node::new(rt.alloc(), 2)?);
-    assert_eq!(rt; (digits(&queue), first(&queue)), (2, Some(2)));
+    for (steps, expected) in [
+        (&[Step::Take][..], (1, NOTHING, NOTHING)),
+        (&[Step::Take, Step::Push(2)][..], (1, (2, Some(2)), NOTHING)),
+    ] {
+        assert_eq!(rt; after(rt.alloc(), &[1], &[], steps)?, expected);
+    }
     Ok(())
 }
 
@@ -99,43 +170,53 @@ fn count(queue: &Queue) -> usize {
 
 #[test]
 fn a_node_is_last_behind_nodes_that_were_appended(rt: HostRuntime) -> Result<(), Fail> {
-    let mut queue = queue_of(rt.alloc(), &[1, 2])?;
-    let mut other = queue_of(rt.alloc(), &[3, 4])?;
-    queue.append(&mut other);
-    queue.push_back(Node::new(rt.alloc(), 5)?);
-    assert_eq!(rt; (digits(&queue), count(&other)), (12345, 0));
+    let told = after(rt.alloc(), &[1, 2], &[3, 4], &[Step::Append, Step::Push(5)])?;
+    assert_eq!(rt; told, (0, (12345, Some(1)), NOTHING));
     Ok(())
 }
 
 #[test]
 fn a_queue_that_gave_its_nodes_away_goes_on(rt: HostRuntime) -> Result<(), Fail> {
-    let mut queue = queue_of(rt.alloc(), &[1])?;
-    let mut other = queue_of(rt.alloc(), &[2, 3])?;
-    queue.append(&mut other);
-    other.push_back(Node::new(rt.alloc(), 4)?);
-    assert_eq!(rt; (digits(&queue), digits(&other)), (123, 4));
+    let told = after(
+        rt.alloc(),
+        &[1],
+        &[2, 3],
+        &[Step::Append, Step::PushToOther(4)],
+    )?;
+    assert_eq!(rt; told, (0, (123, Some(1)), (4, Some(4))));
     Ok(())
 }
 
 #[test]
 fn a_node_that_leaves_a_queue_can_enter_another(rt: HostRuntime) -> Result<(), Fail> {
-    let mut queue = queue_of(rt.alloc(), &[1, 2, 3])?;
-    let mut other = queue_of(rt.alloc(), &[4])?;
-    other.push_back(queue.pop_front().expect(&rt, "a node"));
-    assert_eq!(rt; (digits(&queue), digits(&other)), (23, 41));
+    let told = after(rt.alloc(), &[1, 2, 3], &[4], &[Step::Move])?;
+    assert_eq!(rt; told, (0, (23, Some(2)), (41, Some(4))));
     Ok(())
+}
+
+// A node with a value of its own in each field.
+fn prepared_node(alloc: Global) -> Result<Box<Node>, NoMemory> {
+    let mut node = Node::new(alloc, 1)?;
+    node.prepare(7, ParkToken(8), true);
+    node.unpark_token = UnparkToken(9);
+    Ok(node)
+}
+
+// Puts that node between two others, and takes the first of the three, whose number it tells, and
+// then the second.
+fn second_of_three(alloc: Global) -> Result<(Option<usize>, Option<Box<Node>>), NoMemory> {
+    let mut queue = queue_of(alloc, &[2])?;
+    queue.push_back(prepared_node(alloc)?);
+    queue.push_back(Node::new(alloc, 3)?);
+    let first = queue.pop_front().map(|node| node.number);
+    Ok((first, queue.pop_front()))
 }
 
 #[test]
 fn a_node_leaves_with_what_it_entered_with(rt: HostRuntime) -> Result<(), Fail> {
-    let mut node = Node::new(rt.alloc(), 1)?;
-    node.prepare(7, ParkToken(8), true);
-    node.unpark_token = UnparkToken(9);
-    let mut queue = queue_of(rt.alloc(), &[2])?;
-    queue.push_back(node);
-    queue.push_back(Node::new(rt.alloc(), 3)?);
-    assert_eq!(rt; take(&rt, &mut queue), 2);
-    let node = queue.pop_front().expect(&rt, "a node");
+    let (first, node) = second_of_three(rt.alloc())?;
+    assert_eq!(rt; first, Some(2));
+    let node = node.expect(&rt, "a node");
     assert_eq!(rt; (node.number, node.key, node.timed), (1, 7, true));
     assert_eq!(rt;
         (node.park_token, node.unpark_token),

@@ -50,6 +50,39 @@ fn owners_node(alloc: Global, token: UnparkToken) -> Result<Box<Node>, NoMemory>
     Ok(node)
 }
 
+// A commit fills the slot until its node is taken, and its unpark may come after that.
+fn take_a_commit<P: ThreadParkerT, R: Wait + Abort>(rt: &R, parker: &P, node: Box<Node>)
+    requires { (fields node.value).number ≡ P.owner parker.now }
+{
+    let late = parker.unpark_lock(rt, node);
+    assert_eq!(rt; late.number(), OWNER);
+    assert!(rt; !parker.timed_out(rt), "the commit fills the slot");
+    assert_eq!(rt; parker.park(rt).unpark_token, UnparkToken(42));
+    assert!(rt; parker.timed_out(rt), "the node was taken");
+    late.unpark(parker);
+    assert!(rt; parker.timed_out(rt), "a late unpark fills no slot");
+}
+
+// Two nodes come back in the order in which they were put.
+fn take_two_commits<P: ThreadParkerT, R: Wait + Abort>(
+    rt: &R,
+    parker: &P,
+    second: Box<Node>,
+    third: Box<Node>,
+)
+    requires second { (fields second.value).number ≡ P.owner parker.now }
+    requires third { (fields third.value).number ≡ P.owner parker.now }
+{
+    let handles = (
+        parker.unpark_lock(rt, second),
+        parker.unpark_lock(rt, third),
+    );
+    for token in [UnparkToken(43), UnparkToken(44)] {
+        assert_eq!(rt; parker.park(rt).unpark_token, token);
+    }
+    drop(handles);
+}
+
 // No clause says when a slot is full, nor which of two nodes comes first. This refuses a parker
 // whose `timed_out` has one answer always, whose `park` gives the second node first, or whose
 // `unpark_lock` drops the node, so that the first `park` does not end.
@@ -60,20 +93,16 @@ fn commits_take_turns<P: ThreadParkerT, R: Wait + Abort>(
     let parker = P::new(OWNER)?;
     parker.prepare_park();
     assert!(rt; parker.timed_out(rt), "nobody has put a node");
-    let late = parker.unpark_lock(rt, owners_node(alloc, UnparkToken(42))?);
-    assert_eq!(rt; late.number(), OWNER);
-    assert!(rt; !parker.timed_out(rt), "the commit fills the slot");
-    assert_eq!(rt; parker.park(rt).unpark_token, UnparkToken(42));
-    assert!(rt; parker.timed_out(rt), "the node was taken");
-    late.unpark(&parker);
-    assert!(rt; parker.timed_out(rt), "a late unpark fills no slot");
-    let second = parker.unpark_lock(rt, owners_node(alloc, UnparkToken(43))?);
-    let third = parker.unpark_lock(rt, owners_node(alloc, UnparkToken(44))?);
-    assert_eq!(rt; parker.park(rt).unpark_token, UnparkToken(43));
-    assert_eq!(rt; parker.park(rt).unpark_token, UnparkToken(44));
-    drop(second);
-    drop(third);
+    take_a_commit(rt, &parker, owners_node(alloc, UnparkToken(42))?);
+    let second = owners_node(alloc, UnparkToken(43))?;
+    let third = owners_node(alloc, UnparkToken(44))?;
+    take_two_commits(rt, &parker, second, third);
     Ok(())
+}
+
+// Waits for a node until the deadline, and tells whether none came.
+fn waits_in_vain<P: ThreadParkerT, R: Wait + Clock>(rt: &R, parker: &P, deadline: Instant) -> bool {
+    parker.park_until(rt, deadline).is_none()
 }
 
 // No clause says when a timed wait ends. With a `park_until` that looks at no clock, this does not
@@ -81,10 +110,10 @@ fn commits_take_turns<P: ThreadParkerT, R: Wait + Abort>(
 fn waits_to_the_deadline<P: ThreadParkerT, R: Wait + Clock + Abort>(rt: &R) -> Result<(), Fail> {
     let parker = P::new(OWNER)?;
     let soon = from_now(rt, Duration::from_millis(20))?;
-    assert!(rt; parker.park_until(rt, soon).is_none(), "nobody puts a node");
+    assert!(rt; waits_in_vain(rt, &parker, soon), "nobody puts a node");
     assert!(rt; soon <= Instant::now(rt)?, "the deadline has passed");
     assert!(rt;
-        parker.park_until(rt, soon).is_none(),
+        waits_in_vain(rt, &parker, soon),
         "the deadline passed before"
     );
     assert!(rt; parker.timed_out(rt), "nobody has put a node");
@@ -95,7 +124,7 @@ fn waits_to_the_deadline<P: ThreadParkerT, R: Wait + Clock + Abort>(rt: &R) -> R
 fn waits_for_no_clock<P: ThreadParkerT, R: Wait + Clock + Abort>(rt: &R) -> Result<(), Fail> {
     let parker = P::new(OWNER)?;
     let in_an_hour = from_now(rt, Duration::from_hours(1))?;
-    assert!(rt; parker.park_until(&Clockless(rt), in_an_hour).is_none());
+    assert!(rt; waits_in_vain(&Clockless(rt), &parker, in_an_hour));
     Ok(())
 }
 
@@ -127,6 +156,55 @@ fn wait_until(started: &AtomicBool) {
     }
 }
 
+// What the owner does: it tells that it starts, and waits for a node.
+fn start_and_park<P: ThreadParkerT, R: Wait + Clock>(
+    rt: &R,
+    parker: &P,
+    starts: &AtomicBool,
+    deadline: Option<Instant>,
+) -> Option<Box<Node>> {
+    starts.store(true, Ordering::SeqCst);
+    match deadline {
+        None => Some(parker.park(rt)),
+        Some(deadline) => parker.park_until(rt, deadline),
+    }
+}
+
+// What the other thread does, once the owner starts.
+fn commit_and_wake<P: ThreadParkerT, R: Wait>(
+    rt: &R,
+    parker: &P,
+    starts: &AtomicBool,
+    node: Box<Node>,
+)
+    requires { (fields node.value).number ≡ P.owner parker.now }
+{
+    wait_until(starts);
+    parker.unpark_lock(rt, node).unpark(parker);
+}
+
+// The node that comes back to the owner.
+fn node_between_threads<P: ThreadParkerT + Sync, R: Threads + Wait + Clock + Sync>(
+    rt: &R,
+    parker: &P,
+    node: Box<Node>,
+    deadline: Option<Instant>,
+) -> Option<Box<Node>>
+    requires { (fields node.value).number ≡ P.owner parker.now }
+{
+    let starts = AtomicBool::new(false);
+    let (node, ()) = thread::join(
+        rt,
+        || start_and_park(rt, parker, &starts, deadline),
+        ||
+            requires { (fields node.value).number ≡ P.owner parker.now }
+        {
+            commit_and_wake(rt, parker, &starts, node);
+        },
+    );
+    node
+}
+
 // No clause says that a wake reaches anybody. With an `unpark` that notifies nobody, this ends no
 // sooner than the deadline where the owner slept before the commit, and not without one.
 fn token_between_threads<P: ThreadParkerT + Sync, R: Threads + Wait + Clock + Sync>(
@@ -137,23 +215,7 @@ fn token_between_threads<P: ThreadParkerT + Sync, R: Threads + Wait + Clock + Sy
 ) -> Result<Option<UnparkToken>, NoMemory> {
     let parker = P::new(OWNER)?;
     let node = owners_node(alloc, token)?;
-    let starts = AtomicBool::new(false);
-    let (node, ()) = thread::join(
-        rt,
-        || {
-            starts.store(true, Ordering::SeqCst);
-            match deadline {
-                None => Some(parker.park(rt)),
-                Some(deadline) => parker.park_until(rt, deadline),
-            }
-        },
-        ||
-            requires { (fields node.value).number ≡ P.owner parker }
-        {
-            wait_until(&starts);
-            parker.unpark_lock(rt, node).unpark(&parker);
-        },
-    );
+    let node = node_between_threads(rt, &parker, node, deadline);
     Ok(node.map(|node| node.unpark_token))
 }
 
@@ -245,25 +307,36 @@ fn yield_parker_looks_after_the_deadline(rt: HostRuntime) -> Result<(), Fail> {
     looks_after_the_deadline::<YieldParker, _>(&rt, rt.alloc())
 }
 
+// Puts a node that waits on the key.
+fn put(alloc: Global, slot: &mut Slot, key: usize) -> Result<(), NoMemory>
+    requires { slot.old.owner ≡ OWNER }
+    ensures { slot.new.owner ≡ OWNER }
+{
+    let mut node = Node::new(alloc, OWNER)?;
+    node.prepare(key, DEFAULT_PARK_TOKEN, false);
+    slot.put(node);
+    Ok(())
+}
+
+// Takes the first node, and tells its key.
+fn take(slot: &mut Slot) -> Option<usize> {
+    slot.take().map(|node| node.key)
+}
+
 #[test]
 fn a_slot_gives_its_nodes_in_the_order_of_the_puts(rt: HostRuntime) -> Result<(), Fail> {
-    let mut slot = Slot::new(3);
-    let mut first = Node::new(rt.alloc(), 3)?;
-    first.prepare(1, DEFAULT_PARK_TOKEN, false);
-    let mut second = Node::new(rt.alloc(), 3)?;
-    second.prepare(2, DEFAULT_PARK_TOKEN, false);
-    slot.put(first);
-    slot.put(second);
-    assert_eq!(rt; slot.take().expect(&rt, "the first node").key, 1);
-    assert_eq!(rt; slot.take().expect(&rt, "the second node").key, 2);
-    assert!(rt; slot.take().is_none());
+    let mut slot = Slot::new(OWNER);
+    put(rt.alloc(), &mut slot, 1)?;
+    put(rt.alloc(), &mut slot, 2)?;
+    for expected in [Some(1), Some(2), None] {
+        assert_eq!(rt; take(&mut slot), expected);
+    }
     Ok(())
 }
 
 #[test]
 fn an_empty_slot_gives_no_node_and_has_its_owner(rt: HostRuntime) {
     let mut slot = Slot::new(7);
-    assert_eq!(rt; slot.owner(), 7);
-    assert!(rt; slot.take().is_none());
-    assert_eq!(rt; slot.owner(), 7);
+    let before = slot.owner();
+    assert_eq!(rt; (before, take(&mut slot), slot.owner()), (7, None, 7));
 }
