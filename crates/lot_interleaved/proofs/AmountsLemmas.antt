@@ -9,10 +9,15 @@ use Rattle.lot_base.specs.Waiting.{with_value}
 use Rattle.lot_base.proofs.ValueLemmas.{with_value-same, with_value-other}
 use Rattle.lot_exclusive.specs.declared.lot.Status.TheVariants as status
 use Rattle.lot_exclusive.specs.declared.schedule.Answer.{Answer}
+use Rattle.lot_exclusive.specs.declared.schedule.Answer.TheVariants as answer
 use Rattle.lot_exclusive.specs.declared.schedule.Step.{Step}
+use Rattle.lot_interleaved.specs.declared.interleaved.FineAnswer.TheVariants as fine
+use Rattle.lot_interleaved.specs.declared.interleaved.FineStep.{FineStep}
+use Rattle.lot_interleaved.specs.declared.interleaved.FineStep.TheVariants.{Begin}
 use Rattle.lot_interleaved.specs.InterleavedState.{FineState, Section, Caller, TakenThread}
 use Rattle.lot_interleaved.specs.InterleavedSteps.{holds}
-use Rattle.lot_interleaved.specs.InterleavedView.{sequential_view, sequential_status, taken_of, times_taken, once_if}
+use Rattle.lot_interleaved.specs.InterleavedView.{sequential_step, sequential_view, sequential_status, taken_of}
+use Rattle.lot_interleaved.specs.InterleavedView.{times_taken, once_if}
 use Rattle.lot_interleaved.specs.InterleavedView.{taken_in, with_taken, with_slot, HoldsForTaken, IsFineConsistent}
 use Rattle.lot_exclusive.specs.Status.{is_queued}
 use Rattle.lot_exclusive.specs.Steps.{IsStep}
@@ -51,6 +56,11 @@ module _ (s : FineState) (key_words : ℕ → ℕ) (size : ℕ) where
       (still_held_at callers
       (λ n some. same n (λ none. some (omega (arith, times_taken-append n (taken_in cl.section) behind, none))))
       (All-tail (HoldsForTaken s) cl callers all))
+
+-- a step that does not fit amounts to none
+pub sequential_step-misfit : (s : FineState) (step : FineStep) → sequential_step s step (fine.Answer answer.Misfit) ≡ []
+sequential_step-misfit s (Begin caller op) = refl
+sequential_step-misfit s _ = refl
 
 -- what a step leaves, and the sequential steps that it amounts to
 pub record Amounts (s after : FineState) (whole : List (Step × Answer)) : Type 0 where

@@ -238,7 +238,7 @@ module _ (s : FineState) (c : IsFineConsistent s) where
     -- an unpark of this operation
     Amounts-begun : (op : Op) (given : Answer)
         → ((left : Machine) → left ≡ after_requeue (sequential_view s) from to split token
-        → IsUnpark (sequential_view s) op given left) → Amounts s begun (answered (machine.Unpark op) given)
+        → IsUnpark (sequential_view s) op given left) → Amounts s begun ((machine.Unpark op, given) ∷ [])
     Amounts-begun op given does =
         record { run = (_, does (sequential_view begun) view_begun, refl); consistent = begun-keeps }
 
@@ -250,7 +250,7 @@ module _ (s : FineState) (c : IsFineConsistent s) where
       → IsUnpark (sequential_view s) op given left)
       → Amounts s (with_caller (record s { threads_view = record s.threads_view { lists = view.lists } }) caller
       (Some (record { held = place_of key s.size ∷ []; taken = with_tokens token split.taken })) 0)
-      (answered (machine.Unpark op) given)
+      ((machine.Unpark op, given) ∷ [])
   Amounts-one_key caller cl at closed op given view key split token none parts view_is does =
       Amounts-begun caller cl at closed key key split token parts view.lists
       (λ k. ap (λ (m : Machine). m.lists k)

@@ -21,7 +21,7 @@ use Rattle.lot_interleaved.specs.InterleavedRun.{AmountsTo}
 use Rattle.lot_interleaved.specs.InterleavedView.{IsFineConsistent, answers_of, sequential_step, sequential_steps}
 use Rattle.lot_interleaved.specs.InterleavedView.{sequential_view, steps_of}
 use Rattle.lot_exclusive.specs.Machine.{Machine, after_unpark}
-use Rattle.lot_interleaved.specs.Private.FineTold.{AreCopiesIn}
+use Rattle.lot_interleaved.specs.Private.FineCopies.{AreCopiesIn}
 use Rattle.lot_exclusive.specs.Steps.{Gives, IsStep, IsUnpark}
 use Rattle.lot_exclusive.specs.Run.{IsRun}
 use Rattle.lot_interleaved.proofs.FineRunLemmas.{IsRun-push-sequential}

@@ -2,6 +2,7 @@
 use Rattle.std.proofs.Common.{◌≡◌, ◌≢◌, ℕ, true, false, []}
 use Rattle.std.proofs.Common.{refl, sym, ap, ◌∙◌, subst, arith, ⊎_elim, None}
 use Rattle.std.proofs.lemmas.Bool.{cases_eq, cond-true, cond-false, false≢true}
+use Rattle.std.specs.List.{list_any}
 use Rattle.std.specs.Prelude.{is_some, IsTrue, if◌then◌else◌}
 use Rattle.lot_base.specs.Waiting.{with_value}
 use Rattle.lot_base.proofs.ValueLemmas.{with_value-same, with_value-other}
@@ -9,18 +10,18 @@ use Rattle.lot_exclusive.specs.declared.lot.Status.{Status}
 use Rattle.lot_exclusive.specs.declared.lot.Status.TheVariants as status
 use Rattle.lot_exclusive.specs.declared.schedule.Answer.TheVariants as answer
 use Rattle.lot_exclusive.specs.declared.schedule.Step.TheVariants as machine
-use Rattle.lot_interleaved.specs.InterleavedState.{FineState}
+use Rattle.lot_interleaved.specs.InterleavedState.{Caller, FineState}
 use Rattle.lot_interleaved.specs.InterleavedView.{sequential_view, sequential_status, taken_of, times_taken, once_if}
-use Rattle.lot_interleaved.specs.InterleavedView.{with_taken, with_slot, IsFineConsistent}
+use Rattle.lot_interleaved.specs.InterleavedView.{taken_in, with_taken, with_slot, IsFineConsistent}
 use Rattle.lot_interleaved.specs.InterleavedView.{answered}
 use Rattle.lot_exclusive.specs.Machine.{MatchesStatus, with_status}
 use Rattle.lot_exclusive.specs.Status.{is_queued, is_taken, is_timed, awaits_deadline}
 use Rattle.lot_interleaved.proofs.HandedLemmas.{with_taken-none}
-use Rattle.lot_interleaved.proofs.HandedLemmas.{with_taken-among, is_taken-among, with_taken-alike}
+use Rattle.lot_interleaved.proofs.HandedLemmas.{with_taken-among, with_taken-alike, is_among}
+use Rattle.lot_interleaved.proofs.HandedLemmas.{is_among-callers, is_among-none, is_among-some}
 use Rattle.lot_exclusive.proofs.StandingLemmas.{same_machine, MatchBool-from}
 use Rattle.lot_exclusive.proofs.MachineLemmas.{below_max_threads}
 use Rattle.lot_exclusive.proofs.MachineLemmas.{MatchesStatus-with_status}
-use Rattle.lot_exclusive.proofs.StepLemmas.{is_queued-taken}
 use Rattle.lot_interleaved.proofs.AmountsLemmas.{Amounts, own_status}
 
 module _ (s : FineState) (c : IsFineConsistent s) where
@@ -103,11 +104,6 @@ module _ (s : FineState) (c : IsFineConsistent s) where
 
     -- a section has it
     module _ (some : times_taken thread (taken_of s) ≢ 0) where
-      taken_view : is_queued (sequential_status s thread) ≡ false
-      taken_view = is_queued-taken (sequential_status s thread)
-          (ap (λ o. is_taken (with_slot o (with_taken (taken_of s) s.threads_view.status thread))) empty
-          ∙ is_taken-among thread (taken_of s) s.threads_view.status some)
-
       view_same : sequential_view passed ≡ sequential_view s
       view_same = same_machine _ _ (λ k. refl) at (λ n. refl) refl
         where
@@ -125,13 +121,22 @@ module _ (s : FineState) (c : IsFineConsistent s) where
         consistent = passed-keeps (subst (MatchesStatus s.key_words) (sym view_same) c.view);
       }
 
-    pub Amounts-deadline : Amounts s passed
-        (if is_queued (sequential_status s thread) then answered (machine.Deadline thread) answer.Late else [])
-    Amounts-deadline =
+    Amounts-among : Amounts s passed
+        (if is_among thread (taken_of s) then [] else answered (machine.Deadline thread) answer.Late)
+    Amounts-among =
         ⊎_elim (λ (gone : times_taken thread (taken_of s) ≡ 0).
-        subst (Amounts s passed) (sym (cond-true (is_queued (sequential_status s thread)) _ _
-        (ap is_queued (waits_view gone)))) (Amounts-in_list gone))
+        subst (Amounts s passed)
+        (sym (cond-false (is_among thread (taken_of s)) _ _ (is_among-none thread (taken_of s) gone)))
+        (Amounts-in_list gone))
         (λ (some : times_taken thread (taken_of s) ≢ 0).
-        subst (Amounts s passed) (sym (cond-false (is_queued (sequential_status s thread)) _ _ (taken_view some)))
+        subst (Amounts s passed)
+        (sym (cond-true (is_among thread (taken_of s)) _ _ (is_among-some thread (taken_of s) some)))
         (Amounts-in_section some))
         (cases_eq (times_taken thread (taken_of s)) 0)
+
+    pub Amounts-deadline : Amounts s passed
+        (if list_any (λ (caller : Caller). is_among thread (taken_in caller.section)) s.callers then []
+        else answered (machine.Deadline thread) answer.Late)
+    Amounts-deadline =
+        subst (λ taken. Amounts s passed (if taken then [] else answered (machine.Deadline thread) answer.Late))
+        (sym (is_among-callers thread s.callers)) Amounts-among

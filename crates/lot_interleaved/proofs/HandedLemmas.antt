@@ -2,9 +2,11 @@
 use Rattle.std.proofs.Common.{◌≡◌, ◌≢◌, ℕ, zero, suc, ◌+◌, ◌≤◌, ◌==◌, Bool, true, false, cond, List, [], ◌∷◌, ◌++◌}
 use Rattle.std.proofs.Common.{refl, sym, ap, ◌∙◌, arith, ⊎_elim, Some, None, append_assoc, slice_get, slice_set}
 use Rattle.std.proofs.lemmas.Bool.{cases_eq, eq-eqb, ne_eqb, false≢true}
+use Rattle.std.proofs.lemmas.List.Folds.{list_any-append}
 use Rattle.std.proofs.lemmas.List.Sums.{sum_by-cons, sum_by-append}
 use Rattle.std.proofs.lemmas.Option.{none-some, get_or_from_slice_get}
-use Rattle.std.specs.Prelude.{Option, flat_map, is_some, is_none, option_and_then}
+use Rattle.std.specs.List.{list_any}
+use Rattle.std.specs.Prelude.{◌||◌, Option, flat_map, is_some, is_none, option_and_then}
 use Rattle.lot_base.specs.declared.token.UnparkToken.{UnparkToken}
 use Rattle.lot_base.proofs.ValueLemmas.{with_value-same, with_value-other, with_value-alike}
 use Rattle.lot_exclusive.specs.declared.lot.Status.{Status}
@@ -37,6 +39,20 @@ times_taken-other n t ts other =
     let not_it : cond {A = ℕ} (t.number == n) 1 0 ≡ 0 = ap (λ b. cond b 1 0) (ne_eqb t.number n other) in
     omega (arith, times_taken-cons n t ts, not_it)
 
+-- a thread is among those that were taken
+abbrev pub is_among : ℕ → List TakenThread → Bool
+is_among number taken = list_any (λ thread. thread.number == number) taken
+
+-- one that a caller's section took is among those that all took
+pub is_among-callers : (n : ℕ) (callers : List Caller)
+    → list_any (λ (caller : Caller). is_among n (taken_in caller.section)) callers
+    ≡ is_among n (flat_map (λ (caller : Caller). taken_in caller.section) callers)
+is_among-callers n [] = refl
+is_among-callers n (caller ∷ callers) =
+    ap (λ b. is_among n (taken_in caller.section) || b) (is_among-callers n callers)
+    ∙ sym (list_any-append (λ (t : TakenThread). t.number == n) (taken_in caller.section)
+    (flat_map (λ (caller : Caller). taken_in caller.section) callers))
+
 module _ (n : ℕ) where
   -- who is not among the taken has the status that he had
   pub with_taken-none : (ts : List TakenThread) (f : ℕ → Status) → times_taken n ts ≡ 0 → with_taken ts f n ≡ f n
@@ -68,6 +84,23 @@ module _ (n : ℕ) where
       (λ (other : t.number ≢ n).
       ap is_taken (with_value-other (with_taken ts f) t.number (Taken t.token) n (λ same. other (sym same)))
       ∙ is_taken-among ts f (λ none. some (times_taken-other n t ts other ∙ none)))
+      (cases_eq t.number n)
+
+  -- and the taken have one of his number, or do not
+  pub is_among-none : (ts : List TakenThread) → times_taken n ts ≡ 0 → is_among n ts ≡ false
+  is_among-none [] none = refl
+  is_among-none (t ∷ ts) none =
+      ⊎_elim (λ (same : t.number ≡ n). absurd (omega (arith, times_taken-own n t ts same, none)))
+      (λ (other : t.number ≢ n). ap (λ b. b || is_among n ts) (ne_eqb t.number n other)
+      ∙ is_among-none ts (sym (times_taken-other n t ts other) ∙ none))
+      (cases_eq t.number n)
+
+  pub is_among-some : (ts : List TakenThread) → times_taken n ts ≢ 0 → is_among n ts ≡ true
+  is_among-some [] some = absurd (some refl)
+  is_among-some (t ∷ ts) some =
+      ⊎_elim (λ (same : t.number ≡ n). ap (λ b. b || is_among n ts) (eq-eqb t.number n same))
+      (λ (other : t.number ≢ n). ap (λ b. b || is_among n ts) (ne_eqb t.number n other)
+      ∙ is_among-some ts (λ none. some (times_taken-other n t ts other ∙ none)))
       (cases_eq t.number n)
 
   -- statuses that agree on a thread agree on it once these are taken

@@ -4,7 +4,7 @@ use Rattle.std.proofs.Common.{MatchBool}
 use Rattle.std.proofs.lemmas.List.{map-append}
 use Rattle.std.proofs.lemmas.List.Sums.{sum_by-append, sum_by-cons}
 use Rattle.std.specs.Prelude.{if◌then◌else◌}
-use Rattle.std.specs.List.{sum_by}
+use Rattle.std.specs.List.{list_any, sum_by}
 use Rattle.lot_base.specs.Waiting.{has_any}
 use Rattle.lot_exclusive.specs.declared.lot.Status.{Status}
 use Rattle.lot_exclusive.specs.declared.lot.Status.TheVariants as status
@@ -20,14 +20,15 @@ use Rattle.lot_interleaved.specs.declared.interleaved.FineStep.TheVariants.{Read
 use Rattle.lot_interleaved.specs.declared.interleaved.FineStep.TheVariants.{Retire, Acquire, Release}
 use Rattle.lot_interleaved.specs.InterleavedLaws.{InterleavedOutcomesAlternate, InterleavedThreadsComeBack}
 use Rattle.lot_interleaved.specs.InterleavedOutcomes.{unparked_in, returned_in, parks_in, ends_park_in}
-use Rattle.lot_interleaved.specs.InterleavedState.{FineState, Section, TakenThread}
+use Rattle.lot_interleaved.specs.InterleavedState.{Caller, FineState, Section, TakenThread}
 use Rattle.lot_interleaved.specs.InterleavedSteps.{IsCommit, IsFineStep, IsReadKey, section_of}
 use Rattle.lot_interleaved.specs.InterleavedView.{answered, answers_of, sequential_step}
-use Rattle.lot_interleaved.specs.InterleavedView.{sequential_status, sequential_steps, sequential_view, steps_of}
-use Rattle.lot_exclusive.specs.Status.{is_queued, is_parked}
+use Rattle.lot_interleaved.specs.InterleavedView.{sequential_steps, sequential_view, steps_of, taken_in}
+use Rattle.lot_exclusive.specs.Status.{is_parked}
 use Rattle.lot_exclusive.specs.Steps.{parks, ends_park}
 use Rattle.lot_exclusive.specs.Run.{IsRun, OutcomesAlternate}
 use Rattle.lot_exclusive.specs.Totals.{unparked_by, returned_by}
+use Rattle.lot_interleaved.proofs.HandedLemmas.{is_among}
 use Rattle.lot_interleaved.proofs.InterleavingLemmas.{IsRun-sequential, MatchOption-either}
 use Rattle.lot_exclusive.proofs.LawLemmas.{OutcomesAlternate-run}
 use Rattle.lot_exclusive.proofs.StepLemmas.{MatchBool-either}
@@ -45,21 +46,16 @@ tells_same : (s : FineState) (number : ℕ) (step : FineStep) (given : FineAnswe
 tells_same s number (Begin caller op) (fine.Answer answer.Misfit) = (refl, refl)
 tells_same s number (Begin caller op) (fine.Answer given) = (refl, refl)
 tells_same s number (Begin caller op) _ = (refl, refl)
-tells_same s number (Commit caller) (fine.Answer answer.Misfit) = (refl, refl)
 tells_same s number (Commit caller) _ = (refl, refl)
-tells_same s number (End caller) (fine.Answer answer.Misfit) = (refl, refl)
 tells_same s number (End caller) _ = (refl, refl)
-tells_same s number (Wake caller) (fine.Answer answer.Misfit) = (refl, refl)
 tells_same s number (Wake caller) _ = (refl, refl)
-tells_same s number (Deadline thread) (fine.Answer answer.Misfit) = (refl, refl)
-tells_same s number (Deadline thread) fine.Late = at (is_queued (sequential_status s thread))
+tells_same s number (Deadline thread) fine.Late = at (list_any (λ (caller : Caller). is_among thread (taken_in caller.section)) s.callers)
   where
     at : (b : Bool) → TellsSame number (Deadline thread) fine.Late
-        (if b then answered (machine.Deadline thread) answer.Late else [])
+        (if b then [] else answered (machine.Deadline thread) answer.Late)
     at true = (refl, refl)
     at false = (refl, refl)
 tells_same s number (Deadline thread) _ = (refl, refl)
-tells_same s number (ReadKey thread) (fine.Answer answer.Misfit) = (refl, refl)
 tells_same s number (ReadKey thread) _ = (refl, refl)
 tells_same s number (Look thread) (fine.Answer answer.Misfit) = (refl, refl)
 tells_same s number (Look thread) (fine.Answer (answer.TimedOut key last)) = (refl, refl)
@@ -168,71 +164,50 @@ module _ (f : Answer → ℕ) (of_misfit : f answer.Misfit ≡ 0) (of_late : f a
   quiet : (given : FineAnswer) → answer_in given ≡ answer.Misfit → f (answer_in given) ≡ 0
   quiet given is = ap f is ∙ of_misfit
 
+  -- the sum over one answer
+  sum-one : (given : Answer) → sum_by f (given ∷ []) ≡ f given
+  sum-one given = omega arith
+
+  sum-answered : (step : Step) (given : Answer) → sum_by f (answers_of (answered step given)) ≡ f given
+  sum-answered step answer.Misfit = sym of_misfit
+  sum-answered step given = sum-one given
+
   sum-told : (s : FineState) (step : FineStep) (given : FineAnswer) (new : FineState)
       → IsFineStep s step given new → sum_by f (answers_of (sequential_step s step given)) ≡ f (answer_in given)
-  sum-told s (Begin caller op) (fine.Answer answer.Misfit) new does = omega (arith, of_misfit)
-  sum-told s (Begin caller op) (fine.Answer given) new does = omega arith
-  sum-told s (Begin caller op) _ new does = omega (arith, of_misfit)
-  sum-told s (Commit caller) (fine.Answer answer.Misfit) new does = omega (arith, of_misfit)
-  sum-told s (Commit caller) given new does = none given (quiet given (quiet-commit s given new caller does))
-    where
-      none : (answered_so : FineAnswer) → f (answer_in answered_so) ≡ 0
-          → sum_by f (answers_of (sequential_step s (Commit caller) answered_so)) ≡ f (answer_in answered_so)
-      none (fine.Answer answer.Misfit) is = sym is
-      none _ is = sym is
-  sum-told s (End caller) given new does = none given (quiet given (quiet-end s given new caller does))
-    where
-      none : (answered_so : FineAnswer) → f (answer_in answered_so) ≡ 0
-          → sum_by f (answers_of (sequential_step s (End caller) answered_so)) ≡ f (answer_in answered_so)
-      none (fine.Answer answer.Misfit) is = sym is
-      none _ is = sym is
-  sum-told s (Wake caller) given new does = none given (quiet given (quiet-wake s given new caller does))
-    where
-      none : (answered_so : FineAnswer) → f (answer_in answered_so) ≡ 0
-          → sum_by f (answers_of (sequential_step s (Wake caller) answered_so)) ≡ f (answer_in answered_so)
-      none (fine.Answer answer.Misfit) is = sym is
-      none _ is = sym is
+  sum-told s (Begin caller op) (fine.Answer given) new does = sum-answered (machine.Unpark op) given
+  sum-told s (Begin caller op) _ new does = sym of_misfit
+  sum-told s (Commit caller) given new does = sym (quiet given (quiet-commit s given new caller does))
+  sum-told s (End caller) given new does = sym (quiet given (quiet-end s given new caller does))
+  sum-told s (Wake caller) given new does = sym (quiet given (quiet-wake s given new caller does))
   sum-told s (Deadline thread) given new does = none given (quiet given (quiet-deadline s given new thread does))
     where
       none : (answered_so : FineAnswer) → f (answer_in answered_so) ≡ 0
           → sum_by f (answers_of (sequential_step s (Deadline thread) answered_so)) ≡ f (answer_in answered_so)
-      none (fine.Answer answer.Misfit) is = sym is
-      none fine.Late is = at (is_queued (sequential_status s thread))
+      none fine.Late is = at (list_any (λ (caller : Caller). is_among thread (taken_in caller.section)) s.callers)
         where
-          at : (b : Bool) → sum_by f (answers_of (if b then answered (machine.Deadline thread) answer.Late else []))
+          at : (b : Bool) → sum_by f (answers_of (if b then [] else answered (machine.Deadline thread) answer.Late))
               ≡ f answer.Misfit
-          at true = omega (arith, of_late, of_misfit)
-          at false = omega (arith, of_misfit)
+          at true = sym of_misfit
+          at false = sum-one answer.Late ∙ of_late ∙ sym of_misfit
       none _ is = sym is
   sum-told s (ReadKey thread) given new does =
-      none given (quiet given (quiet-read_key s given new thread (s.threads_view.status thread) does))
-    where
-      none : (answered_so : FineAnswer) → f (answer_in answered_so) ≡ 0
-          → sum_by f (answers_of (sequential_step s (ReadKey thread) answered_so)) ≡ f (answer_in answered_so)
-      none (fine.Answer answer.Misfit) is = sym is
-      none _ is = sym is
-  sum-told s (Look thread) (fine.Answer answer.Misfit) new does = omega (arith, of_misfit)
-  sum-told s (Look thread) (fine.Answer (answer.TimedOut key last)) new does = omega arith
-  sum-told s (Look thread) (fine.Answer given) new does = omega arith
-  sum-told s (Look thread) _ new does = omega (arith, of_misfit)
-  sum-told s (Enter thread key valid park_token timed) (fine.Answer answer.Misfit) new does = omega (arith, of_misfit)
-  sum-told s (Enter thread key valid park_token timed) (fine.Answer given) new does = omega arith
-  sum-told s (Enter thread key valid park_token timed) _ new does = omega (arith, of_misfit)
-  sum-told s (Return thread) (fine.Answer answer.Misfit) new does = omega (arith, of_misfit)
-  sum-told s (Return thread) (fine.Answer given) new does = omega arith
-  sum-told s (Return thread) _ new does = omega (arith, of_misfit)
-  sum-told s Register (fine.Answer answer.Misfit) new does = omega (arith, of_misfit)
-  sum-told s Register (fine.Answer given) new does = omega arith
-  sum-told s Register _ new does = omega (arith, of_misfit)
-  sum-told s (Retire thread) (fine.Answer answer.Misfit) new does = omega (arith, of_misfit)
-  sum-told s (Retire thread) (fine.Answer given) new does = omega arith
-  sum-told s (Retire thread) _ new does = omega (arith, of_misfit)
-  sum-told s (Acquire thread key) (fine.Answer answer.Misfit) new does = omega (arith, of_misfit)
-  sum-told s (Acquire thread key) (fine.Answer given) new does = omega arith
-  sum-told s (Acquire thread key) _ new does = omega (arith, of_misfit)
-  sum-told s (Release thread key) (fine.Answer answer.Misfit) new does = omega (arith, of_misfit)
-  sum-told s (Release thread key) (fine.Answer given) new does = omega arith
-  sum-told s (Release thread key) _ new does = omega (arith, of_misfit)
+      sym (quiet given (quiet-read_key s given new thread (s.threads_view.status thread) does))
+  sum-told s (Look thread) (fine.Answer (answer.TimedOut key last)) new does = sum-one (answer.TimedOut key last)
+  sum-told s (Look thread) (fine.Answer given) new does = sum-answered (machine.Return thread) given
+  sum-told s (Look thread) _ new does = sym of_misfit
+  sum-told s (Enter thread key valid park_token timed) (fine.Answer given) new does =
+      sum-answered (machine.Enter thread key valid park_token timed) given
+  sum-told s (Enter thread key valid park_token timed) _ new does = sym of_misfit
+  sum-told s (Return thread) (fine.Answer given) new does = sum-answered (machine.Return thread) given
+  sum-told s (Return thread) _ new does = sym of_misfit
+  sum-told s Register (fine.Answer given) new does = sum-answered machine.Register given
+  sum-told s Register _ new does = sym of_misfit
+  sum-told s (Retire thread) (fine.Answer given) new does = sum-answered (machine.Retire thread) given
+  sum-told s (Retire thread) _ new does = sym of_misfit
+  sum-told s (Acquire thread key) (fine.Answer given) new does = sum-answered (machine.Acquire thread key) given
+  sum-told s (Acquire thread key) _ new does = sym of_misfit
+  sum-told s (Release thread key) (fine.Answer given) new does = sum-answered (machine.Release thread key) given
+  sum-told s (Release thread key) _ new does = sym of_misfit
 
   sums-told : (s : FineState) (steps : List FineStep) (answers : List FineAnswer) (last : FineState)
       (ran : IsRun IsFineStep s steps answers last) → sum_by f (answers_of (sequential_steps s steps answers last ran))

@@ -40,7 +40,7 @@ use Rattle.lot_interleaved.proofs.BeginLemmas.{begin-amounts, taken_nowhere}
 use Rattle.lot_interleaved.proofs.HandedLemmas.{None-from_test, times_taken-append, times_taken-other}
 use Rattle.lot_interleaved.proofs.RegisterLemmas.{IsRegister-amounts}
 use Rattle.lot_interleaved.proofs.AmountsLemmas.{Amounts, Amounts-none, Amounts-read, Amounts-retry, own_status}
-use Rattle.lot_interleaved.proofs.AmountsLemmas.{still_status}
+use Rattle.lot_interleaved.proofs.AmountsLemmas.{sequential_step-misfit, still_status}
 use Rattle.lot_interleaved.proofs.CallerAmountsLemmas.{Amounts-end, Amounts-wake, Amounts-commit}
 use Rattle.lot_interleaved.proofs.OutcomeAmountsLemmas.{Amounts-unparked, Amounts-timed_out}
 use Rattle.lot_interleaved.proofs.DeadlineAmountsLemmas.{Amounts-deadline}
@@ -113,7 +113,8 @@ module _ (s : FineState) (c : IsFineConsistent s) where
         (subst (λ a. Amounts s after (sequential_step s step a)) (sym answers) amounts)
 
     from_misfit : (step : FineStep) → IsFineMisfit s given new → Amounts s new (sequential_step s step given)
-    from_misfit step = from_gives step (Amounts-none s c)
+    from_misfit step =
+        from_gives step (subst (Amounts s s) (sym (sequential_step-misfit s step)) (Amounts-none s c))
 
     begin : (caller : ℕ) (op : _) → IsBegin s caller op given new
         → Amounts s new (sequential_step s (Begin caller op) given)
@@ -208,7 +209,8 @@ module _ (s : FineState) (c : IsFineConsistent s) where
         (λ _ (answers, view_is).
         subst (λ m. Amounts s (record s { threads_view = m }) (sequential_step s step (fine.Answer by_rule)))
         (sym view_is)
-        (subst (λ a. Amounts s s (sequential_step s step (fine.Answer a))) (sym answers) (Amounts-none s c)))
+        (subst (λ a. Amounts s s (sequential_step s step (fine.Answer a))) (sym answers)
+        (subst (Amounts s s) (sym (sequential_step-misfit s step)) (Amounts-none s c))))
         does)
         gives
 

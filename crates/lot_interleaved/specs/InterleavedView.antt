@@ -3,6 +3,7 @@
 use Rattle.std.specs.Prelude.{◌≡◌, ℕ, ◌+◌, ◌≤◌, ◌==◌, Bool, false, IsTrue, is_some, Option, Some, None, List, ◌∷◌, ◌++◌}
 use Rattle.std.specs.Prelude.{[]}
 use Rattle.std.specs.Prelude.{All, count_by, flat_map, map, if◌then◌else◌}
+use Rattle.std.specs.List.{list_any}
 use Rattle.lot_base.specs.Place.{place_of}
 use Rattle.lot_base.specs.Waiting.{with_value}
 use Rattle.lot_base.specs.declared.token.UnparkToken.{UnparkToken}
@@ -81,17 +82,18 @@ pub record IsFineConsistent (s : FineState) : Type 0 where
   -- section's end
   pub held : All (HoldsForTaken s) s.callers
 
--- one step of the machine with its answer
+-- a step of the machine with its answer, if it fitted
 abbrev pub answered : Step → Answer → List (Step × Answer)
+answered step answer.Misfit = []
 answered step given = (step, given) ∷ []
 
--- the sequential step of an interleaved step, done in this state and answered so, if there is one: a deadline is one
--- only where the thread stands in a list
+-- the sequential step of an interleaved step, done in this state and answered so, if there is one: a deadline is none
+-- where an open section has the thread
 abbrev pub sequential_step : FineState → FineStep → FineAnswer → List (Step × Answer)
-sequential_step s _ (fine.Answer answer.Misfit) = []
 sequential_step s (Begin caller op) (fine.Answer given) = answered (machine.Unpark op) given
 sequential_step s (Deadline thread) fine.Late =
-    if is_queued (sequential_status s thread) then answered (machine.Deadline thread) answer.Late else []
+    if list_any (λ caller. list_any (λ taken. taken.number == thread) (taken_in caller.section)) s.callers then []
+    else answered (machine.Deadline thread) answer.Late
 sequential_step s (Look thread) (fine.Answer (answer.TimedOut key last)) =
     answered (machine.Resolve thread) (answer.TimedOut key last)
 sequential_step s (Look thread) (fine.Answer given) = answered (machine.Return thread) given

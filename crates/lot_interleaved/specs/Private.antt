@@ -1,5 +1,5 @@
 pub mod FineCaller
 pub mod FineSection
 pub mod FineThread
-pub mod FineTold
+pub mod FineCopies
 pub mod FineAnswers

@@ -9,7 +9,6 @@ ghost use Rattle.lot_base.specs.Place.{IsTableSize, place_of};
 ghost use Rattle.lot_interleaved.specs.InterleavedSteps.{holds, keys_of};
 ghost use Rattle.lot_interleaved.specs.InterleavedView.{taken_in};
 ghost use Rattle.lot_interleaved.specs.Private.FineCaller.{places_of, taken_thread, taken_threads};
-ghost use Rattle.lot_interleaved.specs.Private.FineTold.{is_among};
 
 use lot_base::bucket::place;
 use lot_base::queue::{Node, Queue};
@@ -133,7 +132,8 @@ impl Caller {
 
     // Whether the open section has the node of this thread.
     pub(super) fn has_taken(&self, number: usize) -> bool
-        ensures { result ≡ is_among number (taken_in self.now.section) }
+        ensures { result
+            ≡ list_any (λ taken. taken.number == number) (taken_in self.now.section) }
     {
         match &self.section {
             Some(section) => section

@@ -6,13 +6,12 @@ ghost use Rattle.std.specs.Option.{option_to_list};
 ghost use Rattle.lot_interleaved.specs.Copies.{AreCopies};
 ghost use Rattle.lot_interleaved.specs.FineLot.{fine_state};
 ghost use Rattle.lot_interleaved.specs.InterleavedView.{sequential_step, steps_of};
-ghost use Rattle.lot_interleaved.specs.Private.FineTold.{IsCopyIn, is_with_caller};
+ghost use Rattle.lot_interleaved.specs.Private.FineCopies.{IsCopyIn};
 ghost use Rattle.lot_interleaved.specs.Private.FineAnswers.{answer_for};
 ghost use Rattle.lot_interleaved.specs.InterleavedSteps.{IsFineStep, can_begin, keys_of, is_held, is_any_open, is_full, is_growth_blocked};
 
 use super::caller::{Caller, Held};
 use super::sections::unpark;
-use super::told::tell;
 use super::{FineAnswer, FineLot, FineStep};
 use lot_base::bucket::place;
 use lot_base::queue::Node;
@@ -30,26 +29,9 @@ impl FineLot {
             (steps_of (sequential_step (fine_state self.old) step.now result.0))
             (option_to_list result.1) }
     {
-        let taken = self.is_of_taken(step);
         let given = self.apply(step);
-        (given, tell(step, op, given, taken))
-    }
-
-    // Whether the step is a deadline of a thread that an open section has.
-    fn is_of_taken(&self, step: &FineStep) -> bool
-        ensures { (thread : ℕ) → step.now ≡ FineStep.Deadline thread
-            → result ≡ is_with_caller thread (fine_state self.now).callers }
-    {
-        match step {
-            FineStep::Deadline { thread } => self.is_with_caller(*thread),
-            _ => false,
-        }
-    }
-
-    fn is_with_caller(&self, thread: usize) -> bool
-        ensures { result ≡ is_with_caller thread (fine_state self.now).callers }
-    {
-        self.callers.iter().any(|caller| caller.has_taken(thread))
+        let told = self.sequential_step(step, op, given);
+        (given, told)
     }
 
     // Does the step, with closures that answer as the step says, and answers what it gave.

@@ -1,11 +1,15 @@
 //! The sequential steps to which an interleaved run amounts.
 
-ghost use Rattle.std.specs.Prelude.{◌≡◌, ◌+◌, ◌<◌, ◌≤◌, ◌++◌, ℕ, IfOk, OnErr, length, vec_capacity, vec_len, if◌then◌else◌};
+ghost use Rattle.std.specs.Prelude.{◌≡◌, ◌+◌, ◌<◌, ◌≤◌, ◌++◌, ◌==◌, IfOk, OnErr, length, vec_capacity, vec_len};
+ghost use Rattle.std.specs.List.{list_any};
 ghost use Rattle.std.specs.Option.{option_to_list};
 ghost use Rattle.lot_interleaved.specs.Copies.{AreCopies, IsCopyOfOp};
-ghost use Rattle.lot_interleaved.specs.Private.FineTold.{AreCopiesIn, IsCopyIn, is_time_out, told, told_by, told_late};
+ghost use Rattle.lot_interleaved.specs.FineLot.{fine_state};
+ghost use Rattle.lot_interleaved.specs.InterleavedState.{FineState};
+ghost use Rattle.lot_interleaved.specs.InterleavedView.{sequential_step, steps_of, taken_in};
+ghost use Rattle.lot_interleaved.specs.Private.FineCopies.{AreCopiesIn, IsCopyIn};
 
-use super::{FineAnswer, FineStep};
+use super::{FineAnswer, FineLot, FineStep};
 use lot_base::token::NoMemory;
 use lot_exclusive::schedule::{Answer, Op, Step};
 use std::alloc::Global;
@@ -82,43 +86,71 @@ pub(super) fn push_if_any(steps: &mut Vec<Step>, step: Option<Step>)
     }
 }
 
-// The sequential step to which a step with this answer amounts; `taken` says whether an open
-// section has the thread of a deadline.
-pub(super) fn tell(step: &FineStep, op: Option<Op>, given: FineAnswer, taken: bool) -> Option<Step>
-    requires { IsCopyIn step.now op }
-    ensures { AreCopies (told step.now given taken) (option_to_list result) }
-{
-    match given {
-        FineAnswer::Answer(answer) => tell_answered(step, op, answer),
-        FineAnswer::Late => tell_late(step, taken),
-        FineAnswer::Committed(_)
-        | FineAnswer::Ended
-        | FineAnswer::Woken
-        | FineAnswer::Read(_)
-        | FineAnswer::Retry
-        | FineAnswer::Blocked => None,
+impl FineLot {
+    // The sequential step to which a step amounts that was answered so and left the lot as it is.
+    // `op` is the copy of its operation.
+    pub(super) fn sequential_step(
+        &self,
+        step: &FineStep,
+        op: Option<Op>,
+        given: FineAnswer,
+    ) -> Option<Step>
+        requires { IsCopyIn step.now op }
+        ensures { AreCopies (steps_of (sequential_step (fine_state self.now) step.now given))
+            (option_to_list result) }
+    {
+        match given {
+            FineAnswer::Answer(answer) => answered_step(step, op, answer),
+            FineAnswer::Late => self.passed_deadline(step),
+            FineAnswer::Committed(_)
+            | FineAnswer::Ended
+            | FineAnswer::Woken
+            | FineAnswer::Read(_)
+            | FineAnswer::Retry
+            | FineAnswer::Blocked => None,
+        }
+    }
+
+    // Only the deadline of a thread that no open section has is one.
+    fn passed_deadline(&self, step: &FineStep) -> Option<Step>
+        ensures { AreCopies
+            (steps_of (sequential_step (fine_state self.now) step.now FineAnswer.Late))
+            (option_to_list result) }
+    {
+        match step {
+            FineStep::Deadline { thread } if !self.is_with_caller(*thread) => {
+                Some(Step::Deadline { thread: *thread })
+            }
+            _ => None,
+        }
+    }
+
+    // Whether an open section has the thread.
+    fn is_with_caller(&self, thread: usize) -> bool
+        ensures { result ≡ list_any
+            (λ caller. list_any (λ taken. taken.number == thread) (taken_in caller.section))
+            (fine_state self.now).callers }
+    {
+        self.callers.iter().any(|caller| caller.has_taken(thread))
     }
 }
 
-fn tell_late(step: &FineStep, taken: bool) -> Option<Step>
-    ensures { AreCopies (told_late step.now taken) (option_to_list result) }
-{
-    match step {
-        FineStep::Deadline { thread } if !taken => Some(Step::Deadline { thread: *thread }),
-        _ => None,
-    }
-}
-
-fn tell_answered(step: &FineStep, op: Option<Op>, given: Answer) -> Option<Step>
+// The sequential step to which a step amounts that has an answer of the machine, in any state.
+fn answered_step(step: &FineStep, op: Option<Op>, given: Answer) -> Option<Step>
     requires { IsCopyIn step.now op }
-    ensures { AreCopies (told_by step.now given) (option_to_list result) }
+    ensures { (s : FineState) → AreCopies
+        (steps_of (sequential_step s step.now (FineAnswer.Answer given)))
+        (option_to_list result) }
 {
     if let Answer::Misfit = given {
         return None;
     }
     match step {
         FineStep::Begin { .. } => Some(Step::Unpark(op?)),
-        FineStep::Look { thread } => Some(outcome(*thread, given)),
+        FineStep::Look { thread } => match given {
+            Answer::TimedOut { .. } => Some(Step::Resolve { thread: *thread }),
+            _ => Some(Step::Return { thread: *thread }),
+        },
         FineStep::Enter {
             thread,
             key,
@@ -148,15 +180,5 @@ fn tell_answered(step: &FineStep, op: Option<Op>, given: Answer) -> Option<Step>
         | FineStep::Deadline { .. }
         | FineStep::ReadKey { .. }
         | FineStep::Commit { .. } => None,
-    }
-}
-
-// The step by which a park ends that a look ended so.
-fn outcome(thread: usize, given: Answer) -> Step
-    ensures { result ≡ (if is_time_out given then Step.Resolve thread else Step.Return thread) }
-{
-    match given {
-        Answer::TimedOut { .. } => Step::Resolve { thread },
-        _ => Step::Return { thread },
     }
 }

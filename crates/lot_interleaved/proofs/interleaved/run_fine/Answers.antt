@@ -5,7 +5,7 @@ use Rattle.std.proofs.lemmas.List.{take_all, take_more}
 use Rattle.std.specs.Option.{option_to_list}
 use Rattle.lot_interleaved.specs.declared.interleaved.FineStep.{FineStep}
 use Rattle.lot_interleaved.specs.FineLot.{fine_state}
-use Rattle.lot_interleaved.specs.Private.FineTold.{AreCopiesIn}
+use Rattle.lot_interleaved.specs.Private.FineCopies.{AreCopiesIn}
 use Rattle.lot_interleaved.proofs.CopyLemmas.{AmountsTo-told, Tells, Tells-push, copies-left}
 use Rattle.lot_interleaved.proofs.interleaved.run_fine.Goals as goal
 

@@ -2,7 +2,7 @@ use Rattle.std.proofs.Common.{◌≡◌, ◌≤◌, ◌+◌, ◌-◌, ◌++◌, 
 use Rattle.lot_interleaved.specs.declared.interleaved.FineAnswer.{FineAnswer}
 use Rattle.lot_exclusive.specs.declared.schedule.Step.{Step}
 use Rattle.lot_interleaved.specs.FineLot.{fine_state}
-use Rattle.lot_interleaved.specs.Private.FineTold.{AreCopiesIn}
+use Rattle.lot_interleaved.specs.Private.FineCopies.{AreCopiesIn}
 use Rattle.lot_interleaved.proofs.CopyLemmas.{Tells}
 use Rattle.lot_interleaved.proofs.interleaved.run_fine.Given as goal
 

@@ -1,5 +1,5 @@
 use Rattle.std.proofs.Common.{take}
-use Rattle.lot_interleaved.specs.Private.FineTold.{AreCopiesIn}
+use Rattle.lot_interleaved.specs.Private.FineCopies.{AreCopiesIn}
 use Rattle.lot_interleaved.proofs.interleaved.told.copied_ops.Given as goal
 
 -- the steps so far are copied

@@ -2,7 +2,7 @@ use Rattle.std.proofs.Common.{rules, ◌≡◌, refl}
 use Rattle.lot_base.proofs.FoldLemmas.{Folds-same}
 use Rattle.lot_base.specs.Node.{fields}
 use Rattle.lot_interleaved.specs.Private.FineCaller.{taken_threads}
-use Rattle.lot_interleaved.specs.Private.FineTold.{is_among}
+use Rattle.lot_interleaved.proofs.HandedLemmas.{is_among}
 use Rattle.lot_interleaved.proofs.ToldLemmas.{is_among-next}
 use Rattle.lot_interleaved.proofs.interleaved.caller.Caller.has_taken.Goals as goal
 
