@@ -24,7 +24,7 @@ use Rattle.lot_interleaved.specs.InterleavedSteps.{can_begin, after_begin, holds
 use Rattle.lot_interleaved.specs.InterleavedView.{sequential_view, sequential_status, sequential_step, taken_of}
 use Rattle.lot_interleaved.specs.InterleavedView.{taken_in}
 use Rattle.lot_interleaved.specs.InterleavedView.{times_taken, with_taken, with_slot, once_if, HoldsForTaken}
-use Rattle.lot_interleaved.specs.InterleavedView.{IsFineConsistent, answered}
+use Rattle.lot_interleaved.specs.InterleavedView.{IsFineConsistent}
 use Rattle.lot_exclusive.specs.Machine.{Machine, Waiter, MatchesStatus, StandsAt, times_in, entries_of}
 use Rattle.lot_exclusive.specs.Machine.{statuses_with_taken, after_unpark, after_requeue}
 use Rattle.lot_exclusive.specs.Status.{is_queued, is_taken}

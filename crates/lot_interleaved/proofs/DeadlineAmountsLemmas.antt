@@ -1,5 +1,5 @@
 -- What a deadline amounts to.
-use Rattle.std.proofs.Common.{◌≡◌, ◌≢◌, ℕ, true, false, []}
+use Rattle.std.proofs.Common.{◌≡◌, ◌≢◌, ℕ, true, []}
 use Rattle.std.proofs.Common.{refl, sym, ap, ◌∙◌, subst, arith, ⊎_elim, None}
 use Rattle.std.proofs.lemmas.Bool.{cases_eq, cond-true, cond-false, false≢true}
 use Rattle.std.specs.List.{list_any}
