@@ -4,7 +4,9 @@ use Rattle.std.proofs.Common.{◌++◌, length, map, take, drop, get_or, length-
 use Rattle.std.proofs.Common.{position, refl, sym, ap, ◌∙◌, arith}
 use Rattle.std.specs.Prelude.{decimal, All}
 use Rattle.std.specs.List.{onto_first, join_with_byte, position_or_len, AllByRecursion}
-use Rattle.std.proofs.lemmas.Bool.{ne_eqb}
+use Rattle.std.specs.Str.{bytes_eq}
+use Rattle.std.proofs.lemmas.Bool.{ne_eqb, false≢true}
+use Rattle.std.proofs.lemmas.Slice.Eq.{bytes_eq-Decides}
 use Rattle.std.proofs.lemmas.List.Splits.{slice_split_none, slice_split_at, slice_split_first}
 use Rattle.std.proofs.lemmas.List.Splits.{join_with_byte-slice_split}
 use Rattle.std.proofs.lemmas.Option.{cond_some}
@@ -156,3 +158,12 @@ pub long-ends : (n : ℕ) (front : List ℕ) (last : ℕ) → 10 ≤ n → n < 2
     → (front ≡ decimal (n / 10)) × (last ≡ 48 + n % 10)
 long-ends n front last high fits is =
     same-ends front (decimal (n / 10)) last (48 + n % 10) (is ∙ decimal_step n high fits)
+
+-- texts that begin with neither of two words
+pub begins_with_neither : (word one two : List ℕ) (rest : List (List ℕ)) → bytes_eq word one ≡ false
+    → bytes_eq word two ≡ false → (b : Bool) (texts : List (List ℕ)) → word ∷ rest ≡ (if b then one else two) ∷ texts
+    → ⊥
+begins_with_neither word one two rest not_one not_two true texts same =
+    false≢true (sym not_one ∙ (bytes_eq-Decides word one).1 (ap (λ l. get_or l 0 []) same))
+begins_with_neither word one two rest not_one not_two false texts same =
+    false≢true (sym not_two ∙ (bytes_eq-Decides word two).1 (ap (λ l. get_or l 0 []) same))
