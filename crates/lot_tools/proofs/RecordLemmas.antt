@@ -1,6 +1,7 @@
 -- A record before and after a step.
 use Rattle.std.proofs.Common.{◌≡◌, ◌≢◌, ℕ, ◌+◌, ◌≤◌, ◌<◌, [], ◌∷◌, ◌++◌, length, List, refl, sym, ap, ◌∙◌, subst, arith}
-use Rattle.std.proofs.Common.{replicate, ⊎_elim, length-append, Bool, true, false, if◌then◌else◌}
+use Rattle.std.specs.Prelude.{Ok}
+use Rattle.std.proofs.Common.{replicate, ⊎_elim, length-append, append-nil, Bool, true, false, if◌then◌else◌}
 use Rattle.std.proofs.lemmas.Bool.{cases_lt, false≢true}
 use Rattle.std.proofs.lemmas.List.{map-append, length-replicate}
 use Rattle.std.proofs.lemmas.List.Sums.{fold-append}
@@ -134,3 +135,30 @@ module _ (old : RecordState) (is : IsRecord old) (step : Step) (given : Answer) 
   IsRecorded-grown roomy fitting journal same size =
       IsRecorded-result_for old step given (record_of lot journal old.capacity) roomy does
       (same ∙ ap (λ entries. old.journal ++ entries) (sym (entries_for-fitting step given fitting))) refl size
+
+  -- a step that does not fit leaves the record as it was
+  pub IsRecord-misfit : given ≡ answer.Misfit → IsRecord (record_of lot old.journal old.capacity)
+  IsRecord-misfit misfit = record {
+    replays = subst (λ m. Replays m.max_threads old.journal m) (sym (keeps.same misfit)) is.replays;
+    room = subst (λ m. length old.journal + sum (asides_of m.max_threads old.journal) ≤ old.capacity)
+        (sym (keeps.same misfit)) is.room;
+    capacity = is.capacity;
+  }
+
+  pub asides_of-misfit : given ≡ answer.Misfit
+      → asides_of (machine old.lot).max_threads old.journal ≡ asides_of (machine lot).max_threads old.journal
+  asides_of-misfit misfit = ap (λ m. asides_of m.max_threads old.journal) (sym (keeps.same misfit))
+
+  pub IsRecorded-misfit : (LacksRoom old step → ⊥) → given ≡ answer.Misfit
+      → IsSizeAfter given (threads_of (machine lot)) (length old.lot.buckets) (length lot.buckets)
+      → IsRecorded old step (Ok answer.Misfit) (record_of lot old.journal old.capacity)
+  IsRecorded-misfit roomy misfit size = (
+    roomy,
+    answer.Misfit,
+    refl,
+    subst (λ told. IsStep (machine old.lot) step told (machine lot)) misfit does,
+    sym (append-nil old.journal),
+    refl,
+    subst (λ told. IsSizeAfter told (threads_of (machine lot)) (length old.lot.buckets) (length lot.buckets)) misfit
+        size,
+  )

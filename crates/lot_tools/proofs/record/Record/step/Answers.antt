@@ -1,12 +1,35 @@
 use Rattle.std.proofs.Common.{◌∷◌, [], ◌∙◌, sym, ap, subst, arith}
 use Rattle.std.proofs.lemmas.List.{length-append}
+use Rattle.std.specs.Prelude.{Ok}
 use Rattle.std.specs.Result.{is_ok}
+use Rattle.lot_exclusive.specs.declared.schedule.Answer.TheVariants.{Misfit}
 use Rattle.lot_exclusive.specs.Lot.{machine}
 use Rattle.lot_tools.specs.Journal.{asides_of, set_aside_by, with_aside}
 use Rattle.lot_tools.specs.Record.{IsRecord, IsRecorded}
 use Rattle.lot_tools.proofs.RecordLemmas.{record_of, has_room, journal-pushed, pushed}
 use Rattle.lot_tools.proofs.RecordLemmas.{IsRecord-pushed, IsRecord-grown, IsRecorded-grown, asides_of-pushed}
+use Rattle.lot_tools.proofs.RecordLemmas.{IsRecord-misfit, asides_of-misfit, IsRecorded-misfit}
 use Rattle.lot_tools.proofs.record.Record.step.Goals as goal
+
+pub invariant_of-self : goal.invariant_of-self
+invariant_of-self c =
+    let old = record_of c.self.inside.lot c.self.inside.journal.items c.self.inside.capacity in (
+      IsRecord-misfit old c.self.invariant.0 c.args.step c.apply-answer.result c.apply-answer.new.self
+          c.apply-answer.ensures.step c.in-Misfit.is,
+      c.self.invariant.1
+          ∙ asides_of-misfit old c.self.invariant.0 c.args.step c.apply-answer.result c.apply-answer.new.self
+          c.apply-answer.ensures.step c.in-Misfit.is,
+      c.self.invariant.2,
+    )
+
+pub returns-in-Misfit : goal.returns-in-Misfit
+returns-in-Misfit c =
+    let old = record_of c.self.inside.lot c.self.inside.journal.items c.self.inside.capacity in
+    let roomy = has_room old _ c.args.step c.self.view_is c.if-lacks_room.ensures.1 in
+    let now = record_of c.apply-answer.new.self c.self.inside.journal.items c.self.inside.capacity in
+    subst (λ state. IsRecorded state c.args.step (Ok Misfit) now) c.self.view_is
+    (IsRecorded-misfit old c.self.invariant.0 c.args.step c.apply-answer.result c.apply-answer.new.self
+    c.apply-answer.ensures.step roomy c.in-Misfit.is c.apply-answer.ensures.size)
 
 pub unwrap-requires : goal.unwrap-requires
 unwrap-requires c =
