@@ -1,7 +1,19 @@
-use Rattle.std.proofs.Common.{◌<◌, length, arith}
+use Rattle.std.proofs.Common.{◌<◌, ◌∷◌, [], length, length-append, arith}
+use Rattle.std.proofs.KnownBytes.{Consumes-trans}
 use Rattle.lot_tools.specs.declared.script.input.TheConstants.{MAX_LINE}
-use Rattle.lot_tools.proofs.LineLemmas.{read_to_feed, read_to_end, read_too_much, some_unless_empty}
+use Rattle.lot_tools.proofs.LineLemmas.{HasNoFeed-push, read_to_feed, read_to_end, read_too_much, some_unless_empty}
 use Rattle.lot_tools.proofs.script.input.read_line.Goals as goal
+
+pub loop-preserved : goal.loop-preserved
+loop-preserved g c =
+    let items = c.loop.line.items in
+    let byte = c.in-Some.byte in
+    let taken = rw c.in-Some.is at c.in_ok-byte.ensures.byte in
+    rw c.in_ok-push.ensures.items (
+      HasNoFeed-push items byte c.loop.invariant.0 c.if-byte-eq10.false,
+      omega (arith, length-append items (byte ∷ []), c.loop.invariant.1),
+      Consumes-trans _ _ _ items (byte ∷ []) c.loop.invariant.2 taken,
+    )
 
 pub returns-in_default-clause-read : goal.returns-in_default-clause-read
 returns-in_default-clause-read g c =
