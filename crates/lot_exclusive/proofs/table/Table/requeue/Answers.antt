@@ -1,4 +1,5 @@
-use Rattle.std.proofs.Common.{◌≡◌, ◌≢◌, ◌∙◌, ap, sym, subst, length, slice_set, []}
+use Rattle.std.proofs.Common.{◌≡◌, ◌≢◌, ◌∙◌, ℕ, List, ap, refl, sym, subst, length, slice_set, []}
+use Rattle.std.proofs.Math.ListN.{length-set}
 use Rattle.lot_base.proofs.RequeueLemmas.{All-left}
 use Rattle.lot_base.specs.BucketState.{BucketState}
 use Rattle.lot_base.specs.Place.{IsTableSize, place_of}
@@ -11,6 +12,28 @@ use Rattle.lot_exclusive.specs.Represents.{nodes_in}
 use Rattle.lot_exclusive.proofs.RequeueRowLemmas.{IsRowStep-requeue_one, IsRowStep-requeue_two, second_taken}
 use Rattle.lot_exclusive.proofs.RequeueRowLemmas.{second_place}
 use Rattle.lot_exclusive.proofs.table.Table.requeue.Goals as goal
+
+-- a row keeps its length
+length-sets : (row : List BucketState) (p q r : ℕ) (a b d : BucketState)
+    → length (slice_set (slice_set (slice_set row p a) q b) r d) ≡ length row
+length-sets row p q r a b d =
+    length-set (slice_set (slice_set row p a) q b) r d ∙ length-set (slice_set row p a) q b ∙ length-set row p a
+
+pub requeue_one-done-requires-clause-from : goal.requeue_one-done-requires-clause-from
+requeue_one-done-requires-clause-from g c =
+    let take = c.take-source.ensures in
+    ap (place_of c.args.from) take.size ∙ sym take.place
+
+pub requeue_one-done-requires-clause-to : goal.requeue_one-done-requires-clause-to
+requeue_one-done-requires-clause-to g c =
+    let sized : c.take-source.result.size ≡ c.size.result = sym c.size.ensures.value in
+    ap (place_of c.args.to) sized ∙ sym c.place.ensures.value ∙ c.if-place.true ∙ c.place-2.ensures.value
+
+pub requeue_one-done-requires-clause-validate : goal.requeue_one-done-requires-clause-validate
+requeue_one-done-requires-clause-validate g c = c.requires.validate
+
+pub requeue_one-done-requires-clause-callable : goal.requeue_one-done-requires-clause-callable
+requeue_one-done-requires-clause-callable g c = rw c.take-source.ensures.taken c.requires.callable
 
 pub returns-then-place-clause-requeued : goal.returns-then-place-clause-requeued
 returns-then-place-clause-requeued g c =
@@ -40,6 +63,69 @@ returns-then-place-clause-requeued g c =
           c.requeue_one-done.new.moved c.requeue_one-done.result.0 c.requeue_one-done.result.1) waiters
           done.requeued.called;
     })
+
+pub requeue_two-done-requires-clause-size : goal.requeue_two-done-requires-clause-size
+requeue_two-done-requires-clause-size g c =
+    let take = c.take-source.ensures in
+    (rw take.left at c.take-target.ensures.size)
+    ∙ length-set c.args.self.now.cells c.take-source.result.place (record c.take-source.result { nodes = [] })
+    ∙ sym take.size
+
+pub requeue_two-done-requires-clause-places : goal.requeue_two-done-requires-clause-places
+requeue_two-done-requires-clause-places g c =
+    let row = c.args.self.now.cells in
+    let source = c.take-source.result in
+    let to = c.args.to in
+    let take = c.take-source.ensures in
+    let placed : c.take-target.result.place ≡ place_of to (length row) =
+    second_place row source.place (record source { nodes = [] }) c.take-target.result.place to
+    (rw take.left at c.take-target.ensures.place) in
+    λ same. c.if-place.false (c.place.ensures.value ∙ ap (place_of to) (c.size.ensures.value ∙ take.size) ∙ sym placed
+    ∙ same ∙ sym c.place-2.ensures.value)
+
+pub requeue_two-done-requires-clause-from : goal.requeue_two-done-requires-clause-from
+requeue_two-done-requires-clause-from g c =
+    ap (place_of c.args.from) c.take-source.ensures.size ∙ sym c.take-source.ensures.place
+
+pub requeue_two-done-requires-clause-to : goal.requeue_two-done-requires-clause-to
+requeue_two-done-requires-clause-to g c =
+    ap (place_of c.args.to) c.take-target.ensures.size ∙ sym c.take-target.ensures.place
+
+pub requeue_two-done-requires-clause-callable : goal.requeue_two-done-requires-clause-callable
+requeue_two-done-requires-clause-callable g c = rw c.take-source.ensures.taken c.requires.callable
+
+pub requeue_two-done-requires-clause-validate : goal.requeue_two-done-requires-clause-validate
+requeue_two-done-requires-clause-validate g c = c.requires.validate
+
+pub put-requires : goal.put-requires
+put-requires g c =
+    let source = c.take-source.result in
+    rw c.take-source.ensures.left
+    (c.requeue_one-done.ensures.place.size ∙ c.take-source.ensures.size
+    ∙ sym (length-set c.args.self.now.cells source.place (record source { nodes = [] })))
+
+pub put-requires-2 : goal.put-requires-2
+put-requires-2 g c =
+    let target = c.take-target.result in
+    rw c.take-target.ensures.left
+    (c.requeue_two-done.ensures.place.1.size ∙ c.take-target.ensures.size
+    ∙ sym (length-set c.take-source.new.self.cells target.place (record target { nodes = [] })))
+
+pub put-requires-3 : goal.put-requires-3
+put-requires-3 g c =
+    let take = c.take-source.ensures in
+    rw (c.put-2.ensures, c.take-target.ensures.left, take.left)
+    (c.requeue_two-done.ensures.place.0.size ∙ take.size
+    ∙ sym (length-sets c.args.self.now.cells c.take-source.result.place c.take-target.result.place
+    c.requeue_two-done.new.target.place (record c.take-source.result { nodes = [] })
+    (record c.take-target.result { nodes = [] }) c.requeue_two-done.new.target))
+
+pub returns-then-place-clause-numbers : goal.returns-then-place-clause-numbers
+returns-then-place-clause-numbers g c = rw (c.put.ensures, c.take-source.ensures.left) refl
+
+pub returns-clause-numbers : goal.returns-clause-numbers
+returns-clause-numbers g c =
+    rw (c.put-3.ensures, c.put-2.ensures, c.take-target.ensures.left, c.take-source.ensures.left) refl
 
 pub returns-clause-requeued : goal.returns-clause-requeued
 returns-clause-requeued g c =
