@@ -3,7 +3,7 @@ use Rattle.std.proofs.Common.{◌≡◌, ◌≢◌, ℕ, ◌<◌, Bool, false, L
 use Rattle.std.proofs.Common.{◌++◌, length, map, refl, sym, ap, ◌∙◌, subst, ⊎_elim, ◌⊎◌, inl, inr, arith}
 use Rattle.std.proofs.Common.{slice_set}
 use Rattle.std.proofs.Math.ListN.{length-set}
-use Rattle.std.proofs.lemmas.List.{map-append}
+use Rattle.std.proofs.lemmas.List.{map-append, set-get_or}
 use Rattle.lot_base.specs.NodeFields.{NodeFields}
 use Rattle.lot_base.specs.Place.{IsTableSize}
 use Rattle.lot_base.specs.Waiting.{with_value}
@@ -19,7 +19,7 @@ use Rattle.lot_exclusive.specs.Machine.{with_status, after_enter}
 use Rattle.lot_exclusive.specs.Machine.{after_retire, after_acquire, after_release, with_records}
 use Rattle.lot_exclusive.specs.Records.{times_recorded, one_more, one_less}
 use Rattle.lot_exclusive.specs.LotState.{LotState, ThreadState}
-use Rattle.lot_exclusive.specs.Lot.{thread_at, statuses, thread_keys, thread_records, machine, use_of}
+use Rattle.lot_exclusive.specs.Lot.{thread_at, free_thread, statuses, thread_keys, thread_records, machine, use_of}
 use Rattle.lot_exclusive.specs.Lot.{uses, IsLot}
 use Rattle.lot_exclusive.specs.Represents.{with_node, waiter_of, waiters_in, Represents}
 use Rattle.lot_exclusive.specs.Table.{IsRowStep}
@@ -163,6 +163,12 @@ module _ (lot : LotState) (number : ℕ) (thread after : ThreadState) (status : 
   uses-status used =
       ap (λ (t : ThreadState). uses (slice_set lot.threads number t)) now
       ∙ uses-same lot.threads number _ (used ∙ ap (λ (t : ThreadState). use_of t.status) read)
+
+-- a thread that is written as it was read changes nothing
+pub threads-kept : (threads : List ThreadState) (number : ℕ) (thread after : ThreadState)
+    → thread ≡ thread_at threads number → after ≡ thread → slice_set threads number after ≡ threads
+threads-kept threads number thread after read kept =
+    ap (slice_set threads number) (kept ∙ read) ∙ set-get_or threads number (free_thread number)
 
 -- a running thread, as it was read, retires
 pub IsLotStep-after_retire : (lot : LotState) (number : ℕ) (thread after : ThreadState) → IsLot lot

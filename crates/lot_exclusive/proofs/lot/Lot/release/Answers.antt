@@ -1,10 +1,10 @@
-use Rattle.std.proofs.Common.{◌≡◌, ◌∙◌, sym, refl, slice_set}
+use Rattle.std.proofs.Common.{rules, ◌≡◌, ◌∙◌, sym, refl, slice_set}
 use Rattle.lot_exclusive.specs.declared.lot.Status.TheVariants.{Running}
 use Rattle.lot_exclusive.specs.Machine.{after_release}
 use Rattle.lot_exclusive.specs.Lot.{machine}
-use Rattle.lot_exclusive.proofs.LotThreadLemmas.{lot_of, IsLotStep, IsLotStep-released, uses-recorded}
+use Rattle.lot_exclusive.proofs.LotThreadLemmas.{lot_of, IsLotStep, IsLotStep-released, uses-recorded, threads-kept}
 use Rattle.lot_exclusive.proofs.lot.Lot.release.Goals as goal
-use Rattle.lot_exclusive.proofs.lot.Lot.release.Goals.{In_ok-release}
+use Rattle.lot_exclusive.proofs.lot.Lot.release.Goals.{In_ok-release, After-from_residual-in_err-release}
 
 runs : (c : In_ok-release) → Running ≡ c.in_ok-ok_or.field-0.now.status
 runs c = sym (c.in_ok-release.ensures.fits.0 refl)
@@ -32,3 +32,20 @@ invariant_of-self-2 c = (
 
 pub returns-clause-ok : goal.returns-clause-ok
 returns-clause-ok c = rw (← c.self.view_is) (step c).means
+
+-- a thread that refuses stays as it was
+kept : (c : After-from_residual-in_err-release) → slice_set c.self.inside.threads.items c.args.number c.release.new.self
+    ≡ c.self.inside.threads.items
+kept c =
+    threads-kept c.self.inside.threads.items c.args.number c.in_ok-ok_or.field-0.now c.release.new.self
+    ((rw c.in_ok-ok_or.ensures.ok_part at c.get_mut.ensures.item).3.1 _) c.in_err-release.ensures.err
+
+pub invariant_of-self-in_err-release : goal.invariant_of-self-in_err-release
+invariant_of-self-in_err-release c =
+    let same = kept c in
+    rw same c.self.invariant
+
+pub returns-in_err-release-clause-err : goal.returns-in_err-release-clause-err
+returns-in_err-release-clause-err c =
+    let same = kept c in
+    rw (same, ← c.self.view_is) (search rules)

@@ -1,13 +1,13 @@
-use Rattle.std.proofs.Common.{◌≡◌, ◌∙◌, sym, ap, refl, slice_set}
+use Rattle.std.proofs.Common.{rules, ◌≡◌, ◌∙◌, sym, ap, refl, slice_set}
 use Rattle.lot_exclusive.specs.declared.lot.Status.TheVariants.{Running}
 use Rattle.lot_exclusive.specs.declared.table.Use.TheVariants as use_is
 use Rattle.lot_exclusive.specs.Machine.{after_retire}
 use Rattle.lot_exclusive.specs.LotState.{ThreadState}
 use Rattle.lot_exclusive.specs.Lot.{machine, use_of, uses}
 use Rattle.lot_exclusive.proofs.CommitLemmas.{uses-set}
-use Rattle.lot_exclusive.proofs.LotThreadLemmas.{lot_of, IsLotStep, IsLotStep-after_retire}
+use Rattle.lot_exclusive.proofs.LotThreadLemmas.{lot_of, IsLotStep, IsLotStep-after_retire, threads-kept}
 use Rattle.lot_exclusive.proofs.lot.Lot.retire.Goals as goal
-use Rattle.lot_exclusive.proofs.lot.Lot.retire.Goals.{After-release}
+use Rattle.lot_exclusive.proofs.lot.Lot.retire.Goals.{After-release, After-from_residual-in_err-retire}
 
 ran : (c : After-release) → Running ≡ c.in_ok-ok_or.field-0.now.status
 ran c = sym (c.in_ok-retire.ensures.fits.0 refl)
@@ -36,3 +36,20 @@ invariant_of-self-2 c = (
 
 pub returns-clause-ok : goal.returns-clause-ok
 returns-clause-ok c = rw (← c.self.view_is) (step c).means
+
+-- a thread that refuses stays as it was
+kept : (c : After-from_residual-in_err-retire) → slice_set c.self.inside.threads.items c.args.number c.retire.new.self
+    ≡ c.self.inside.threads.items
+kept c =
+    threads-kept c.self.inside.threads.items c.args.number c.in_ok-ok_or.field-0.now c.retire.new.self
+    ((rw c.in_ok-ok_or.ensures.ok_part at c.get_mut.ensures.item).3.1 _) c.in_err-retire.ensures.err
+
+pub invariant_of-self-in_err-retire : goal.invariant_of-self-in_err-retire
+invariant_of-self-in_err-retire c =
+    let same = kept c in
+    rw same c.self.invariant
+
+pub returns-in_err-retire-clause-err : goal.returns-in_err-retire-clause-err
+returns-in_err-retire-clause-err c =
+    let same = kept c in
+    rw (same, ← c.self.view_is) (search rules)

@@ -8,3 +8,10 @@ returns-in_err-make_room-clause-full c = (
   λ full. let free = count_registered-free c.self.inside.numbers c.in-Some.number c.in-Some.ensures.some.free in
       absurd (let full_inside = rw (← c.self.view_is) at full in omega (arith, free)),
 )
+
+pub returns-clause-full : goal.returns-clause-full
+returns-clause-full c = (
+  λ refused. absurd cc,
+  λ full. let free = count_registered-free c.self.inside.numbers c.in-Some.number c.in-Some.ensures.some.free in
+      absurd (let full_inside = rw (← c.self.view_is) at full in omega (arith, free)),
+)
