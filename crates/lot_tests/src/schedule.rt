@@ -1,20 +1,15 @@
 //! Worked rows of `run`. The threads a, b, c and d are 0, 1, 2 and 3.
 
-pub(crate) mod arbitrary;
 mod compare;
-pub(crate) mod plain;
-mod split;
-pub(crate) mod steps;
 
-use lot_base::token::{
-    FilterOp, LotError, NoMemory, ParkToken, RequeueOp, UnparkResult, UnparkToken,
-};
+use lot_base::token::{FilterOp, LotError, NoMemory, RequeueOp, UnparkToken};
 use lot_exclusive::lot::{Lot, Status};
-use lot_exclusive::schedule::{Answer, Op, Step, run};
+use lot_exclusive::schedule::{Answer, Step, run};
+use plain_machines::ops::{all, filter, one, requeue};
+use plain_machines::steps::{acquire, enter, enter_invalid, release, unpark, unparked};
 use std::alloc::Global;
 use std::process::Abort;
 use std::test::Fail;
-use steps::{acquire, all, enter, enter_invalid, filter, one, release, requeue, unparked};
 
 const A: usize = 0;
 
@@ -103,7 +98,7 @@ fn expect_requeue(
     (on_1, on_2): (&[usize], &[usize]),
 ) -> Result<Lot, LotError> {
     let mut lot = lot_of(alloc, waiters)?;
-    let steps = [requeue((1, to), op, 9)];
+    let steps = [unpark(requeue((1, to), op, 9))];
     expect(rt, alloc, &mut lot, &steps, &[answer])?;
     for number in taken {
         assert_eq!(rt; lot.status(*number), Status::Taken(UnparkToken(9)));
@@ -182,7 +177,7 @@ fn expect_filter(
     left: &[usize],
 ) -> Result<(), LotError> {
     let mut lot = lot_of(alloc, waiters)?;
-    let steps = [filter(alloc, 1, decisions, 9)?];
+    let steps = [unpark(filter(alloc, 1, decisions, 9)?)];
     expect(rt, alloc, &mut lot, &steps, &[answer])?;
     for number in taken {
         assert_eq!(rt; lot.status(*number), Status::Taken(UnparkToken(9)));
@@ -228,7 +223,7 @@ fn a_late_thread_times_out(rt: HostRuntime) -> Result<(), Fail> {
         enter(A, 1, true),
         Step::Deadline { thread: A },
         Step::Resolve { thread: A },
-        all(1, 42),
+        unpark(all(1, 42)),
     ];
     let answers = [
         Answer::Entered,
@@ -246,7 +241,7 @@ fn a_late_thread_gets_the_token_that_overtook_it(rt: HostRuntime) -> Result<(), 
     let steps = [
         enter(A, 1, true),
         Step::Deadline { thread: A },
-        one(1, 42),
+        unpark(one(1, 42)),
         Step::Resolve { thread: A },
         Step::Resolve { thread: A },
     ];
@@ -267,7 +262,7 @@ fn a_requeued_thread_times_out_on_its_new_key(rt: HostRuntime) -> Result<(), Fai
     let steps = [
         enter(A, 1, true),
         enter(B, 1, true),
-        requeue((1, 2), RequeueOp::RequeueAll, 9),
+        unpark(requeue((1, 2), RequeueOp::RequeueAll, 9)),
         Step::Deadline { thread: A },
         Step::Resolve { thread: A },
     ];
@@ -293,7 +288,7 @@ fn an_untimed_waiter_stays_until_it_is_handed_a_token(rt: HostRuntime) -> Result
         enter(A, 1, false),
         Step::Deadline { thread: A },
         Step::Retire { thread: A },
-        all(1, usize::MAX),
+        unpark(all(1, usize::MAX)),
         Step::Return { thread: A },
     ];
     let answers = [
@@ -371,7 +366,7 @@ fn answers_stand_behind_those_that_are_there(rt: HostRuntime) -> Result<(), Fail
     run(&mut lot, &[], &mut answers)?;
     assert_eq!(rt; answers.len(), 0);
 
-    run(&mut lot, &[enter_invalid(A, 1), all(1, 9)], &mut answers)?;
+    run(&mut lot, &[enter_invalid(A, 1), unpark(all(1, 9))], &mut answers)?;
     run(&mut lot, &[], &mut answers)?;
     run(&mut lot, &[Step::Retire { thread: D }], &mut answers)?;
     let expected = [Answer::Invalid, Answer::Count(0), Answer::Retired];

@@ -173,6 +173,3 @@ fn answer_command<W: Write>(
     print_reply(output, &reply)?;
     Ok(())
 }
-
-#[cfg(test)]
-mod tests;

@@ -1,11 +1,12 @@
 //! The lot beside the plain machine: all short lists of steps, and long lists of arbitrary ones.
 
-use crate::schedule::arbitrary::{Arbitrary, KEYS};
-use crate::schedule::plain::Plain;
-use crate::schedule::steps::{acquire, all, enter, enter_invalid, filter, one, release, requeue};
 use lot_base::token::{FilterOp, LotError, NoMemory, RequeueOp};
 use lot_exclusive::lot::Lot;
 use lot_exclusive::schedule::{Answer, Step, run};
+use plain_machines::arbitrary::{Arbitrary, KEYS};
+use plain_machines::exclusive::Plain;
+use plain_machines::ops::{all, filter, one, requeue};
+use plain_machines::steps::{acquire, enter, enter_invalid, release, unpark};
 use std::alloc::Global;
 use std::process::Abort;
 use std::test::Fail;
@@ -34,14 +35,18 @@ fn alphabet(alloc: Global) -> Result<Vec<Step>, NoMemory> {
         (RequeueOp::UnparkOne, 103),
         (RequeueOp::RequeueOne, 104),
     ] {
-        steps.push(requeue((0, 13), op, token))?;
+        steps.push(unpark(requeue((0, 13), op, token)))?;
     }
-    steps.push(requeue((13, 13), RequeueOp::RequeueAll, 105))?;
     let decisions = [FilterOp::Skip, FilterOp::Unpark];
-    steps.push(filter(alloc, 0, decisions.as_slice(), 106)?)?;
-    steps.push(one(0, 107))?;
-    steps.push(one(13, 108))?;
-    steps.push(all(13, 109))?;
+    for op in [
+        requeue((13, 13), RequeueOp::RequeueAll, 105),
+        filter(alloc, 0, decisions.as_slice(), 106)?,
+        one(0, 107),
+        one(13, 108),
+        all(13, 109),
+    ] {
+        steps.push(unpark(op))?;
+    }
     steps.push(enter_invalid(0, 0))?;
     steps.push(acquire(1, 13))?;
     steps.push(release(1, 13))?;
@@ -186,11 +191,11 @@ fn long_lists_of_steps_are_those_of_the_plain_machine(rt: HostRuntime) -> Result
     let mut expected = [true; 14];
     expected[13] = false;
     for seed in [1, 2, 3, 4, 5] {
-        let mut arbitrary = Arbitrary::new(seed, 40);
+        let mut arbitrary = Arbitrary::new(seed);
         let mut pair = Pair::new(rt.alloc(), 40)?;
         let mut seen = [false; 14];
         for _ in 0..60 {
-            let steps = arbitrary.steps(rt.alloc(), 50)?;
+            let steps = arbitrary.steps(rt.alloc(), 40, 50)?;
             check_run(&rt, rt.alloc(), &mut pair, steps.as_slice(), &mut seen)?;
             pair.compare(&rt, 41, KEYS.as_slice())?;
         }

@@ -1,7 +1,7 @@
 //! Readers and writers that fail.
-#![tactic(auto)]
 
-use super::*;
+use super::stopped;
+use lot_tools::script::{Cause, script};
 use std::io;
 use std::io::{BufRead, Cursor, ErrorKind, Read, Write};
 

@@ -1,26 +1,20 @@
 //! Worked rows of the interleaved machine, on an interleaved lot and on the plain machine. The
 //! threads a and b are 0 and 1.
 
-mod both;
-mod plain;
-mod same;
-mod sequential;
-mod steps;
-
-use crate::schedule::steps as whole;
-use both::Both;
+use crate::both::Both;
+use crate::sequential::expect_sequential;
 use lot_base::token::{FilterOp, LotError, RequeueOp};
 use lot_exclusive::schedule::{Answer, Step};
 use lot_interleaved::interleaved::{FineAnswer, FineLot, FineStep, run_fine};
-use same::is_same;
-use sequential::expect_sequential;
+use plain_machines::fine_steps::{
+    MISFIT, answer, begin, enter, enter_invalid, unparked, woken_with,
+};
+use plain_machines::ops::{all, filter, one, requeue};
+use plain_machines::same::is_same;
+use plain_machines::steps::{self as whole, unpark};
 use std::alloc::Global;
 use std::process::Abort;
 use std::test::Fail;
-use steps::{
-    MISFIT, answer, begin_all, begin_filter, begin_one, begin_requeue, enter, enter_invalid,
-    unparked, woken_with,
-};
 
 const A: usize = 0;
 
@@ -76,7 +70,7 @@ fn a_deadline_that_an_unpark_overtook_ends_unparked(rt: HostRuntime) -> Result<(
     let rows = [
         (FineStep::Register, registered(A)),
         (enter(A, 1, true), ENTERED),
-        (begin_all(0, 1, 42), answer(Answer::Count(1))),
+        (begin(0, all(1, 42)), answer(Answer::Count(1))),
         (FineStep::Deadline { thread: A }, FineAnswer::Late),
         (FineStep::ReadKey { thread: A }, FineAnswer::Read(1)),
         (FineStep::Look { thread: A }, FineAnswer::Blocked),
@@ -88,7 +82,7 @@ fn a_deadline_that_an_unpark_overtook_ends_unparked(rt: HostRuntime) -> Result<(
     let sequential = [
         Step::Register,
         whole::enter(A, 1, true),
-        whole::all(1, 42),
+        unpark(all(1, 42)),
         Step::Return { thread: A },
     ];
     expect_sequential(&rt, rt.alloc(), (1, 1), &rows, &sequential)?;
@@ -104,7 +98,7 @@ fn a_thread_that_was_requeued_reads_its_key_again(rt: HostRuntime) -> Result<(),
         (FineStep::Deadline { thread: A }, FineAnswer::Late),
         (FineStep::ReadKey { thread: A }, FineAnswer::Read(1)),
         (
-            begin_requeue(0, (1, 2), RequeueOp::RequeueAll, 9),
+            begin(0, requeue((1, 2), RequeueOp::RequeueAll, 9)),
             unparked(0, 1, false),
         ),
         (END, FineAnswer::Ended),
@@ -116,7 +110,7 @@ fn a_thread_that_was_requeued_reads_its_key_again(rt: HostRuntime) -> Result<(),
         Step::Register,
         whole::enter(A, 1, true),
         Step::Deadline { thread: A },
-        whole::requeue((1, 2), RequeueOp::RequeueAll, 9),
+        unpark(requeue((1, 2), RequeueOp::RequeueAll, 9)),
         Step::Resolve { thread: A },
     ];
     expect_sequential(&rt, rt.alloc(), (1, 1), &rows, &sequential)?;
@@ -130,7 +124,7 @@ fn a_wake_may_come_after_the_thread_has_gone(rt: HostRuntime) -> Result<(), Fail
     let rows = [
         (FineStep::Register, registered(0)),
         (enter(0, 1, false), ENTERED),
-        (begin_one(0, 1, 42), unparked(1, 0, false)),
+        (begin(0, one(1, 42)), unparked(1, 0, false)),
         (COMMIT, FineAnswer::Committed(0)),
         (END, FineAnswer::Ended),
         (FineStep::Return { thread: 0 }, woken_with(42)),
@@ -151,11 +145,11 @@ fn a_wake_may_come_after_the_thread_has_gone(rt: HostRuntime) -> Result<(), Fail
 fn a_growth_waits_for_every_section(rt: HostRuntime) -> Result<(), Fail> {
     let mut both = both_of(&rt, rt.alloc(), 5, 1)?;
     let rows = [
-        (begin_one(0, 7, 42), unparked(0, 0, false)),
+        (begin(0, one(7, 42)), unparked(0, 0, false)),
         (FineStep::Register, FineAnswer::Blocked),
         (END, FineAnswer::Ended),
         (FineStep::Register, registered(5)),
-        (begin_one(0, 7, 42), unparked(0, 0, false)),
+        (begin(0, one(7, 42)), unparked(0, 0, false)),
         (FineStep::Register, answer(Answer::Full)),
         (FineStep::Retire { thread: 5 }, answer(Answer::Retired)),
         (FineStep::Register, registered(5)),
@@ -172,8 +166,8 @@ fn a_caller_has_one_section_at_a_time(rt: HostRuntime) -> Result<(), Fail> {
         let rows = [
             (enter(A, 1, false), ENTERED),
             (enter(B, 2, false), ENTERED),
-            (begin_one(0, 1, 42), unparked(1, 0, false)),
-            (begin_one(second, 2, 42), expected),
+            (begin(0, one(1, 42)), unparked(1, 0, false)),
+            (begin(second, one(2, 42)), expected),
         ];
         expect(&rt, &mut both, &rows)?;
     }
@@ -185,11 +179,11 @@ fn a_caller_has_one_section_at_a_time(rt: HostRuntime) -> Result<(), Fail> {
 #[test]
 fn keys_of_one_place_share_a_bucket(rt: HostRuntime) -> Result<(), Fail> {
     let mut both = both_of(&rt, rt.alloc(), 2, 2)?;
-    let requeue = begin_requeue(1, (1, 13), RequeueOp::Abort, 9);
+    let requeue = begin(1, requeue((1, 13), RequeueOp::Abort, 9));
     let rows = [
         (enter(A, 0, false), ENTERED),
-        (begin_all(0, 0, 42), answer(Answer::Count(1))),
-        (begin_one(1, 13, 42), FineAnswer::Blocked),
+        (begin(0, all(0, 42)), answer(Answer::Count(1))),
+        (begin(1, one(13, 42)), FineAnswer::Blocked),
         (requeue, FineAnswer::Blocked),
         (enter(B, 13, false), FineAnswer::Blocked),
         (enter_invalid(B, 13), FineAnswer::Blocked),
@@ -207,7 +201,7 @@ fn a_section_ends_once_all_have_their_nodes(rt: HostRuntime) -> Result<(), Fail>
         (enter(A, 1, false), ENTERED),
         (COMMIT, MISFIT),
         (END, MISFIT),
-        (begin_one(0, 1, 42), unparked(1, 0, false)),
+        (begin(0, one(1, 42)), unparked(1, 0, false)),
         (END, MISFIT),
         (COMMIT, FineAnswer::Committed(A)),
         (COMMIT, MISFIT),
@@ -245,7 +239,7 @@ fn of_two_that_were_taken_one_returns_and_one_is_late(rt: HostRuntime) -> Result
         (FineStep::Register, registered(B)),
         (enter(A, 1, true), ENTERED),
         (enter(B, 1, true), ENTERED),
-        (begin_all(0, 1, 42), answer(Answer::Count(2))),
+        (begin(0, all(1, 42)), answer(Answer::Count(2))),
         (COMMIT, FineAnswer::Committed(A)),
         (FineStep::Deadline { thread: A }, MISFIT),
         (FineStep::Deadline { thread: B }, FineAnswer::Late),
@@ -265,7 +259,7 @@ fn of_two_that_were_taken_one_returns_and_one_is_late(rt: HostRuntime) -> Result
         Step::Register,
         whole::enter(A, 1, true),
         whole::enter(B, 1, true),
-        whole::all(1, 42),
+        unpark(all(1, 42)),
         Step::Return { thread: A },
         Step::Return { thread: B },
     ];
@@ -338,11 +332,11 @@ fn an_interleaved_run_without_room_changes_nothing(rt: HostRuntime) {
     let Ok(mut lot) = FineLot::new(rt.alloc(), 2, 1) else {
         return;
     };
-    let Ok(filter) = begin_filter(rt.alloc(), 0, 7, &[FilterOp::Skip], 42) else {
+    let Ok(filter) = filter(rt.alloc(), 7, &[FilterOp::Skip], 42) else {
         return;
     };
     let acquire = FineStep::Acquire { thread: A, key: 5 };
-    let steps = [FineStep::Register, acquire, enter(A, 7, false), filter];
+    let steps = [FineStep::Register, acquire, enter(A, 7, false), begin(0, filter)];
     let mut answers = Vec::new(rt.alloc());
     let mut sequential = Vec::new(rt.alloc());
     if run_fine(&mut lot, &steps, &mut answers, &mut sequential).is_err() {

@@ -5,13 +5,14 @@ ghost use Rattle.lot_tools.specs.declared.record.TheConstants.{MAX_JOURNAL};
 
 mod plain;
 
-use crate::schedule::arbitrary::Arbitrary;
-use crate::schedule::steps::{enter, filter, one, requeue, unparked};
 use lot_base::token::{FilterOp, LotError, NoMemory, RequeueOp, UnparkToken};
 use lot_exclusive::lot::Lot;
 use lot_exclusive::schedule::{Answer, Step};
 use lot_tools::record::{Record, RecordError};
 use plain::PlainRecord;
+use plain_machines::arbitrary::Arbitrary;
+use plain_machines::ops::{filter, one, requeue};
+use plain_machines::steps::{enter, unpark, unparked};
 use std::alloc::Global;
 use std::process::Abort;
 use std::test::Fail;
@@ -44,7 +45,7 @@ fn a_full_journal_has_room_for_the_end_of_a_park(rt: HostRuntime) -> Result<(), 
     let mut record = Record::new(rt.alloc(), 1, 4)?;
     assert_eq!(&rt; record.step(Step::Register), Ok(Answer::Registered(0)));
     assert_eq!(&rt; record.step(enter(0, 1, true)), Ok(Answer::Entered));
-    assert_eq!(&rt; record.step(one(1, 42)), Err(RecordError::JournalFull));
+    assert_eq!(&rt; record.step(unpark(one(1, 42))), Err(RecordError::JournalFull));
     assert_eq!(&rt; record.step(Step::Deadline { thread: 0 }), Ok(Answer::Late));
     let timed_out = Answer::TimedOut { key: 1, last: true };
     assert_eq!(&rt; record.step(Step::Resolve { thread: 0 }), Ok(timed_out));
@@ -67,10 +68,10 @@ fn a_skipping_filter_and_a_requeue_to_itself_are_journalled(rt: HostRuntime) -> 
         assert_eq!(&rt; record.step(enter(thread, 1, false)), Ok(Answer::Entered));
     }
     let decisions = [FilterOp::Skip, FilterOp::Unpark];
-    let filtered = record.step(filter(rt.alloc(), 1, decisions.as_slice(), 5)?);
+    let filtered = record.step(unpark(filter(rt.alloc(), 1, decisions.as_slice(), 5)?));
     assert_eq!(&rt; filtered, Ok(unparked(1, 0, true)));
     assert_eq!(&rt; record.lot().list(1)?.as_slice(), &[0, 2][..]);
-    let requeued = record.step(requeue((1, 1), RequeueOp::UnparkOneRequeueRest, usize::MAX));
+    let requeued = record.step(unpark(requeue((1, 1), RequeueOp::UnparkOneRequeueRest, usize::MAX)));
     assert_eq!(&rt; requeued, Ok(unparked(1, 1, false)));
     assert_eq!(&rt; record.lot().list(1)?.as_slice(), &[2][..]);
     assert_eq!(&rt; record.journal().len(), 8);
@@ -105,9 +106,9 @@ fn expect_plain(rt: &impl Abort, alloc: Global, capacity: usize) -> Result<(), L
     let mut record = Record::new(alloc, THREADS, capacity)?;
     let mut plain = PlainRecord::new(alloc, THREADS, capacity)?;
     // One number more than the lot has, so that some steps are of nobody.
-    let mut arbitrary = Arbitrary::new(capacity, THREADS + 1);
+    let mut arbitrary = Arbitrary::new(capacity);
     for number in 0..STEPS {
-        let step = arbitrary.step(alloc)?;
+        let step = arbitrary.step(alloc, THREADS + 1)?;
         let expected = plain.step(&step)?;
         assert_eq!(rt;
             record.step(step),

@@ -1,12 +1,12 @@
 //! Runs of an interleaved lot and of the plain machine beside it, which give the same answers and
 //! amount to the same sequential steps.
 
-use crate::interleaved::plain::FinePlain;
-use crate::interleaved::same::is_same;
 use lot_base::token::{LotError, NoMemory};
 use lot_exclusive::lot::Lot;
 use lot_exclusive::schedule::{Answer, Step, run};
 use lot_interleaved::interleaved::{FineAnswer, FineLot, FineStep, run_fine};
+use plain_machines::interleaved::FinePlain;
+use plain_machines::same::is_same;
 use std::alloc::Global;
 use std::process::Abort;
 use std::slice;

@@ -1,9 +1,9 @@
 //! Worked rows of scripts, and readers and writers that fail.
-#![tactic(auto)]
 
 mod ends;
 
-use super::*;
+use lot_tools::script::{Cause, Fault, script};
+use std::alloc::Global;
 use std::process::Abort;
 use std::test::Fail;
 

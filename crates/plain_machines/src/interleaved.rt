@@ -3,8 +3,9 @@
 //!
 //! It knows no bucket and no node, and of a table only its size.
 
-use crate::interleaved::steps::{MISFIT, answer, unpark};
-use crate::schedule::plain::Plain;
+use crate::exclusive::Plain;
+use crate::fine_steps::{MISFIT, answer};
+use crate::ops;
 use lot_base::token::{NoMemory, ParkToken, UnparkToken};
 use lot_exclusive::lot::Status;
 use lot_exclusive::schedule::{Answer, Op, Step};
@@ -191,7 +192,7 @@ impl FinePlain {
         for number in self.view.list(from) {
             before.push((*number, self.view.status(*number)))?;
         }
-        let given = self.view.step(&unpark(self.alloc, op)?)?;
+        let given = self.view.step(&Step::Unpark(ops::copy(self.alloc, op)?))?;
         let taken = self.taken_of(before.as_slice())?;
         for number in self.view.list(to) {
             if let Some(thread) = self.threads.get_mut(*number) {
@@ -401,7 +402,7 @@ impl FinePlain {
             _ => return Ok(None),
         };
         let step = match step {
-            FineStep::Begin { caller: _, op } => unpark(self.alloc, op)?,
+            FineStep::Begin { caller: _, op } => Step::Unpark(ops::copy(self.alloc, op)?),
             FineStep::Deadline { thread } if self.is_in_list(*thread) => {
                 Step::Deadline { thread: *thread }
             }

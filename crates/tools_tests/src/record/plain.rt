@@ -1,10 +1,10 @@
 //! The plain machine, with a journal's count of entries and of those that are set aside.
 
-use crate::schedule::plain::Plain;
 use lot_base::token::NoMemory;
 use lot_exclusive::lot::Status;
 use lot_exclusive::schedule::{Answer, Step};
 use lot_tools::record::RecordError;
+use plain_machines::exclusive::Plain;
 use std::alloc::Global;
 
 // What may still come of a thread's park: its end, and with a timeout first its deadline.

@@ -1,10 +1,7 @@
 //! Steps and answers in few words.
 
-use lot_base::token::{
-    DEFAULT_PARK_TOKEN, FilterOp, NoMemory, RequeueOp, UnparkResult, UnparkToken,
-};
+use lot_base::token::{DEFAULT_PARK_TOKEN, UnparkResult};
 use lot_exclusive::schedule::{Answer, Op, Step};
-use std::alloc::Global;
 
 /// An answer of `One`, `Filter` or `Requeue`.
 pub fn unparked(taken: usize, moved: usize, more: bool) -> Answer {
@@ -15,10 +12,12 @@ pub fn unparked(taken: usize, moved: usize, more: bool) -> Answer {
     })
 }
 
+/// The thread records the key.
 pub fn acquire(thread: usize, key: usize) -> Step {
     Step::Acquire { thread, key }
 }
 
+/// The thread gives one record of the key up.
 pub fn release(thread: usize, key: usize) -> Step {
     Step::Release { thread, key }
 }
@@ -45,43 +44,7 @@ pub fn enter_invalid(thread: usize, key: usize) -> Step {
     }
 }
 
-pub fn one(key: usize, token: usize) -> Step {
-    Step::Unpark(Op::One {
-        key,
-        token: UnparkToken(token),
-    })
-}
-
-pub fn all(key: usize, token: usize) -> Step {
-    Step::Unpark(Op::All {
-        key,
-        token: UnparkToken(token),
-    })
-}
-
-pub fn filter(
-    alloc: Global,
-    key: usize,
-    decisions: &[FilterOp],
-    token: usize,
-) -> Result<Step, NoMemory> {
-    let mut copies = Vec::new(alloc);
-    for decision in decisions {
-        copies.push(*decision)?;
-    }
-    Ok(Step::Unpark(Op::Filter {
-        key,
-        decisions: copies,
-        token: UnparkToken(token),
-    }))
-}
-
-/// A requeue from the first key to the second.
-pub fn requeue((from, to): (usize, usize), op: RequeueOp, token: usize) -> Step {
-    Step::Unpark(Op::Requeue {
-        from,
-        to,
-        op,
-        token: UnparkToken(token),
-    })
+/// The unpark, as a step.
+pub fn unpark(op: Op) -> Step {
+    Step::Unpark(op)
 }

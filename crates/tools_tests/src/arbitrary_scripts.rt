@@ -1,17 +1,15 @@
 //! Scripts of arbitrary lines, and the answers that the plain machine gives to each of them.
 
-mod text;
-
-use crate::schedule::arbitrary::Arbitrary;
-use crate::schedule::plain::Plain;
+use crate::text::{write_answer, write_step, write_waiters};
 use lot_base::token::NoMemory;
 use lot_exclusive::lot::Status;
 use lot_exclusive::schedule::Answer;
 use lot_tools::script::script;
+use plain_machines::arbitrary::Arbitrary;
+use plain_machines::exclusive::Plain;
 use std::alloc::Global;
 use std::fmt::Write;
 use std::test::Fail;
-use text::{write_answer, write_step, write_waiters};
 
 // How many lines of a script are steps or questions.
 const LINES: usize = 600;
@@ -32,8 +30,7 @@ impl Written {
     fn new(alloc: Global, max_threads: usize, seed: usize) -> Result<Written, NoMemory> {
         Ok(Written {
             alloc,
-            // One number more than the lot has, so that some steps are of nobody.
-            arbitrary: Arbitrary::new(seed, max_threads.wrapping_add(1)),
+            arbitrary: Arbitrary::new(seed),
             plain: Plain::new(alloc, max_threads)?,
             max_threads,
             buckets: 16,
@@ -81,7 +78,9 @@ impl Written {
     }
 
     fn add_step(&mut self) -> Result<(), Fail> {
-        let step = self.arbitrary.step(self.alloc)?;
+        // One number more than the lot has, so that some steps are of nobody.
+        let threads = self.max_threads.wrapping_add(1);
+        let step = self.arbitrary.step(self.alloc, threads)?;
         write_step(&mut self.input, &step)?;
         let answer = self.plain.step(&step)?;
         write_answer(&mut self.expected, answer)?;

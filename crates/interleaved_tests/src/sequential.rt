@@ -2,14 +2,14 @@
 //! plain interleaved machine, and the sequential steps, given to a new lot, have the answers of the
 //! same places.
 
-use crate::interleaved::both::Both;
-use crate::interleaved::same::is_same;
-use crate::interleaved::steps::{
-    begin_all, begin_filter, begin_one, begin_requeue, enter, enter_invalid,
-};
-use lot_base::token::{FilterOp, LotError, NoMemory, RequeueOp};
+use crate::both::Both;
+use lot_base::token::{LotError, RequeueOp};
 use lot_exclusive::schedule::{Answer, Step};
 use lot_interleaved::interleaved::{FineAnswer, FineStep};
+use plain_machines::arbitrary::{Arbitrary, KEYS};
+use plain_machines::fine_steps::{begin, enter, enter_invalid};
+use plain_machines::ops::{all, one, requeue};
+use plain_machines::same::is_same;
 use std::alloc::Global;
 use std::process::Abort;
 use std::test::Fail;
@@ -43,13 +43,13 @@ fn every_kind() -> [FineStep; 30] {
         enter(0, 13, false),
         enter(1, 13, true),
         enter(1, 0, false),
-        begin_one(0, 0, 100),
-        begin_all(0, 13, 101),
-        begin_one(1, 13, 102),
-        begin_requeue(0, (0, 13), RequeueOp::RequeueAll, 103),
-        begin_requeue(1, (13, 0), RequeueOp::UnparkOneRequeueRest, 104),
-        begin_requeue(1, (13, 13), RequeueOp::RequeueOne, 105),
-        begin_requeue(0, (0, 0), RequeueOp::Abort, 106),
+        begin(0, one(0, 100)),
+        begin(0, all(13, 101)),
+        begin(1, one(13, 102)),
+        begin(0, requeue((0, 13), RequeueOp::RequeueAll, 103)),
+        begin(1, requeue((13, 0), RequeueOp::UnparkOneRequeueRest, 104)),
+        begin(1, requeue((13, 13), RequeueOp::RequeueOne, 105)),
+        begin(0, requeue((0, 0), RequeueOp::Abort, 106)),
         FineStep::Commit { caller: 0 },
         FineStep::Commit { caller: 1 },
         FineStep::End { caller: 0 },
@@ -65,7 +65,7 @@ fn every_kind() -> [FineStep; 30] {
         FineStep::Return { thread: 0 },
         FineStep::Return { thread: 1 },
         enter_invalid(1, 0),
-        begin_one(2, 0, 107),
+        begin(2, one(0, 107)),
         FineStep::Commit { caller: 2 },
         FineStep::Retire { thread: 1 },
         FineStep::Register,
@@ -75,8 +75,8 @@ fn every_kind() -> [FineStep; 30] {
 // The steps of a race: a late thread, a caller that unparks it, and one that requeues it.
 fn race() -> [FineStep; 7] {
     [
-        begin_all(0, 0, 100),
-        begin_requeue(1, (0, 1), RequeueOp::RequeueAll, 101),
+        begin(0, all(0, 100)),
+        begin(1, requeue((0, 1), RequeueOp::RequeueAll, 101)),
         FineStep::Commit { caller: 0 },
         FineStep::End { caller: 0 },
         FineStep::End { caller: 1 },
@@ -151,88 +151,6 @@ fn races_amount_to_their_sequential_steps(rt: HostRuntime) -> Result<(), Fail> {
     Ok(())
 }
 
-const KEYS: [usize; 5] = [0, 13, 1, 2, 7];
-
-// Arbitrary numbers: those of a linear congruential generator.
-#[derive(Drop)]
-struct Arbitrary {
-    state: usize,
-}
-
-impl Arbitrary {
-    // A number below the bound.
-    fn below(&mut self, bound: usize) -> usize {
-        self.state = self
-            .state
-            .wrapping_mul(6_364_136_223_846_793_005)
-            .wrapping_add(1_442_695_040_888_963_407);
-        (self.state >> 33).checked_rem(bound).unwrap_or(0)
-    }
-
-    fn key(&mut self) -> usize {
-        KEYS.get(self.below(5)).copied().unwrap_or(0)
-    }
-
-    fn op(&mut self) -> RequeueOp {
-        match self.below(5) {
-            0 => RequeueOp::Abort,
-            1 => RequeueOp::UnparkOneRequeueRest,
-            2 => RequeueOp::RequeueAll,
-            3 => RequeueOp::UnparkOne,
-            _ => RequeueOp::RequeueOne,
-        }
-    }
-
-    // A filter with up to seven decisions.
-    fn filter(&mut self, alloc: Global, caller: usize) -> Result<FineStep, NoMemory> {
-        let mut decisions = Vec::new(alloc);
-        for _ in 0..self.below(8) {
-            decisions.push(match self.below(8) {
-                0 => FilterOp::Stop,
-                1..=4 => FilterOp::Skip,
-                _ => FilterOp::Unpark,
-            })?;
-        }
-        begin_filter(
-            alloc,
-            caller,
-            self.key(),
-            decisions.as_slice(),
-            self.below(1_000),
-        )
-    }
-
-    // A step of one of twelve threads or of four callers.
-    fn step(&mut self, alloc: Global) -> Result<FineStep, NoMemory> {
-        let thread = self.below(12);
-        let caller = self.below(4);
-        let key = self.key();
-        Ok(match self.below(68) {
-            0..=1 => FineStep::Register,
-            2 => FineStep::Retire { thread },
-            3 => enter_invalid(thread, key),
-            4..=7 => enter(thread, key, false),
-            8..=15 => enter(thread, key, true),
-            16..=17 => begin_one(caller, key, self.below(1_000)),
-            18 => begin_all(caller, key, self.below(1_000)),
-            19 => self.filter(alloc, caller)?,
-            20..=22 => {
-                let keys = (key, self.key());
-                begin_requeue(caller, keys, self.op(), self.below(1_000))
-            }
-            23..=28 => FineStep::Commit { caller },
-            29..=35 => FineStep::End { caller },
-            36..=41 => FineStep::Wake { caller },
-            42..=46 => FineStep::Deadline { thread },
-            47..=51 => FineStep::ReadKey { thread },
-            52..=56 => FineStep::Look { thread },
-            57..=63 => FineStep::Return { thread },
-            64..=65 => FineStep::Acquire { thread, key },
-            _ => FineStep::Release { thread, key },
-        })
-    }
-}
-
 // Notes that an answer of this kind was given. Kind 12 is all that is told nowhere else.
 fn note(seen: &mut [bool; 13], given: FineAnswer) {
     let kind = match given {
@@ -259,12 +177,12 @@ fn note(seen: &mut [bool; 13], given: FineAnswer) {
 fn long_interleaved_lists_amount_to_their_sequential_steps(rt: HostRuntime) -> Result<(), Fail> {
     let mut seen = [false; 13];
     for seed in 1..=10 {
-        let mut arbitrary = Arbitrary { state: seed };
+        let mut arbitrary = Arbitrary::new(seed);
         let mut both = Both::new(rt.alloc(), (12, 4))?;
         for _ in 0..30 {
             let mut steps = Vec::new(rt.alloc());
             for _ in 0..100 {
-                steps.push(arbitrary.step(rt.alloc())?)?;
+                steps.push(arbitrary.fine_step(rt.alloc(), (12, 4))?)?;
             }
             for given in &both.run(&rt, steps.as_slice())? {
                 note(&mut seen, *given);

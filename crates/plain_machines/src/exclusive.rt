@@ -4,7 +4,7 @@
 //!
 //! It knows no bucket, no node and no place, and no lot.
 
-use crate::schedule::split::{Split, split_all, split_by, split_filter, split_first};
+use crate::split::{Split, split_all, split_by, split_filter, split_first};
 use lot_base::token::{NoMemory, RequeueOp, UnparkResult, UnparkToken};
 use lot_exclusive::lot::Status;
 use lot_exclusive::schedule::{Answer, Op, Step};

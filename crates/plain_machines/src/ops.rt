@@ -1,0 +1,61 @@
+//! Unparks in few words, and copies of them.
+
+use lot_base::token::{FilterOp, NoMemory, RequeueOp, UnparkToken};
+use lot_exclusive::schedule::Op;
+use std::alloc::Global;
+
+/// An unpark of the first waiter.
+pub fn one(key: usize, token: usize) -> Op {
+    let token = UnparkToken(token);
+    Op::One { key, token }
+}
+
+/// An unpark of all waiters.
+pub fn all(key: usize, token: usize) -> Op {
+    let token = UnparkToken(token);
+    Op::All { key, token }
+}
+
+/// An unpark by a filter with these decisions.
+pub fn filter(
+    alloc: Global,
+    key: usize,
+    decisions: &[FilterOp],
+    token: usize,
+) -> Result<Op, NoMemory> {
+    Ok(Op::Filter {
+        key,
+        decisions: Vec::from_slice(alloc, decisions)?,
+        token: UnparkToken(token),
+    })
+}
+
+/// A requeue from the first key to the second.
+pub fn requeue((from, to): (usize, usize), op: RequeueOp, token: usize) -> Op {
+    let token = UnparkToken(token);
+    Op::Requeue {
+        from,
+        to,
+        op,
+        token,
+    }
+}
+
+/// A copy of an unpark.
+pub fn copy(alloc: Global, op: &Op) -> Result<Op, NoMemory> {
+    match op {
+        Op::One { key, token } => Ok(one(*key, token.0)),
+        Op::All { key, token } => Ok(all(*key, token.0)),
+        Op::Filter {
+            key,
+            decisions,
+            token,
+        } => filter(alloc, *key, decisions.as_slice(), token.0),
+        Op::Requeue {
+            from,
+            to,
+            op,
+            token,
+        } => Ok(requeue((*from, *to), *op, token.0)),
+    }
+}
