@@ -336,7 +336,12 @@ fn an_interleaved_run_without_room_changes_nothing(rt: HostRuntime) {
         return;
     };
     let acquire = FineStep::Acquire { thread: A, key: 5 };
-    let steps = [FineStep::Register, acquire, enter(A, 7, false), begin(0, filter)];
+    let steps = [
+        FineStep::Register,
+        acquire,
+        enter(A, 7, false),
+        begin(0, filter),
+    ];
     let mut answers = Vec::new(rt.alloc());
     let mut sequential = Vec::new(rt.alloc());
     if run_fine(&mut lot, &steps, &mut answers, &mut sequential).is_err() {

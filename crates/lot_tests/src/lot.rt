@@ -12,6 +12,22 @@ use std::test::Fail;
 
 const TOKEN: UnparkToken = UnparkToken(42);
 
+fn unparked(unparked_threads: usize, more: bool) -> UnparkResult {
+    UnparkResult {
+        unparked_threads,
+        requeued_threads: 0,
+        have_more_threads: more,
+    }
+}
+
+fn requeued(requeued_threads: usize) -> UnparkResult {
+    UnparkResult {
+        unparked_threads: 0,
+        requeued_threads,
+        have_more_threads: false,
+    }
+}
+
 // A lot for six threads, the first `count` of which are registered.
 fn lot_with(alloc: Global, count: usize) -> Result<Lot, LotError> {
     let mut lot = Lot::new(alloc, 6)?;
@@ -21,14 +37,24 @@ fn lot_with(alloc: Global, count: usize) -> Result<Lot, LotError> {
     Ok(lot)
 }
 
-fn enter(rt: &impl Abort, lot: &mut Lot, number: usize, key: usize) {
-    let entered = lot.enter(number, key, || true, DEFAULT_PARK_TOKEN, false);
+fn enter(rt: &impl Abort, lot: &mut Lot, (number, key): (usize, usize), timed: bool) {
+    let entered = lot.enter(number, key, || true, DEFAULT_PARK_TOKEN, timed);
     assert_eq!(rt; entered, Ok(true), "{number} on {key}");
 }
 
-fn enter_timed(rt: &impl Abort, lot: &mut Lot, number: usize, key: usize) {
-    let entered = lot.enter(number, key, || true, DEFAULT_PARK_TOKEN, true);
-    assert_eq!(rt; entered, Ok(true), "{number} on {key}");
+// Such a lot, where these threads have entered, each on its key.
+fn lot_where(
+    rt: &impl Abort,
+    alloc: Global,
+    count: usize,
+    waiters: &[(usize, usize)],
+    timed: bool,
+) -> Result<Lot, LotError> {
+    let mut lot = lot_with(alloc, count)?;
+    for waiter in waiters {
+        enter(rt, &mut lot, *waiter, timed);
+    }
+    Ok(lot)
 }
 
 // What an unpark by a filter answers, and what its callback was handed.
@@ -71,24 +97,39 @@ fn requeue(lot: &mut Lot, op: RequeueOp) -> (UnparkResult, Option<(RequeueOp, Un
     (result, told)
 }
 
-fn expect_list(rt: &impl Abort, lot: &Lot, key: usize, numbers: &[usize]) -> Result<(), NoMemory> {
-    assert_eq!(rt; lot.list(key)?.as_slice(), numbers, "key {key}");
+// Compares the list of each of these keys.
+fn expect_lists(rt: &impl Abort, lot: &Lot, rows: &[(usize, &[usize])]) -> Result<(), NoMemory> {
+    for (key, numbers) in rows {
+        assert_eq!(rt; lot.list(*key)?.as_slice(), *numbers, "key {key}");
+    }
     Ok(())
+}
+
+// Compares the status of each of these threads.
+fn expect_taken(rt: &impl Abort, lot: &Lot, numbers: &[usize]) {
+    for number in numbers {
+        assert_eq!(rt; lot.status(*number), Status::Taken(TOKEN), "{number}");
+    }
+}
+
+// The deadline of a thread passes, and it is told its key and whether it was the last there.
+fn expect_timed_out(rt: &impl Abort, lot: &mut Lot, number: usize, told: (usize, bool)) {
+    assert_eq!(rt; lot.deadline(number), Ok(()));
+    let resolved = resolve(lot, number);
+    assert_eq!(rt; resolved, (Ok(ParkResult::TimedOut), Some(told)));
 }
 
 // It refuses a `new` or a `register` that answers `NoMemory` at each call.
 #[test]
 fn six_threads_register_by_number_and_the_seventh_is_refused(rt: HostRuntime) -> Result<(), Fail> {
     let mut lot = Lot::new(rt.alloc(), 6)?;
-    assert_eq!(rt; (lot.registered(), lot.size()), (0, 16));
-    for number in 0..5 {
+    for (number, size) in [16, 16, 16, 16, 16, 32].iter().enumerate() {
+        assert_eq!(rt; lot.registered(), number);
         assert_eq!(rt; lot.register()?, number);
-        assert_eq!(rt; lot.status(number), Status::Running);
+        assert_eq!(rt; (lot.status(number), lot.size()), (Status::Running, *size));
     }
-    assert_eq!(rt; (lot.registered(), lot.size()), (5, 16));
-    assert_eq!(rt; lot.register()?, 5);
-    assert_eq!(rt; (lot.registered(), lot.size()), (6, 32));
     assert_eq!(rt; lot.register(), Err(LotError::Full));
+    assert_eq!(rt; (lot.registered(), lot.size()), (6, 32));
     assert_eq!(rt; lot.status(6), Status::Free);
     Ok(())
 }
@@ -101,7 +142,7 @@ fn a_retired_number_is_given_again(rt: HostRuntime) -> Result<(), Fail> {
     assert_eq!(rt; lot.retire(1), Err(Misfit));
     assert_eq!(rt; lot.registered(), 2);
     assert_eq!(rt; lot.register(), Ok(1));
-    enter(&rt, &mut lot, 1, 7);
+    enter(&rt, &mut lot, (1, 7), false);
     assert_eq!(rt; lot.retire(1), Err(Misfit));
     Ok(())
 }
@@ -128,156 +169,126 @@ fn a_lot_for_nobody_is_full(rt: HostRuntime) -> Result<(), Fail> {
 // not of 32.
 #[test]
 fn growth_keeps_the_waiters_of_each_key(rt: HostRuntime) -> Result<(), Fail> {
-    let mut lot = lot_with(rt.alloc(), 5)?;
-    for (number, key) in [(0, 0), (1, 13), (2, 0)] {
-        enter(&rt, &mut lot, number, key);
-    }
+    let waiters = [(0, 0), (1, 13), (2, 0)];
+    let mut lot = lot_where(&rt, rt.alloc(), 5, &waiters, false)?;
     assert_eq!(rt; lot.register(), Ok(5));
     assert_eq!(rt; lot.size(), 32);
-    expect_list(&rt, &lot, 0, &[0, 2])?;
-    expect_list(&rt, &lot, 13, &[1])?;
+    let lists = [(0, [0, 2].as_slice()), (13, [1].as_slice())];
+    expect_lists(&rt, &lot, &lists)?;
     Ok(())
 }
 
 #[test]
 fn all_waiters_of_a_key_get_the_token(rt: HostRuntime) -> Result<(), Fail> {
-    let mut lot = lot_with(rt.alloc(), 3)?;
-    for (number, key) in [(0, 0), (1, 13), (2, 0)] {
-        enter(&rt, &mut lot, number, key);
-    }
+    let waiters = [(0, 0), (1, 13), (2, 0)];
+    let mut lot = lot_where(&rt, rt.alloc(), 3, &waiters, false)?;
     let token = UnparkToken(usize::MAX);
     assert_eq!(rt; lot.unpark_all(0, token), 2);
-    assert_eq!(rt; lot.give_back(0), Ok(token));
-    assert_eq!(rt; lot.give_back(2), Ok(token));
-    expect_list(&rt, &lot, 0, &[])?;
-    expect_list(&rt, &lot, 13, &[1])?;
+    for number in [0, 2] {
+        assert_eq!(rt; lot.give_back(number), Ok(token));
+    }
+    let lists = [(0, [].as_slice()), (13, [1].as_slice())];
+    expect_lists(&rt, &lot, &lists)?;
     assert_eq!(rt; lot.unpark_all(0, token), 0);
     Ok(())
 }
 
 #[test]
 fn an_untimed_waiter_has_no_deadline(rt: HostRuntime) -> Result<(), Fail> {
-    let mut lot = lot_with(rt.alloc(), 2)?;
-    enter(&rt, &mut lot, 0, 1);
-    assert_eq!(rt; lot.deadline(0), Err(Misfit));
-    assert_eq!(rt; lot.deadline(1), Err(Misfit));
+    let mut lot = lot_where(&rt, rt.alloc(), 2, &[(0, 1)], false)?;
+    for number in 0..2 {
+        assert_eq!(rt; lot.deadline(number), Err(Misfit));
+    }
     assert_eq!(rt; lot.retire(0), Err(Misfit));
     assert_eq!(rt; lot.status(0), Status::Waiting { timed: false });
     Ok(())
 }
 
+// Unparks one where these threads wait, and compares whether one is left, who was taken, and the
+// lists.
+fn expect_unpark_one(
+    rt: &impl Abort,
+    alloc: Global,
+    waiters: &[(usize, usize)],
+    (key, more): (usize, bool),
+    taken: usize,
+    lists: &[(usize, &[usize])],
+) -> Result<Lot, LotError> {
+    let mut lot = lot_where(rt, alloc, 3, waiters, false)?;
+    let result = lot.unpark_one(key, |_| TOKEN);
+    assert_eq!(rt; result, unparked(1, more));
+    assert_eq!(rt; lot.status(taken), Status::Taken(TOKEN));
+    expect_lists(rt, &lot, lists)?;
+    Ok(lot)
+}
+
 #[test]
 fn a_parked_thread_gets_the_token_of_its_unpark(rt: HostRuntime) -> Result<(), Fail> {
-    let mut lot = lot_with(rt.alloc(), 1)?;
-    enter(&rt, &mut lot, 0, 7);
-    assert_eq!(rt; lot.status(0), Status::Waiting { timed: false });
-    let result = lot.unpark_one(7, |_| TOKEN);
-    assert_eq!(rt;
-        result,
-        UnparkResult {
-            unparked_threads: 1,
-            requeued_threads: 0,
-            have_more_threads: false
-        }
-    );
-    assert_eq!(rt; lot.status(0), Status::Taken(TOKEN));
+    let waiting = lot_where(&rt, rt.alloc(), 1, &[(0, 7)], false)?;
+    assert_eq!(rt; waiting.status(0), Status::Waiting { timed: false });
+    let lists = [(7, [].as_slice())];
+    let mut lot = expect_unpark_one(&rt, rt.alloc(), &[(0, 7)], (7, false), 0, &lists)?;
     assert_eq!(rt; lot.give_back(0), Ok(TOKEN));
     assert_eq!(rt; lot.status(0), Status::Running);
-    expect_list(&rt, &lot, 7, &[])?;
     Ok(())
 }
 
 #[test]
 fn a_bucket_that_is_not_empty_may_have_no_waiter_of_the_key(rt: HostRuntime) -> Result<(), Fail> {
-    let mut lot = lot_with(rt.alloc(), 2)?;
-    enter(&rt, &mut lot, 0, 0);
-    enter(&rt, &mut lot, 1, 13);
-    let result = lot.unpark_one(0, |_| TOKEN);
-    assert_eq!(rt;
-        result,
-        UnparkResult {
-            unparked_threads: 1,
-            requeued_threads: 0,
-            have_more_threads: false
-        }
-    );
-    expect_list(&rt, &lot, 0, &[])?;
-    expect_list(&rt, &lot, 13, &[1])?;
+    let lists = [(0, [].as_slice()), (13, [1].as_slice())];
+    expect_unpark_one(&rt, rt.alloc(), &[(0, 0), (1, 13)], (0, false), 0, &lists)?;
     Ok(())
 }
 
 // It refuses a `list` that answers `NoMemory` where anybody waits.
 #[test]
 fn waiters_of_a_key_are_taken_in_order(rt: HostRuntime) -> Result<(), Fail> {
-    let mut lot = lot_with(rt.alloc(), 3)?;
-    for number in [2, 0, 1] {
-        enter(&rt, &mut lot, number, 7);
-    }
-    expect_list(&rt, &lot, 7, &[2, 0, 1])?;
-    let result = lot.unpark_one(7, |_| TOKEN);
-    assert_eq!(rt;
-        result,
-        UnparkResult {
-            unparked_threads: 1,
-            requeued_threads: 0,
-            have_more_threads: true
-        }
-    );
-    assert_eq!(rt; lot.status(2), Status::Taken(TOKEN));
-    expect_list(&rt, &lot, 7, &[0, 1])?;
+    let waiters = [(2, 7), (0, 7), (1, 7)];
+    let waiting = lot_where(&rt, rt.alloc(), 3, &waiters, false)?;
+    expect_lists(&rt, &waiting, &[(7, [2, 0, 1].as_slice())])?;
+    let lists = [(7, [0, 1].as_slice())];
+    expect_unpark_one(&rt, rt.alloc(), &waiters, (7, true), 2, &lists)?;
     Ok(())
+}
+
+// Three wait on the key 1. Unparks by a filter that counts its calls and gives these decisions, and
+// `Unpark` after them, and compares how often it was called, the answer, and the list.
+fn expect_filter(
+    rt: &impl Abort,
+    alloc: Global,
+    (key, decisions): (usize, &[FilterOp]),
+    calls: usize,
+    answer: UnparkResult,
+    left: &[usize],
+) -> Result<Lot, LotError> {
+    let waiters = [(0, 1), (1, 1), (2, 1)];
+    let mut lot = lot_where(rt, alloc, 3, &waiters, false)?;
+    let mut asked: usize = 0;
+    let answered = unpark_by(&mut lot, key, |_| {
+        let decision = decisions.get(asked).copied().unwrap_or(FilterOp::Unpark);
+        asked = asked.wrapping_add(1);
+        decision
+    });
+    assert_eq!(rt; answered, (answer, Some(answer)));
+    assert_eq!(rt; asked, calls);
+    expect_lists(rt, &lot, &[(1, left)])?;
+    Ok(lot)
 }
 
 #[test]
 fn a_filter_takes_the_second_of_three_and_stops_at_the_last(rt: HostRuntime) -> Result<(), Fail> {
-    let mut lot = lot_with(rt.alloc(), 3)?;
-    for number in 0..3 {
-        enter(&rt, &mut lot, number, 1);
-    }
-    let mut asked: usize = 0;
-    let answered = unpark_by(&mut lot, 1, |_| {
-        asked = asked.wrapping_add(1);
-        match asked {
-            1 => FilterOp::Skip,
-            2 => FilterOp::Unpark,
-            _ => FilterOp::Stop,
-        }
-    });
-    let result = UnparkResult {
-        unparked_threads: 1,
-        requeued_threads: 0,
-        have_more_threads: true,
-    };
-    assert_eq!(rt; answered, (result, Some(result)));
-    assert_eq!(rt; asked, 3);
+    let filter = [FilterOp::Skip, FilterOp::Unpark, FilterOp::Stop];
+    let asked = (1, filter.as_slice());
+    let lot = expect_filter(&rt, rt.alloc(), asked, 3, unparked(1, true), &[0, 2])?;
     assert_eq!(rt; lot.status(1), Status::Taken(TOKEN));
-    expect_list(&rt, &lot, 1, &[0, 2])?;
     Ok(())
 }
 
 #[test]
 fn a_filter_is_not_asked_again_after_stop(rt: HostRuntime) -> Result<(), Fail> {
-    let mut lot = lot_with(rt.alloc(), 2)?;
-    for number in 0..2 {
-        enter(&rt, &mut lot, number, 1);
-    }
-    let mut asked: usize = 0;
-    let answered = unpark_by(&mut lot, 1, |_| {
-        asked = asked.wrapping_add(1);
-        if asked == 1 {
-            FilterOp::Stop
-        } else {
-            FilterOp::Unpark
-        }
-    });
-    let result = UnparkResult {
-        unparked_threads: 0,
-        requeued_threads: 0,
-        have_more_threads: true,
-    };
-    assert_eq!(rt; answered, (result, Some(result)));
-    assert_eq!(rt; asked, 1);
-    expect_list(&rt, &lot, 1, &[0, 1])?;
+    let filter = [FilterOp::Stop];
+    let asked = (1, filter.as_slice());
+    expect_filter(&rt, rt.alloc(), asked, 1, unparked(0, true), &[0, 1, 2])?;
     Ok(())
 }
 
@@ -286,39 +297,22 @@ fn a_filter_is_not_asked_again_after_stop(rt: HostRuntime) -> Result<(), Fail> {
 fn a_filter_that_counts_is_called_up_to_its_stop_and_not_for_nobody(
     rt: HostRuntime,
 ) -> Result<(), Fail> {
-    let mut lot = lot_with(rt.alloc(), 3)?;
-    for number in 0..3 {
-        enter(&rt, &mut lot, number, 1);
-    }
-    for (key, calls, unparked) in [(1, 2, 1), (2, 0, 0)] {
-        let mut asked: usize = 0;
-        let answered = unpark_by(&mut lot, key, |_| {
-            asked = asked.wrapping_add(1);
-            if asked == 1 {
-                FilterOp::Unpark
-            } else {
-                FilterOp::Stop
-            }
-        });
-        let result = UnparkResult {
-            unparked_threads: unparked,
-            requeued_threads: 0,
-            have_more_threads: unparked == 1,
-        };
-        assert_eq!(rt; answered, (result, Some(result)));
-        assert_eq!(rt; asked, calls);
+    let filter = [FilterOp::Unpark, FilterOp::Stop];
+    for (key, calls, answer, left) in [
+        (1, 2, unparked(1, true), [1, 2].as_slice()),
+        (2, 0, unparked(0, false), [0, 1, 2].as_slice()),
+    ] {
+        let asked = (key, filter.as_slice());
+        expect_filter(&rt, rt.alloc(), asked, calls, answer, left)?;
     }
     Ok(())
 }
 
 #[test]
 fn a_late_thread_times_out_and_is_not_unparked_then(rt: HostRuntime) -> Result<(), Fail> {
-    let mut lot = lot_with(rt.alloc(), 1)?;
-    enter_timed(&rt, &mut lot, 0, 1);
+    let mut lot = lot_where(&rt, rt.alloc(), 1, &[(0, 1)], true)?;
     assert_eq!(rt; resolve(&mut lot, 0), (Err(Misfit), None));
-    assert_eq!(rt; lot.deadline(0), Ok(()));
-    let resolved = resolve(&mut lot, 0);
-    assert_eq!(rt; resolved, (Ok(ParkResult::TimedOut), Some((1, true))));
+    expect_timed_out(&rt, &mut lot, 0, (1, true));
     assert_eq!(rt; lot.status(0), Status::Running);
     assert_eq!(rt; lot.unpark_all(1, TOKEN), 0);
     Ok(())
@@ -326,34 +320,20 @@ fn a_late_thread_times_out_and_is_not_unparked_then(rt: HostRuntime) -> Result<(
 
 #[test]
 fn a_late_thread_that_was_unparked_gets_the_token(rt: HostRuntime) -> Result<(), Fail> {
-    let mut lot = lot_with(rt.alloc(), 1)?;
-    enter_timed(&rt, &mut lot, 0, 1);
+    let mut lot = lot_where(&rt, rt.alloc(), 1, &[(0, 1)], true)?;
     assert_eq!(rt; lot.deadline(0), Ok(()));
-    let result = lot.unpark_one(1, |_| TOKEN);
-    assert_eq!(rt;
-        result,
-        UnparkResult {
-            unparked_threads: 1,
-            requeued_threads: 0,
-            have_more_threads: false
-        }
-    );
-    let resolved = resolve(&mut lot, 0);
-    assert_eq!(rt; resolved, (Ok(ParkResult::Unparked(TOKEN)), None));
-    assert_eq!(rt; resolve(&mut lot, 0), (Err(Misfit), None));
+    assert_eq!(rt; lot.unpark_one(1, |_| TOKEN), unparked(1, false));
+    for expected in [(Ok(ParkResult::Unparked(TOKEN)), None), (Err(Misfit), None)] {
+        assert_eq!(rt; resolve(&mut lot, 0), expected);
+    }
     Ok(())
 }
 
 #[test]
 fn a_thread_that_times_out_leaves_the_others_of_its_key(rt: HostRuntime) -> Result<(), Fail> {
-    let mut lot = lot_with(rt.alloc(), 2)?;
-    for number in 0..2 {
-        enter_timed(&rt, &mut lot, number, 1);
-    }
-    assert_eq!(rt; lot.deadline(0), Ok(()));
-    let resolved = resolve(&mut lot, 0);
-    assert_eq!(rt; resolved, (Ok(ParkResult::TimedOut), Some((1, false))));
-    expect_list(&rt, &lot, 1, &[1])?;
+    let mut lot = lot_where(&rt, rt.alloc(), 2, &[(0, 1), (1, 1)], true)?;
+    expect_timed_out(&rt, &mut lot, 0, (1, false));
+    expect_lists(&rt, &lot, &[(1, [1].as_slice())])?;
     Ok(())
 }
 
@@ -363,16 +343,17 @@ fn an_entry_that_is_not_valid_changes_nothing(rt: HostRuntime) -> Result<(), Fai
     let entered = lot.enter(0, 7, || false, DEFAULT_PARK_TOKEN, true);
     assert_eq!(rt; entered, Ok(false));
     assert_eq!(rt; lot.status(0), Status::Running);
-    expect_list(&rt, &lot, 7, &[])?;
+    expect_lists(&rt, &lot, &[(7, [].as_slice())])?;
     Ok(())
 }
 
 #[test]
 fn a_step_that_does_not_fit_calls_no_closure(rt: HostRuntime) -> Result<(), Fail> {
     let mut lot = lot_with(rt.alloc(), 1)?;
-    assert_eq!(rt; lot.give_back(0), Err(Misfit));
-    assert_eq!(rt; lot.give_back(1), Err(Misfit));
-    enter(&rt, &mut lot, 0, 7);
+    for number in 0..2 {
+        assert_eq!(rt; lot.give_back(number), Err(Misfit));
+    }
+    enter(&rt, &mut lot, (0, 7), false);
     let mut called = false;
     let entered = lot.enter(
         0,
@@ -386,7 +367,7 @@ fn a_step_that_does_not_fit_calls_no_closure(rt: HostRuntime) -> Result<(), Fail
     );
     assert_eq!(rt; entered, Err(Misfit));
     assert!(rt; !called);
-    expect_list(&rt, &lot, 7, &[0])?;
+    expect_lists(&rt, &lot, &[(7, [0].as_slice())])?;
     Ok(())
 }
 
@@ -402,7 +383,7 @@ fn a_refused_request_for_memory_changes_nothing(rt: HostRuntime) {
     if refused {
         assert_eq!(rt; lot.register(), Ok(0));
     }
-    enter(&rt, &mut lot, 0, 7);
+    enter(&rt, &mut lot, (0, 7), false);
     let first = lot.list(7).is_err();
     let second = lot.list(7).is_err();
     assert!(rt; !(first && second));
@@ -412,65 +393,30 @@ fn a_refused_request_for_memory_changes_nothing(rt: HostRuntime) {
 // The keys 1 and 2 have places of their own in a table of 16.
 #[test]
 fn a_requeue_calls_back_with_its_answer_unless_it_aborts(rt: HostRuntime) -> Result<(), Fail> {
-    let nobody = UnparkResult::default();
-    let both = UnparkResult {
-        unparked_threads: 0,
-        requeued_threads: 2,
-        have_more_threads: false,
-    };
-    for (waiters, op, expected, on_1, on_2) in [
-        (
-            [(0, 1), (1, 1)].as_slice(),
-            RequeueOp::Abort,
-            (nobody, None),
-            [0, 1].as_slice(),
-            [].as_slice(),
-        ),
-        (
-            [(0, 2)].as_slice(),
-            RequeueOp::RequeueAll,
-            (nobody, Some((RequeueOp::RequeueAll, nobody))),
-            [].as_slice(),
-            [0].as_slice(),
-        ),
-        (
-            [(0, 1), (1, 1)].as_slice(),
-            RequeueOp::RequeueAll,
-            (both, Some((RequeueOp::RequeueAll, both))),
-            [].as_slice(),
-            [0, 1].as_slice(),
-        ),
+    let nobody = requeued(0);
+    let both = requeued(2);
+    let all = RequeueOp::RequeueAll;
+    let (none, two) = ([].as_slice(), [0, 1].as_slice());
+    for (key, op, expected, on_1, on_2) in [
+        (1, RequeueOp::Abort, (nobody, None), two, none),
+        (2, all, (nobody, Some((all, nobody))), none, two),
+        (1, all, (both, Some((all, both))), none, two),
     ] {
-        let mut lot = lot_with(rt.alloc(), 2)?;
-        for (number, key) in waiters {
-            enter(&rt, &mut lot, *number, *key);
-        }
+        let waiters = [(0, key), (1, key)];
+        let mut lot = lot_where(&rt, rt.alloc(), 2, &waiters, false)?;
         assert_eq!(rt; requeue(&mut lot, op), expected, "{op:?}");
-        expect_list(&rt, &lot, 1, on_1)?;
-        expect_list(&rt, &lot, 2, on_2)?;
+        expect_lists(&rt, &lot, &[(1, on_1), (2, on_2)])?;
     }
     Ok(())
 }
 
 #[test]
 fn a_requeued_thread_times_out_on_its_new_key(rt: HostRuntime) -> Result<(), Fail> {
-    let mut lot = lot_with(rt.alloc(), 2)?;
-    for number in 0..2 {
-        enter_timed(&rt, &mut lot, number, 1);
-    }
+    let mut lot = lot_where(&rt, rt.alloc(), 2, &[(0, 1), (1, 1)], true)?;
     let (answer, _) = requeue(&mut lot, RequeueOp::RequeueAll);
-    assert_eq!(rt;
-        answer,
-        UnparkResult {
-            unparked_threads: 0,
-            requeued_threads: 2,
-            have_more_threads: false
-        }
-    );
-    assert_eq!(rt; lot.deadline(0), Ok(()));
-    let resolved = resolve(&mut lot, 0);
-    assert_eq!(rt; resolved, (Ok(ParkResult::TimedOut), Some((2, false))));
-    expect_list(&rt, &lot, 2, &[1])?;
+    assert_eq!(rt; answer, requeued(2));
+    expect_timed_out(&rt, &mut lot, 0, (2, false));
+    expect_lists(&rt, &lot, &[(2, [1].as_slice())])?;
     Ok(())
 }
 
@@ -478,17 +424,17 @@ fn a_requeued_thread_times_out_on_its_new_key(rt: HostRuntime) -> Result<(), Fai
 // want of memory; the seventh is refused for want of a number.
 #[test]
 fn a_refused_registration_leaves_the_list_of_each_key(rt: HostRuntime) -> Result<(), Fail> {
-    let mut lot = lot_with(rt.alloc(), 5)?;
-    enter(&rt, &mut lot, 0, 1);
+    let mut lot = lot_where(&rt, rt.alloc(), 5, &[(0, 1)], false)?;
+    let lists = [(1, [0].as_slice())];
     if let Err(refused) = lot.register() {
         assert_eq!(rt; refused, LotError::NoMemory);
         assert_eq!(rt; (lot.registered(), lot.size()), (5, 16));
-        expect_list(&rt, &lot, 1, &[0])?;
+        expect_lists(&rt, &lot, &lists)?;
         assert_eq!(rt; lot.register(), Ok(5));
     }
     assert_eq!(rt; lot.register(), Err(LotError::Full));
     assert_eq!(rt; (lot.registered(), lot.size()), (6, 32));
-    expect_list(&rt, &lot, 1, &[0])?;
+    expect_lists(&rt, &lot, &lists)?;
     Ok(())
 }
 
@@ -502,17 +448,15 @@ fn a_thread_has_records_of_what_it_holds(rt: HostRuntime) -> Result<(), Fail> {
     for key in [5, 9] {
         assert_eq!(rt; lot.release(0, key), Ok(()));
     }
-    let entered = lot.enter(0, 1, || false, DEFAULT_PARK_TOKEN, false);
-    assert_eq!(rt; entered, Ok(false));
-    enter(&rt, &mut lot, 0, 1);
+    for (valid, expected) in [(false, Ok(false)), (true, Ok(true)), (false, Err(Misfit))] {
+        let entered = lot.enter(0, 1, || valid, DEFAULT_PARK_TOKEN, false);
+        assert_eq!(rt; entered, expected);
+    }
     assert_eq!(rt; lot.acquire(0, 5), Err(StepError::Misfit));
     assert_eq!(rt; lot.release(0, 5), Err(Misfit));
-    let again = lot.enter(0, 1, || false, DEFAULT_PARK_TOKEN, false);
-    assert_eq!(rt; again, Err(Misfit));
-    for (key, times) in [(5, 1), (7, 1), (9, 0)] {
-        assert_eq!(rt; lot.records(0, key), times, "key {key}");
+    for (thread, key, times) in [(0, 5, 1), (0, 7, 1), (0, 9, 0), (6, 5, 0)] {
+        assert_eq!(rt; lot.records(thread, key), times, "{thread} of {key}");
     }
-    assert_eq!(rt; lot.records(6, 5), 0);
     Ok(())
 }
 
@@ -531,26 +475,14 @@ fn a_record_that_is_released_again_leaves_the_others(rt: HostRuntime) -> Result<
 fn all_waiters_are_requeued_to_their_own_key_and_unparked_by_a_filter(
     rt: HostRuntime,
 ) -> Result<(), Fail> {
-    let mut lot = lot_with(rt.alloc(), 2)?;
-    for number in 0..2 {
-        enter(&rt, &mut lot, number, 1);
-    }
-    let requeued = UnparkResult {
-        unparked_threads: 0,
-        requeued_threads: 2,
-        have_more_threads: false,
-    };
-    assert_eq!(rt; requeue_all_to_itself(&mut lot, 1), requeued);
-    expect_list(&rt, &lot, 1, &[0, 1])?;
-    let unparked = UnparkResult {
-        unparked_threads: 2,
-        requeued_threads: 0,
-        have_more_threads: false,
-    };
-    assert_eq!(rt; unpark_all_by_filter(&mut lot, 1, TOKEN), unparked);
-    for number in 0..2 {
-        assert_eq!(rt; lot.status(number), Status::Taken(TOKEN));
-    }
+    let mut lot = lot_where(&rt, rt.alloc(), 2, &[(0, 1), (1, 1)], false)?;
+    assert_eq!(rt; requeue_all_to_itself(&mut lot, 1), requeued(2));
+    expect_lists(&rt, &lot, &[(1, [0, 1].as_slice())])?;
+    assert_eq!(rt;
+        unpark_all_by_filter(&mut lot, 1, TOKEN),
+        unparked(2, false)
+    );
+    expect_taken(&rt, &lot, &[0, 1]);
     Ok(())
 }
 

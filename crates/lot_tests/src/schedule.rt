@@ -64,25 +64,17 @@ fn expect_lists(
 #[test]
 fn six_threads_are_registered_and_the_seventh_is_refused(rt: HostRuntime) -> Result<(), Fail> {
     let mut lot = Lot::new(rt.alloc(), 6)?;
-    let steps = [
-        Step::Register,
-        Step::Register,
-        Step::Register,
-        Step::Register,
-        Step::Register,
-        Step::Register,
-        Step::Register,
-    ];
-    let answers = [
-        Answer::Registered(0),
-        Answer::Registered(1),
-        Answer::Registered(2),
-        Answer::Registered(3),
-        Answer::Registered(4),
-        Answer::Registered(5),
-        Answer::Full,
-    ];
-    expect(&rt, rt.alloc(), &mut lot, &steps, &answers)?;
+    for number in 0..6 {
+        let answers = [Answer::Registered(number)];
+        expect(&rt, rt.alloc(), &mut lot, &[Step::Register], &answers)?;
+    }
+    expect(
+        &rt,
+        rt.alloc(),
+        &mut lot,
+        &[Step::Register],
+        &[Answer::Full],
+    )?;
     assert_eq!(rt; lot.size(), 32);
     Ok(())
 }
@@ -366,7 +358,11 @@ fn answers_stand_behind_those_that_are_there(rt: HostRuntime) -> Result<(), Fail
     run(&mut lot, &[], &mut answers)?;
     assert_eq!(rt; answers.len(), 0);
 
-    run(&mut lot, &[enter_invalid(A, 1), unpark(all(1, 9))], &mut answers)?;
+    run(
+        &mut lot,
+        &[enter_invalid(A, 1), unpark(all(1, 9))],
+        &mut answers,
+    )?;
     run(&mut lot, &[], &mut answers)?;
     run(&mut lot, &[Step::Retire { thread: D }], &mut answers)?;
     let expected = [Answer::Invalid, Answer::Count(0), Answer::Retired];

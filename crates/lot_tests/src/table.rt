@@ -5,6 +5,7 @@ use lot_base::queue::Node;
 use lot_base::token::{LotError, NoMemory, ParkToken};
 use lot_exclusive::table::Table;
 use std::alloc::Global;
+use std::process::Abort;
 use std::test::Fail;
 
 // Lets a thread wait on a key.
@@ -17,9 +18,18 @@ fn enter(alloc: Global, table: &mut Table, number: usize, key: usize) -> Result<
     Ok(())
 }
 
-// The numbers of the threads that wait on a key.
-fn list(alloc: Global, table: &Table, key: usize) -> Result<Vec<usize>, NoMemory> {
-    table.bucket(key).list(alloc, key)
+// Compares the numbers of the threads that wait on each of these keys.
+fn expect_lists(
+    rt: &impl Abort,
+    alloc: Global,
+    table: &Table,
+    rows: &[(usize, &[usize])],
+) -> Result<(), NoMemory> {
+    for (key, numbers) in rows {
+        let list = table.bucket(*key).list(alloc, *key)?;
+        assert_eq!(rt; list.as_slice(), *numbers, "key {key}");
+    }
+    Ok(())
 }
 
 // A table with so many registered threads.
@@ -31,23 +41,35 @@ fn table_of(alloc: Global, max: usize, threads: usize) -> Result<Table, LotError
     Ok(table)
 }
 
+// Registers a thread, and compares its number and then the count and the size.
+fn expect_number(
+    rt: &impl Abort,
+    table: &mut Table,
+    number: usize,
+    counts: (usize, usize),
+) -> Result<(), LotError> {
+    assert_eq!(rt; table.register()?, number);
+    assert_eq!(rt; (table.registered(), table.size()), counts, "{number}");
+    Ok(())
+}
+
 #[test]
 fn numbers_are_given_from_the_least_free_one_on(rt: HostRuntime) -> Result<(), Fail> {
     let mut table = Table::new(rt.alloc(), 40)?;
     assert_eq!(rt; (table.registered(), table.size()), (0, 16));
-    for number in 0..10 {
-        assert_eq!(rt; table.register()?, number);
+    for number in 0..11 {
+        let size = match number {
+            0..=4 => 16,
+            5..=9 => 32,
+            _ => 64,
+        };
+        expect_number(&rt, &mut table, number, (number.wrapping_add(1), size))?;
     }
-    assert_eq!(rt; (table.registered(), table.size()), (10, 32));
-    assert_eq!(rt; table.register()?, 10);
-    assert_eq!(rt; (table.registered(), table.size()), (11, 64));
-
-    table.release(2);
-    table.release(2);
-    table.release(30);
-    assert_eq!(rt; (table.registered(), table.size()), (10, 64));
-    assert_eq!(rt; table.register()?, 2);
-    assert_eq!(rt; table.registered(), 11);
+    for number in [2, 2, 30] {
+        table.release(number);
+        assert_eq!(rt; (table.registered(), table.size()), (10, 64));
+    }
+    expect_number(&rt, &mut table, 2, (11, 64))?;
 
     for number in 0..50 {
         table.release(number);
@@ -81,25 +103,26 @@ fn a_full_table_refuses_a_registration(rt: HostRuntime) -> Result<(), Fail> {
 fn growth_keeps_the_list_of_each_key(rt: HostRuntime) -> Result<(), Fail> {
     let alloc = rt.alloc();
     let mut table = table_of(alloc, 6, 5)?;
-    enter(alloc, &mut table, 0, 0)?;
-    enter(alloc, &mut table, 1, 13)?;
-    enter(alloc, &mut table, 2, 0)?;
+    for (number, key) in [(0, 0), (1, 13), (2, 0)] {
+        enter(alloc, &mut table, number, key)?;
+    }
     assert_eq!(rt; (table.bucket(0).place(), table.bucket(13).place()), (0, 0));
+    let lists = [(0, [0, 2].as_slice()), (13, [1].as_slice())];
 
     let number = match table.register() {
         Err(LotError::NoMemory) => {
             assert_eq!(rt; (table.registered(), table.size()), (5, 16));
-            assert_eq!(rt; list(alloc, &table, 0)?.as_slice(), [0, 2].as_slice());
-            assert_eq!(rt; list(alloc, &table, 13)?.as_slice(), [1].as_slice());
+            expect_lists(&rt, alloc, &table, &lists)?;
             table.register()?
         }
         registered => registered?,
     };
     assert_eq!(rt; (number, table.registered(), table.size()), (5, 6, 32));
-    assert_eq!(rt; list(alloc, &table, 0)?.as_slice(), [0, 2].as_slice());
-    assert_eq!(rt; list(alloc, &table, 13)?.as_slice(), [1].as_slice());
-    assert_eq!(rt; (table.bucket(0).place(), table.bucket(13).place()), (0, 1));
-    assert_eq!(rt; (table.bucket(0).size(), table.bucket(13).size()), (32, 32));
+    expect_lists(&rt, alloc, &table, &lists)?;
+    for (key, place) in [(0, 0), (13, 1)] {
+        let bucket = table.bucket(key);
+        assert_eq!(rt; (bucket.place(), bucket.size()), (place, 32), "key {key}");
+    }
     Ok(())
 }
 
