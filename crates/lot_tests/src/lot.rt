@@ -105,11 +105,18 @@ fn expect_lists(rt: &impl Abort, lot: &Lot, rows: &[(usize, &[usize])]) -> Resul
     Ok(())
 }
 
-// Compares the status of each of these threads.
-fn expect_taken(rt: &impl Abort, lot: &Lot, numbers: &[usize]) {
-    for number in numbers {
-        assert_eq!(rt; lot.status(*number), Status::Taken(TOKEN), "{number}");
-    }
+fn expect_status(rt: &impl Abort, lot: &Lot, number: usize, expected: Status) {
+    assert_eq!(rt; lot.status(number), expected, "{number}");
+}
+
+// Compares how many threads are registered, and the size of the table.
+fn expect_counts(rt: &impl Abort, lot: &Lot, expected: (usize, usize)) {
+    assert_eq!(rt; (lot.registered(), lot.size()), expected);
+}
+
+// Compares how often a thread has recorded a key.
+fn expect_records(rt: &impl Abort, lot: &Lot, (number, key): (usize, usize), times: usize) {
+    assert_eq!(rt; lot.records(number, key), times, "{number} of {key}");
 }
 
 // The deadline of a thread passes, and it is told its key and whether it was the last there.
@@ -123,14 +130,15 @@ fn expect_timed_out(rt: &impl Abort, lot: &mut Lot, number: usize, told: (usize,
 #[test]
 fn six_threads_register_by_number_and_the_seventh_is_refused(rt: HostRuntime) -> Result<(), Fail> {
     let mut lot = Lot::new(rt.alloc(), 6)?;
+    expect_counts(&rt, &lot, (0, 16));
     for (number, size) in [16, 16, 16, 16, 16, 32].iter().enumerate() {
-        assert_eq!(rt; lot.registered(), number);
         assert_eq!(rt; lot.register()?, number);
-        assert_eq!(rt; (lot.status(number), lot.size()), (Status::Running, *size));
+        expect_status(&rt, &lot, number, Status::Running);
+        expect_counts(&rt, &lot, (number.wrapping_add(1), *size));
     }
     assert_eq!(rt; lot.register(), Err(LotError::Full));
-    assert_eq!(rt; (lot.registered(), lot.size()), (6, 32));
-    assert_eq!(rt; lot.status(6), Status::Free);
+    expect_counts(&rt, &lot, (6, 32));
+    expect_status(&rt, &lot, 6, Status::Free);
     Ok(())
 }
 
@@ -138,7 +146,7 @@ fn six_threads_register_by_number_and_the_seventh_is_refused(rt: HostRuntime) ->
 fn a_retired_number_is_given_again(rt: HostRuntime) -> Result<(), Fail> {
     let mut lot = lot_with(rt.alloc(), 3)?;
     assert_eq!(rt; lot.retire(1), Ok(()));
-    assert_eq!(rt; lot.status(1), Status::Free);
+    expect_status(&rt, &lot, 1, Status::Free);
     assert_eq!(rt; lot.retire(1), Err(Misfit));
     assert_eq!(rt; lot.registered(), 2);
     assert_eq!(rt; lot.register(), Ok(1));
@@ -200,7 +208,7 @@ fn an_untimed_waiter_has_no_deadline(rt: HostRuntime) -> Result<(), Fail> {
         assert_eq!(rt; lot.deadline(number), Err(Misfit));
     }
     assert_eq!(rt; lot.retire(0), Err(Misfit));
-    assert_eq!(rt; lot.status(0), Status::Waiting { timed: false });
+    expect_status(&rt, &lot, 0, Status::Waiting { timed: false });
     Ok(())
 }
 
@@ -217,7 +225,7 @@ fn expect_unpark_one(
     let mut lot = lot_where(rt, alloc, 3, waiters, false)?;
     let result = lot.unpark_one(key, |_| TOKEN);
     assert_eq!(rt; result, unparked(1, more));
-    assert_eq!(rt; lot.status(taken), Status::Taken(TOKEN));
+    expect_status(rt, &lot, taken, Status::Taken(TOKEN));
     expect_lists(rt, &lot, lists)?;
     Ok(lot)
 }
@@ -225,11 +233,11 @@ fn expect_unpark_one(
 #[test]
 fn a_parked_thread_gets_the_token_of_its_unpark(rt: HostRuntime) -> Result<(), Fail> {
     let waiting = lot_where(&rt, rt.alloc(), 1, &[(0, 7)], false)?;
-    assert_eq!(rt; waiting.status(0), Status::Waiting { timed: false });
+    expect_status(&rt, &waiting, 0, Status::Waiting { timed: false });
     let lists = [(7, [].as_slice())];
     let mut lot = expect_unpark_one(&rt, rt.alloc(), &[(0, 7)], (7, false), 0, &lists)?;
     assert_eq!(rt; lot.give_back(0), Ok(TOKEN));
-    assert_eq!(rt; lot.status(0), Status::Running);
+    expect_status(&rt, &lot, 0, Status::Running);
     Ok(())
 }
 
@@ -280,7 +288,7 @@ fn a_filter_takes_the_second_of_three_and_stops_at_the_last(rt: HostRuntime) -> 
     let filter = [FilterOp::Skip, FilterOp::Unpark, FilterOp::Stop];
     let asked = (1, filter.as_slice());
     let lot = expect_filter(&rt, rt.alloc(), asked, 3, unparked(1, true), &[0, 2])?;
-    assert_eq!(rt; lot.status(1), Status::Taken(TOKEN));
+    expect_status(&rt, &lot, 1, Status::Taken(TOKEN));
     Ok(())
 }
 
@@ -313,7 +321,7 @@ fn a_late_thread_times_out_and_is_not_unparked_then(rt: HostRuntime) -> Result<(
     let mut lot = lot_where(&rt, rt.alloc(), 1, &[(0, 1)], true)?;
     assert_eq!(rt; resolve(&mut lot, 0), (Err(Misfit), None));
     expect_timed_out(&rt, &mut lot, 0, (1, true));
-    assert_eq!(rt; lot.status(0), Status::Running);
+    expect_status(&rt, &lot, 0, Status::Running);
     assert_eq!(rt; lot.unpark_all(1, TOKEN), 0);
     Ok(())
 }
@@ -342,7 +350,7 @@ fn an_entry_that_is_not_valid_changes_nothing(rt: HostRuntime) -> Result<(), Fai
     let mut lot = lot_with(rt.alloc(), 1)?;
     let entered = lot.enter(0, 7, || false, DEFAULT_PARK_TOKEN, true);
     assert_eq!(rt; entered, Ok(false));
-    assert_eq!(rt; lot.status(0), Status::Running);
+    expect_status(&rt, &lot, 0, Status::Running);
     expect_lists(&rt, &lot, &[(7, [].as_slice())])?;
     Ok(())
 }
@@ -387,7 +395,7 @@ fn a_refused_request_for_memory_changes_nothing(rt: HostRuntime) {
     let first = lot.list(7).is_err();
     let second = lot.list(7).is_err();
     assert!(rt; !(first && second));
-    assert_eq!(rt; lot.status(0), Status::Waiting { timed: false });
+    expect_status(&rt, &lot, 0, Status::Waiting { timed: false });
 }
 
 // The keys 1 and 2 have places of their own in a table of 16.
@@ -428,12 +436,12 @@ fn a_refused_registration_leaves_the_list_of_each_key(rt: HostRuntime) -> Result
     let lists = [(1, [0].as_slice())];
     if let Err(refused) = lot.register() {
         assert_eq!(rt; refused, LotError::NoMemory);
-        assert_eq!(rt; (lot.registered(), lot.size()), (5, 16));
+        expect_counts(&rt, &lot, (5, 16));
         expect_lists(&rt, &lot, &lists)?;
         assert_eq!(rt; lot.register(), Ok(5));
     }
     assert_eq!(rt; lot.register(), Err(LotError::Full));
-    assert_eq!(rt; (lot.registered(), lot.size()), (6, 32));
+    expect_counts(&rt, &lot, (6, 32));
     expect_lists(&rt, &lot, &lists)?;
     Ok(())
 }
@@ -455,7 +463,7 @@ fn a_thread_has_records_of_what_it_holds(rt: HostRuntime) -> Result<(), Fail> {
     assert_eq!(rt; lot.acquire(0, 5), Err(StepError::Misfit));
     assert_eq!(rt; lot.release(0, 5), Err(Misfit));
     for (thread, key, times) in [(0, 5, 1), (0, 7, 1), (0, 9, 0), (6, 5, 0)] {
-        assert_eq!(rt; lot.records(thread, key), times, "{thread} of {key}");
+        expect_records(&rt, &lot, (thread, key), times);
     }
     Ok(())
 }
@@ -466,7 +474,7 @@ fn a_record_that_is_released_again_leaves_the_others(rt: HostRuntime) -> Result<
     let mut lot = lot_with(rt.alloc(), 1)?;
     assert_eq!(rt; lot.acquire(0, 5), Ok(()));
     assert_eq!(rt; acquire_and_release(&mut lot, 0, 5), Ok(()));
-    assert_eq!(rt; lot.records(0, 5), 1);
+    expect_records(&rt, &lot, (0, 5), 1);
     assert_eq!(rt; acquire_and_release(&mut lot, 1, 5), Err(StepError::Misfit));
     Ok(())
 }
@@ -482,7 +490,9 @@ fn all_waiters_are_requeued_to_their_own_key_and_unparked_by_a_filter(
         unpark_all_by_filter(&mut lot, 1, TOKEN),
         unparked(2, false)
     );
-    expect_taken(&rt, &lot, &[0, 1]);
+    for number in 0..2 {
+        expect_status(&rt, &lot, number, Status::Taken(TOKEN));
+    }
     Ok(())
 }
 
@@ -494,9 +504,11 @@ fn records_go_when_the_thread_retires(rt: HostRuntime) -> Result<(), Fail> {
         assert_eq!(rt; lot.acquire(number, 5), Ok(()));
     }
     assert_eq!(rt; lot.retire(0), Ok(()));
-    assert_eq!(rt; (lot.records(0, 5), lot.records(1, 5)), (0, 1));
+    expect_records(&rt, &lot, (0, 5), 0);
+    expect_records(&rt, &lot, (1, 5), 1);
     assert_eq!(rt; lot.register(), Ok(0));
-    assert_eq!(rt; (lot.records(0, 5), lot.records(1, 5)), (0, 1));
+    expect_records(&rt, &lot, (0, 5), 0);
+    expect_records(&rt, &lot, (1, 5), 1);
     Ok(())
 }
 
@@ -513,11 +525,11 @@ fn a_refused_recording_changes_no_records(rt: HostRuntime) {
             Ok(()) => times = times.wrapping_add(1),
             Err(refused) => assert_eq!(rt; refused, StepError::NoMemory),
         }
-        assert_eq!(rt; lot.records(0, 5), times);
+        expect_records(&rt, &lot, (0, 5), times);
     }
     assert!(rt; times >= 19);
     for left in (0..times).rev() {
         assert_eq!(rt; lot.release(0, 5), Ok(()));
-        assert_eq!(rt; lot.records(0, 5), left);
+        expect_records(&rt, &lot, (0, 5), left);
     }
 }
