@@ -3,7 +3,7 @@
 //! same places.
 
 use crate::both::Both;
-use lot_base::token::{LotError, RequeueOp};
+use lot_base::token::{LotError, NoMemory, RequeueOp};
 use lot_exclusive::schedule::{Answer, Step};
 use lot_interleaved::interleaved::{FineAnswer, FineStep};
 use plain_machines::arbitrary::{Arbitrary, KEYS};
@@ -35,41 +35,57 @@ pub fn expect_sequential(
     both.compare(rt, [0, 1, 2].as_slice())
 }
 
-// The steps that the shortest lists are made of. The keys 0 and 13 have place 0 of 16, and there is
+// The sections that begin in the shortest lists. The keys 0 and 13 have place 0 of 16, and there is
 // no caller 2.
-fn every_kind() -> [FineStep; 30] {
-    [
-        enter(0, 0, true),
-        enter(0, 13, false),
-        enter(1, 13, true),
-        enter(1, 0, false),
-        begin(0, one(0, 100)),
-        begin(0, all(13, 101)),
-        begin(1, one(13, 102)),
-        begin(0, requeue((0, 13), RequeueOp::RequeueAll, 103)),
-        begin(1, requeue((13, 0), RequeueOp::UnparkOneRequeueRest, 104)),
-        begin(1, requeue((13, 13), RequeueOp::RequeueOne, 105)),
-        begin(0, requeue((0, 0), RequeueOp::Abort, 106)),
-        FineStep::Commit { caller: 0 },
-        FineStep::Commit { caller: 1 },
-        FineStep::End { caller: 0 },
-        FineStep::End { caller: 1 },
-        FineStep::Wake { caller: 0 },
-        FineStep::Wake { caller: 1 },
-        FineStep::Deadline { thread: 0 },
-        FineStep::Deadline { thread: 1 },
-        FineStep::ReadKey { thread: 0 },
-        FineStep::ReadKey { thread: 1 },
-        FineStep::Look { thread: 0 },
-        FineStep::Look { thread: 1 },
-        FineStep::Return { thread: 0 },
-        FineStep::Return { thread: 1 },
-        enter_invalid(1, 0),
-        begin(2, one(0, 107)),
-        FineStep::Commit { caller: 2 },
-        FineStep::Retire { thread: 1 },
-        FineStep::Register,
-    ]
+fn push_begins(kinds: &mut Vec<FineStep>) -> Result<(), NoMemory> {
+    for (caller, op) in [
+        (0, one(0, 100)),
+        (0, all(13, 101)),
+        (1, one(13, 102)),
+        (0, requeue((0, 13), RequeueOp::RequeueAll, 103)),
+        (1, requeue((13, 0), RequeueOp::UnparkOneRequeueRest, 104)),
+        (1, requeue((13, 13), RequeueOp::RequeueOne, 105)),
+        (0, requeue((0, 0), RequeueOp::Abort, 106)),
+        (2, one(0, 107)),
+    ] {
+        kinds.push(begin(caller, op))?;
+    }
+    Ok(())
+}
+
+fn push_callers(kinds: &mut Vec<FineStep>) -> Result<(), NoMemory> {
+    for caller in 0..2 {
+        kinds.push(FineStep::Commit { caller })?;
+        kinds.push(FineStep::End { caller })?;
+        kinds.push(FineStep::Wake { caller })?;
+    }
+    kinds.push(FineStep::Commit { caller: 2 })?;
+    Ok(())
+}
+
+// The steps of threads: each enters a key with a timeout, and the other without.
+fn push_threads(kinds: &mut Vec<FineStep>) -> Result<(), NoMemory> {
+    for (thread, timed_on, untimed_on) in [(0, 0, 13), (1, 13, 0)] {
+        kinds.push(enter(thread, timed_on, true))?;
+        kinds.push(enter(thread, untimed_on, false))?;
+        kinds.push(FineStep::Deadline { thread })?;
+        kinds.push(FineStep::ReadKey { thread })?;
+        kinds.push(FineStep::Look { thread })?;
+        kinds.push(FineStep::Return { thread })?;
+    }
+    Ok(())
+}
+
+// The steps that the shortest lists are made of.
+fn every_kind(alloc: Global) -> Result<Vec<FineStep>, NoMemory> {
+    let mut kinds = Vec::new(alloc);
+    push_begins(&mut kinds)?;
+    push_callers(&mut kinds)?;
+    push_threads(&mut kinds)?;
+    kinds.push(enter_invalid(1, 0))?;
+    kinds.push(FineStep::Retire { thread: 1 })?;
+    kinds.push(FineStep::Register)?;
+    Ok(kinds)
 }
 
 // The steps of a race: a late thread, a caller that unparks it, and one that requeues it.
@@ -134,7 +150,9 @@ fn check_lists(
 // There are 1 + 30 + 900 + 27_000 = 27_931 lists of up to three steps of 30 kinds.
 #[test]
 fn short_interleaved_lists_amount_to_their_sequential_steps(rt: HostRuntime) -> Result<(), Fail> {
-    let lists = check_lists(&rt, rt.alloc(), &[], every_kind().as_slice(), 3)?;
+    let kinds = every_kind(rt.alloc())?;
+    assert_eq!(rt; kinds.len(), 30);
+    let lists = check_lists(&rt, rt.alloc(), &[], kinds.as_slice(), 3)?;
     assert_eq!(rt; lists, 27_931);
     Ok(())
 }

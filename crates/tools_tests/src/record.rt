@@ -43,17 +43,19 @@ fn each_refusal_has_its_text(rt: HostRuntime) -> Result<(), Fail> {
 #[test]
 fn a_full_journal_has_room_for_the_end_of_a_park(rt: HostRuntime) -> Result<(), Fail> {
     let mut record = Record::new(rt.alloc(), 1, 4)?;
-    assert_eq!(&rt; record.step(Step::Register), Ok(Answer::Registered(0)));
-    assert_eq!(&rt; record.step(enter(0, 1, true)), Ok(Answer::Entered));
-    assert_eq!(&rt; record.step(unpark(one(1, 42))), Err(RecordError::JournalFull));
-    assert_eq!(&rt; record.step(Step::Deadline { thread: 0 }), Ok(Answer::Late));
     let timed_out = Answer::TimedOut { key: 1, last: true };
-    assert_eq!(&rt; record.step(Step::Resolve { thread: 0 }), Ok(timed_out));
-    assert_eq!(&rt; record.step(Step::Register), Err(RecordError::JournalFull));
-    assert_eq!(&rt;
-        record.step(Step::Resolve { thread: 0 }),
-        Ok(Answer::Misfit)
-    );
+    let rows = [
+        (Step::Register, Ok(Answer::Registered(0))),
+        (enter(0, 1, true), Ok(Answer::Entered)),
+        (unpark(one(1, 42)), Err(RecordError::JournalFull)),
+        (Step::Deadline { thread: 0 }, Ok(Answer::Late)),
+        (Step::Resolve { thread: 0 }, Ok(timed_out)),
+        (Step::Register, Err(RecordError::JournalFull)),
+        (Step::Resolve { thread: 0 }, Ok(Answer::Misfit)),
+    ];
+    for (step, expected) in rows {
+        assert_eq!(&rt; record.step(step), expected);
+    }
     assert_eq!(&rt; record.journal().len(), 4);
     Ok(())
 }
@@ -71,7 +73,11 @@ fn a_skipping_filter_and_a_requeue_to_itself_are_journalled(rt: HostRuntime) -> 
     let filtered = record.step(unpark(filter(rt.alloc(), 1, decisions.as_slice(), 5)?));
     assert_eq!(&rt; filtered, Ok(unparked(1, 0, true)));
     assert_eq!(&rt; record.lot().list(1)?.as_slice(), &[0, 2][..]);
-    let requeued = record.step(unpark(requeue((1, 1), RequeueOp::UnparkOneRequeueRest, usize::MAX)));
+    let requeued = record.step(unpark(requeue(
+        (1, 1),
+        RequeueOp::UnparkOneRequeueRest,
+        usize::MAX,
+    )));
     assert_eq!(&rt; requeued, Ok(unparked(1, 1, false)));
     assert_eq!(&rt; record.lot().list(1)?.as_slice(), &[2][..]);
     assert_eq!(&rt; record.journal().len(), 8);
