@@ -14,9 +14,9 @@ use std::alloc::Global;
 use std::process::Abort;
 use std::test::Fail;
 
-/// Does the steps on a new interleaved lot for so many threads and callers and on the plain machine,
-/// compares the answers and the sequential steps, and compares what the sequential steps give on a
-/// lot.
+/// Does the steps on a new interleaved lot for so many threads and callers and on the plain
+/// machine, compares the answers and the sequential steps, and compares what the sequential steps
+/// give on a lot.
 pub fn expect_sequential(
     rt: &impl Abort,
     alloc: Global,

@@ -1,5 +1,5 @@
-//! Tests of the exclusive lot, of its table and of schedules, by their public calls alone. A crate's
-//! tests are proved with all of it, so the long ones are crates of their own.
+//! Tests of the exclusive lot, of its table and of schedules, by their public calls alone. Tests
+//! are proved with all of their crate, so the long ones are crates of their own.
 #![tactic(auto)]
 
 #[cfg(test)]
