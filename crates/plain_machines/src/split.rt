@@ -36,10 +36,11 @@ impl Split {
 pub fn split_first(alloc: Global, waiters: &[usize]) -> Result<Split, NoMemory> {
     let mut split = Split::new(alloc);
     for (index, number) in waiters.iter().enumerate() {
-        match index {
-            0 => split.taken.push(*number)?,
-            _ => split.left.push(*number)?,
-        }
+        let part = match index {
+            0 => &mut split.taken,
+            _ => &mut split.left,
+        };
+        part.push(*number)?;
     }
     Ok(split)
 }
@@ -67,11 +68,11 @@ pub fn split_filter(
         if decision == FilterOp::Stop {
             stopped = true;
         }
-        if decision == FilterOp::Unpark && !stopped {
-            split.taken.push(*number)?;
-        } else {
-            split.left.push(*number)?;
-        }
+        let part = match (decision, stopped) {
+            (FilterOp::Unpark, false) => &mut split.taken,
+            _ => &mut split.left,
+        };
+        part.push(*number)?;
     }
     Ok(split)
 }
