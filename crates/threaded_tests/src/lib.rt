@@ -1,4 +1,4 @@
-//! Tests of the threaded lot, and of recording lots, by their public calls alone.
+//! Tests of the threaded lot, also by the scenarios of threads, and of recording lots, by their public calls alone.
 #![tactic(auto)]
 
 #[cfg(test)]
@@ -7,3 +7,5 @@ mod deadlock;
 mod parking_lot;
 #[cfg(test)]
 mod recording_lot;
+#[cfg(test)]
+mod scenarios;

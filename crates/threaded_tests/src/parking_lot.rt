@@ -115,6 +115,24 @@ fn come_by_turns<P: ThreadParkerT, R: Wait>(
     Ok(false)
 }
 
+// Whether no number is left, so that a registration is refused.
+fn is_full<P: ThreadParkerT, R: Wait>(rt: &R, alloc: Global, lot: &ParkingLot<P>) -> bool {
+    matches!(&lot.thread_data(rt, alloc), Err(LotError::Full))
+}
+
+// Compares the numbers of those who wait on the key.
+fn expect_list<P: ThreadParkerT, R: Wait + Abort>(
+    rt: &R,
+    alloc: Global,
+    lot: &ParkingLot<P>,
+    key: usize,
+    numbers: &[usize],
+) -> Result<(), NoMemory> {
+    let waiting = lot.list(rt, alloc, key)?;
+    assert_eq!(rt; waiting.as_slice(), numbers, "key {key}");
+    Ok(())
+}
+
 // Registers four threads, whose data it drops, and tells their numbers.
 fn register_four<P: ThreadParkerT, R: Wait>(
     rt: &R,
@@ -203,8 +221,7 @@ fn a_park_that_is_not_valid_ends_at_once(rt: HostRuntime) -> Result<(), Fail> {
     assert_eq!(rt; result, ParkResult::Invalid);
     assert_eq!(rt; validations, 1);
     assert_eq!(rt; data.number(), 0);
-    assert!(rt; lot.list(&rt, rt.alloc(), KEY)?.is_empty());
-    Ok(())
+    Ok(expect_list(&rt, rt.alloc(), &lot, KEY, &[])?)
 }
 
 // It refuses an `unpark_one` that answers one thread where nobody waits.
@@ -235,11 +252,11 @@ fn dropped_data_keeps_its_number_and_retired_data_frees_it(rt: HostRuntime) -> R
         (0, 1, 2)
     );
     drop(first);
-    assert!(rt; matches!(&lot.thread_data(&rt, rt.alloc()), Err(LotError::Full)));
+    assert!(rt; is_full(&rt, rt.alloc(), &lot));
     assert!(rt; lot.accepts(&second));
     lot.retire(&rt, second);
     assert_eq!(rt; lot.thread_data(&rt, rt.alloc())?.number(), 1);
-    assert!(rt; matches!(&lot.thread_data(&rt, rt.alloc()), Err(LotError::Full)));
+    assert!(rt; is_full(&rt, rt.alloc(), &lot));
     Ok(())
 }
 
@@ -262,12 +279,7 @@ fn a_lot_is_for_at_most_1024_threads(rt: HostRuntime) -> Result<(), Fail> {
     assert!(rt; matches!(&refused, Err(LotError::TooManyThreads)));
     assert_eq!(rt; Lot::new(rt.alloc(), 1_024)?.max_threads(), 1_024);
     let without_threads = Lot::new(rt.alloc(), 0)?;
-    assert!(rt;
-        matches!(
-            &without_threads.thread_data(&rt, rt.alloc()),
-            Err(LotError::Full)
-        )
-    );
+    assert!(rt; is_full(&rt, rt.alloc(), &without_threads));
     Ok(())
 }
 
@@ -288,8 +300,8 @@ fn waiters_stay_where_the_table_grows_twice_under_them(rt: HostRuntime) -> Resul
     }
     let numbers = register_eight(&rt, rt.alloc(), &lot)?;
     assert_eq!(rt; numbers.as_slice(), &[4, 5, 6, 7, 8, 9, 10, 11][..]);
-    assert_eq!(rt; lot.list(&rt, rt.alloc(), 0)?.as_slice(), &[0, 2][..]);
-    assert_eq!(rt; lot.list(&rt, rt.alloc(), 13)?.as_slice(), &[1, 3][..]);
+    expect_list(&rt, rt.alloc(), &lot, 0, &[0, 2])?;
+    expect_list(&rt, rt.alloc(), &lot, 13, &[1, 3])?;
     for (key, number) in [(0, 0), (13, 1), (0, 2), (13, 3)] {
         let result = unpark_one(&rt, &lot, key, |_| UnparkToken(10 + number));
         assert_eq!(rt; result.unparked_threads, 1);

@@ -131,7 +131,7 @@ fn register_the_rest<P: ThreadParkerT, R: Wait + Clock + Abort>(
         let data = lot.thread_data(rt, alloc).expect(rt, "a number is left");
         registered.push(data).expect(rt, "memory");
     }
-    assert!(rt; matches!(&lot.thread_data(rt, alloc), Err(LotError::Full)));
+    assert!(rt; is_full(rt, alloc, lot));
     for data in registered {
         lot.retire(rt, data);
     }
@@ -189,9 +189,8 @@ where
         answered = answered.wrapping_add(tally.answered);
     }
     assert_eq!(rt; received, answered);
-    assert!(rt; lot.list(rt, alloc, 0)?.is_empty());
-    assert!(rt; lot.list(rt, alloc, 13)?.is_empty());
-    Ok(())
+    expect_list(rt, alloc, &lot, 0, &[])?;
+    Ok(expect_list(rt, alloc, &lot, 13, &[])?)
 }
 
 // It refuses a section that goes on in a bucket of the table that was in use before, and a thread

@@ -45,8 +45,8 @@ fn unpark_three<P: ThreadParkerT, R: Wait + Abort>(
         (1, 2)
     );
     assert!(rt; !requeued.have_more_threads);
-    assert!(rt; lot.list(rt, alloc, 1)?.is_empty());
-    assert_eq!(rt; lot.list(rt, alloc, 2)?.as_slice(), &[1, 2][..]);
+    expect_list(rt, alloc, lot, 1, &[])?;
+    expect_list(rt, alloc, lot, 2, &[1, 2])?;
     let filter = |token: ParkToken| if token.0 == 1 {
         FilterOp::Skip
     } else {
@@ -234,8 +234,7 @@ fn leaves_its_new_key<P: ThreadParkerT + Send + Sync, R: Threads + Wait + Clock 
     let (left, moved) = is_moved_and_times_out(rt, &lot, data, from, to, deadline);
     assert!(rt; moved, "nobody came to be moved");
     assert_eq!(rt; left, Some((ParkResult::TimedOut, to)));
-    assert!(rt; lot.list(rt, alloc, to)?.is_empty());
-    Ok(())
+    Ok(expect_list(rt, alloc, &lot, to, &[])?)
 }
 
 // It refuses a requeue that moves nobody, a filter that unparks nobody, and an `unpark_all` that

@@ -1,7 +1,7 @@
 //! A test that a call on one key does not wait for a section of a key in another bucket.
 
-use super::turns::by_turns;
-use super::{MAX_THREADS, TOKEN};
+use crate::turns::by_turns;
+use crate::{MAX_THREADS, TOKEN};
 use parking_lot_core::{
     DEFAULT_PARK_TOKEN, ParkResult, ParkingLot, ThreadData, ThreadParkerT, park, unpark_all,
 };

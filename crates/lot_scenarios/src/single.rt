@@ -1,7 +1,7 @@
 //! Tests of one thread alone, which times out or unparks itself.
 
-use super::turns::{by_turns, comes_to};
-use super::{KEY, MAX_THREADS, TOKEN};
+use crate::turns::{by_turns, comes_to};
+use crate::{KEY, MAX_THREADS, TOKEN};
 use parking_lot_core::{
     DEFAULT_PARK_TOKEN, ParkResult, ParkingLot, ThreadData, ThreadParkerT, park, unpark_all,
     unpark_one,

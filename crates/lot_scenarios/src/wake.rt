@@ -1,7 +1,7 @@
 //! Tests of two workers, which are woken one by one.
 
-use super::turns::comes_to;
-use super::{KEY, MAX_THREADS, TOKEN};
+use crate::turns::comes_to;
+use crate::{KEY, MAX_THREADS, TOKEN};
 use parking_lot_core::{
     FilterOp, ParkResult, ParkToken, ParkingLot, ThreadData, ThreadParkerT, park, unpark_all,
     unpark_filter, unpark_one,

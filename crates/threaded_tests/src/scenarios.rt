@@ -1,26 +1,30 @@
-//! The tests of the program, each with both parkers, and those of latches also without a delay.
+//! The program's scenarios, each with both parkers, and those of latches also without a delay.
 
-use super::*;
-use parking_lot_core::YieldParker;
+use lot_base::thread_parker::{ThreadParker, YieldParker};
+use lot_scenarios::{Plan, Scenario};
+use std::alloc::Global;
 use std::process::Abort;
+use std::sync::Wait;
+use std::thread::Threads;
+use std::time::{Clock, Duration};
 
-// Runs the test so many times with each parker.
+// Runs the scenario so many times with each parker.
 fn passes<R: Threads + Wait + Clock + Abort + Copy + Send + 'static>(
     rt: &R,
     alloc: Global,
     repeats: usize,
-    test: Test,
+    scenario: Scenario,
 ) {
     for _ in 0..repeats {
-        let passed = run_test::<ThreadParker, _>(rt, alloc, test).is_some();
+        let passed = lot_scenarios::run::<ThreadParker, _>(rt, alloc, scenario).is_some();
         assert!(rt; passed, "with the parker that sleeps");
-        let passed = run_test::<YieldParker, _>(rt, alloc, test).is_some();
+        let passed = lot_scenarios::run::<YieldParker, _>(rt, alloc, scenario).is_some();
         assert!(rt; passed, "with the parker that yields");
     }
 }
 
-fn without_delay(latches: u8, threads: u8, single_unparks: u8) -> Test {
-    Test::Latches(Plan {
+fn without_delay(latches: u8, threads: u8, single_unparks: u8) -> Scenario {
+    Scenario::Latches(Plan {
         latches,
         threads,
         single_unparks,
@@ -32,68 +36,68 @@ fn without_delay(latches: u8, threads: u8, single_unparks: u8) -> Test {
 // leaves its thread in the queue.
 #[test]
 fn single_thread_timeout(rt: HostRuntime) {
-    passes(&rt, rt.alloc(), 1, Test::Timeout);
+    passes(&rt, rt.alloc(), 1, Scenario::Timeout);
 }
 
 // It refuses an `unpark_one` that answers as where nobody waits, or hands no node to the parker,
 // and a `park` with a deadline that sleeps to the deadline or answers `TimedOut` always.
 #[test]
 fn single_thread_unpark_before_sleep(rt: HostRuntime) {
-    passes(&rt, rt.alloc(), 1, Test::UnparkBeforeSleep);
+    passes(&rt, rt.alloc(), 1, Scenario::UnparkBeforeSleep);
 }
 
 // It refuses an `unpark_one` that takes all waiters, and an `unpark_all` that takes none.
 #[test]
 fn wake_one_then_all(rt: HostRuntime) {
-    passes(&rt, rt.alloc(), 1, Test::OneThenAll);
+    passes(&rt, rt.alloc(), 1, Scenario::OneThenAll);
 }
 
 // It refuses an `unpark_filter` that takes threads and wakes none.
 #[test]
 fn wake_filter_then_all(rt: HostRuntime) {
-    passes(&rt, rt.alloc(), 1, Test::FilterThenAll);
+    passes(&rt, rt.alloc(), 1, Scenario::FilterThenAll);
 }
 
 // It refuses one lock round all buckets: the second section then waits for the first.
 #[test]
 fn two_buckets(rt: HostRuntime) {
-    passes(&rt, rt.alloc(), 1, Test::TwoBuckets);
+    passes(&rt, rt.alloc(), 1, Scenario::TwoBuckets);
 }
 
 // It refuses an `unpark_all` that wakes nobody.
 #[test]
 fn unpark_all_one(rt: HostRuntime) {
-    passes(&rt, rt.alloc(), 100, Test::with_latches(1, 1, 0));
+    passes(&rt, rt.alloc(), 100, Scenario::with_latches(1, 1, 0));
 }
 
 // It refuses an `unpark_all` that forgets the handles for which it has no room.
 #[test]
 fn unpark_all_hundred(rt: HostRuntime) {
-    passes(&rt, rt.alloc(), 100, Test::with_latches(1, 100, 0));
+    passes(&rt, rt.alloc(), 100, Scenario::with_latches(1, 100, 0));
 }
 
 // It refuses a `park` that answers without queuing, and an `unpark_one` that wakes nobody.
 #[test]
 fn unpark_one_one(rt: HostRuntime) {
-    passes(&rt, rt.alloc(), 10, Test::with_latches(1, 1, 1));
+    passes(&rt, rt.alloc(), 10, Scenario::with_latches(1, 1, 1));
 }
 
 // It refuses an `unpark_one` that wakes another thread than the first of the list.
 #[test]
 fn unpark_one_fifty(rt: HostRuntime) {
-    passes(&rt, rt.alloc(), 1, Test::with_latches(1, 50, 50));
+    passes(&rt, rt.alloc(), 1, Scenario::with_latches(1, 50, 50));
 }
 
 // It refuses an `unpark_one` that loses a thread behind the one it takes.
 #[test]
 fn unpark_one_fifty_then_fifty_all(rt: HostRuntime) {
-    passes(&rt, rt.alloc(), 2, Test::with_latches(1, 100, 50));
+    passes(&rt, rt.alloc(), 2, Scenario::with_latches(1, 100, 50));
 }
 
 // It refuses an `unpark_all` that takes the threads of another key.
 #[test]
 fn hundred_unpark_all_one(rt: HostRuntime) {
-    passes(&rt, rt.alloc(), 1, Test::with_latches(100, 1, 0));
+    passes(&rt, rt.alloc(), 1, Scenario::with_latches(100, 1, 0));
 }
 
 // It refuses an `unpark_all` whose answer leaves out threads that came before it.

@@ -1,6 +1,6 @@
 use Rattle.std.proofs.Common.{rules}
 use Rattle.lot_base.proofs.FilterLemmas.{IsFilterCallable-always}
-use Rattle.parklot.proofs.program.wake.unpark_chosen.Goals as goal
+use Rattle.lot_scenarios.proofs.wake.unpark_chosen.Goals as goal
 
 pub unpark_filter-requires-after_bounds : goal.unpark_filter-requires-after_bounds
 unpark_filter-requires-after_bounds g c κs within =

@@ -1,7 +1,7 @@
 //! Tests of latches, on which threads park until they are let through.
 
-use super::MAX_THREADS;
-use super::turns::{by_turns, comes_to};
+use crate::MAX_THREADS;
+use crate::turns::{by_turns, comes_to};
 use parking_lot_core::{
     DEFAULT_PARK_TOKEN, DEFAULT_UNPARK_TOKEN, ParkingLot, ThreadData, ThreadParkerT, park,
     unpark_all, unpark_one,

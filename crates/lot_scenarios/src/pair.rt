@@ -1,7 +1,7 @@
 //! A pair of threads, of which one parks and the other unparks it.
 
-use super::turns::by_turns;
-use super::{KEY, TOKEN};
+use crate::turns::by_turns;
+use crate::{KEY, TOKEN};
 use parking_lot_core::{
     DEFAULT_PARK_TOKEN, ParkResult, ParkingLot, ThreadData, ThreadParker, UnparkToken, park,
     unpark_one,
