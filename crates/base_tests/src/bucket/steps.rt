@@ -38,8 +38,7 @@ pub fn enter(
     key: usize,
 ) -> Result<(), NoMemory> {
     let node = node(alloc, number, key)?;
-    assert_eq!(rt; bucket.size(), 16);
-    assert_eq!(rt; place(key, 16), bucket.place());
+    assert!(rt; bucket.size() == 16 && place(key, 16) == bucket.place());
     assert!(rt; bucket.enter(node, || true).is_ok());
     Ok(())
 }
@@ -53,8 +52,7 @@ pub fn refused(
     key: usize,
 ) -> Result<Box<Node>, NoMemory> {
     let node = node(alloc, number, key)?;
-    assert_eq!(rt; bucket.size(), 16);
-    assert_eq!(rt; place(key, 16), bucket.place());
+    assert!(rt; bucket.size() == 16 && place(key, 16) == bucket.place());
     Ok(bucket.enter(node, || false).expect_err(rt, "the node"))
 }
 
@@ -179,17 +177,15 @@ pub fn requeue(
         moved_before = calls.get();
         UnparkToken(token)
     };
-    assert_eq!(rt; bucket.size(), 16);
-    assert_eq!(rt; place(from, 16), bucket.place());
+    assert!(rt; bucket.size() == 16 && place(from, 16) == bucket.place());
     let (result, taken) = match target {
         None => {
-            assert_eq!(rt; place(to, 16), bucket.place());
+            assert!(rt; place(to, 16) == bucket.place());
             bucket.requeue_one(from, to, || op, note_told, note_moved)
         }
         Some(target) => {
-            assert_eq!(rt; target.size(), 16);
-            assert_eq!(rt; place(to, 16), target.place());
-            assert_ne!(rt; target.place(), bucket.place());
+            assert!(rt; target.size() == 16 && place(to, 16) == target.place());
+            assert!(rt; target.place() != bucket.place());
             bucket.requeue_two(target, from, to, || op, note_told, note_moved)
         }
     };

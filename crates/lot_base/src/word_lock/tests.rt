@@ -42,6 +42,18 @@ fn link(lock: &WordLock<Pair>, place: usize) -> u64
     lock.table.shared.peek(place)
 }
 
+// Compares the word, and then the links of the four places.
+fn expect(rt: &impl Abort, lock: &WordLock<Pair>, words: [u64; 5]) {
+    let found = [
+        lock.word(),
+        link(lock, 1),
+        link(lock, 2),
+        link(lock, 3),
+        link(lock, 4),
+    ];
+    assert_eq!(rt; found, words);
+}
+
 // A caller that holds the lock, whose word was this one.
 fn hold<R: Abort>(rt: &R, lock: &WordLock<Pair>, word: u64) -> Caller<Pair>
     requires { word % 2 ≡ 0 }
@@ -50,7 +62,7 @@ fn hold<R: Abort>(rt: &R, lock: &WordLock<Pair>, word: u64) -> Caller<Pair>
     ensures home { HasFullSlot ⟦<Pair as Fits>⟧.fits result }
 {
     let mut caller = lock.arrive();
-    assert!(rt; lock.acquire(&mut caller, word), "the word is {word}");
+    assert!(rt; lock.acquire(&mut caller, word), "the lock is free");
     caller
 }
 
@@ -69,9 +81,12 @@ fn enter<R: Abort>(
     ensures lock { IsCallerOf lock.now caller.new }
     ensures waits { seat_of caller.new ≡ (Enqueued place, []) }
 {
-    assert!(rt; lock.take_place(caller, place), "the place {place} is free");
+    assert!(rt; lock.take_place(caller, place), "the place is free");
     lock.write_link(caller, place, word / 2);
-    assert!(rt; lock.enqueue(caller, place, word), "the word is {word}");
+    assert!(rt;
+        lock.enqueue(caller, place, word),
+        "the word has not changed"
+    );
 }
 
 // Makes a caller that was told give its place back, and try again.
@@ -82,11 +97,7 @@ fn wake_up<R: Abort>(rt: &R, lock: &WordLock<Pair>, caller: &mut Caller<Pair>, p
     ensures lock { IsCallerOf lock.now caller.new }
     ensures tries { IsTrying caller.new 0 0 }
 {
-    assert_eq!(rt;
-        lock.own_link(caller, place),
-        0,
-        "the place {place} was told"
-    );
+    assert!(rt; lock.own_link(caller, place) == 0, "the place was told");
     lock.give_back(caller, place);
 }
 
@@ -94,14 +105,14 @@ fn wake_up<R: Abort>(rt: &R, lock: &WordLock<Pair>, caller: &mut Caller<Pair>, p
 #[test]
 fn the_word_is_1_while_the_lock_is_held(rt: HostRuntime) -> Result<(), Fail> {
     let lock = new_lock(rt.alloc())?;
-    assert_eq!(rt; lock.word(), 0);
+    expect(&rt, &lock, [0, 0, 0, 0, 0]);
     let mut holder = hold(&rt, &lock, 0);
-    assert_eq!(rt; lock.word(), 1);
+    expect(&rt, &lock, [1, 0, 0, 0, 0]);
     let mut other = lock.arrive();
     assert!(rt; !lock.acquire(&mut other, 0), "the lock is held");
     other.leave();
     assert_eq!(rt; lock.release_to_zero(&mut holder, 1), 1);
-    assert_eq!(rt; lock.word(), 0);
+    expect(&rt, &lock, [0, 0, 0, 0, 0]);
     holder.leave();
     Ok(())
 }
@@ -113,18 +124,18 @@ fn the_only_waiter_is_removed_and_told(rt: HostRuntime) -> Result<(), Fail> {
     let mut a = hold(&rt, &lock, 0);
     let mut b = lock.arrive();
     enter(&rt, &lock, &mut b, 2, 1);
-    assert_eq!(rt; [lock.word(), link(&lock, 2)], [5, 1]);
+    expect(&rt, &lock, [5, 0, 1, 0, 0]);
     assert_eq!(rt; lock.release_to_zero(&mut a, 1), 5, "somebody waits");
     assert_eq!(rt; lock.first_link(&mut a, 5), 1, "nobody else does");
     assert_eq!(rt; lock.release_to_zero(&mut a, 5), 5);
-    assert_eq!(rt; [lock.word(), link(&lock, 2)], [0, 1]);
+    expect(&rt, &lock, [0, 0, 1, 0, 0]);
     lock.tell(&mut a, 2);
-    assert_eq!(rt; [lock.word(), link(&lock, 2)], [0, 0]);
+    expect(&rt, &lock, [0, 0, 0, 0, 0]);
     a.leave();
     wake_up(&rt, &lock, &mut b, 2);
     assert!(rt; lock.acquire(&mut b, 0), "the lock is free");
     lock.let_go(b);
-    assert_eq!(rt; lock.word(), 0);
+    expect(&rt, &lock, [0, 0, 0, 0, 0]);
     Ok(())
 }
 
@@ -137,27 +148,27 @@ fn the_oldest_of_two_is_cut_off_and_told(rt: HostRuntime) -> Result<(), Fail> {
     let mut c = lock.arrive();
     enter(&rt, &lock, &mut b, 2, 1);
     enter(&rt, &lock, &mut c, 3, 5);
-    assert_eq!(rt; [lock.word(), link(&lock, 3), link(&lock, 2)], [7, 3, 1]);
+    expect(&rt, &lock, [7, 0, 1, 3, 0]);
     assert_eq!(rt; lock.release_to_zero(&mut a, 1), 7, "somebody waits");
     assert_eq!(rt; lock.first_link(&mut a, 7), 3, "another waits behind");
     let (newer, oldest) = lock.find_oldest(&mut a, 3, 2);
     assert_eq!(rt; [newer, oldest], [3, 2]);
     lock.cut(&mut a, newer);
-    assert_eq!(rt; [lock.word(), link(&lock, 3), link(&lock, 2)], [7, 1, 1]);
+    expect(&rt, &lock, [7, 0, 1, 1, 0]);
     lock.release_after_cut(&mut a);
-    assert_eq!(rt; [lock.word(), link(&lock, 3), link(&lock, 2)], [6, 1, 1]);
+    expect(&rt, &lock, [6, 0, 1, 1, 0]);
     lock.tell(&mut a, oldest);
-    assert_eq!(rt; [lock.word(), link(&lock, 3), link(&lock, 2)], [6, 1, 0]);
+    expect(&rt, &lock, [6, 0, 0, 1, 0]);
     a.leave();
     wake_up(&rt, &lock, &mut b, 2);
     assert!(rt; lock.acquire(&mut b, 6), "the lock is free");
-    assert_eq!(rt; lock.word(), 7);
+    expect(&rt, &lock, [7, 0, 0, 1, 0]);
     lock.let_go(b);
-    assert_eq!(rt; [lock.word(), link(&lock, 3)], [0, 0]);
+    expect(&rt, &lock, [0, 0, 0, 0, 0]);
     wake_up(&rt, &lock, &mut c, 3);
     assert!(rt; lock.acquire(&mut c, 0), "the lock is free");
     lock.let_go(c);
-    assert_eq!(rt; lock.word(), 0);
+    expect(&rt, &lock, [0, 0, 0, 0, 0]);
     Ok(())
 }
 
@@ -171,22 +182,22 @@ fn a_told_caller_can_enter_again(rt: HostRuntime) -> Result<(), Fail> {
     enter(&rt, &lock, &mut b, 2, 1);
     enter(&rt, &lock, &mut c, 3, 5);
     lock.let_go(a);
-    assert_eq!(rt; [lock.word(), link(&lock, 3), link(&lock, 2)], [6, 1, 0]);
+    expect(&rt, &lock, [6, 0, 0, 1, 0]);
     wake_up(&rt, &lock, &mut b, 2);
     let d = hold(&rt, &lock, 6);
-    assert_eq!(rt; lock.word(), 7);
+    expect(&rt, &lock, [7, 0, 0, 1, 0]);
     enter(&rt, &lock, &mut b, 2, 7);
-    assert_eq!(rt; [lock.word(), link(&lock, 2), link(&lock, 3)], [5, 4, 1]);
+    expect(&rt, &lock, [5, 0, 4, 1, 0]);
     lock.let_go(d);
-    assert_eq!(rt; [lock.word(), link(&lock, 2), link(&lock, 3)], [4, 1, 0]);
+    expect(&rt, &lock, [4, 0, 1, 0, 0]);
     wake_up(&rt, &lock, &mut c, 3);
     assert!(rt; lock.acquire(&mut c, 4), "the lock is free");
     lock.let_go(c);
-    assert_eq!(rt; [lock.word(), link(&lock, 2)], [0, 0]);
+    expect(&rt, &lock, [0, 0, 0, 0, 0]);
     wake_up(&rt, &lock, &mut b, 2);
     assert!(rt; lock.acquire(&mut b, 0), "the lock is free");
     lock.let_go(b);
-    assert_eq!(rt; lock.word(), 0);
+    expect(&rt, &lock, [0, 0, 0, 0, 0]);
     Ok(())
 }
 
@@ -203,14 +214,14 @@ fn a_release_to_0_fails_once_another_waits(rt: HostRuntime) -> Result<(), Fail> 
     enter(&rt, &lock, &mut c, 1, 9);
     assert_eq!(rt; lock.release_to_zero(&mut a, 9), 3, "the word has changed");
     lock.unlock_slow(a, 3);
-    assert_eq!(rt; [lock.word(), link(&lock, 1), link(&lock, 4)], [2, 1, 0]);
+    expect(&rt, &lock, [2, 1, 0, 0, 0]);
     wake_up(&rt, &lock, &mut b, 4);
     assert!(rt; lock.acquire(&mut b, 2), "the lock is free");
     lock.let_go(b);
     wake_up(&rt, &lock, &mut c, 1);
     assert!(rt; lock.acquire(&mut c, 0), "the lock is free");
     lock.let_go(c);
-    assert_eq!(rt; lock.word(), 0);
+    expect(&rt, &lock, [0, 0, 0, 0, 0]);
     Ok(())
 }
 
