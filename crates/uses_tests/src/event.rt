@@ -1,5 +1,6 @@
 //! Tests of the event among threads.
 
+use crate::expect;
 use parking_lot_core::{ParkingLot, ThreadData, ThreadParker, ThreadParkerT};
 use std::alloc::Global;
 use std::sync::{Arc, Wait};
@@ -79,7 +80,7 @@ fn the_event_wakes_every_thread(rt: HostRuntime) -> Result<(), Fail> {
     }
     come_by_turns(&rt, rt.alloc(), &shared.lot).expect(&rt, "the waiters");
     assert!(rt; !shared.event.is_set());
-    assert_eq!(rt; shared.event.set(&rt, &shared.lot), THREADS);
+    expect(&rt, shared.event.set(&rt, &shared.lot), THREADS);
     for waiter in waiters {
         assert!(rt; waiter.join(&rt));
     }
@@ -87,6 +88,6 @@ fn the_event_wakes_every_thread(rt: HostRuntime) -> Result<(), Fail> {
     // Who comes after the event does not sleep.
     let mut data = shared.lot.thread_data(&rt, rt.alloc())?;
     assert!(rt; shared.event.wait(&rt, &shared.lot, &mut data, None));
-    assert_eq!(rt; shared.event.set(&rt, &shared.lot), 0);
+    expect(&rt, shared.event.set(&rt, &shared.lot), 0);
     Ok(())
 }

@@ -17,3 +17,14 @@ mod simulation;
 mod thread_semaphore;
 #[cfg(test)]
 mod timeout;
+
+#[cfg(test)]
+use std::fmt::Debug;
+#[cfg(test)]
+use std::process::Abort;
+
+// Compares what was found with what is expected. A comparison in a function is proved once.
+#[cfg(test)]
+fn expect<T: PartialEq + Debug + Drop>(rt: &impl Abort, found: T, expected: T) {
+    assert_eq!(rt; found, expected);
+}

@@ -1,5 +1,6 @@
 //! Tests of recordings and their replay.
 
+use crate::expect;
 use lot_tools::record::{Record, RecordError};
 use parking_lot_core::DEFAULT_PARK_TOKEN;
 use parking_lot_core::lot::{Lot, Status};
@@ -17,9 +18,13 @@ fn a_journal_of_two_threads_replays(rt: HostRuntime) -> Result<(), Fail> {
         assert!(&rt; recorded.journal().len() > 2);
         let mut lot = Lot::new(rt.alloc(), 2)?;
         for (step, answer) in recorded.journal() {
-            assert_eq!(&rt; lot.apply(step), *answer);
+            expect(&rt, lot.apply(step), *answer);
         }
-        assert_eq!(&rt; lot.list(7)?.as_slice(), recorded.lot().list(7)?.as_slice());
+        expect(
+            &rt,
+            lot.list(7)?.as_slice(),
+            recorded.lot().list(7)?.as_slice(),
+        );
     }
     Ok(())
 }
@@ -31,9 +36,10 @@ fn a_replay_gives_a_lot_like_the_records(rt: HostRuntime) -> Result<(), Fail> {
         assert!(&rt; recorded.step(step).is_ok());
     }
     let lot = replay(rt.alloc(), &recorded)?;
-    assert_eq!(&rt;
+    expect(
+        &rt,
         (lot.status(0), lot.status(1)),
-        (Status::Free, Status::Running)
+        (Status::Free, Status::Running),
     );
     Ok(())
 }
@@ -41,7 +47,11 @@ fn a_replay_gives_a_lot_like_the_records(rt: HostRuntime) -> Result<(), Fail> {
 #[test]
 fn a_park_ends_where_the_journal_is_full(rt: HostRuntime) -> Result<(), Fail> {
     let mut recorded = Record::new(rt.alloc(), 1, 4)?;
-    assert_eq!(&rt; recorded.step(Step::Register), Ok(Answer::Registered(0)));
+    expect(
+        &rt,
+        recorded.step(Step::Register),
+        Ok(Answer::Registered(0)),
+    );
     let enter = Step::Enter {
         thread: 0,
         key: 7,
@@ -49,20 +59,23 @@ fn a_park_ends_where_the_journal_is_full(rt: HostRuntime) -> Result<(), Fail> {
         park_token: DEFAULT_PARK_TOKEN,
         timed: true,
     };
-    assert_eq!(&rt; recorded.step(enter), Ok(Answer::Entered));
-    assert_eq!(&rt;
+    expect(&rt, recorded.step(enter), Ok(Answer::Entered));
+    expect(
+        &rt,
         recorded.step(Step::Register),
-        Err(RecordError::JournalFull)
+        Err(RecordError::JournalFull),
     );
-    assert_eq!(&rt; end_park(&mut recorded, 0), Answer::Misfit);
-    assert_eq!(&rt;
+    expect(&rt, end_park(&mut recorded, 0), Answer::Misfit);
+    expect(
+        &rt,
         recorded.step(Step::Deadline { thread: 0 }),
-        Ok(Answer::Late)
+        Ok(Answer::Late),
     );
-    assert_eq!(&rt;
+    expect(
+        &rt,
         end_park(&mut recorded, 0),
-        Answer::TimedOut { key: 7, last: true }
+        Answer::TimedOut { key: 7, last: true },
     );
-    assert_eq!(&rt; recorded.journal().len(), 4);
+    expect(&rt, recorded.journal().len(), 4);
     Ok(())
 }
