@@ -133,24 +133,22 @@ impl<P: ThreadParkerT> ParkingLot<P> {
 
     /// Registers a thread under the least free number. It has no records.
     ///
-    /// It allocates the thread's node, then takes the lock of the numbers, and allocates what the
-    /// table needs to grow. Growth waits for each section of the old buckets in turn. From then on
-    /// the thread parks without asking for memory.
+    /// It takes the lock of the numbers, looks for a free one, and allocates the thread's node, and
+    /// then what the table needs to grow. Growth waits for each section of the old buckets in turn.
+    /// From then on the thread parks without asking for memory.
     ///
     /// # Errors
     ///
-    /// `Full` if the greatest number of threads is registered, and `NoMemory` if memory cannot be
-    /// had. No number was given then.
+    /// `Full` if the greatest number of threads is registered, which is tested first, and else
+    /// `NoMemory` if memory cannot be had. No number was given then.
     pub fn thread_data<R: Wait>(&self, rt: &R, alloc: Global) -> Result<ThreadData, LotError>
         ensures not_too_many { result ≢ Err LotError.TooManyThreads }
         ensures number { IfOk result (λ thread. thread.number < self.now.max_threads) }
         ensures records { IfOk result (λ thread. thread.records ≡ []) }
     {
-        let mut node = Node::new(alloc, 0)?;
-        let number = self.buckets.register(rt, alloc, self.threads.len())?;
-        node.number = number;
+        let node = self.buckets.register(rt, alloc, self.threads.len())?;
         Ok(ThreadData {
-            number,
+            number: node.number,
             node: Some(node),
             records: Records::new(alloc),
         })

@@ -2,6 +2,7 @@
 //! of its key.
 
 ghost use Rattle.std.specs.Prelude.{◌≡◌, ◌≢◌, ◌+◌, ◌^◌, ◌<◌, ◌↔◌, IsTrue, IsErrOf, IfOk, OnErr, IfSome, Err, MatchOption, length, slice_set};
+ghost use Rattle.lot_base.specs.Node.{fields};
 ghost use Rattle.lot_base.specs.Place.{IsTableSize};
 ghost use Rattle.lot_base.specs.WordLock.{IsHeldOf};
 ghost use Rattle.lot_exclusive.specs.Represents.{Represents, waiters_in};
@@ -12,6 +13,7 @@ ghost use Rattle.parking_lot_core.specs.Private.Section.{HasPlaceOf, AreApart};
 mod registry;
 
 use lot_base::bucket::{Bucket, place};
+use lot_base::queue::Node;
 use lot_base::token::{LotError, NoMemory};
 use lot_base::word_lock::{Held, WordLock};
 use lot_exclusive::table::growth::{INITIAL_BUCKETS, empty_buckets, rehash_bucket};
@@ -258,15 +260,15 @@ impl Buckets {
     }
 
     // Registers the least free number, which is to be below `max_threads`, under the lock of the
-    // registry.
+    // registry. The answer is a node of that number.
     pub(super) fn register<R: Wait>(
         &self,
         rt: &R,
         alloc: Global,
         max_threads: usize,
-    ) -> Result<usize, LotError>
+    ) -> Result<Box<Node>, LotError>
         ensures not_too_many { result ≢ Err LotError.TooManyThreads }
-        ensures number { IfOk result (λ number. number < max_threads) }
+        ensures number { IfOk result (λ node. (fields node.value).number < max_threads) }
     {
         let mut registry = self.registry.lock(rt);
         let registered = self.register_in(rt, alloc, &mut registry, max_threads);
@@ -274,37 +276,40 @@ impl Buckets {
         registered
     }
 
-    // Registers the least free number of the registry, which is locked. If the table has less than
-    // three buckets for each thread then, it grows first.
+    // Registers the least free number of the registry, which is locked, and makes the node of its
+    // thread. If the table has less than three buckets for each thread then, it grows first.
     //
-    // Nothing that can be refused comes after `current` says that the table grows.
+    // Whether a number is free is asked before memory is, so a full lot is `Full` and never
+    // `NoMemory`. Nothing that can be refused comes after `current` says that the table grows.
     fn register_in<R: Wait>(
         &self,
         rt: &R,
         alloc: Global,
         registry: &mut Registry,
         max_threads: usize,
-    ) -> Result<usize, LotError>
+    ) -> Result<Box<Node>, LotError>
         ensures full { length registry.old.numbers ≡ max_threads → (IsErrOf result LotError.Full
             ↔ (count_registered registry.old.numbers ≡ max_threads)) }
         ensures not_too_many { result ≢ Err LotError.TooManyThreads }
-        ensures registered { IfOk result (λ number. record {
-          below : number < max_threads;
-          least : IsLeastUnregistered registry.old.numbers number;
-          numbers : registry.new.numbers
-              ≡ slice_set registry.old.numbers number Use.Registered;
-          size : IsSizeFor (count_registered registry.old.numbers + 1) registry.old.size
-              registry.new.size;
-        }) }
+        ensures registered { IfOk result (λ node. let number = (fields node.value).number in
+            record {
+              below : number < max_threads;
+              least : IsLeastUnregistered registry.old.numbers number;
+              numbers : registry.new.numbers
+                  ≡ slice_set registry.old.numbers number Use.Registered;
+              size : IsSizeFor (count_registered registry.old.numbers + 1) registry.old.size
+                  registry.new.size;
+            }) }
         ensures err { OnErr result (registry.new ≡ registry.old) }
     {
         let number = registry.least_free(max_threads)?;
+        let node = Node::new(alloc, number)?;
         let size = registry.size_for_one_more();
         if registry.size() < size {
             self.grow(rt, alloc, registry.size(), size)?;
         }
         registry.register(number, size);
-        Ok(number)
+        Ok(node)
     }
 
     // Frees the number. The row in use stays.
