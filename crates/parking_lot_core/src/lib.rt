@@ -7,6 +7,10 @@ pub mod parking_lot;
 pub mod table;
 
 pub use lot_base::bucket::{Bucket, place};
+pub use lot_base::laws::{
+    abort_changes_nothing, filter_covers_unparks, requeue_to_itself_changes_nothing,
+    spreading_keeps_order, steps_keep_park_tokens,
+};
 pub use lot_base::queue::{Node, Queue};
 pub use lot_base::spinwait::SpinWait;
 pub use lot_base::thread_parker::{
@@ -16,6 +20,9 @@ pub use lot_base::thread_parker::{
 pub use lot_base::token::{
     DEFAULT_PARK_TOKEN, DEFAULT_UNPARK_TOKEN, FilterOp, LotError, Misfit, NoMemory, ParkResult,
     ParkToken, RequeueOp, StepError, UnparkResult, UnparkToken,
+};
+pub use lot_base::word_lock::{
+    Fits, Held, WORD_SLOTS, WordLock, plays, view, word_locks_keep_their_invariant,
 };
 pub use lot_exclusive::{laws, lot, schedule};
 pub use lot_interleaved::interleaved;
