@@ -1,7 +1,7 @@
 //! The buckets of a threaded lot, each behind a lock of its own, and how a section reaches the one
 //! of its key.
 
-ghost use Rattle.std.specs.Prelude.{◌≡◌, ◌≢◌, ◌+◌, ◌^◌, ◌<◌, ◌↔◌, IsTrue, IsErrOf, IfOk, OnErr, IfSome, Err, MatchOption, None, Some, length, slice_set};
+ghost use Rattle.std.specs.Prelude.{◌≡◌, ◌≢◌, ◌+◌, ◌*◌, ◌<◌, ◌≤◌, ◌↔◌, IsTrue, IsErrOf, IfOk, OnErr, IfSome, Err, MatchOption, None, Some, length, slice_set};
 ghost use Rattle.lot_base.specs.Node.{fields};
 ghost use Rattle.lot_base.specs.Place.{IsTableSize};
 ghost use Rattle.lot_base.specs.WordLock.{IsHeldOf};
@@ -10,8 +10,10 @@ ghost use Rattle.lot_exclusive.specs.Size.{IsSizeFor};
 ghost use Rattle.lot_exclusive.specs.Table.{IsRowOf, count_registered, IsLeastUnregistered};
 ghost use Rattle.parking_lot_core.specs.Private.Section.{HasPlaceOf, AreApart, AreLockedInOrder};
 
+mod current;
 mod registry;
 
+use current::{Current, ROWS, RowInUse, index_of};
 use lot_base::bucket::{Bucket, place};
 use lot_base::queue::Node;
 use lot_base::token::{LotError, NoMemory};
@@ -21,15 +23,8 @@ use lot_exclusive::table::{MAX_THREADS, Use};
 use registry::Registry;
 use std::alloc::Global;
 use std::marker::Model;
-use std::sync::atomic::{AtomicUsize, Ordering};
 use std::sync::{Mutex, OnceLock, Wait};
 use std::{array, mem};
-
-// A table has from 16 to 65,536 buckets, and there is a place for a row of each such size.
-const ROWS: usize = 13;
-
-// What `current` is while the table grows: the index of no row.
-const GROWING: usize = ROWS;
 
 // A bucket that a section has locked, with its place in the row, and the place of the bucket that
 // the section had locked before, if there is one. It has no `Drop`: it ends in `unlock`.
@@ -181,17 +176,13 @@ impl Row {
 // The rows of all sizes that were needed so far, of which one is in use, and the numbers of the
 // threads.
 //
-// A row is made when it is first needed, and stays to the end. `current` is the index of the row in
-// use. Numbers are registered and released under the lock of the registry, which a growing thread
-// holds until `current` is the index of the larger row.
-//
-// Sizes only grow, so an index that was left never comes back: two equal loads of `current`, of
-// which the second comes after a bucket was locked, mean that no growth came between. All orderings
-// are `SeqCst`, of which the proofs know most.
+// A row is made when it is first needed, and stays to the end. `current` tells the row in use.
+// Numbers are registered and released under the lock of the registry, which a growing thread holds
+// until `current` tells the larger row.
 #[derive(Drop)]
 pub(super) struct Buckets {
     rows: [OnceLock<Row>; ROWS],
-    current: AtomicUsize,
+    current: Current,
     registry: Mutex<Registry>,
 }
 
@@ -201,12 +192,13 @@ impl Buckets {
         ensures too_many { IsErrOf result LotError.TooManyThreads ↔ (MAX_THREADS < max_threads) }
         ensures not_full { result ≢ Err LotError.Full }
     {
-        let registry = Registry::new(alloc, max_threads)?;
+        let (current, row) = Current::new();
+        let registry = Registry::new(alloc, max_threads, row)?;
         let mut rows = array::from_fn(|_| OnceLock::new());
         rows[0] = OnceLock::from(Row::new(alloc, INITIAL_BUCKETS)?);
         Ok(Buckets {
             rows,
-            current: AtomicUsize::new(0),
+            current,
             registry: Mutex::new(registry),
         })
     }
@@ -223,7 +215,7 @@ impl Buckets {
         ensures place { HasPlaceOf key result.held.value }
     {
         for _ in rt.forever() {
-            let current = self.current.load(Ordering::SeqCst);
+            let current = self.current.load();
             if let Some(row) = self.row(current) {
                 let place = place(key, row.size());
                 let bucket = row.lock(rt, place);
@@ -254,7 +246,7 @@ impl Buckets {
         ensures order { IfSome result.1 (AreLockedInOrder result.0) }
     {
         for _ in rt.forever() {
-            let current = self.current.load(Ordering::SeqCst);
+            let current = self.current.load();
             if let Some(row) = self.row(current) {
                 let size = row.size();
                 let (source_place, target_place) = (place(from, size), place(to, size));
@@ -275,7 +267,7 @@ impl Buckets {
 
     // Whether the row of this index is still in use.
     fn is_in_use(&self, current: usize) -> bool {
-        self.current.load(Ordering::SeqCst) == current
+        self.current.load() == current
     }
 
     // Waits until the thread that lets the table grow is done: it has the registry meanwhile.
@@ -306,7 +298,7 @@ impl Buckets {
     // thread. If the table has less than three buckets for each thread then, it grows first.
     //
     // Whether a number is free is asked before memory is, so a full lot is `Full` and never
-    // `NoMemory`. Nothing that can be refused comes after `current` says that the table grows.
+    // `NoMemory`.
     fn register_in<R: Wait>(
         &self,
         rt: &R,
@@ -330,12 +322,31 @@ impl Buckets {
     {
         let number = registry.least_free(max_threads)?;
         let node = Node::new(alloc, number)?;
+        let row = self.make_room(rt, alloc, registry)?;
+        registry.register(number, row);
+        Ok(node)
+    }
+
+    // The row in use once one more thread is to be registered: where the present one is too small,
+    // a larger one comes into use first. The registry is locked.
+    fn make_room<R: Wait>(
+        &self,
+        rt: &R,
+        alloc: Global,
+        registry: &Registry,
+    ) -> Result<RowInUse, NoMemory>
+        requires { count_registered registry.now.numbers < MAX_THREADS }
+        ensures size { IfOk result (λ row. IsSizeFor
+            (count_registered registry.now.numbers + 1) registry.now.size row.size) }
+        ensures table { IfOk result (λ row. IsTableSize row.size) }
+        ensures room { IfOk result (λ row.
+            3 * (count_registered registry.now.numbers + 1) ≤ row.size) }
+    {
         let size = registry.size_for_one_more();
         if registry.size() < size {
-            self.grow(rt, alloc, registry.size(), size)?;
+            return self.grow(rt, alloc, registry.size(), size);
         }
-        registry.register(number, size);
-        Ok(node)
+        Ok(registry.row())
     }
 
     // Frees the number. The row in use stays.
@@ -353,21 +364,21 @@ impl Buckets {
         alloc: Global,
         old_size: usize,
         new_size: usize,
-    ) -> Result<(), NoMemory>
+    ) -> Result<RowInUse, NoMemory>
         requires old { IsTableSize old_size }
         requires new { IsTableSize new_size }
         requires grows { old_size < new_size }
+        ensures { IfOk result (λ row. row.size ≡ new_size) }
     {
         let row = self.row_of_size(rt, alloc, new_size)?;
         // Nodes move into buckets that no lock hides, of which a proof knows the lists.
         let mut buckets = empty_buckets(alloc, new_size)?;
         // The row in use was made before, so this asks for no memory.
         let old = self.row_of_size(rt, alloc, old_size)?;
-        self.current.store(GROWING, Ordering::SeqCst);
+        let growth = self.current.begin_growth();
         old.rehash(rt, &mut buckets);
         row.fill(rt, buckets);
-        self.current.store(index_of(new_size), Ordering::SeqCst);
-        Ok(())
+        Ok(self.current.put_in_use(growth, new_size))
     }
 
     // The row of this size, which is made if it was not needed before.
@@ -381,15 +392,6 @@ impl Buckets {
         let row = Row::new(alloc, size)?;
         Ok(place.get_or_init(rt, move || row))
     }
-}
-
-// The index of the row of this size.
-fn index_of(size: usize) -> usize
-    requires { IsTableSize size }
-    ensures value { 2 ^ (result + 4) ≡ size }
-    ensures place { result < 13 }
-{
-    (size.ilog2() - 4) as usize
 }
 
 // Whether the bucket is that of this place in a row of this size. No contract tells what a lock

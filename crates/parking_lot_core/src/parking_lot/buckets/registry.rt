@@ -5,18 +5,19 @@ ghost use Rattle.lot_base.specs.Place.{IsTableSize};
 ghost use Rattle.lot_exclusive.specs.Size.{IsSizeFor};
 ghost use Rattle.lot_exclusive.specs.Table.{count_registered, IsLeastUnregistered};
 
+use super::current::RowInUse;
 use lot_base::token::LotError;
-use lot_exclusive::table::growth::{INITIAL_BUCKETS, size_for};
+use lot_exclusive::table::growth::size_for;
 use lot_exclusive::table::numbers::Numbers;
 use lot_exclusive::table::{MAX_THREADS, Use};
 use std::alloc::Global;
 use std::marker::Model;
 
-// The use of each number, and the size of the row in use: three buckets for each thread, at least.
+// The use of each number, and the row in use: three buckets for each thread, at least.
 #[derive(Drop)]
 pub(super) struct Registry {
     numbers: Numbers,
-    size: usize,
+    row: RowInUse,
 }
 
 impl Model for Registry {
@@ -27,23 +28,28 @@ impl Model for Registry {
 
     ghost Value = { RegistryState };
 
-    ghost view = { λ registry. record { numbers = registry.numbers; size = registry.size } };
+    ghost view = { λ registry. record { numbers = registry.numbers; size = registry.row.size } };
 
-    ghost invariant = { λ registry. IsTableSize registry.size
-        × (3 * count_registered registry.numbers ≤ registry.size) };
+    ghost invariant = { λ registry. IsTableSize registry.row.size
+        × (3 * count_registered registry.numbers ≤ registry.row.size) };
 }
 
 impl Registry {
-    // Numbers for so many threads, none of them registered, and the size of the first row.
-    pub(super) fn new(alloc: Global, max_threads: usize) -> Result<Registry, LotError>
+    // Numbers for so many threads, none of them registered, and the row in use.
+    pub(super) fn new(
+        alloc: Global,
+        max_threads: usize,
+        row: RowInUse,
+    ) -> Result<Registry, LotError>
+        requires { IsTableSize row.size }
         ensures too_many { IsErrOf result LotError.TooManyThreads ↔ (MAX_THREADS < max_threads) }
         ensures not_full { result ≢ Err LotError.Full }
         ensures ok { IfOk result (λ registry. registry
-            ≡ record { numbers = replicate max_threads Use.Free; size = 16 }) }
+            ≡ record { numbers = replicate max_threads Use.Free; size = row.size }) }
     {
         Ok(Registry {
             numbers: Numbers::new(alloc, max_threads)?,
-            size: INITIAL_BUCKETS,
+            row,
         })
     }
 
@@ -52,7 +58,14 @@ impl Registry {
         ensures value { result ≡ self.now.size }
         ensures table { IsTableSize result }
     {
-        self.size
+        self.row.size()
+    }
+
+    // The row in use.
+    pub(super) fn row(&self) -> RowInUse
+        ensures { result.size ≡ self.now.size }
+    {
+        self.row
     }
 
     // The least number that is not registered, which is to be below `max_threads`. A lock does not
@@ -81,21 +94,21 @@ impl Registry {
         ensures table { IsTableSize result }
         ensures room { 3 * (count_registered self.now.numbers + 1) ≤ result }
     {
-        size_for(self.numbers.registered() + 1, self.size)
+        size_for(self.numbers.registered() + 1, self.row.size())
     }
 
-    // Registers a free number, for a row of this size.
-    pub(super) fn register(&mut self, number: usize, size: usize)
+    // Registers a free number, where this row is in use.
+    pub(super) fn register(&mut self, number: usize, row: RowInUse)
         requires free { slice_get self.old.numbers number ≡ Some Use.Free }
-        requires table { IsTableSize size }
-        requires room { 3 * (count_registered self.old.numbers + 1) ≤ size }
+        requires table { IsTableSize row.size }
+        requires room { 3 * (count_registered self.old.numbers + 1) ≤ row.size }
         ensures { self.new ≡ record {
           numbers = slice_set self.old.numbers number Use.Registered;
-          size = size;
+          size = row.size;
         } }
     {
         self.numbers.register(number);
-        self.size = size;
+        self.row = row;
     }
 
     // Frees the number. One that is not registered changes nothing.

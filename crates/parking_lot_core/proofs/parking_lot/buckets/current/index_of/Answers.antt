@@ -1,7 +1,7 @@
 use Rattle.std.proofs.Common.{ℕ, ◌≡◌, ◌≤◌, ◌<◌, ◌^◌, ◌*◌, ◌+◌, ◌-◌, sym, subst, arith}
 use Rattle.lot_base.proofs.PlaceLemmas.{exponent_of_power}
-use Rattle.parking_lot_core.proofs.parking_lot.buckets.index_of.Goals as goal
-use Rattle.parking_lot_core.proofs.parking_lot.buckets.index_of.Goals.{After-ilog2}
+use Rattle.parking_lot_core.proofs.parking_lot.buckets.current.index_of.Goals as goal
+use Rattle.parking_lot_core.proofs.parking_lot.buckets.current.index_of.Goals.{After-ilog2}
 
 -- the logarithm of the size is the number of its bits
 log_of_size : (c : After-ilog2) → c.ilog2.result ≡ c.requires.bits

@@ -1,0 +1,91 @@
+//! Which row of buckets is in use, or that the table is growing.
+
+ghost use Rattle.std.specs.Prelude.{◌≡◌, ◌+◌, ◌^◌, ◌<◌};
+ghost use Rattle.lot_base.specs.Place.{IsTableSize};
+
+use lot_exclusive::table::growth::INITIAL_BUCKETS;
+use std::sync::atomic::{AtomicUsize, Ordering};
+
+/// A table has from 16 to 65,536 buckets, and there is a place for a row of each such size.
+pub(super) const ROWS: usize = 13;
+
+// What `current` is while the table grows: the index of no row.
+const GROWING: usize = ROWS;
+
+/// The index of the row in use, or of none while the table grows.
+///
+/// Sizes only grow, so an index that was left never comes back: two equal loads, of which the
+/// second comes after a bucket was locked, mean that no growth came between. All orderings are
+/// `SeqCst`, of which the proofs know most.
+#[derive(Drop)]
+pub(super) struct Current {
+    index: AtomicUsize,
+}
+
+/// The size of the row that was put in use last. Nothing but `Current` makes one, and does as it
+/// puts the row in use, so a registry that keeps one has the size of the row in use.
+#[derive(Copy, Clone)]
+pub(super) struct RowInUse {
+    size: usize,
+}
+
+/// A growth that has begun. It has no `Drop`: it ends where a row is put in use, so nothing that
+/// can be refused comes between.
+pub(super) struct Growth {
+    begun: (),
+}
+
+impl Current {
+    /// The first row, of 16 buckets, is in use.
+    pub(super) fn new() -> (Current, RowInUse)
+        ensures { result.1.size ≡ 16 }
+    {
+        let current = Current {
+            index: AtomicUsize::new(0),
+        };
+        let row = RowInUse {
+            size: INITIAL_BUCKETS,
+        };
+        (current, row)
+    }
+
+    /// The index of the row in use, or that of no row while the table grows.
+    #[inline]
+    pub(super) fn load(&self) -> usize {
+        self.index.load(Ordering::SeqCst)
+    }
+
+    /// Says that the table grows.
+    pub(super) fn begin_growth(&self) -> Growth {
+        self.index.store(GROWING, Ordering::SeqCst);
+        Growth { begun: () }
+    }
+
+    /// Says that the row of this size is in use, which ends the growth.
+    pub(super) fn put_in_use(&self, growth: Growth, size: usize) -> RowInUse
+        requires { IsTableSize size }
+        ensures { result.size ≡ size }
+    {
+        let Growth { begun: () } = growth;
+        self.index.store(index_of(size), Ordering::SeqCst);
+        RowInUse { size }
+    }
+}
+
+impl RowInUse {
+    /// How many buckets the row has.
+    pub(super) fn size(self) -> usize
+        ensures { result ≡ self.size }
+    {
+        self.size
+    }
+}
+
+/// The index of the row of this size.
+pub(super) fn index_of(size: usize) -> usize
+    requires { IsTableSize size }
+    ensures value { 2 ^ (result + 4) ≡ size }
+    ensures place { result < 13 }
+{
+    (size.ilog2() - 4) as usize
+}
