@@ -52,7 +52,7 @@ impl Locked<'_> {
 }
 
 // Lets the second bucket of a section go, where there is one.
-pub(super) fn unlock_if_any(bucket: Option<Locked<'_>>)
+fn unlock_if_any(bucket: Option<Locked<'_>>)
     requires { IfSome bucket (λ bucket. IsHeldOf bucket.cell.now bucket.held) }
 {
     if let Some(bucket) = bucket {

@@ -1,12 +1,14 @@
 //! The sections of a threaded lot: what each call does while the bucket of its key is locked.
 //!
 //! A section locks, does its step, commits, and lets go before it answers. It has no `?` while it
-//! has a bucket.
+//! has a bucket. Of what its step told it repeats what can be said once the bucket is let go: of
+//! some list of waiters, the answer and the handles together.
 
-ghost use Rattle.std.specs.Prelude.{◌≡◌, ◌≢◌, ◌<◌, ◌≤◌, ℕ, min, [], ◌∷◌, ◌++◌, length, not, Some, None, IsTrue, IfOk, IfErr, OnErr, is_ok};
+ghost use Rattle.std.specs.Prelude.{◌≡◌, ◌≢◌, ◌<◌, ◌≤◌, ℕ, List, min, [], ◌∷◌, ◌++◌, length, not, Some, None, IsTrue, IfOk, IfErr, OnOk, OnErr, is_ok};
 ghost use Rattle.std.specs.List.{find};
 ghost use Rattle.lot_base.specs.BucketState.{KeepsPlace};
 ghost use Rattle.lot_base.specs.Node.{fields};
+ghost use Rattle.lot_base.specs.NodeFields.{NodeFields};
 ghost use Rattle.lot_base.specs.Requeue.{numbers};
 ghost use Rattle.lot_base.specs.NodeLists.{ChangesOnly, has_number, lists_of, saturated, split_to};
 ghost use Rattle.lot_base.specs.Waiting.{has_any, lists_after_requeue, split_first, split_filter, split_by, without_first};
@@ -15,7 +17,6 @@ ghost use Rattle.parking_lot_core.specs.Private.Section.{HasPlaceOf, AreApart};
 ghost use Rattle.parking_lot_core.specs.Threaded.{IsCallableForOne, IsUnparkOfOne, AreCallableForFilter, IsUnparkByFilter, AreCallableForRequeue, IsRequeueByChoice};
 
 use super::ParkingLot;
-use super::buckets::unlock_if_any;
 use super::handles::{HANDLES, Handles};
 use lot_base::bucket::Bucket;
 use lot_base::queue::Node;
@@ -39,12 +40,8 @@ impl<P: ThreadParkerT> ParkingLot<P> {
         ensures asked { V.post validate (is_ok result) }
         ensures returned { IfErr result (λ back. back.value ≡ node.value) }
     {
-        let Node { number, key, .. } = *node;
-        let mut bucket = self.buckets.lock(rt, key);
-        let entered = bucket.held.value.enter(node, validate);
-        if entered.is_ok() {
-            self.set_key(number, key);
-        }
+        let mut bucket = self.buckets.lock(rt, node.key);
+        let entered = self.enter_in(&mut bucket.held.value, node, validate);
         bucket.unlock();
         entered
     }
@@ -66,8 +63,13 @@ impl<P: ThreadParkerT> ParkingLot<P> {
         requires number { number < self.now.max_threads }
         requires timed_out { (key last : _) → T.pre timed_out key last }
         ensures valid { result.0 ≢ ParkResult.Invalid }
-        ensures timed_out { result.0 ≡ ParkResult.TimedOut
-            → (key : _) × (last : _) × T.post timed_out key last tt }
+        ensures timed_out { result.0 ≡ ParkResult.TimedOut → record {
+          key : ℕ;
+          waiters : List NodeFields;
+          removed : find (has_number number) waiters ≡ Some (fields result.1.value);
+          called : T.post timed_out key
+              (not (has_any (without_first (has_number number) waiters))) tt;
+        } }
         ensures token { (token : _) → result.0 ≡ ParkResult.Unparked token
             → (fields result.1.value).unpark_token ≡ token }
         ensures number { (fields result.1.value).number ≡ number }
@@ -104,7 +106,11 @@ impl<P: ThreadParkerT> ParkingLot<P> {
         callback: C,
     ) -> (UnparkResult, Option<P::UnparkHandle>)
         requires { IsCallableForOne C.FnOnce callback }
-        ensures { IsUnparkOfOne C.FnOnce callback result.0 }
+        ensures { record {
+          unparked : IsUnparkOfOne C.FnOnce callback result.0;
+          handle : handle_numbers P.UnparkHandle.number result.1
+              ≡ thread_numbers self.now.max_threads (split_first unparked.waiters).taken;
+        } }
     {
         let mut bucket = self.buckets.lock(rt, key);
         let answer = self.take_one_of(rt, &mut bucket.held.value, key, callback);
@@ -118,7 +124,14 @@ impl<P: ThreadParkerT> ParkingLot<P> {
         rt: &R,
         key: usize,
         token: UnparkToken,
-    ) -> (usize, Handles<P::UnparkHandle>) {
+    ) -> (usize, Handles<P::UnparkHandle>)
+        ensures { record {
+          waiters : List NodeFields;
+          answer : result.0 ≡ saturated (length waiters);
+          handles : min HANDLES (length (thread_numbers self.now.max_threads waiters))
+              ≤ kept_handles result.1;
+        } }
+    {
         let mut bucket = self.buckets.lock(rt, key);
         let answer = self.take_all_of(rt, &mut bucket.held.value, key, token);
         bucket.unlock();
@@ -132,7 +145,11 @@ impl<P: ThreadParkerT> ParkingLot<P> {
         C: FnOnce(UnparkResult) -> UnparkToken,
     >(&self, rt: &R, key: usize, filter: F, callback: C) -> (UnparkResult, Handles<P::UnparkHandle>)
         requires callable { AreCallableForFilter F.FnMut C.FnOnce filter callback }
-        ensures { IsUnparkByFilter F.FnMut C.FnOnce filter callback result.0 }
+        ensures { record {
+          unparked : IsUnparkByFilter F.FnMut C.FnOnce filter callback result.0;
+          handles : min HANDLES (length (thread_numbers self.now.max_threads
+              (split_filter unparked.decisions unparked.waiters).taken)) ≤ kept_handles result.1;
+        } }
     {
         let mut bucket = self.buckets.lock(rt, key);
         let answer = self.take_filter_of(rt, &mut bucket.held.value, key, filter, callback);
@@ -154,20 +171,48 @@ impl<P: ThreadParkerT> ParkingLot<P> {
         callback: C,
     ) -> (UnparkResult, Option<P::UnparkHandle>)
         requires callable { AreCallableForRequeue V.FnOnce C.FnOnce validate callback }
-        ensures { IsRequeueByChoice V.FnOnce C.FnOnce validate callback result.0 }
+        ensures { record {
+          requeued : IsRequeueByChoice V.FnOnce C.FnOnce validate callback result.0;
+          handle : handle_numbers P.UnparkHandle.number result.1
+              ≡ thread_numbers self.now.max_threads (split_by requeued.op requeued.waiters).taken;
+        } }
     {
-        let (mut source, mut target) = self.buckets.lock_two(rt, from, to);
+        let (mut source, target) = self.buckets.lock_two(rt, from, to);
         let bucket = &mut source.held.value;
-        let answer = match &mut target {
-            None => self.requeue_in_one(rt, bucket, from, to, validate, callback),
-            Some(target) => {
-                let target = &mut target.held.value;
-                self.requeue_across(rt, bucket, target, from, to, validate, callback)
-            }
+        let Some(mut target) = target else {
+            let answer = self.requeue_in_one(rt, bucket, from, to, validate, callback);
+            source.unlock();
+            return answer;
         };
+        let other = &mut target.held.value;
+        let answer = self.requeue_across(rt, bucket, other, from, to, validate, callback);
         source.unlock();
-        unlock_if_any(target);
+        target.unlock();
         answer
+    }
+
+    // Puts the node last in the bucket that is its key's, and notes that key of its thread, or gives
+    // the node back if `validate` answers false.
+    fn enter_in<V: FnOnce() -> bool>(
+        &self,
+        bucket: &mut Bucket,
+        node: Box<Node>,
+        validate: V,
+    ) -> Result<(), Box<Node>>
+        requires place { HasPlaceOf (fields node.value).key bucket.old }
+        requires validate { V.pre validate }
+        ensures asked { V.post validate (is_ok result) }
+        ensures entered { OnOk result (bucket.new
+            ≡ record bucket.old { nodes = bucket.old.nodes ++ fields node.value ∷ [] }) }
+        ensures refused { OnErr result (bucket.new ≡ bucket.old) }
+        ensures returned { IfErr result (λ back. back.value ≡ node.value) }
+    {
+        let Node { number, key, .. } = *node;
+        let entered = bucket.enter(node, validate);
+        if entered.is_ok() {
+            self.set_key(number, key);
+        }
+        entered
     }
 
     // Takes the first waiter of the key out of the bucket that is the key's, and commits its
