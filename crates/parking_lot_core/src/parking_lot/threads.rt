@@ -1,14 +1,13 @@
 //! What a threaded lot keeps for each thread number, the commit of an unpark, and the wake-up after
 //! it.
 
-ghost use Rattle.std.specs.Prelude.{◌≡◌, ◌<◌, ◌≤◌, [], ◌∷◌, IfOk, length, map, min, take};
+ghost use Rattle.std.specs.Prelude.{◌≡◌, ◌<◌, ◌≤◌, IfOk, drop, length, map, min, take};
 ghost use Rattle.std.specs.List.{range_with_len};
-ghost use Rattle.lot_base.specs.Node.{fields};
 ghost use Rattle.parking_lot_core.specs.Private.Handles.{handle_numbers, kept_handles, thread_numbers};
 
 use super::ParkingLot;
 use super::handles::{HANDLES, Handles, Room};
-use lot_base::queue::{Node, Queue};
+use lot_base::queue::Queue;
 use lot_base::thread_parker::{ThreadParkerT, UnparkHandleT};
 use lot_base::token::NoMemory;
 use std::alloc::Global;
@@ -67,12 +66,14 @@ impl<P: ThreadParkerT> ParkingLot<P> {
         }
     }
 
-    // Hands the node to its thread: the commit of an unpark. A node whose number is no thread's of
-    // this lot is dropped.
-    fn hand_over<R: Wait>(&self, rt: &R, node: Box<Node>) -> Option<P::UnparkHandle>
-        ensures { handle_numbers P.UnparkHandle.number result
-            ≡ thread_numbers self.now.max_threads (fields node.value ∷ []) }
+    // Takes the first of the nodes that were taken and hands it to its thread, which is the commit
+    // of an unpark. A node whose number is no thread's of this lot is dropped.
+    fn hand_over<R: Wait>(&self, rt: &R, taken: &mut Queue) -> Option<P::UnparkHandle>
+        ensures first { handle_numbers P.UnparkHandle.number result
+            ≡ thread_numbers self.now.max_threads (take 1 taken.old) }
+        ensures rest { taken.new ≡ drop 1 taken.old }
     {
+        let node = taken.pop_front()?;
         let number = node.number;
         if number >= self.threads.len() {
             return None;
@@ -85,8 +86,7 @@ impl<P: ThreadParkerT> ParkingLot<P> {
         ensures { handle_numbers P.UnparkHandle.number result
             ≡ thread_numbers self.now.max_threads (take 1 taken) }
     {
-        let node = taken.pop_front()?;
-        self.hand_over(rt, node)
+        self.hand_over(rt, &mut taken)
     }
 
     // Commits the unparks of all nodes that were taken, in order. It wakes those for whose handles
@@ -96,8 +96,8 @@ impl<P: ThreadParkerT> ParkingLot<P> {
             ≤ kept_handles result }
     {
         let mut handles: Handles<P::UnparkHandle> = Room::empty();
-        while let Some(node) = taken.pop_front() {
-            if let Some(handle) = self.hand_over(rt, node)
+        while taken.front().is_some() {
+            if let Some(handle) = self.hand_over(rt, &mut taken)
                 && let Some(handle) = handles.put(handle)
             {
                 self.wake(handle);
