@@ -1,0 +1,120 @@
+//! Several threads that sleep on one key, and are all woken by one call.
+
+use crate::common::{KEY, TOKEN, come_by_turns, from_now, move_all, unpark_by_filter, wait};
+use parking_lot_core::{
+    ParkResult, ParkingLot, ThreadData, ThreadParker, ThreadParkerT, YieldParker, unpark_all,
+};
+use std::alloc::Global;
+use std::process::Abort;
+use std::sync::{Arc, Wait};
+use std::test::Fail;
+use std::thread;
+use std::thread::{JoinHandle, Threads};
+use std::time::{Clock, Duration, Instant};
+
+const OTHER_KEY: usize = 8;
+
+// A way to unpark all threads that wait on `KEY`.
+#[derive(Copy, Clone, Debug)]
+enum Wake {
+    All,
+    Filter,
+    MovedFirst,
+}
+
+fn unpark_everybody<P: ThreadParkerT, R: Wait>(rt: &R, lot: &ParkingLot<P>, wake: Wake) -> usize {
+    match wake {
+        Wake::All => unpark_all(rt, lot, KEY, TOKEN),
+        Wake::Filter => unpark_by_filter(rt, lot, KEY, TOKEN),
+        Wake::MovedFirst => {
+            move_all(rt, lot, KEY, OTHER_KEY);
+            unpark_all(rt, lot, OTHER_KEY, TOKEN)
+        }
+    }
+}
+
+// Starts a thread that parks on `KEY`. A wake that never comes leaves it there until the deadline.
+fn start_waiter<P, R>(
+    rt: &R,
+    lot: Arc<ParkingLot<P>, Global>,
+    data: ThreadData,
+    deadline: Instant,
+) -> Option<JoinHandle<Option<ParkResult>>>
+where
+    P: ThreadParkerT + Send + Sync + 'static,
+    P::UnparkHandle: 'static,
+    R: Threads + Wait + Clock + Copy + Send + 'static,
+{
+    let runtime = *rt;
+    let mut data = data;
+    thread::spawn(rt, move || {
+        wait(&runtime, &lot, &mut data, KEY, Some(deadline))
+    })
+    .ok()
+}
+
+fn start_crowd<P, R>(
+    rt: &R,
+    alloc: Global,
+    lot: &Arc<ParkingLot<P>, Global>,
+    threads: usize,
+) -> Result<Vec<JoinHandle<Option<ParkResult>>>, Fail>
+where
+    P: ThreadParkerT + Send + Sync + 'static,
+    P::UnparkHandle: 'static,
+    R: Threads + Wait + Clock + Abort + Copy + Send + 'static,
+{
+    let deadline = from_now(rt, Duration::from_secs(40))?;
+    let mut crowd = Vec::new(alloc);
+    for number in 0..threads {
+        let data = lot.thread_data(rt, alloc)?;
+        assert_eq!(rt; data.number(), number);
+        let started = start_waiter(rt, Arc::try_clone(lot)?, data, deadline);
+        crowd.push(started.expect(rt, "a thread"))?;
+    }
+    Ok(crowd)
+}
+
+// Whoever is not woken comes back only at the deadline, which is more than the time that a wake
+// may take. They have time to fall asleep first.
+fn one_call_wakes_all<P, R>(rt: &R, alloc: Global, threads: usize, wake: Wake) -> Result<(), Fail>
+where
+    P: ThreadParkerT + Send + Sync + 'static,
+    P::UnparkHandle: 'static,
+    R: Threads + Wait + Clock + Abort + Copy + Send + 'static,
+{
+    let lot = Arc::new(alloc, ParkingLot::<P>::new(alloc, threads)?)?;
+    let crowd = start_crowd(rt, alloc, &lot, threads)?;
+    assert!(rt; come_by_turns(rt, alloc, &lot, KEY, threads));
+    thread::sleep(rt, Duration::from_millis(10));
+    let in_time = from_now(rt, Duration::from_secs(10))?;
+    assert_eq!(rt; unpark_everybody(rt, &lot, wake), threads, "{wake:?}");
+    for waiter in crowd {
+        let result = waiter.join(rt);
+        assert_eq!(rt; result, Some(ParkResult::Unparked(TOKEN)), "{wake:?}");
+    }
+    assert!(rt; Instant::now(rt)? < in_time, "{wake:?}: somebody slept on");
+    Ok(())
+}
+
+// More than eight threads are woken in the section, and the first eight after it.
+//
+// It refuses an unpark that wakes the first of those that it took, or only those for whose handles
+// it has room, and a requeue that notes the new key of one thread alone.
+#[test]
+fn a_filter_and_an_unpark_of_all_wake_each_sleeper(rt: HostRuntime) -> Result<(), Fail> {
+    for wake in [Wake::All, Wake::Filter, Wake::MovedFirst] {
+        for threads in [3, 10] {
+            one_call_wakes_all::<ThreadParker, _>(&rt, rt.alloc(), threads, wake)?;
+            one_call_wakes_all::<YieldParker, _>(&rt, rt.alloc(), threads, wake)?;
+        }
+    }
+    Ok(())
+}
+
+// It refuses numbers above 255, or the last of all, that are not given, not handed their node, or
+// not woken.
+#[test]
+fn one_unpark_wakes_1024_threads(rt: HostRuntime) -> Result<(), Fail> {
+    one_call_wakes_all::<ThreadParker, _>(&rt, rt.alloc(), 1_024, Wake::All)
+}

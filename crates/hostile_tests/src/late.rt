@@ -1,0 +1,321 @@
+//! Threads whose deadline has passed, while others requeue, wait behind them or before them.
+
+use crate::common::{KEY, TOKEN, come_by_turns, raised_by_turns, wait};
+use parking_lot_core::{
+    DEFAULT_PARK_TOKEN, DEFAULT_UNPARK_TOKEN, ParkResult, ParkingLot, RequeueOp, ThreadData,
+    ThreadParker, ThreadParkerT, YieldParker, park, unpark_all, unpark_one, unpark_requeue,
+};
+use std::alloc::Global;
+use std::process::Abort;
+use std::sync::Wait;
+use std::sync::atomic::{AtomicBool, Ordering};
+use std::test::Fail;
+use std::thread;
+use std::thread::Threads;
+use std::time::{Clock, Duration, Instant};
+
+// How a park of a late thread ended, and the key and whether it was the last, as it was told.
+type Left = (ParkResult, Option<(usize, bool)>);
+
+// What a late thread and one that requeues tell each other.
+#[derive(Drop)]
+struct Meeting {
+    has_entered: AtomicBool,
+    is_inside: AtomicBool,
+    is_late: AtomicBool,
+    has_left: AtomicBool,
+}
+
+impl Meeting {
+    fn new() -> Meeting {
+        Meeting {
+            has_entered: AtomicBool::new(false),
+            is_inside: AtomicBool::new(false),
+            is_late: AtomicBool::new(false),
+            has_left: AtomicBool::new(false),
+        }
+    }
+
+    // The late thread looks a second time once the other is in its section.
+    fn come_late(&self) {
+        self.has_entered.store(true, Ordering::SeqCst);
+        raised_by_turns(&self.is_inside);
+        self.is_late.store(true, Ordering::SeqCst);
+    }
+
+    // The other stays in its section until the late thread has read its key.
+    fn stay_inside<R: Clock>(&self, rt: &R) {
+        self.is_inside.store(true, Ordering::SeqCst);
+        raised_by_turns(&self.is_late);
+        thread::sleep(rt, Duration::from_millis(5));
+    }
+
+    // Wakes a late thread that does not find itself, so that it ends.
+    fn see_it_leave<P: ThreadParkerT, R: Wait>(&self, rt: &R, lot: &ParkingLot<P>, key: usize) {
+        if !raised_by_turns(&self.has_left) {
+            unpark_all(rt, lot, key, TOKEN);
+        }
+    }
+}
+
+// Parks with a deadline that has passed.
+fn leave_late<P: ThreadParkerT, R: Wait + Clock>(
+    rt: &R,
+    lot: &ParkingLot<P>,
+    mut data: ThreadData,
+    from: usize,
+    passed: Instant,
+    meeting: &Meeting,
+) -> Option<Left> {
+    if !lot.accepts(&data) {
+        return None;
+    }
+    let mut told = None;
+    let result = park(
+        rt,
+        lot,
+        &mut data,
+        from,
+        || true,
+        || meeting.come_late(),
+        |key, last| told = Some((key, last)),
+        DEFAULT_PARK_TOKEN,
+        Some(passed),
+    );
+    meeting.has_left.store(true, Ordering::SeqCst);
+    Some((result, told))
+}
+
+fn requeue_meanwhile<P: ThreadParkerT, R: Wait + Clock>(
+    rt: &R,
+    lot: &ParkingLot<P>,
+    from: usize,
+    to: usize,
+    meeting: &Meeting,
+) -> usize {
+    raised_by_turns(&meeting.has_entered);
+    let result = unpark_requeue(
+        rt,
+        lot,
+        from,
+        to,
+        || {
+            meeting.stay_inside(rt);
+            RequeueOp::RequeueAll
+        },
+        |_, _| DEFAULT_UNPARK_TOKEN,
+    );
+    meeting.see_it_leave(rt, lot, to);
+    result.requeued_threads
+}
+
+fn meet<P: ThreadParkerT + Send + Sync, R: Threads + Wait + Clock + Sync>(
+    rt: &R,
+    lot: &ParkingLot<P>,
+    data: ThreadData,
+    from: usize,
+    to: usize,
+    passed: Instant,
+) -> (Option<Left>, usize) {
+    let meeting = Meeting::new();
+    thread::join(
+        rt,
+        || leave_late(rt, lot, data, from, passed, &meeting),
+        || requeue_meanwhile(rt, lot, from, to, &meeting),
+    )
+}
+
+fn reads_its_key_again<P, R>(rt: &R, alloc: Global, from: usize, to: usize) -> Result<(), Fail>
+where
+    P: ThreadParkerT + Send + Sync,
+    R: Threads + Wait + Clock + Abort + Sync,
+{
+    let lot = ParkingLot::<P>::new(alloc, 1)?;
+    let data = lot.thread_data(rt, alloc)?;
+    let passed = Instant::now(rt)?;
+    let met = meet(rt, &lot, data, from, to, passed);
+    let left = (ParkResult::TimedOut, Some((to, true)));
+    assert_eq!(rt; met, (Some(left), 1), "{from} to {to}");
+    Ok(())
+}
+
+// Keys 1 and 2 have buckets of their own, 0 and 13 have one. It refuses a late thread that goes on
+// with a key which it read before it had the bucket.
+#[test]
+fn a_late_thread_that_is_moved_meanwhile_reads_its_key_again(rt: HostRuntime) -> Result<(), Fail> {
+    for (from, to) in [(1, 2), (2, 1), (0, 13)] {
+        reads_its_key_again::<ThreadParker, _>(&rt, rt.alloc(), from, to)?;
+        reads_its_key_again::<YieldParker, _>(&rt, rt.alloc(), from, to)?;
+    }
+    Ok(())
+}
+
+// Enters while the other waits for the bucket, and looks a second time once it was moved.
+fn enter_before<P: ThreadParkerT, R: Wait + Clock>(
+    rt: &R,
+    lot: &ParkingLot<P>,
+    mut data: ThreadData,
+    passed: Instant,
+    meeting: &Meeting,
+) -> Option<Left> {
+    if !lot.accepts(&data) {
+        return None;
+    }
+    let mut told = None;
+    let result = park(
+        rt,
+        lot,
+        &mut data,
+        1,
+        || {
+            meeting.has_entered.store(true, Ordering::SeqCst);
+            thread::sleep(rt, Duration::from_micros(500));
+            true
+        },
+        || {
+            raised_by_turns(&meeting.is_inside);
+        },
+        |key, last| told = Some((key, last)),
+        DEFAULT_PARK_TOKEN,
+        Some(passed),
+    );
+    meeting.has_left.store(true, Ordering::SeqCst);
+    Some((result, told))
+}
+
+fn requeue_behind<P: ThreadParkerT, R: Wait>(
+    rt: &R,
+    lot: &ParkingLot<P>,
+    meeting: &Meeting,
+) -> usize {
+    raised_by_turns(&meeting.has_entered);
+    let op = || RequeueOp::RequeueAll;
+    let result = unpark_requeue(rt, lot, 1, 2, op, |_, _| DEFAULT_UNPARK_TOKEN);
+    meeting.is_inside.store(true, Ordering::SeqCst);
+    meeting.see_it_leave(rt, lot, 2);
+    result.requeued_threads
+}
+
+fn enter_and_requeue<P: ThreadParkerT + Send + Sync, R: Threads + Wait + Clock + Sync>(
+    rt: &R,
+    lot: &ParkingLot<P>,
+    data: ThreadData,
+    passed: Instant,
+) -> (Option<Left>, usize) {
+    let meeting = Meeting::new();
+    thread::join(
+        rt,
+        || enter_before(rt, lot, data, passed, &meeting),
+        || requeue_behind(rt, lot, &meeting),
+    )
+}
+
+fn notes_its_key_in_time<P, R>(rt: &R, alloc: Global) -> Result<(), Fail>
+where
+    P: ThreadParkerT + Send + Sync,
+    R: Threads + Wait + Clock + Abort + Sync,
+{
+    let passed = Instant::now(rt)?;
+    for round in 0..100 {
+        let lot = ParkingLot::<P>::new(alloc, 1)?;
+        let data = lot.thread_data(rt, alloc)?;
+        let met = enter_and_requeue(rt, &lot, data, passed);
+        let left = (ParkResult::TimedOut, Some((2, true)));
+        assert_eq!(rt; met, (Some(left), 1), "round {round}");
+    }
+    Ok(())
+}
+
+// It refuses a thread that notes its key once it has let the bucket go: a requeue that waits for the
+// bucket notes the new key first then, and the thread looks for itself in its old queue for ever.
+#[test]
+fn a_key_is_noted_before_the_bucket_is_let_go(rt: HostRuntime) -> Result<(), Fail> {
+    notes_its_key_in_time::<ThreadParker, _>(&rt, rt.alloc())?;
+    notes_its_key_in_time::<YieldParker, _>(&rt, rt.alloc())
+}
+
+// Parks once so many threads wait on the key, with a deadline that passes once two wait there, and
+// unparks the other then.
+fn leave_one_behind<P: ThreadParkerT, R: Wait + Clock>(
+    rt: &R,
+    alloc: Global,
+    lot: &ParkingLot<P>,
+    mut data: ThreadData,
+    place: usize,
+    passed: Instant,
+) -> Option<Left> {
+    if !lot.accepts(&data) {
+        return None;
+    }
+    come_by_turns(rt, alloc, lot, KEY, place);
+    let mut told = None;
+    let result = park(
+        rt,
+        lot,
+        &mut data,
+        KEY,
+        || true,
+        || {
+            come_by_turns(rt, alloc, lot, KEY, 2);
+        },
+        |key, last| told = Some((key, last)),
+        DEFAULT_PARK_TOKEN,
+        Some(passed),
+    );
+    unpark_one(rt, lot, KEY, |_| TOKEN);
+    Some((result, told))
+}
+
+fn stay_behind<P: ThreadParkerT, R: Wait + Clock>(
+    rt: &R,
+    alloc: Global,
+    lot: &ParkingLot<P>,
+    mut data: ThreadData,
+    place: usize,
+) -> Option<ParkResult> {
+    come_by_turns(rt, alloc, lot, KEY, place);
+    wait(rt, lot, &mut data, KEY, None)
+}
+
+fn two_of_whom_one_is_late<P: ThreadParkerT + Send + Sync, R: Threads + Wait + Clock + Sync>(
+    rt: &R,
+    alloc: Global,
+    lot: &ParkingLot<P>,
+    (late, other): (ThreadData, ThreadData),
+    (late_place, other_place): (usize, usize),
+    passed: Instant,
+) -> (Option<Left>, Option<ParkResult>) {
+    thread::join(
+        rt,
+        || leave_one_behind(rt, alloc, lot, late, late_place, passed),
+        || stay_behind(rt, alloc, lot, other, other_place),
+    )
+}
+
+fn is_not_the_last<P, R>(rt: &R, alloc: Global, places: (usize, usize)) -> Result<(), Fail>
+where
+    P: ThreadParkerT + Send + Sync,
+    R: Threads + Wait + Clock + Abort + Sync,
+{
+    let lot = ParkingLot::<P>::new(alloc, 2)?;
+    let data = (lot.thread_data(rt, alloc)?, lot.thread_data(rt, alloc)?);
+    let passed = Instant::now(rt)?;
+    let ended = two_of_whom_one_is_late(rt, alloc, &lot, data, places, passed);
+    let left = (ParkResult::TimedOut, Some((KEY, false)));
+    assert_eq!(rt;
+        ended,
+        (Some(left), Some(ParkResult::Unparked(TOKEN))),
+        "{places:?}"
+    );
+    Ok(())
+}
+
+// It refuses a second look that calls each thread the last of its key.
+#[test]
+fn a_late_thread_beside_another_is_not_the_last(rt: HostRuntime) -> Result<(), Fail> {
+    for places in [(0, 1), (1, 0)] {
+        is_not_the_last::<ThreadParker, _>(&rt, rt.alloc(), places)?;
+        is_not_the_last::<YieldParker, _>(&rt, rt.alloc(), places)?;
+    }
+    Ok(())
+}

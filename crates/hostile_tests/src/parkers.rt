@@ -1,0 +1,305 @@
+//! What a timed wait does at its deadline and beside it, with every parker through the trait alone.
+
+ghost use Rattle.std.specs.Prelude.{◌≡◌, IfOk};
+ghost use Rattle.lot_base.specs.Node.{fields};
+
+use crate::common::{TOKEN, from_now, raised_by_turns};
+use lot_base::queue::Node;
+use lot_base::thread_parker::{ThreadParker, ThreadParkerT, UnparkHandleT, YieldParker};
+use lot_base::token::NoMemory;
+use std::alloc::Global;
+use std::process::Abort;
+use std::sync::Wait;
+use std::sync::atomic::{AtomicBool, Ordering};
+use std::test::Fail;
+use std::thread::Threads;
+use std::time::{Clock, Duration, Instant};
+use std::{io, thread};
+
+const OWNER: usize = 3;
+
+const LOOKS: usize = 2_000;
+
+fn owners_node(alloc: Global) -> Result<Box<Node>, NoMemory>
+    ensures { IfOk result (λ node. (fields node.value).number ≡ OWNER) }
+{
+    let mut node = Node::new(alloc, OWNER)?;
+    node.unpark_token = TOKEN;
+    Ok(node)
+}
+
+// What the owner and the other thread tell each other.
+#[derive(Drop)]
+struct Meeting {
+    has_started: AtomicBool,
+    has_come: AtomicBool,
+}
+
+impl Meeting {
+    fn new() -> Meeting {
+        Meeting {
+            has_started: AtomicBool::new(false),
+            has_come: AtomicBool::new(false),
+        }
+    }
+
+    // Whether the other thread comes within a while.
+    fn comes_meanwhile(&self) -> bool {
+        self.has_started.store(true, Ordering::SeqCst);
+        for _ in 0..LOOKS {
+            if self.has_come.load(Ordering::SeqCst) {
+                return true;
+            }
+            thread::yield_now();
+        }
+        false
+    }
+}
+
+// A clock that lets the other thread commit while it is read, if the parker's lock is free then.
+#[derive(Drop)]
+struct SlowClock<'m, R> {
+    rt: R,
+    meeting: &'m Meeting,
+    came: AtomicBool,
+}
+
+impl<R: Wait> Wait for SlowClock<'_, R> {}
+
+impl<R: Clock> Clock for SlowClock<'_, R> {
+    fn monotonic(&self) -> io::Result<Duration> {
+        if self.meeting.comes_meanwhile() {
+            self.came.store(true, Ordering::SeqCst);
+        }
+        self.rt.monotonic()
+    }
+
+    fn since_1970(&self) -> io::Result<Duration> {
+        self.rt.since_1970()
+    }
+}
+
+// Waits until a deadline that has passed. It tells whether the node came, and whether it was put
+// before the clock was read.
+fn wait_by_a_slow_clock<P: ThreadParkerT, R: Wait + Clock>(
+    rt: &R,
+    parker: &P,
+    passed: Instant,
+    meeting: &Meeting,
+) -> (bool, bool) {
+    let clock = SlowClock {
+        rt,
+        meeting,
+        came: AtomicBool::new(false),
+    };
+    let is_there = parker.park_until(&clock, passed).is_some();
+    (is_there, clock.came.load(Ordering::SeqCst))
+}
+
+// Puts the node once the owner has started, and wakes nobody.
+fn commit_meanwhile<P: ThreadParkerT, R: Wait>(
+    rt: &R,
+    parker: &P,
+    node: Box<Node>,
+    meeting: &Meeting,
+)
+    requires { (fields node.value).number ≡ P.owner parker.now }
+{
+    raised_by_turns(&meeting.has_started);
+    drop(parker.unpark_lock(rt, node));
+    meeting.has_come.store(true, Ordering::SeqCst);
+}
+
+fn commit_at_a_read<P: ThreadParkerT + Sync, R: Threads + Wait + Clock + Sync>(
+    rt: &R,
+    parker: &P,
+    node: Box<Node>,
+    passed: Instant,
+) -> (bool, bool)
+    requires { (fields node.value).number ≡ P.owner parker.now }
+{
+    let meeting = Meeting::new();
+    let (found, ()) = thread::join(
+        rt,
+        || wait_by_a_slow_clock(rt, parker, passed, &meeting),
+        ||
+            requires { (fields node.value).number ≡ P.owner parker.now }
+        {
+            commit_meanwhile(rt, parker, node, &meeting);
+        },
+    );
+    found
+}
+
+fn looks_after_the_clock<P: ThreadParkerT + Sync, R: Threads + Wait + Clock + Abort + Sync>(
+    rt: &R,
+    alloc: Global,
+) -> Result<(), Fail> {
+    let parker = P::new(OWNER)?;
+    let passed = Instant::now(rt)?;
+    let (is_there, came) = commit_at_a_read(rt, &parker, owners_node(alloc)?, passed);
+    assert!(rt;
+        is_there || !came,
+        "a node was put before the clock was read"
+    );
+    assert_eq!(rt; parker.timed_out(rt), is_there, "a node is lost");
+    Ok(())
+}
+
+// It refuses a `park_until` that lets its lock go, reads the clock, and answers `None` without a
+// look after that.
+#[test]
+fn a_node_that_comes_while_the_clock_is_read_is_found(rt: HostRuntime) -> Result<(), Fail> {
+    looks_after_the_clock::<ThreadParker, _>(&rt, rt.alloc())?;
+    looks_after_the_clock::<YieldParker, _>(&rt, rt.alloc())
+}
+
+// Waits until the deadline, and tells whether a node came.
+fn start_and_wait<P: ThreadParkerT, R: Wait + Clock>(
+    rt: &R,
+    parker: &P,
+    deadline: Instant,
+    meeting: &Meeting,
+) -> bool {
+    meeting.has_started.store(true, Ordering::SeqCst);
+    parker.park_until(rt, deadline).is_some()
+}
+
+// Puts the node once the owner sleeps, and wakes it or not. It tells whether the deadline was still
+// to come.
+fn commit_while_it_sleeps<P: ThreadParkerT, R: Wait + Clock>(
+    rt: &R,
+    parker: &P,
+    node: Box<Node>,
+    deadline: Instant,
+    wakes: bool,
+    meeting: &Meeting,
+) -> bool
+    requires { (fields node.value).number ≡ P.owner parker.now }
+{
+    raised_by_turns(&meeting.has_started);
+    thread::sleep(rt, Duration::from_millis(10));
+    let handle = parker.unpark_lock(rt, node);
+    if wakes {
+        handle.unpark(parker);
+    }
+    Instant::now(rt).is_ok_and(|now| now < deadline)
+}
+
+fn commit_in_time<P: ThreadParkerT + Sync, R: Threads + Wait + Clock + Sync>(
+    rt: &R,
+    parker: &P,
+    node: Box<Node>,
+    deadline: Instant,
+    wakes: bool,
+) -> (bool, bool)
+    requires { (fields node.value).number ≡ P.owner parker.now }
+{
+    let meeting = Meeting::new();
+    thread::join(
+        rt,
+        || start_and_wait(rt, parker, deadline, &meeting),
+        ||
+            requires { (fields node.value).number ≡ P.owner parker.now }
+        { commit_while_it_sleeps(rt, parker, node, deadline, wakes, &meeting) },
+    )
+}
+
+// Whether a node that is put before the deadline, so long from now, comes back.
+fn comes_back<P: ThreadParkerT + Sync, R: Threads + Wait + Clock + Abort + Sync>(
+    rt: &R,
+    alloc: Global,
+    duration: Duration,
+    wakes: bool,
+) -> Result<(), Fail> {
+    let parker = P::new(OWNER)?;
+    let deadline = from_now(rt, duration)?;
+    let node = owners_node(alloc)?;
+    let (came, in_time) = commit_in_time(rt, &parker, node, deadline, wakes);
+    assert!(rt; came || !in_time, "it waited {duration:?}");
+    Ok(())
+}
+
+// It refuses a `park_until` that answers `None` after its last sleep without a look.
+#[test]
+fn a_node_that_nobody_woke_for_is_found_at_the_deadline(rt: HostRuntime) -> Result<(), Fail> {
+    let soon = Duration::from_millis(100);
+    comes_back::<ThreadParker, _>(&rt, rt.alloc(), soon, false)?;
+    comes_back::<YieldParker, _>(&rt, rt.alloc(), soon, false)
+}
+
+// It refuses a `park_until` that takes a deadline far away for one that has passed.
+#[test]
+fn a_deadline_far_away_has_not_passed(rt: HostRuntime) -> Result<(), Fail> {
+    for years in [1, 1_000, 100_000] {
+        let duration = Duration::from_hours(24 * 365 * years);
+        comes_back::<ThreadParker, _>(&rt, rt.alloc(), duration, true)?;
+        comes_back::<YieldParker, _>(&rt, rt.alloc(), duration, true)?;
+    }
+    Ok(())
+}
+
+// Wakes the owner, which has its node, once it waits again.
+fn wake_late<P: ThreadParkerT, R: Clock>(
+    rt: &R,
+    parker: &P,
+    handle: P::UnparkHandle,
+    meeting: &Meeting,
+)
+    requires { P.UnparkHandle.number handle ≡ P.owner parker.now }
+{
+    raised_by_turns(&meeting.has_started);
+    thread::sleep(rt, Duration::from_millis(10));
+    handle.unpark(parker);
+}
+
+// Waits until the deadline, and tells whether it ended before.
+fn wait_again<P: ThreadParkerT, R: Wait + Clock>(
+    rt: &R,
+    parker: &P,
+    deadline: Instant,
+    meeting: &Meeting,
+) -> bool {
+    let came = start_and_wait(rt, parker, deadline, meeting);
+    came || Instant::now(rt).is_ok_and(|now| now < deadline)
+}
+
+fn wait_and_be_woken_late<P: ThreadParkerT + Sync, R: Threads + Wait + Clock + Sync>(
+    rt: &R,
+    parker: &P,
+    handle: P::UnparkHandle,
+    deadline: Instant,
+) -> bool
+    requires { P.UnparkHandle.number handle ≡ P.owner parker.now }
+{
+    let meeting = Meeting::new();
+    let (ended_early, ()) = thread::join(
+        rt,
+        || wait_again(rt, parker, deadline, &meeting),
+        ||
+            requires { P.UnparkHandle.number handle ≡ P.owner parker.now }
+        {
+            wake_late(rt, parker, handle, &meeting);
+        },
+    );
+    ended_early
+}
+
+fn outlasts_a_late_wake<P: ThreadParkerT + Sync, R: Threads + Wait + Clock + Abort + Sync>(
+    rt: &R,
+    alloc: Global,
+) -> Result<(), Fail> {
+    let parker = P::new(OWNER)?;
+    let handle = parker.unpark_lock(rt, owners_node(alloc)?);
+    drop(parker.park(rt));
+    let deadline = from_now(rt, Duration::from_millis(50))?;
+    assert!(rt; !wait_and_be_woken_late(rt, &parker, handle, deadline));
+    Ok(())
+}
+
+// It refuses a `park_until` that ends at a wake without a node.
+#[test]
+fn a_late_wake_does_not_end_the_next_wait(rt: HostRuntime) -> Result<(), Fail> {
+    outlasts_a_late_wake::<ThreadParker, _>(&rt, rt.alloc())?;
+    outlasts_a_late_wake::<YieldParker, _>(&rt, rt.alloc())
+}
