@@ -117,7 +117,7 @@ pub fn wait<P: ThreadParkerT, R: Wait + Clock>(
 }
 
 // Unparks all waiters of the key, by a filter.
-pub fn unpark_by_filter<P: ThreadParkerT, R: Wait>(
+fn unpark_by_filter<P: ThreadParkerT, R: Wait>(
     rt: &R,
     lot: &ParkingLot<P>,
     key: usize,

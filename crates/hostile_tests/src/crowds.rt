@@ -1,6 +1,6 @@
 //! Several threads that sleep on one key, and are all woken by one call.
 
-use crate::common::{KEY, TOKEN, come_by_turns, from_now, move_all, unpark_by_filter, wait};
+use crate::common::{KEY, TOKEN, Way, come_by_turns, from_now, move_all, unpark, wait};
 use parking_lot_core::{
     ParkResult, ParkingLot, ThreadData, ThreadParker, ThreadParkerT, YieldParker, unpark_all,
 };
@@ -17,15 +17,42 @@ const OTHER_KEY: usize = 8;
 // A way to unpark all threads that wait on `KEY`.
 #[derive(Copy, Clone, Debug)]
 enum Wake {
-    All,
-    Filter,
+    AtOnce(Way),
     MovedFirst,
+    OneByOne(Way),
 }
 
-fn unpark_everybody<P: ThreadParkerT, R: Wait>(rt: &R, lot: &ParkingLot<P>, wake: Wake) -> usize {
+const WAKES: [Wake; 5] = [
+    Wake::AtOnce(Way::All),
+    Wake::AtOnce(Way::Filter),
+    Wake::MovedFirst,
+    Wake::OneByOne(Way::One),
+    Wake::OneByOne(Way::Requeue),
+];
+
+// Unparks the first waiter until nobody is left, and tells how many were unparked.
+fn unpark_one_by_one<P: ThreadParkerT, R: Wait>(
+    rt: &R,
+    lot: &ParkingLot<P>,
+    way: Way,
+    threads: usize,
+) -> usize {
+    let mut unparked = 0_usize;
+    for _ in 0..=threads {
+        unparked = unparked.wrapping_add(unpark(rt, lot, way, KEY, TOKEN));
+    }
+    unparked
+}
+
+fn unpark_everybody<P: ThreadParkerT, R: Wait>(
+    rt: &R,
+    lot: &ParkingLot<P>,
+    wake: Wake,
+    threads: usize,
+) -> usize {
     match wake {
-        Wake::All => unpark_all(rt, lot, KEY, TOKEN),
-        Wake::Filter => unpark_by_filter(rt, lot, KEY, TOKEN),
+        Wake::AtOnce(way) => unpark(rt, lot, way, KEY, TOKEN),
+        Wake::OneByOne(way) => unpark_one_by_one(rt, lot, way, threads),
         Wake::MovedFirst => {
             move_all(rt, lot, KEY, OTHER_KEY);
             unpark_all(rt, lot, OTHER_KEY, TOKEN)
@@ -88,7 +115,11 @@ where
     assert!(rt; come_by_turns(rt, alloc, &lot, KEY, threads));
     thread::sleep(rt, Duration::from_millis(10));
     let in_time = from_now(rt, Duration::from_secs(10))?;
-    assert_eq!(rt; unpark_everybody(rt, &lot, wake), threads, "{wake:?}");
+    assert_eq!(rt;
+        unpark_everybody(rt, &lot, wake, threads),
+        threads,
+        "{wake:?}"
+    );
     for waiter in crowd {
         let result = waiter.join(rt);
         assert_eq!(rt; result, Some(ParkResult::Unparked(TOKEN)), "{wake:?}");
@@ -100,10 +131,10 @@ where
 // More than eight threads are woken in the section, and the first eight after it.
 //
 // It refuses an unpark that wakes the first of those that it took, or only those for whose handles
-// it has room, and a requeue that notes the new key of one thread alone.
+// it has room, and a requeue that wakes nobody.
 #[test]
-fn a_filter_and_an_unpark_of_all_wake_each_sleeper(rt: HostRuntime) -> Result<(), Fail> {
-    for wake in [Wake::All, Wake::Filter, Wake::MovedFirst] {
+fn each_way_to_unpark_wakes_each_sleeper(rt: HostRuntime) -> Result<(), Fail> {
+    for wake in WAKES {
         for threads in [3, 10] {
             one_call_wakes_all::<ThreadParker, _>(&rt, rt.alloc(), threads, wake)?;
             one_call_wakes_all::<YieldParker, _>(&rt, rt.alloc(), threads, wake)?;
@@ -116,5 +147,5 @@ fn a_filter_and_an_unpark_of_all_wake_each_sleeper(rt: HostRuntime) -> Result<()
 // not woken.
 #[test]
 fn one_unpark_wakes_1024_threads(rt: HostRuntime) -> Result<(), Fail> {
-    one_call_wakes_all::<ThreadParker, _>(&rt, rt.alloc(), 1_024, Wake::All)
+    one_call_wakes_all::<ThreadParker, _>(&rt, rt.alloc(), 1_024, Wake::AtOnce(Way::All))
 }

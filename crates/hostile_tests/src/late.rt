@@ -1,9 +1,10 @@
 //! Threads whose deadline has passed, while others requeue, wait behind them or before them.
 
-use crate::common::{KEY, TOKEN, come_by_turns, raised_by_turns, wait};
+use crate::common::{KEY, TOKEN, come_by_turns, move_all, raised_by_turns, wait};
 use parking_lot_core::{
-    DEFAULT_PARK_TOKEN, DEFAULT_UNPARK_TOKEN, ParkResult, ParkingLot, RequeueOp, ThreadData,
-    ThreadParker, ThreadParkerT, YieldParker, park, unpark_all, unpark_one, unpark_requeue,
+    DEFAULT_PARK_TOKEN, DEFAULT_UNPARK_TOKEN, LotError, ParkResult, ParkingLot, RequeueOp,
+    ThreadData, ThreadParker, ThreadParkerT, YieldParker, park, unpark_all, unpark_one,
+    unpark_requeue,
 };
 use std::alloc::Global;
 use std::process::Abort;
@@ -13,6 +14,8 @@ use std::test::Fail;
 use std::thread;
 use std::thread::Threads;
 use std::time::{Clock, Duration, Instant};
+
+const LATE: usize = 4;
 
 // How a park of a late thread ended, and the key and whether it was the last, as it was told.
 type Left = (ParkResult, Option<(usize, bool)>);
@@ -318,4 +321,77 @@ fn a_late_thread_beside_another_is_not_the_last(rt: HostRuntime) -> Result<(), F
         is_not_the_last::<YieldParker, _>(&rt, rt.alloc(), places)?;
     }
     Ok(())
+}
+
+// Parks on the first key until a deadline that has passed, to which it comes once it was moved. It
+// tells with which key it left.
+fn leave_after_the_move<P: ThreadParkerT, R: Wait + Clock>(
+    rt: &R,
+    alloc: Global,
+    lot: &ParkingLot<P>,
+    passed: Instant,
+    is_moved: &AtomicBool,
+) -> Result<Option<usize>, LotError> {
+    let mut data = lot.thread_data(rt, alloc)?;
+    let mut left = None;
+    park(
+        rt,
+        lot,
+        &mut data,
+        1,
+        || true,
+        || {
+            raised_by_turns(is_moved);
+        },
+        |key, _| left = Some(key),
+        DEFAULT_PARK_TOKEN,
+        Some(passed),
+    );
+    Ok(left)
+}
+
+// One thread moves all others to the second key.
+fn move_or_leave<P: ThreadParkerT, R: Wait + Clock>(
+    rt: &R,
+    alloc: Global,
+    lot: &ParkingLot<P>,
+    passed: Instant,
+    is_moved: &AtomicBool,
+    index: usize,
+) -> Result<Option<usize>, LotError> {
+    if index < LATE {
+        return leave_after_the_move(rt, alloc, lot, passed, is_moved);
+    }
+    come_by_turns(rt, alloc, lot, 1, LATE);
+    let moved = move_all(rt, lot, 1, 2);
+    is_moved.store(true, Ordering::SeqCst);
+    Ok((moved == LATE).then_some(2))
+}
+
+fn all_leave_their_new_key<P, R>(rt: &R, alloc: Global) -> Result<(), Fail>
+where
+    P: ThreadParkerT + Send + Sync,
+    R: Threads + Wait + Clock + Abort + Sync,
+{
+    let lot = ParkingLot::<P>::new(alloc, LATE)?;
+    let passed = Instant::now(rt)?;
+    let is_moved = AtomicBool::new(false);
+    let left = thread::map_indices(
+        rt,
+        alloc,
+        LATE + 1,
+        &|index| { move_or_leave(rt, alloc, &lot, passed, &is_moved, index) },
+    )?;
+    for key in left {
+        assert_eq!(rt; key?, Some(2));
+    }
+    Ok(())
+}
+
+// It refuses a requeue that notes the new key of one of those that it moved alone: the others look
+// for themselves in their old queue for ever.
+#[test]
+fn each_late_thread_that_was_moved_leaves_its_new_key(rt: HostRuntime) -> Result<(), Fail> {
+    all_leave_their_new_key::<ThreadParker, _>(&rt, rt.alloc())?;
+    all_leave_their_new_key::<YieldParker, _>(&rt, rt.alloc())
 }

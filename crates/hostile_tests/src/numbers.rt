@@ -1,34 +1,42 @@
 //! All numbers of a large lot, and the table that grows with them.
 
-use crate::common::{TOKEN, expect_list};
+use crate::common::{KEY, TOKEN, WAYS, expect_list, move_all, unpark};
 use parking_lot_core::{
-    DEFAULT_PARK_TOKEN, LotError, ParkResult, ParkingLot, ThreadParker, ThreadParkerT, YieldParker,
-    park, unpark_all,
+    DEFAULT_PARK_TOKEN, LotError, ParkResult, ParkingLot, ThreadData, ThreadParker, ThreadParkerT,
+    YieldParker, park, unpark_all,
 };
 use std::alloc::Global;
 use std::process::Abort;
 use std::sync::Wait;
 use std::test::Fail;
-use std::time::Clock;
+use std::time::{Clock, Instant};
+
+const OTHER_KEY: usize = 8;
 
 const MAX_THREADS: usize = 1_024;
 
 // The key 0 has the first place in a table of each size from 16 to 4,096, and this the last one.
 const LAST_PLACE: usize = 2_584;
 
-// Registers all numbers that are left; the waiter of the key stays where it is.
+// Registers all numbers that are left; the waiter of the key stays where it is. The last number is
+// given again once it is free.
 fn register_the_rest<P: ThreadParkerT, R: Wait + Abort>(
     rt: &R,
     alloc: Global,
     lot: &ParkingLot<P>,
     key: usize,
 ) -> Result<(), LotError> {
-    for number in 1..MAX_THREADS {
+    for number in 1..MAX_THREADS - 1 {
         assert_eq!(rt; lot.thread_data(rt, alloc)?.number(), number);
-        expect_list(rt, alloc, lot, key, &[0])?;
     }
-    let refused = lot.thread_data(rt, alloc);
-    assert!(rt; matches!(&refused, Err(LotError::Full)));
+    for _ in 0..2 {
+        let last = lot.thread_data(rt, alloc)?;
+        assert_eq!(rt; last.number(), MAX_THREADS - 1);
+        let refused = lot.thread_data(rt, alloc);
+        assert!(rt; matches!(&refused, Err(LotError::Full)));
+        lot.retire(rt, last);
+    }
+    expect_list(rt, alloc, lot, key, &[0])?;
     assert_eq!(rt; unpark_all(rt, lot, key, TOKEN), 1);
     Ok(())
 }
@@ -68,4 +76,74 @@ fn a_waiter_stays_at_the_first_and_the_last_place_of_each_size(
         a_waiter_stays::<YieldParker, _>(&rt, rt.alloc(), key)?;
     }
     Ok(())
+}
+
+// The thread parks and is unparked in each way.
+fn parks_each_way<P: ThreadParkerT, R: Wait + Clock + Abort>(
+    rt: &R,
+    lot: &ParkingLot<P>,
+    data: &mut ThreadData,
+) {
+    for way in WAYS {
+        assert!(rt; lot.accepts(data), "a number of this lot");
+        let result = park(
+            rt,
+            lot,
+            data,
+            KEY,
+            || true,
+            || assert_eq!(rt; unpark(rt, lot, way, KEY, TOKEN), 1, "{way:?}"),
+            |_, _| (),
+            DEFAULT_PARK_TOKEN,
+            None,
+        );
+        assert_eq!(rt; result, ParkResult::Unparked(TOKEN), "{way:?}");
+    }
+}
+
+// The thread is moved, and times out. It tells the key that it was on.
+fn times_out_after_a_move<P: ThreadParkerT, R: Wait + Clock + Abort>(
+    rt: &R,
+    lot: &ParkingLot<P>,
+    data: &mut ThreadData,
+) -> Result<Option<usize>, Fail> {
+    assert!(rt; lot.accepts(data), "a number of this lot");
+    let passed = Instant::now(rt)?;
+    let mut left = None;
+    park(
+        rt,
+        lot,
+        data,
+        KEY,
+        || true,
+        || assert_eq!(rt; move_all(rt, lot, KEY, OTHER_KEY), 1),
+        |key, _| left = Some(key),
+        DEFAULT_PARK_TOKEN,
+        Some(passed),
+    );
+    Ok(left)
+}
+
+fn the_last_number_parks<P: ThreadParkerT, R: Wait + Clock + Abort>(
+    rt: &R,
+    alloc: Global,
+) -> Result<(), Fail> {
+    let lot = ParkingLot::<P>::new(alloc, MAX_THREADS)?;
+    for _ in 1..MAX_THREADS {
+        drop(lot.thread_data(rt, alloc)?);
+    }
+    let mut data = lot.thread_data(rt, alloc)?;
+    parks_each_way(rt, &lot, &mut data);
+    assert_eq!(rt;
+        times_out_after_a_move(rt, &lot, &mut data)?,
+        Some(OTHER_KEY)
+    );
+    Ok(())
+}
+
+// It refuses a number that is cut where its thread is handed its node, woken, or noted on its key.
+#[test]
+fn the_last_of_1024_parks_in_each_way(rt: HostRuntime) -> Result<(), Fail> {
+    the_last_number_parks::<ThreadParker, _>(&rt, rt.alloc())?;
+    the_last_number_parks::<YieldParker, _>(&rt, rt.alloc())
 }

@@ -363,3 +363,26 @@ fn an_interleaved_run_without_room_changes_nothing(rt: HostRuntime) {
     let given = answers.as_slice();
     assert!(rt; expected.iter().any(|expected| expected.as_slice() == given));
 }
+
+// It refuses a registration or a recording that answers `NoMemory` once there are more than some.
+#[test]
+fn an_interleaved_lot_has_1024_threads_and_a_thread_records(rt: HostRuntime) -> Result<(), Fail> {
+    let mut lot = FineLot::new(rt.alloc(), 1_024, 1)?;
+    let mut answers = Vec::new(rt.alloc());
+    let mut sequential = Vec::new(rt.alloc());
+    for number in 0..1_024 {
+        run_fine(
+            &mut lot,
+            &[FineStep::Register],
+            &mut answers,
+            &mut sequential,
+        )?;
+        assert_eq!(rt; answers.last(), Some(&registered(number)));
+    }
+    for key in 0..1_000 {
+        let acquire = FineStep::Acquire { thread: 1_023, key };
+        run_fine(&mut lot, &[acquire], &mut answers, &mut sequential)?;
+        assert_eq!(rt; answers.last(), Some(&answer(Answer::Recorded)));
+    }
+    Ok(())
+}

@@ -533,3 +533,17 @@ fn a_refused_recording_changes_no_records(rt: HostRuntime) {
         expect_records(&rt, &lot, (0, 5), left);
     }
 }
+
+// It refuses a registration or a recording that answers `NoMemory` once there are more than some.
+#[test]
+fn a_lot_has_1024_threads_and_a_thread_1000_records(rt: HostRuntime) -> Result<(), Fail> {
+    let mut lot = Lot::new(rt.alloc(), 1_024)?;
+    for number in 0..1_024 {
+        assert_eq!(rt; lot.register(), Ok(number));
+    }
+    for key in 0..1_000 {
+        assert_eq!(rt; lot.acquire(1_023, usize::MAX - key), Ok(()));
+    }
+    expect_records(&rt, &lot, (1_023, usize::MAX), 1);
+    Ok(())
+}
