@@ -91,7 +91,7 @@ where
     P::UnparkHandle: 'static,
     R: Threads + Wait + Clock + Abort + Copy + Send + 'static,
 {
-    let deadline = from_now(rt, Duration::from_secs(40))?;
+    let deadline = from_now(rt, Duration::from_secs(30))?;
     let mut crowd = Vec::new(alloc);
     for number in 0..threads {
         let data = lot.thread_data(rt, alloc)?;
