@@ -1,6 +1,6 @@
 //! Threads whose deadline has passed, while others requeue, wait behind them or before them.
 
-use crate::common::{KEY, TOKEN, come_by_turns, move_all, raised_by_turns, wait};
+use crate::common::{KEY, TOKEN, come_by_turns, comes_to, move_all, raised_by_turns, wait};
 use parking_lot_core::{
     DEFAULT_PARK_TOKEN, DEFAULT_UNPARK_TOKEN, LotError, ParkResult, ParkingLot, RequeueOp,
     ThreadData, ThreadParker, ThreadParkerT, YieldParker, park, unpark_all, unpark_one,
@@ -9,13 +9,15 @@ use parking_lot_core::{
 use std::alloc::Global;
 use std::process::Abort;
 use std::sync::Wait;
-use std::sync::atomic::{AtomicBool, Ordering};
+use std::sync::atomic::{AtomicBool, AtomicUsize, Ordering};
 use std::test::Fail;
 use std::thread;
 use std::thread::Threads;
 use std::time::{Clock, Duration, Instant};
 
 const LATE: usize = 4;
+
+const ROUNDS: usize = 1_000;
 
 // How a park of a late thread ended, and the key and whether it was the last, as it was told.
 type Left = (ParkResult, Option<(usize, bool)>);
@@ -153,50 +155,94 @@ fn a_late_thread_that_is_moved_meanwhile_reads_its_key_again(rt: HostRuntime) ->
     Ok(())
 }
 
-// Enters while the other waits for the bucket, and looks a second time once it was moved.
+// How far a thread that enters and one that requeues have come in their rounds.
+#[derive(Drop)]
+struct Rounds {
+    entered: AtomicUsize,
+    moved: AtomicUsize,
+    left: AtomicUsize,
+}
+
+impl Rounds {
+    fn new() -> Rounds {
+        Rounds {
+            entered: AtomicUsize::new(0),
+            moved: AtomicUsize::new(0),
+            left: AtomicUsize::new(0),
+        }
+    }
+
+    // The other need not wait for this thread any more.
+    fn end(&self) {
+        self.entered.store(ROUNDS, Ordering::SeqCst);
+        self.left.store(ROUNDS, Ordering::SeqCst);
+    }
+}
+
+// Enters while the other falls asleep at the bucket, and looks a second time once it was moved. It
+// tells how it left.
 fn enter_before<P: ThreadParkerT, R: Wait + Clock>(
     rt: &R,
     lot: &ParkingLot<P>,
-    mut data: ThreadData,
+    data: &mut ThreadData,
     passed: Instant,
-    meeting: &Meeting,
+    rounds: &Rounds,
+    round: usize,
 ) -> Option<Left> {
-    if !lot.accepts(&data) {
+    if !lot.accepts(data) {
         return None;
     }
     let mut told = None;
     let result = park(
         rt,
         lot,
-        &mut data,
+        data,
         1,
         || {
-            meeting.has_entered.store(true, Ordering::SeqCst);
-            thread::sleep(rt, Duration::from_micros(500));
+            rounds.entered.store(round, Ordering::SeqCst);
+            thread::sleep(rt, Duration::from_micros(100));
             true
         },
         || {
-            raised_by_turns(&meeting.is_inside);
+            comes_to(&rounds.moved, round);
         },
         |key, last| told = Some((key, last)),
         DEFAULT_PARK_TOKEN,
         Some(passed),
     );
-    meeting.has_left.store(true, Ordering::SeqCst);
+    rounds.left.store(round, Ordering::SeqCst);
     Some((result, told))
 }
 
-fn requeue_behind<P: ThreadParkerT, R: Wait>(
+// Enters in each round, and tells how it left in the first that did not end at the second key.
+fn enter_by_rounds<P: ThreadParkerT, R: Wait + Clock>(
     rt: &R,
     lot: &ParkingLot<P>,
-    meeting: &Meeting,
-) -> usize {
-    raised_by_turns(&meeting.has_entered);
-    let op = || RequeueOp::RequeueAll;
-    let result = unpark_requeue(rt, lot, 1, 2, op, |_, _| DEFAULT_UNPARK_TOKEN);
-    meeting.is_inside.store(true, Ordering::SeqCst);
-    meeting.see_it_leave(rt, lot, 2);
-    result.requeued_threads
+    mut data: ThreadData,
+    passed: Instant,
+    rounds: &Rounds,
+) -> Option<Left> {
+    let expected = (ParkResult::TimedOut, Some((2, true)));
+    for round in 1..=ROUNDS {
+        let left = enter_before(rt, lot, &mut data, passed, rounds, round);
+        if left != Some(expected) {
+            rounds.end();
+            return left;
+        }
+    }
+    Some(expected)
+}
+
+// Requeues in each round, and wakes a thread that does not find itself, so that it ends.
+fn requeue_by_rounds<P: ThreadParkerT, R: Wait>(rt: &R, lot: &ParkingLot<P>, rounds: &Rounds) {
+    for round in 1..=ROUNDS {
+        comes_to(&rounds.entered, round);
+        move_all(rt, lot, 1, 2);
+        rounds.moved.store(round, Ordering::SeqCst);
+        if !comes_to(&rounds.left, round) {
+            unpark_all(rt, lot, 2, TOKEN);
+        }
+    }
 }
 
 fn enter_and_requeue<P: ThreadParkerT + Send + Sync, R: Threads + Wait + Clock + Sync>(
@@ -204,13 +250,14 @@ fn enter_and_requeue<P: ThreadParkerT + Send + Sync, R: Threads + Wait + Clock +
     lot: &ParkingLot<P>,
     data: ThreadData,
     passed: Instant,
-) -> (Option<Left>, usize) {
-    let meeting = Meeting::new();
-    thread::join(
+) -> Option<Left> {
+    let rounds = Rounds::new();
+    let (left, ()) = thread::join(
         rt,
-        || enter_before(rt, lot, data, passed, &meeting),
-        || requeue_behind(rt, lot, &meeting),
-    )
+        || enter_by_rounds(rt, lot, data, passed, &rounds),
+        || requeue_by_rounds(rt, lot, &rounds),
+    );
+    left
 }
 
 fn notes_its_key_in_time<P, R>(rt: &R, alloc: Global) -> Result<(), Fail>
@@ -218,19 +265,17 @@ where
     P: ThreadParkerT + Send + Sync,
     R: Threads + Wait + Clock + Abort + Sync,
 {
+    let lot = ParkingLot::<P>::new(alloc, 1)?;
+    let data = lot.thread_data(rt, alloc)?;
     let passed = Instant::now(rt)?;
-    for round in 0..100 {
-        let lot = ParkingLot::<P>::new(alloc, 1)?;
-        let data = lot.thread_data(rt, alloc)?;
-        let met = enter_and_requeue(rt, &lot, data, passed);
-        let left = (ParkResult::TimedOut, Some((2, true)));
-        assert_eq!(rt; met, (Some(left), 1), "round {round}");
-    }
+    let left = enter_and_requeue(rt, &lot, data, passed);
+    assert_eq!(rt; left, Some((ParkResult::TimedOut, Some((2, true)))));
     Ok(())
 }
 
-// It refuses a thread that notes its key once it has let the bucket go: a requeue that waits for the
-// bucket notes the new key first then, and the thread looks for itself in its old queue for ever.
+// It refuses a thread that notes its key once it has let the bucket go. In some rounds a requeue that
+// waited for the bucket notes the new key first then, and the thread looks for itself in its old
+// queue for ever.
 #[test]
 fn a_key_is_noted_before_the_bucket_is_let_go(rt: HostRuntime) -> Result<(), Fail> {
     notes_its_key_in_time::<ThreadParker, _>(&rt, rt.alloc())?;
