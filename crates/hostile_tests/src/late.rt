@@ -17,7 +17,7 @@ use std::time::{Clock, Duration, Instant};
 
 const LATE: usize = 4;
 
-const ROUNDS: usize = 1_000;
+const ROUNDS: usize = 500;
 
 // How a park of a late thread ended, and the key and whether it was the last, as it was told.
 type Left = (ParkResult, Option<(usize, bool)>);
@@ -200,7 +200,7 @@ fn enter_before<P: ThreadParkerT, R: Wait + Clock>(
         1,
         || {
             rounds.entered.store(round, Ordering::SeqCst);
-            thread::sleep(rt, Duration::from_micros(100));
+            thread::sleep(rt, Duration::from_micros(500));
             true
         },
         || {
