@@ -1,0 +1,308 @@
+//! Scenarios in which several threads do calls that ask for no memory.
+
+ghost use Rattle.std.specs.Prelude.{⊤};
+
+use super::exclusive::KEYS;
+use super::{Scenario, marks};
+use crate::fault::Fault;
+use crate::turns::comes_to;
+use lot_base::word_lock::{Fits, WordLock};
+use parking_lot_core::deadlock::{acquire_resource, release_resource};
+use parking_lot_core::{
+    DEFAULT_PARK_TOKEN, FilterOp, ParkResult, ParkingLot, RequeueOp, ThreadData, ThreadParkerT,
+    UnparkToken, park, unpark_all, unpark_filter, unpark_one, unpark_requeue,
+};
+use std::alloc::Global;
+use std::sync::Wait;
+use std::sync::atomic::{AtomicUsize, Ordering};
+use std::thread;
+use std::thread::Threads;
+use std::time::{Clock, Duration, Instant};
+
+// More than an unpark keeps handles of.
+const WAITERS: usize = 12;
+
+const LOCKERS: usize = 8;
+
+const LOCKS: usize = 500;
+
+// How often each waiter parks without a deadline that has passed.
+const PARKS: usize = 3;
+
+const FAR_SECONDS: u64 = 1_000;
+
+const OPEN: usize = 1;
+
+const OVER: usize = 2;
+
+/// Does one of these scenarios.
+pub(super) fn play<P, R>(rt: &R, alloc: Global, scenario: Scenario) -> Result<(), Fault>
+where
+    P: ThreadParkerT + Send + Sync + 'static,
+    P::UnparkHandle: 'static,
+    R: Print + Threads + Wait + Clock + Copy + Send + Sync + 'static,
+{
+    if let Scenario::Threads = scenario {
+        play_threads::<P, _>(rt, alloc)
+    } else {
+        play_lock(rt, alloc)
+    }
+}
+
+// A gate before the part that is counted, which threads pass together once all have been started.
+#[derive(Drop)]
+struct Gate {
+    arrived: AtomicUsize,
+    state: AtomicUsize,
+    done: AtomicUsize,
+}
+
+impl Gate {
+    fn new() -> Gate {
+        Gate {
+            arrived: AtomicUsize::new(0),
+            state: AtomicUsize::new(0),
+            done: AtomicUsize::new(0),
+        }
+    }
+
+    // Arrives, and waits until the gate opens.
+    fn pass(&self) -> bool {
+        self.arrived.fetch_add(1, Ordering::SeqCst);
+        comes_to(&self.state, OPEN)
+    }
+
+    // Is done, and waits until nothing is counted any more.
+    fn leave(&self) -> bool {
+        self.done.fetch_add(1, Ordering::SeqCst);
+        comes_to(&self.state, OVER)
+    }
+
+    // Lets so many threads pass once they have arrived. From then on requests are counted.
+    fn open(&self, alloc: Global, threads: usize) -> bool {
+        let have_arrived = comes_to(&self.arrived, threads);
+        marks::begin(alloc);
+        self.state.store(OPEN, Ordering::SeqCst);
+        have_arrived
+    }
+
+    // Ends the count once so many threads are done.
+    fn close(&self, alloc: Global, threads: usize) -> bool {
+        let are_done = comes_to(&self.done, threads);
+        marks::end(alloc);
+        self.state.store(OVER, Ordering::SeqCst);
+        are_done
+    }
+}
+
+// A lot on which threads wait, and what they have seen.
+#[derive(Drop)]
+struct Crowd<P: ThreadParkerT> {
+    lot: ParkingLot<P>,
+    gate: Gate,
+    ready: AtomicUsize,
+    tokens: AtomicUsize,
+    timeouts: AtomicUsize,
+    records: AtomicUsize,
+}
+
+impl<P: ThreadParkerT> Crowd<P> {
+    fn new(alloc: Global) -> Result<Crowd<P>, Fault> {
+        Ok(Crowd {
+            lot: ParkingLot::new(alloc, WAITERS)?,
+            gate: Gate::new(),
+            ready: AtomicUsize::new(0),
+            tokens: AtomicUsize::new(0),
+            timeouts: AtomicUsize::new(0),
+            records: AtomicUsize::new(0),
+        })
+    }
+
+    // Registers, parks so often that it is unparked and once in vain, and retires.
+    fn waits<R: Wait + Clock>(&self, rt: &R, alloc: Global) -> bool {
+        let Ok(mut data) = self.lot.thread_data(rt, alloc) else {
+            return false;
+        };
+        let Ok(now) = Instant::now(rt) else { return false };
+        let far = now.checked_add(Duration::from_secs(FAR_SECONDS));
+        if acquire_resource(&mut data, KEYS[0]).is_err() || !self.gate.pass() {
+            return false;
+        }
+        for _ in 1..PARKS {
+            self.parks(rt, &mut data, None);
+        }
+        self.parks(rt, &mut data, far);
+        self.parks(rt, &mut data, Some(now));
+        release_resource(&mut data, KEYS[0]);
+        self.records.fetch_add(data.records(KEYS[0]), Ordering::SeqCst);
+        self.lot.retire(rt, data);
+        self.gate.leave()
+    }
+
+    fn parks<R: Wait + Clock>(&self, rt: &R, data: &mut ThreadData, timeout: Option<Instant>) {
+        if !self.lot.accepts(data) {
+            return;
+        }
+        let result = park(
+            rt,
+            &self.lot,
+            data,
+            KEYS[0],
+            || true,
+            || {
+                self.ready.fetch_add(1, Ordering::SeqCst);
+            },
+            |_, _| (),
+            DEFAULT_PARK_TOKEN,
+            timeout,
+        );
+        match result {
+            ParkResult::Unparked(token) => {
+                self.tokens.fetch_add(token.0, Ordering::SeqCst);
+            }
+            _ => {
+                self.timeouts.fetch_add(1, Ordering::SeqCst);
+            }
+        }
+    }
+
+    // Unparks all in each of three ways, each time once they wait.
+    fn leads<R: Wait>(&self, rt: &R, alloc: Global) -> [usize; 6] {
+        let mut seen = [usize::MAX; 6];
+        if !self.gate.open(alloc, WAITERS) {
+            return seen;
+        }
+        if comes_to(&self.ready, WAITERS) {
+            seen[0] = unpark_one(rt, &self.lot, KEYS[0], |_| UnparkToken(1)).unparked_threads;
+            seen[1] = self.filters(rt);
+        }
+        if comes_to(&self.ready, 2 * WAITERS) {
+            seen[2] = self.requeues(rt, KEYS[1], RequeueOp::UnparkOneRequeueRest);
+            seen[3] = unpark_all(rt, &self.lot, KEYS[1], UnparkToken(1_000));
+        }
+        if comes_to(&self.ready, PARKS * WAITERS) {
+            seen[4] = self.requeues(rt, KEYS[2], RequeueOp::RequeueAll);
+            seen[5] = unpark_all(rt, &self.lot, KEYS[2], UnparkToken(10_000));
+        }
+        self.gate.close(alloc, WAITERS);
+        seen
+    }
+
+    fn filters<R: Wait>(&self, rt: &R) -> usize {
+        let result = unpark_filter(
+            rt,
+            &self.lot,
+            KEYS[0],
+            |_| FilterOp::Unpark,
+            |_| UnparkToken(10),
+        );
+        result.unparked_threads
+    }
+
+    fn requeues<R: Wait>(&self, rt: &R, to: usize, op: RequeueOp) -> usize {
+        let result =
+            unpark_requeue(rt, &self.lot, KEYS[0], to, || op, |_, _| UnparkToken(100));
+        result.requeued_threads
+    }
+}
+
+fn play_threads<P, R>(rt: &R, alloc: Global) -> Result<(), Fault>
+where
+    P: ThreadParkerT + Send + Sync + 'static,
+    P::UnparkHandle: 'static,
+    R: Print + Threads + Wait + Clock + Copy + Send + Sync + 'static,
+{
+    let crowd = Crowd::<P>::new(alloc)?;
+    let (seen, waited) = thread::join(
+        rt,
+        || crowd.leads(rt, alloc),
+        || all_wait(rt, alloc, &crowd),
+    );
+    println!(rt; "answer {seen:?}")?;
+    println!(rt; "tokens {}", crowd.tokens.load(Ordering::SeqCst))?;
+    println!(rt; "timeouts {}", crowd.timeouts.load(Ordering::SeqCst))?;
+    println!(rt; "records {}", crowd.records.load(Ordering::SeqCst))?;
+    println!(rt; "refused 0")?;
+    if waited {
+        Ok(())
+    } else {
+        Err(Fault::Unlike("a wait of one of the threads"))
+    }
+}
+
+fn all_wait<P, R>(rt: &R, alloc: Global, crowd: &Crowd<P>) -> bool
+where
+    P: ThreadParkerT + Send + Sync + 'static,
+    P::UnparkHandle: 'static,
+    R: Threads + Wait + Clock + Copy + Send + Sync + 'static,
+{
+    match thread::map_indices(rt, alloc, WAITERS, &|_| crowd.waits(rt, alloc)) {
+        Ok(waited) => are_all_true(waited.as_slice()),
+        Err(_) => false,
+    }
+}
+
+fn are_all_true(answers: &[bool]) -> bool {
+    for answer in answers {
+        if !answer {
+            return false;
+        }
+    }
+    true
+}
+
+#[derive(Drop)]
+struct Count(usize);
+
+impl Fits for Count {
+    ghost fits = { λ _. ⊤ };
+}
+
+fn play_lock<R: Print + Threads + Wait + Clock + Copy + Send + Sync + 'static>(
+    rt: &R,
+    alloc: Global,
+) -> Result<(), Fault> {
+    let lock = WordLock::new(alloc, Count(0))?;
+    let gate = Gate::new();
+    let (are_done, locked) = thread::join(
+        rt,
+        || gate.open(alloc, LOCKERS) && gate.close(alloc, LOCKERS),
+        || all_lock(rt, alloc, &lock, &gate),
+    );
+    let held = lock.lock(rt);
+    let count = held.value.0;
+    lock.unlock(held);
+    println!(rt; "answer {count}")?;
+    println!(rt; "refused 0")?;
+    if are_done && locked {
+        Ok(())
+    } else {
+        Err(Fault::Unlike("a wait of one of the threads"))
+    }
+}
+
+fn all_lock<R: Threads + Wait + Copy + Send + Sync + 'static>(
+    rt: &R,
+    alloc: Global,
+    lock: &WordLock<Count>,
+    gate: &Gate,
+) -> bool {
+    match thread::map_indices(rt, alloc, LOCKERS, &|_| locks(rt, lock, gate)) {
+        Ok(locked) => are_all_true(locked.as_slice()),
+        Err(_) => false,
+    }
+}
+
+// Counts so often under the lock, and yields there, so that the others wait.
+fn locks<R: Wait>(rt: &R, lock: &WordLock<Count>, gate: &Gate) -> bool {
+    if !gate.pass() {
+        return false;
+    }
+    for _ in 0..LOCKS {
+        let mut held = lock.lock(rt);
+        held.value.0 = held.value.0.wrapping_add(1);
+        thread::yield_now();
+        lock.unlock(held);
+    }
+    gate.leave()
+}

@@ -1,0 +1,102 @@
+//! The commands of the program.
+
+use crate::fault::Fault;
+use crate::memory::{self, SCENARIOS, Scenario};
+use crate::race;
+use parking_lot_core::{ThreadParker, YieldParker};
+use std::process::ExitCode;
+use std::rt::Env;
+use std::sync::Wait;
+use std::thread::Threads;
+use std::time::Clock;
+use std::{env, io};
+
+const USAGE_STATUS: u8 = 2;
+
+#[derive(Copy, Clone)]
+enum Parker {
+    Sleeping,
+    Yielding,
+}
+
+#[derive(Drop)]
+enum Command {
+    List,
+    Memory(Scenario, Parker),
+    Race { seconds: u64, seed: u64 },
+}
+
+/// Runs the command that the arguments name. Any other words are answered by the usage lines on the
+/// error output and the status 2, and a failure is told there, with the status 1.
+pub fn run<
+    R: Env + Print + Eprint + AllocGlobal + Threads + Wait + Clock + Copy + Send + Sync + 'static,
+>(rt: &R) -> ExitCode {
+    let Some(command) = chosen_command(rt) else {
+        let _ = eprintln!(rt; "usage: lot_stress memory [SCENARIO thread|yield]");
+        let _ = eprintln!(rt; "       lot_stress race SECONDS SEED");
+        return ExitCode::from(USAGE_STATUS);
+    };
+    match follow(rt, command) {
+        Ok(()) => ExitCode::SUCCESS,
+        Err(fault) => {
+            let _ = eprintln!(rt; "{fault}");
+            ExitCode::FAILURE
+        }
+    }
+}
+
+// The command that the arguments name. Arguments that cannot be read name none.
+fn chosen_command<R: Env + AllocGlobal>(rt: &R) -> Option<Command> {
+    let mut words = env::args(rt).ok()?.skip(1);
+    let command = words.next()?;
+    let Some(first) = words.next() else {
+        return (command.as_str() == "memory").then_some(Command::List);
+    };
+    let second = words.next()?;
+    if words.next().is_some() {
+        return None;
+    }
+    command_of(command.as_str(), first.as_str(), second.as_str())
+}
+
+fn command_of(command: &str, first: &str, second: &str) -> Option<Command> {
+    match command {
+        "memory" => Some(Command::Memory(Scenario::named(first)?, parker_named(second)?)),
+        "race" => Some(Command::Race {
+            seconds: first.parse().ok()?,
+            seed: second.parse().ok()?,
+        }),
+        _ => None,
+    }
+}
+
+fn parker_named(name: &str) -> Option<Parker> {
+    match name {
+        "thread" => Some(Parker::Sleeping),
+        "yield" => Some(Parker::Yielding),
+        _ => None,
+    }
+}
+
+fn follow<
+    R: Print + Eprint + AllocGlobal + Threads + Wait + Clock + Copy + Send + Sync + 'static,
+>(rt: &R, command: Command) -> Result<(), Fault> {
+    match command {
+        Command::List => Ok(print_names(rt)?),
+        Command::Memory(scenario, Parker::Sleeping) => {
+            memory::play::<ThreadParker, _>(rt, rt.alloc(), scenario)
+        }
+        Command::Memory(scenario, Parker::Yielding) => {
+            memory::play::<YieldParker, _>(rt, rt.alloc(), scenario)
+        }
+        Command::Race { seconds, seed } => race::run(rt, rt.alloc(), seconds, seed),
+    }
+}
+
+// The scenarios by their names, each with what the program that refuses memory is to expect.
+fn print_names<R: Print>(rt: &R) -> io::Result<()> {
+    for scenario in SCENARIOS {
+        println!(rt; "{} {}", scenario.kind(), scenario.name())?;
+    }
+    Ok(())
+}

@@ -1,0 +1,62 @@
+//! `lot_stress race`: threads that park, unpark, requeue, register and retire on one lot, while the
+//! tokens that were handed out are compared with those that were told.
+
+mod draws;
+mod figures;
+mod round;
+
+use crate::fault::Fault;
+use draws::Draws;
+use figures::Figures;
+use parking_lot_core::{ThreadParker, YieldParker};
+use std::alloc::Global;
+use std::io;
+use std::sync::Wait;
+use std::thread::Threads;
+use std::time::{Clock, Duration, Instant};
+
+/// Lets threads race for so long, in rounds of a second, each on a lot of its own, with either
+/// parker by turns. Each round is told on the error output, and the sum of all on the output.
+pub fn run<R: Print + Eprint + Threads + Wait + Clock + Copy + Send + Sync + 'static>(
+    rt: &R,
+    alloc: Global,
+    seconds: u64,
+    seed: u64,
+) -> Result<(), Fault> {
+    let start = Instant::now(rt)?;
+    let whole = Duration::from_secs(seconds);
+    let mut seeds = Draws::new(seed);
+    let mut total = Figures::default();
+    for number in 0..u64::MAX {
+        if start.elapsed(rt)? >= whole {
+            break;
+        }
+        let figures = run_round(rt, alloc, number, seeds.next())?;
+        total.add(figures);
+        eprintln!(rt; "round {number}: {figures}")?;
+    }
+    println!(rt; "{total}")?;
+    Ok(())
+}
+
+// Runs the round of this number. A failure is told with the seed.
+fn run_round<R: Eprint + Threads + Wait + Clock + Copy + Send + Sync + 'static>(
+    rt: &R,
+    alloc: Global,
+    number: u64,
+    seed: u64,
+) -> Result<Figures, Fault> {
+    let figures = if number % 2 == 0 {
+        round::run::<ThreadParker, _>(rt, alloc, seed)
+    } else {
+        round::run::<YieldParker, _>(rt, alloc, seed)
+    };
+    if figures.is_err() {
+        tell_failure(rt, number, seed)?;
+    }
+    figures
+}
+
+fn tell_failure<R: Eprint>(rt: &R, number: u64, seed: u64) -> io::Result<()> {
+    eprintln!(rt; "round {number} failed, of the seed {seed}")
+}

@@ -1,0 +1,198 @@
+//! A round of a race: threads on one lot, and whether all that they were handed was told.
+
+mod roles;
+
+use super::draws::Draws;
+use super::figures::Figures;
+use crate::fault::Fault;
+use parking_lot_core::{ParkingLot, ThreadParkerT, UnparkToken, unpark_all};
+use std::alloc::Global;
+use std::sync::atomic::{AtomicBool, AtomicUsize, Ordering};
+use std::sync::{Arc, Wait};
+use std::thread;
+use std::thread::{JoinHandle, Threads};
+use std::time::{Clock, Duration, Instant};
+
+// Keys of which several have one bucket: the first two of 16, the first and the fourth of 64.
+const KEYS: [usize; 6] = [0, 13, 34, 89, 7, 14];
+
+// How many numbers the lot has.
+const MOST: usize = 64;
+
+const PARKERS: usize = 8;
+
+const ROUND_MILLISECONDS: u64 = 1_000;
+
+// How long those who park have to end once they are all woken.
+const PATIENCE_SECONDS: u64 = 20;
+
+// What a thread does.
+#[derive(Copy, Clone)]
+enum Role {
+    Park,
+    Unpark,
+    Requeue,
+    Register,
+}
+
+const ROLES: [Role; 13] = [
+    Role::Park,
+    Role::Park,
+    Role::Park,
+    Role::Park,
+    Role::Park,
+    Role::Park,
+    Role::Park,
+    Role::Park,
+    Role::Unpark,
+    Role::Unpark,
+    Role::Requeue,
+    Role::Requeue,
+    Role::Register,
+];
+
+// What the threads of a round share.
+#[derive(Drop)]
+struct Round<P: ThreadParkerT> {
+    lot: ParkingLot<P>,
+    is_over: AtomicBool,
+    parking: AtomicUsize,
+}
+
+/// Runs a round, and answers what its threads have done. A thread that is not woken is not joined.
+pub(super) fn run<P, R>(rt: &R, alloc: Global, seed: u64) -> Result<Figures, Fault>
+where
+    P: ThreadParkerT + Send + Sync + 'static,
+    P::UnparkHandle: 'static,
+    R: Threads + Wait + Clock + Copy + Send + 'static,
+{
+    let round = Round::<P> {
+        lot: ParkingLot::new(alloc, MOST)?,
+        is_over: AtomicBool::new(false),
+        parking: AtomicUsize::new(PARKERS),
+    };
+    let round = Arc::new(alloc, round)?;
+    let mut draws = Draws::new(seed);
+    let threads = start_all(rt, alloc, &round, &mut draws)?;
+    thread::sleep(rt, Duration::from_millis(ROUND_MILLISECONDS));
+    let mut figures = round.end(rt, &mut draws)?;
+    figures.add(join_all(rt, threads)?);
+    if !figures.are_even() {
+        return Err(Fault::Unlike("the tokens that were told, beside those handed out"));
+    }
+    round.are_lists_empty(rt, alloc)?;
+    Ok(figures)
+}
+
+fn start_all<P, R>(
+    rt: &R,
+    alloc: Global,
+    round: &Arc<Round<P>, Global>,
+    draws: &mut Draws,
+) -> Result<Vec<JoinHandle<Option<Figures>>>, Fault>
+where
+    P: ThreadParkerT + Send + Sync + 'static,
+    P::UnparkHandle: 'static,
+    R: Threads + Wait + Clock + Copy + Send + 'static,
+{
+    let mut threads = Vec::with_capacity(alloc, ROLES.len())?;
+    for role in ROLES {
+        threads.push(start_one(rt, alloc, round, role, draws.split())?)?;
+    }
+    Ok(threads)
+}
+
+fn start_one<P, R>(
+    rt: &R,
+    alloc: Global,
+    round: &Arc<Round<P>, Global>,
+    role: Role,
+    draws: Draws,
+) -> Result<JoinHandle<Option<Figures>>, Fault>
+where
+    P: ThreadParkerT + Send + Sync + 'static,
+    P::UnparkHandle: 'static,
+    R: Threads + Wait + Clock + Copy + Send + 'static,
+{
+    let round = Arc::try_clone(round)?;
+    let runtime = *rt;
+    match thread::spawn(rt, move || round.act(&runtime, alloc, role, draws)) {
+        Ok(thread) => Ok(thread),
+        Err(_) => Err(Fault::NotMade),
+    }
+}
+
+fn join_all<R: Threads>(
+    rt: &R,
+    threads: Vec<JoinHandle<Option<Figures>>>,
+) -> Result<Figures, Fault> {
+    let mut total = Figures::default();
+    let mut have_ended = true;
+    for thread in threads {
+        match thread.join(rt) {
+            Some(figures) => total.add(figures),
+            None => have_ended = false,
+        }
+    }
+    if have_ended {
+        Ok(total)
+    } else {
+        Err(Fault::Unlike("a call that was refused in a race"))
+    }
+}
+
+impl<P: ThreadParkerT> Round<P> {
+    fn act<R: Wait + Clock>(
+        &self,
+        rt: &R,
+        alloc: Global,
+        role: Role,
+        draws: Draws,
+    ) -> Option<Figures> {
+        match role {
+            Role::Park => roles::park_often(rt, alloc, self, draws),
+            Role::Unpark => roles::unpark_often(rt, self, draws),
+            Role::Requeue => roles::requeue_often(rt, self, draws),
+            Role::Register => roles::register_often(rt, alloc, self, draws),
+        }
+    }
+
+    fn is_over(&self) -> bool {
+        self.is_over.load(Ordering::SeqCst)
+    }
+
+    // Ends the round: nobody parks any more, and all who wait are woken.
+    fn end<R: Wait + Clock>(&self, rt: &R, draws: &mut Draws) -> Result<Figures, Fault> {
+        self.is_over.store(true, Ordering::SeqCst);
+        let start = Instant::now(rt)?;
+        let mut figures = Figures::default();
+        for _ in 0..u64::MAX {
+            self.wake_all(rt, draws, &mut figures);
+            if self.parking.load(Ordering::SeqCst) == 0 {
+                break;
+            }
+            if start.elapsed(rt)? >= Duration::from_secs(PATIENCE_SECONDS) {
+                return Err(Fault::Unlike("a thread that was not woken"));
+            }
+            thread::yield_now();
+        }
+        Ok(figures)
+    }
+
+    fn wake_all<R: Wait>(&self, rt: &R, draws: &mut Draws, figures: &mut Figures) {
+        for key in KEYS {
+            let token = UnparkToken(draws.next() as usize);
+            let unparked = unpark_all(rt, &self.lot, key, token);
+            figures.handed.add(token, unparked);
+        }
+    }
+
+    fn are_lists_empty<R: Wait>(&self, rt: &R, alloc: Global) -> Result<(), Fault> {
+        for key in KEYS {
+            if !self.lot.list(rt, alloc, key)?.is_empty() {
+                return Err(Fault::Unlike("a list after the race"));
+            }
+        }
+        Ok(())
+    }
+}

@@ -1,0 +1,273 @@
+//! What the threads of a round do.
+
+use super::super::draws::Draws;
+use super::super::figures::Figures;
+use super::{KEYS, Round};
+use parking_lot_core::{
+    FilterOp, ParkResult, ParkToken, RequeueOp, ThreadData, ThreadParkerT, UnparkResult,
+    UnparkToken, park, unpark_all, unpark_filter, unpark_one, unpark_requeue,
+};
+use std::alloc::Global;
+use std::sync::Wait;
+use std::sync::atomic::Ordering;
+use std::thread;
+use std::time::{Clock, Duration, Instant};
+
+// How many numbers the thread that registers holds at most.
+const HELD: usize = 48;
+
+// As many buckets as a lot begins with.
+const FIRST_SIZE: usize = 16;
+
+const OPS: [RequeueOp; 5] = [
+    RequeueOp::Abort,
+    RequeueOp::UnparkOne,
+    RequeueOp::RequeueOne,
+    RequeueOp::UnparkOneRequeueRest,
+    RequeueOp::RequeueAll,
+];
+
+// One way to unpark.
+#[derive(Copy, Clone)]
+enum Way {
+    One,
+    All,
+    Filter,
+}
+
+const WAYS: [Way; 3] = [Way::One, Way::All, Way::Filter];
+
+/// Parks on any key, with a deadline or without, and registers anew now and then.
+pub(super) fn park_often<P: ThreadParkerT, R: Wait + Clock>(
+    rt: &R,
+    alloc: Global,
+    round: &Round<P>,
+    mut draws: Draws,
+) -> Option<Figures> {
+    let mut figures = Figures::default();
+    for _ in 0..u64::MAX {
+        let data = round.lot.thread_data(rt, alloc).ok()?;
+        figures.registrations = figures.registrations.wrapping_add(1);
+        if park_some(rt, round, data, &mut draws, &mut figures)? {
+            break;
+        }
+    }
+    round.parking.fetch_sub(1, Ordering::SeqCst);
+    Some(figures)
+}
+
+// Parks several times, and retires. Answers whether the round is over.
+fn park_some<P: ThreadParkerT, R: Wait + Clock>(
+    rt: &R,
+    round: &Round<P>,
+    mut data: ThreadData,
+    draws: &mut Draws,
+    figures: &mut Figures,
+) -> Option<bool> {
+    for _ in 0..64 {
+        if round.is_over() {
+            break;
+        }
+        park_once(rt, round, &mut data, draws, figures)?;
+    }
+    round.lot.retire(rt, data);
+    Some(round.is_over())
+}
+
+fn park_once<P: ThreadParkerT, R: Wait + Clock>(
+    rt: &R,
+    round: &Round<P>,
+    data: &mut ThreadData,
+    draws: &mut Draws,
+    figures: &mut Figures,
+) -> Option<()> {
+    if !round.lot.accepts(data) {
+        return None;
+    }
+    let start = Instant::now(rt).ok()?;
+    let result = park(
+        rt,
+        &round.lot,
+        data,
+        draws.choose(&KEYS, 0),
+        || !round.is_over(),
+        || (),
+        |_, _| (),
+        ParkToken(draws.next() as usize),
+        deadline(start, draws),
+    );
+    note_park(figures, result, start.elapsed(rt).ok()?);
+    Some(())
+}
+
+// A deadline within two milliseconds, or none.
+fn deadline(start: Instant, draws: &mut Draws) -> Option<Instant> {
+    let number = draws.next();
+    if number % 2 == 0 {
+        return None;
+    }
+    start.checked_add(Duration::from_nanos(number & 0x1F_FFFF))
+}
+
+fn note_park(figures: &mut Figures, ended: ParkResult, wait: Duration) {
+    match ended {
+        ParkResult::Unparked(token) => {
+            figures.parks = figures.parks.wrapping_add(1);
+            figures.told.add(token, 1);
+            figures.longest = figures.longest.max(wait);
+        }
+        ParkResult::TimedOut => {
+            figures.parks = figures.parks.wrapping_add(1);
+            figures.timeouts = figures.timeouts.wrapping_add(1);
+        }
+        ParkResult::Invalid => (),
+    }
+}
+
+/// Unparks one, all, or those that a filter chooses, on any key.
+pub(super) fn unpark_often<P: ThreadParkerT, R: Wait + Clock>(
+    rt: &R,
+    round: &Round<P>,
+    mut draws: Draws,
+) -> Option<Figures> {
+    let mut figures = Figures::default();
+    for _ in 0..u64::MAX {
+        if round.is_over() {
+            break;
+        }
+        let token = UnparkToken(draws.next() as usize);
+        let unparked = unpark_once(rt, round, &mut draws, token);
+        figures.handed.add(token, unparked);
+        pause(rt, &mut draws);
+    }
+    Some(figures)
+}
+
+fn unpark_once<P: ThreadParkerT, R: Wait>(
+    rt: &R,
+    round: &Round<P>,
+    draws: &mut Draws,
+    token: UnparkToken,
+) -> usize {
+    let key = draws.choose(&KEYS, 0);
+    match draws.choose(&WAYS, Way::One) {
+        Way::One => unpark_one(rt, &round.lot, key, |_| token).unparked_threads,
+        Way::All => unpark_all(rt, &round.lot, key, token),
+        Way::Filter => unpark_chosen(rt, round, key, token, draws.next()).unparked_threads,
+    }
+}
+
+// The filter answers by two bits of the number for each thread.
+fn unpark_chosen<P: ThreadParkerT, R: Wait>(
+    rt: &R,
+    round: &Round<P>,
+    key: usize,
+    token: UnparkToken,
+    number: u64,
+) -> UnparkResult {
+    let mut left = number;
+    let filter = |_| {
+        left = left.rotate_right(2);
+        match left & 3 {
+            0 => FilterOp::Skip,
+            1 => FilterOp::Stop,
+            _ => FilterOp::Unpark,
+        }
+    };
+    unpark_filter(rt, &round.lot, key, filter, |_| token)
+}
+
+// Sleeps for a while now and then, so that threads gather in the queues.
+fn pause<R: Clock>(rt: &R, draws: &mut Draws) {
+    if draws.is_one_in_sixteen() {
+        thread::sleep(rt, Duration::from_nanos(draws.next() & 0x7_FFFF));
+    }
+}
+
+/// Requeues from any key to any other, or to the same.
+pub(super) fn requeue_often<P: ThreadParkerT, R: Wait + Clock>(
+    rt: &R,
+    round: &Round<P>,
+    mut draws: Draws,
+) -> Option<Figures> {
+    let mut figures = Figures::default();
+    for _ in 0..u64::MAX {
+        if round.is_over() {
+            break;
+        }
+        let token = UnparkToken(draws.next() as usize);
+        let result = requeue_once(rt, round, &mut draws, token);
+        figures.handed.add(token, result.unparked_threads);
+        figures.requeues = figures.requeues.wrapping_add(result.requeued_threads as u64);
+        pause(rt, &mut draws);
+    }
+    Some(figures)
+}
+
+fn requeue_once<P: ThreadParkerT, R: Wait>(
+    rt: &R,
+    round: &Round<P>,
+    draws: &mut Draws,
+    token: UnparkToken,
+) -> UnparkResult {
+    let from = draws.choose(&KEYS, 0);
+    let to = draws.choose(&KEYS, 0);
+    let op = draws.choose(&OPS, RequeueOp::RequeueAll);
+    unpark_requeue(rt, &round.lot, from, to, || op, |_, _| token)
+}
+
+/// Registers many threads one after another and retires them, again and again.
+pub(super) fn register_often<P: ThreadParkerT, R: Wait + Clock>(
+    rt: &R,
+    alloc: Global,
+    round: &Round<P>,
+    mut draws: Draws,
+) -> Option<Figures> {
+    let mut figures = Figures::default();
+    let mut most = 0usize;
+    for _ in 0..u64::MAX {
+        if round.is_over() {
+            break;
+        }
+        let mut held = Vec::with_capacity(alloc, HELD).ok()?;
+        most = most.max(register_some(rt, alloc, round, &mut draws, &mut held)?);
+        figures.registrations = figures.registrations.wrapping_add(held.len() as u64);
+        for data in held {
+            round.lot.retire(rt, data);
+        }
+    }
+    figures.growths = growths_to(most);
+    Some(figures)
+}
+
+// Registers threads with pauses between, and answers how many were registered at once.
+fn register_some<P: ThreadParkerT, R: Wait + Clock>(
+    rt: &R,
+    alloc: Global,
+    round: &Round<P>,
+    draws: &mut Draws,
+    held: &mut Vec<ThreadData>,
+) -> Option<usize> {
+    let mut most = 0usize;
+    for _ in 0..HELD {
+        let data = round.lot.thread_data(rt, alloc).ok()?;
+        most = most.max(data.number().wrapping_add(1));
+        held.push(data).ok()?;
+        pause(rt, draws);
+    }
+    Some(most)
+}
+
+// How often a table grew that has three buckets for each of so many threads.
+fn growths_to(threads: usize) -> u64 {
+    let mut size = FIRST_SIZE;
+    let mut growths = 0u64;
+    for _ in 0..16 {
+        if size >= threads.wrapping_mul(3) {
+            break;
+        }
+        size = size.wrapping_mul(2);
+        growths = growths.wrapping_add(1);
+    }
+    growths
+}
