@@ -3,9 +3,8 @@
 // The program marks the part that is counted: a request of BEGIN bytes begins it, one of END bytes
 // ends it, and neither is counted itself. It may begin and end many times; the count goes on.
 // REFUSE_AT=N refuses the Nth request of the counted part, REFUSE_FROM=N that and all behind it.
-// At the end of the program the count is written to the file descriptor that REFUSE_COUNT names.
+// Where a counted part ends, `requests N` is written to the error output, with the count so far.
 #define _GNU_SOURCE
-#include <dlfcn.h>
 #include <errno.h>
 #include <stdatomic.h>
 #include <stdbool.h>
@@ -35,17 +34,18 @@ __attribute__((constructor)) static void start(void) {
     refused_from = number_in("REFUSE_FROM");
 }
 
-__attribute__((destructor)) static void tell(void) {
-    char line[32];
-    int length = snprintf(line, sizeof line, "%lu\n", atomic_load(&requests));
-    int descriptor = (int)number_in("REFUSE_COUNT");
-    if (descriptor > 0 && write(descriptor, line, (size_t)length) != length)
+static void tell(void) {
+    char line[40];
+    int length = snprintf(line, sizeof line, "requests %lu\n", atomic_load(&requests));
+    if (write(STDERR_FILENO, line, (size_t)length) != length)
         _exit(3);
 }
 
 static bool is_refused(size_t size) {
     if (size == BEGIN || size == END) {
         atomic_store(&counting, size == BEGIN);
+        if (size == END)
+            tell();
         return false;
     }
     if (!atomic_load(&counting))

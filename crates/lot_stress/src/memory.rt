@@ -87,10 +87,8 @@ where
         | Scenario::Queue
         | Scenario::Bucket
         | Scenario::Parker => base::play::<P, _>(rt, alloc, scenario),
-        Scenario::TableNew
-        | Scenario::TableRegister
-        | Scenario::TableList
-        | Scenario::TableSteps => table::play(rt, alloc, scenario),
+        Scenario::TableNew | Scenario::TableRegister | Scenario::TableList | Scenario::TableSteps =>
+            table::play(rt, alloc, scenario),
         Scenario::LotNew
         | Scenario::LotRegister
         | Scenario::LotAcquire

@@ -78,9 +78,10 @@ fn parker_named(name: &str) -> Option<Parker> {
     }
 }
 
-fn follow<
-    R: Print + Eprint + AllocGlobal + Threads + Wait + Clock + Copy + Send + Sync + 'static,
->(rt: &R, command: Command) -> Result<(), Fault> {
+fn follow<R: Print + Eprint + AllocGlobal + Threads + Wait + Clock + Copy + Send + Sync + 'static>(
+    rt: &R,
+    command: Command,
+) -> Result<(), Fault> {
     match command {
         Command::List => Ok(print_names(rt)?),
         Command::Memory(scenario, Parker::Sleeping) => {
@@ -93,10 +94,12 @@ fn follow<
     }
 }
 
-// The scenarios by their names, each with what the program that refuses memory is to expect.
+// The scenarios by their names, each with how many of its requests are to be refused, and with which
+// parkers it is to be run.
 fn print_names<R: Print>(rt: &R) -> io::Result<()> {
     for scenario in SCENARIOS {
-        println!(rt; "{} {}", scenario.kind(), scenario.name())?;
+        let parkers = if scenario.has_parker() { "each" } else { "any" };
+        println!(rt; "{} {} {parkers}", scenario.kind(), scenario.name())?;
     }
     Ok(())
 }

@@ -6,8 +6,8 @@ use super::{Moment, Scenario, Scene, perform};
 use crate::fault::Fault;
 use lot_base::word_lock::{Fits, WordLock};
 use parking_lot_core::{
-    Bucket, FilterOp, NoMemory, Node, ParkToken, Queue, SpinWait, ThreadParkerT, UnparkHandleT,
-    UnparkToken, place, Slot,
+    Bucket, FilterOp, NoMemory, Node, ParkToken, Queue, Slot, SpinWait, ThreadParkerT,
+    UnparkHandleT, UnparkToken, place,
 };
 use std::alloc::Global;
 use std::sync::Wait;
@@ -212,7 +212,8 @@ impl Queues {
             other.push_back(node);
         }
         queue.append(&mut other);
-        self.1.note(queue.front().map_or(usize::MAX, |node| node.number));
+        self.1
+            .note(queue.front().map_or(usize::MAX, |node| node.number));
         self.1.note_queue(queue);
         self.1.note_queue(other);
     }

@@ -2,7 +2,6 @@
 
 ghost use Rattle.std.specs.Prelude.{⊤};
 
-use super::exclusive::KEYS;
 use super::{Scenario, marks};
 use crate::fault::Fault;
 use crate::turns::comes_to;
@@ -26,8 +25,16 @@ const LOCKERS: usize = 8;
 
 const LOCKS: usize = 500;
 
-// How often each waiter parks without a deadline that has passed.
-const PARKS: usize = 3;
+// The key of each park of a waiter, of which the last has a deadline that has passed. One that was
+// unparked early parks next where the others are not yet looked for.
+const PARK_KEYS: [usize; 4] = [0, 13, 7, 14];
+
+// The keys to which those of the second park and of the third are requeued.
+const SECOND: usize = 34;
+
+const THIRD: usize = 89;
+
+const HELD: usize = 5;
 
 const FAR_SECONDS: u64 = 1_000;
 
@@ -123,23 +130,29 @@ impl<P: ThreadParkerT> Crowd<P> {
         let Ok(mut data) = self.lot.thread_data(rt, alloc) else {
             return false;
         };
-        let Ok(now) = Instant::now(rt) else { return false };
+        let Ok(now) = Instant::now(rt) else {
+            return false
+        };
         let far = now.checked_add(Duration::from_secs(FAR_SECONDS));
-        if acquire_resource(&mut data, KEYS[0]).is_err() || !self.gate.pass() {
+        if acquire_resource(&mut data, HELD).is_err() || !self.gate.pass() {
             return false;
         }
-        for _ in 1..PARKS {
-            self.parks(rt, &mut data, None);
+        for (key, timeout) in PARK_KEYS.into_iter().zip([None, None, far, Some(now)]) {
+            self.parks(rt, &mut data, key, timeout);
         }
-        self.parks(rt, &mut data, far);
-        self.parks(rt, &mut data, Some(now));
-        release_resource(&mut data, KEYS[0]);
-        self.records.fetch_add(data.records(KEYS[0]), Ordering::SeqCst);
+        release_resource(&mut data, HELD);
+        self.records.fetch_add(data.records(HELD), Ordering::SeqCst);
         self.lot.retire(rt, data);
         self.gate.leave()
     }
 
-    fn parks<R: Wait + Clock>(&self, rt: &R, data: &mut ThreadData, timeout: Option<Instant>) {
+    fn parks<R: Wait + Clock>(
+        &self,
+        rt: &R,
+        data: &mut ThreadData,
+        key: usize,
+        timeout: Option<Instant>,
+    ) {
         if !self.lot.accepts(data) {
             return;
         }
@@ -147,7 +160,7 @@ impl<P: ThreadParkerT> Crowd<P> {
             rt,
             &self.lot,
             data,
-            KEYS[0],
+            key,
             || true,
             || {
                 self.ready.fetch_add(1, Ordering::SeqCst);
@@ -173,35 +186,39 @@ impl<P: ThreadParkerT> Crowd<P> {
             return seen;
         }
         if comes_to(&self.ready, WAITERS) {
-            seen[0] = unpark_one(rt, &self.lot, KEYS[0], |_| UnparkToken(1)).unparked_threads;
+            seen[0] = self.unparks_one(rt);
             seen[1] = self.filters(rt);
         }
         if comes_to(&self.ready, 2 * WAITERS) {
-            seen[2] = self.requeues(rt, KEYS[1], RequeueOp::UnparkOneRequeueRest);
-            seen[3] = unpark_all(rt, &self.lot, KEYS[1], UnparkToken(1_000));
+            seen[2] = self.requeues(rt, PARK_KEYS[1], SECOND, RequeueOp::UnparkOneRequeueRest);
+            seen[3] = unpark_all(rt, &self.lot, SECOND, UnparkToken(1_000));
         }
-        if comes_to(&self.ready, PARKS * WAITERS) {
-            seen[4] = self.requeues(rt, KEYS[2], RequeueOp::RequeueAll);
-            seen[5] = unpark_all(rt, &self.lot, KEYS[2], UnparkToken(10_000));
+        if comes_to(&self.ready, 3 * WAITERS) {
+            seen[4] = self.requeues(rt, PARK_KEYS[2], THIRD, RequeueOp::RequeueAll);
+            seen[5] = unpark_all(rt, &self.lot, THIRD, UnparkToken(10_000));
         }
         self.gate.close(alloc, WAITERS);
         seen
+    }
+
+    fn unparks_one<R: Wait>(&self, rt: &R) -> usize {
+        let result = unpark_one(rt, &self.lot, PARK_KEYS[0], |_| UnparkToken(1));
+        result.unparked_threads
     }
 
     fn filters<R: Wait>(&self, rt: &R) -> usize {
         let result = unpark_filter(
             rt,
             &self.lot,
-            KEYS[0],
+            PARK_KEYS[0],
             |_| FilterOp::Unpark,
             |_| UnparkToken(10),
         );
         result.unparked_threads
     }
 
-    fn requeues<R: Wait>(&self, rt: &R, to: usize, op: RequeueOp) -> usize {
-        let result =
-            unpark_requeue(rt, &self.lot, KEYS[0], to, || op, |_, _| UnparkToken(100));
+    fn requeues<R: Wait>(&self, rt: &R, from: usize, to: usize, op: RequeueOp) -> usize {
+        let result = unpark_requeue(rt, &self.lot, from, to, || op, |_, _| UnparkToken(100));
         result.requeued_threads
     }
 }

@@ -4,7 +4,9 @@ use super::{Moment, Scenario, Scene, perform};
 use crate::fault::Fault;
 use parking_lot_core::lot::Lot;
 use parking_lot_core::schedule::{Answer, Op, Step, run};
-use parking_lot_core::{FilterOp, LotError, NoMemory, ParkToken, RequeueOp, StepError, UnparkToken};
+use parking_lot_core::{
+    FilterOp, LotError, NoMemory, ParkToken, RequeueOp, StepError, UnparkToken,
+};
 use std::alloc::Global;
 use std::sync::Wait;
 use std::time::Clock;
@@ -34,8 +36,16 @@ pub(super) fn play<R: Print + Wait + Clock>(
         Scenario::LotList => perform(rt, alloc, List(waiting_lot(alloc)?)),
         Scenario::LotRecords => perform(rt, alloc, recordings(alloc)?),
         Scenario::LotRegistrations => perform(rt, alloc, registrations(alloc)?),
-        Scenario::LotSteps => perform(rt, alloc, Steps::new(alloc, MOST, FEW, all_but(alloc)?, Way::Each)?),
-        Scenario::Run => perform(rt, alloc, Steps::new(alloc, MOST, FEW, mixed(alloc)?, Way::Run)?),
+        Scenario::LotSteps => perform(
+            rt,
+            alloc,
+            Steps::new(alloc, MOST, FEW, all_but(alloc)?, Way::Each)?,
+        ),
+        Scenario::Run => perform(
+            rt,
+            alloc,
+            Steps::new(alloc, MOST, FEW, mixed(alloc)?, Way::Run)?,
+        ),
         _ => perform(rt, alloc, New { alloc, lot: None }),
     }
 }
@@ -71,7 +81,11 @@ pub(super) fn enter(thread: usize, key: usize, timed: bool) -> Step {
 
 /// Shows what can be asked of a lot.
 pub(super) fn show_lot<R: Print>(rt: &R, moment: Moment, lot: &Lot) -> Result<(), Fault> {
-    println!(rt; "{moment} registered {} size {}", lot.registered(), lot.size())?;
+    println!(rt;
+        "{moment} registered {} size {}",
+        lot.registered(),
+        lot.size()
+    )?;
     for number in 0..SHOWN {
         println!(rt; "{moment} thread {number} {:?}", lot.status(number))?;
     }
@@ -85,7 +99,10 @@ fn show_key<R: Print>(rt: &R, moment: Moment, lot: &Lot, key: usize) -> Result<(
     let waiting = lot.list(key)?;
     println!(rt; "{moment} key {key} waiting {waiting:?}")?;
     for number in 0..SHOWN {
-        println!(rt; "{moment} key {key} thread {number} records {}", lot.records(number, key))?;
+        println!(rt;
+            "{moment} key {key} thread {number} records {}",
+            lot.records(number, key)
+        )?;
     }
     Ok(())
 }
@@ -349,8 +366,14 @@ fn mixed(alloc: Global) -> Result<Vec<Step>, Fault> {
     let mut steps = all_but(alloc)?;
     for thread in 0..2 * FEW {
         steps.push(Step::Register)?;
-        steps.push(Step::Acquire { thread, key: KEYS[1] })?;
-        steps.push(Step::Acquire { thread, key: KEYS[2] })?;
+        steps.push(Step::Acquire {
+            thread,
+            key: KEYS[1],
+        })?;
+        steps.push(Step::Acquire {
+            thread,
+            key: KEYS[2],
+        })?;
         steps.push(enter(thread, KEYS[2], false))?;
     }
     steps.push(all(KEYS[2]))?;
@@ -364,7 +387,10 @@ fn all_but(alloc: Global) -> Result<Vec<Step>, Fault> {
         steps.push(enter(thread, KEYS[thread % 2], true))?;
     }
     add_requeues(&mut steps)?;
-    steps.push(Step::Unpark(Op::One { key: KEYS[1], token: UnparkToken(1) }))?;
+    steps.push(Step::Unpark(Op::One {
+        key: KEYS[1],
+        token: UnparkToken(1),
+    }))?;
     steps.push(filter(alloc, KEYS[1])?)?;
     steps.push(all(KEYS[2]))?;
     add_ends(&mut steps)?;
@@ -372,7 +398,10 @@ fn all_but(alloc: Global) -> Result<Vec<Step>, Fault> {
 }
 
 fn all(key: usize) -> Step {
-    Step::Unpark(Op::All { key, token: UnparkToken(2) })
+    Step::Unpark(Op::All {
+        key,
+        token: UnparkToken(2),
+    })
 }
 
 fn filter(alloc: Global, key: usize) -> Result<Step, Fault> {
@@ -380,7 +409,11 @@ fn filter(alloc: Global, key: usize) -> Result<Step, Fault> {
     for decision in [FilterOp::Skip, FilterOp::Unpark, FilterOp::Stop] {
         decisions.push(decision)?;
     }
-    Ok(Step::Unpark(Op::Filter { key, decisions, token: UnparkToken(3) }))
+    Ok(Step::Unpark(Op::Filter {
+        key,
+        decisions,
+        token: UnparkToken(3),
+    }))
 }
 
 // Requeues within a bucket and across two.
@@ -393,7 +426,12 @@ fn add_requeues(steps: &mut Vec<Step>) -> Result<(), Fault> {
         (KEYS[1], KEYS[2], RequeueOp::Abort),
         (KEYS[0], KEYS[2], RequeueOp::UnparkOneRequeueRest),
     ] {
-        steps.push(Step::Unpark(Op::Requeue { from, to, op, token: UnparkToken(4) }))?;
+        steps.push(Step::Unpark(Op::Requeue {
+            from,
+            to,
+            op,
+            token: UnparkToken(4),
+        }))?;
     }
     Ok(())
 }
@@ -404,7 +442,10 @@ fn add_ends(steps: &mut Vec<Step>) -> Result<(), Fault> {
         steps.push(Step::Deadline { thread })?;
         steps.push(Step::Resolve { thread })?;
         steps.push(Step::Return { thread })?;
-        steps.push(Step::Release { thread, key: KEYS[0] })?;
+        steps.push(Step::Release {
+            thread,
+            key: KEYS[0],
+        })?;
     }
     steps.push(Step::Retire { thread: 1 })?;
     Ok(())

@@ -43,7 +43,11 @@ fn waiting_lot(alloc: Global) -> Result<FineLot, Fault> {
 }
 
 // Does the steps, and gives their answers.
-fn do_steps(alloc: Global, lot: &mut FineLot, steps: &[FineStep]) -> Result<Vec<FineAnswer>, Fault> {
+fn do_steps(
+    alloc: Global,
+    lot: &mut FineLot,
+    steps: &[FineStep],
+) -> Result<Vec<FineAnswer>, Fault> {
     let mut answers = Vec::new(alloc);
     let mut sequential = Vec::new(alloc);
     run_fine(lot, steps, &mut answers, &mut sequential)?;
@@ -61,7 +65,11 @@ fn enter(thread: usize, key: usize) -> FineStep {
 }
 
 fn show_lot<R: Print>(rt: &R, moment: Moment, lot: &FineLot) -> Result<(), Fault> {
-    println!(rt; "{moment} registered {} size {}", lot.registered(), lot.size())?;
+    println!(rt;
+        "{moment} registered {} size {}",
+        lot.registered(),
+        lot.size()
+    )?;
     for key in KEYS {
         let waiting = lot.list(key)?;
         println!(rt; "{moment} key {key} waiting {waiting:?}")?;
@@ -225,12 +233,18 @@ fn mixed(alloc: Global) -> Result<Vec<FineStep>, Fault> {
     let mut steps = Vec::new(alloc);
     for thread in 0..2 * FEW {
         steps.push(FineStep::Register)?;
-        steps.push(FineStep::Acquire { thread, key: KEYS[1] })?;
+        steps.push(FineStep::Acquire {
+            thread,
+            key: KEYS[1],
+        })?;
         steps.push(enter(thread, KEYS[thread % 2]))?;
     }
     add_sections(&mut steps)?;
     add_looks(&mut steps)?;
-    steps.push(FineStep::Release { thread: 1, key: KEYS[1] })?;
+    steps.push(FineStep::Release {
+        thread: 1,
+        key: KEYS[1],
+    })?;
     steps.push(FineStep::Retire { thread: 1 })?;
     Ok(steps)
 }
@@ -238,8 +252,20 @@ fn mixed(alloc: Global) -> Result<Vec<FineStep>, Fault> {
 // Two sections that end one after the other.
 fn add_sections(steps: &mut Vec<FineStep>) -> Result<(), Fault> {
     for (caller, op) in [
-        (0, Op::All { key: KEYS[0], token: UnparkToken(1) }),
-        (1, Op::One { key: KEYS[1], token: UnparkToken(2) }),
+        (
+            0,
+            Op::All {
+                key: KEYS[0],
+                token: UnparkToken(1),
+            },
+        ),
+        (
+            1,
+            Op::One {
+                key: KEYS[1],
+                token: UnparkToken(2),
+            },
+        ),
     ] {
         steps.push(FineStep::Begin { caller, op })?;
         for _ in 0..FEW {

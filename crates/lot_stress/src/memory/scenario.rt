@@ -198,8 +198,24 @@ impl Scenario {
             | Scenario::Park
             | Scenario::Threads
             | Scenario::WordLock => "none",
-            Scenario::Registrations => "some",
+            Scenario::LotRegistrations | Scenario::Registrations => "some",
             _ => "each",
+        }
+    }
+
+    /// Whether it has a parker.
+    pub fn has_parker(self) -> bool {
+        match self {
+            Scenario::ParkingLotNew
+            | Scenario::ThreadData
+            | Scenario::ThreadDataAgain
+            | Scenario::Registrations
+            | Scenario::ParkingLotList
+            | Scenario::AcquireResource
+            | Scenario::Parker
+            | Scenario::Park
+            | Scenario::Threads => true,
+            _ => false,
         }
     }
 

@@ -42,13 +42,12 @@ fn waiting_table(alloc: Global) -> Result<Table, Fault> {
     Ok(table)
 }
 
-fn show_table<R: Print>(
-    rt: &R,
-    alloc: Global,
-    moment: Moment,
-    table: &Table,
-) -> Result<(), Fault> {
-    println!(rt; "{moment} registered {} size {}", table.registered(), table.size())?;
+fn show_table<R: Print>(rt: &R, alloc: Global, moment: Moment, table: &Table) -> Result<(), Fault> {
+    println!(rt;
+        "{moment} registered {} size {}",
+        table.registered(),
+        table.size()
+    )?;
     for key in KEYS {
         let waiting = table.list(alloc, key)?;
         println!(rt; "{moment} key {key} waiting {waiting:?}")?;

@@ -36,9 +36,24 @@ pub(super) fn play<P: ThreadParkerT, R: Print + Wait + Clock>(
     }
     let threads = Registered::<P>::new(rt, alloc, registered)?;
     match scenario {
-        Scenario::Registrations => perform(rt, alloc, Register { threads, calls: MOST }),
+        Scenario::Registrations => perform(
+            rt,
+            alloc,
+            Register {
+                threads,
+                calls: MOST,
+            },
+        ),
         Scenario::ParkingLotList => perform(rt, alloc, List(threads)),
-        Scenario::AcquireResource => perform(rt, alloc, Acquire { threads, refused: 0, unlike: false }),
+        Scenario::AcquireResource => perform(
+            rt,
+            alloc,
+            Acquire {
+                threads,
+                refused: 0,
+                unlike: false,
+            },
+        ),
         Scenario::Park => perform(rt, alloc, Parks::new(threads)?),
         _ => perform(rt, alloc, Register { threads, calls: 1 }),
     }
@@ -74,7 +89,11 @@ impl<P: ThreadParkerT> Registered<P> {
     }
 
     fn show<R: Print + Wait>(&self, rt: &R, moment: Moment) -> Result<(), Fault> {
-        println!(rt; "{moment} most {} registered {}", self.lot.max_threads(), self.threads.len())?;
+        println!(rt;
+            "{moment} most {} registered {}",
+            self.lot.max_threads(),
+            self.threads.len()
+        )?;
         for key in KEYS {
             let waiting = self.lot.list(rt, self.alloc, key)?;
             println!(rt; "{moment} key {key} waiting {waiting:?}")?;
@@ -326,7 +345,13 @@ impl<P: ThreadParkerT> Parks<P> {
         Ok(Parks { threads, results })
     }
 
-    fn park_once<R: Wait + Clock>(&mut self, rt: &R, valid: bool, unpark: Unpark, timeout: Option<Instant>) {
+    fn park_once<R: Wait + Clock>(
+        &mut self,
+        rt: &R,
+        valid: bool,
+        unpark: Unpark,
+        timeout: Option<Instant>,
+    ) {
         let lot = &self.threads.lot;
         let Some(data) = self.threads.threads.first_mut() else {
             return;

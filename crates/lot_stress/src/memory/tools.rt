@@ -57,7 +57,14 @@ pub(super) fn play<R: Print + Wait + Clock>(
     scenario: Scenario,
 ) -> Result<(), Fault> {
     match scenario {
-        Scenario::RecordNew => perform(rt, alloc, New { alloc, record: None }),
+        Scenario::RecordNew => perform(
+            rt,
+            alloc,
+            New {
+                alloc,
+                record: None,
+            },
+        ),
         Scenario::RecordingLotNew => perform(rt, alloc, NewRecording(alloc)),
         _ => perform(rt, alloc, Script::new(alloc)?),
     }
@@ -132,8 +139,9 @@ fn tickets_of<C: Ledger, W: Ledger, U: Ledger>(
     requires workers { (C.parts ≡ WORKERS) × (W.parts ≡ WORKERS) × (U.parts ≡ WORKERS) }
 {
     let (count, woken, unparked) = blanks;
-    let (_lot, tickets) =
-        RecordingLot::<C, W, U>::new(alloc, MOST, JOURNAL, WORKERS, count, woken, unparked)?;
+    let (_lot, tickets) = RecordingLot::<C, W, U>::new(
+        alloc, MOST, JOURNAL, WORKERS, count, woken, unparked,
+    )?;
     Ok(tickets.len())
 }
 
@@ -179,25 +187,46 @@ impl Scene for Script {
         Ok(())
     }
 
-    // The lines that were not refused are answered as they are without the others.
+    // The lines that were not refused are answered as they are without the others. A line at which
+    // the script ended was refused too.
     fn refused<R: Wait + Clock>(&mut self, _rt: &R) -> Result<usize, Fault> {
-        let mut lines = Vec::new(self.alloc);
-        let mut answers = Vec::new(self.alloc);
-        let mut refused = 0usize;
-        let written = self.output.as_slice().split(|byte| *byte == b'\n');
-        for (line, answer) in LINES.iter().zip(written) {
-            if answer == REFUSED {
-                refused = refused.wrapping_add(1);
-            } else if !answer.is_empty() {
-                add_line(&mut lines, line.as_bytes())?;
-                add_line(&mut answers, answer)?;
-            }
-        }
+        let kept = Kept::of(self.alloc, self.output.as_slice())?;
         let mut again = Vec::new(self.alloc);
-        let _ = script(self.alloc, lines.as_slice(), &mut again);
-        if again.as_slice() != answers.as_slice() {
+        let _ = script(self.alloc, kept.lines.as_slice(), &mut again);
+        if again.as_slice() != kept.answers.as_slice() {
             return Err(Fault::Unlike("an answer after a line that was refused"));
         }
-        Ok(refused)
+        Ok(LINES.len().wrapping_sub(kept.count))
+    }
+}
+
+// The lines that were not refused, and their answers.
+#[derive(Drop)]
+struct Kept {
+    lines: Vec<u8>,
+    answers: Vec<u8>,
+    count: usize,
+}
+
+impl Kept {
+    fn of(alloc: Global, written: &[u8]) -> Result<Kept, Fault> {
+        let mut kept = Kept {
+            lines: Vec::new(alloc),
+            answers: Vec::new(alloc),
+            count: 0,
+        };
+        for (line, answer) in LINES.iter().zip(written.split(|byte| *byte == b'\n')) {
+            kept.add(line.as_bytes(), answer)?;
+        }
+        Ok(kept)
+    }
+
+    fn add(&mut self, line: &[u8], answer: &[u8]) -> Result<(), Fault> {
+        if answer.is_empty() || answer == REFUSED {
+            return Ok(());
+        }
+        self.count = self.count.wrapping_add(1);
+        add_line(&mut self.lines, line)?;
+        add_line(&mut self.answers, answer)
     }
 }

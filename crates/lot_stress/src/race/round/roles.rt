@@ -198,7 +198,9 @@ pub(super) fn requeue_often<P: ThreadParkerT, R: Wait + Clock>(
         let token = UnparkToken(draws.next() as usize);
         let result = requeue_once(rt, round, &mut draws, token);
         figures.handed.add(token, result.unparked_threads);
-        figures.requeues = figures.requeues.wrapping_add(result.requeued_threads as u64);
+        figures.requeues = figures
+            .requeues
+            .wrapping_add(result.requeued_threads as u64);
         pause(rt, &mut draws);
     }
     Some(figures)
