@@ -6,7 +6,6 @@ mod figures;
 mod round;
 
 use crate::fault::Fault;
-use draws::Draws;
 use figures::Figures;
 use parking_lot_core::{ThreadParker, YieldParker};
 use std::alloc::Global;
@@ -16,7 +15,9 @@ use std::thread::Threads;
 use std::time::{Clock, Duration, Instant};
 
 /// Lets threads race for so long, in rounds of a second, each on a lot of its own, with either
-/// parker by turns. Each round is told on the error output, and the sum of all on the output.
+/// parker by turns. Each round is told on the error output, and the sum of all on the output. The
+/// seed of a round is that of the one before and one more, so a round that failed is the first of a
+/// race with its seed.
 pub fn run<R: Print + Eprint + Threads + Wait + Clock + Copy + Send + Sync + 'static>(
     rt: &R,
     alloc: Global,
@@ -25,13 +26,12 @@ pub fn run<R: Print + Eprint + Threads + Wait + Clock + Copy + Send + Sync + 'st
 ) -> Result<(), Fault> {
     let start = Instant::now(rt)?;
     let whole = Duration::from_secs(seconds);
-    let mut seeds = Draws::new(seed);
     let mut total = Figures::default();
     for number in 0..u64::MAX {
         if start.elapsed(rt)? >= whole {
             break;
         }
-        let figures = run_round(rt, alloc, number, seeds.next())?;
+        let figures = run_round(rt, alloc, seed.wrapping_add(number))?;
         total.add(figures);
         eprintln!(rt; "round {number}: {figures}")?;
     }
@@ -39,24 +39,23 @@ pub fn run<R: Print + Eprint + Threads + Wait + Clock + Copy + Send + Sync + 'st
     Ok(())
 }
 
-// Runs the round of this number. A failure is told with the seed.
+// Runs the round of this seed. A failure is told with it.
 fn run_round<R: Eprint + Threads + Wait + Clock + Copy + Send + Sync + 'static>(
     rt: &R,
     alloc: Global,
-    number: u64,
     seed: u64,
 ) -> Result<Figures, Fault> {
-    let figures = if number % 2 == 0 {
+    let figures = if seed % 2 == 0 {
         round::run::<ThreadParker, _>(rt, alloc, seed)
     } else {
         round::run::<YieldParker, _>(rt, alloc, seed)
     };
     if figures.is_err() {
-        tell_failure(rt, number, seed)?;
+        tell_failure(rt, seed)?;
     }
     figures
 }
 
-fn tell_failure<R: Eprint>(rt: &R, number: u64, seed: u64) -> io::Result<()> {
-    eprintln!(rt; "round {number} failed, of the seed {seed}")
+fn tell_failure<R: Eprint>(rt: &R, seed: u64) -> io::Result<()> {
+    eprintln!(rt; "a round failed: lot_stress race 1 {seed}")
 }

@@ -29,8 +29,8 @@ pub(super) fn play<P: ThreadParkerT, R: Print + Wait + Clock>(
     scenario: Scenario,
 ) -> Result<(), Fault> {
     match scenario {
-        Scenario::NodeNew => perform(rt, alloc, NewNode(alloc)),
-        Scenario::WordLockNew => perform(rt, alloc, NewWordLock(alloc)),
+        Scenario::NodeNew => perform(rt, alloc, NewNode(alloc, None)),
+        Scenario::WordLockNew => perform(rt, alloc, NewWordLock(alloc, None)),
         Scenario::BucketList => perform(rt, alloc, List(alloc, waiting_bucket(alloc)?)),
         Scenario::Queue => perform(rt, alloc, Queues(nodes(alloc)?, Seen::new(alloc)?)),
         Scenario::Bucket => perform(rt, alloc, Buckets(nodes(alloc)?, Seen::new(alloc)?)),
@@ -100,14 +100,16 @@ fn enter(bucket: &mut Bucket, mut node: Box<Node>) {
 
 // `Node::new`.
 #[derive(Drop)]
-struct NewNode(Global);
+struct NewNode(Global, Option<Box<Node>>);
 
 impl Scene for NewNode {
     type Answer = Result<usize, NoMemory>;
 
     fn act<R: Wait + Clock>(&mut self, _rt: &R) -> Result<usize, NoMemory> {
         let node = Node::new(self.0, OWNER)?;
-        Ok(node.number)
+        let number = node.number;
+        self.1 = Some(node);
+        Ok(number)
     }
 
     fn show<R: Print + Wait>(&self, _rt: &R, _moment: Moment) -> Result<(), Fault> {
@@ -128,7 +130,7 @@ impl Fits for Number {
 
 // `WordLock::new`.
 #[derive(Drop)]
-struct NewWordLock(Global);
+struct NewWordLock(Global, Option<WordLock<Number>>);
 
 impl Scene for NewWordLock {
     type Answer = Result<usize, NoMemory>;
@@ -138,6 +140,7 @@ impl Scene for NewWordLock {
         let held = lock.lock(rt);
         let number = held.value.0;
         lock.unlock(held);
+        self.1 = Some(lock);
         Ok(number)
     }
 

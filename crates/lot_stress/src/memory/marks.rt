@@ -9,14 +9,16 @@ const END: usize = 77_773;
 
 /// From here on requests are counted, and may be refused.
 pub fn begin(alloc: Global) {
-    request(alloc, BEGIN);
+    let _ = block(alloc, BEGIN);
 }
 
 /// From here on none is.
 pub fn end(alloc: Global) {
-    request(alloc, END);
+    let _ = block(alloc, END);
 }
 
-fn request(alloc: Global, size: usize) {
-    let _ = Vec::<u8>::with_capacity(alloc, size);
+// A compiler may leave out a request whose block it sees given back, so this is a call.
+#[inline(never)]
+fn block(alloc: Global, size: usize) -> Option<Vec<u8>> {
+    Vec::with_capacity(alloc, size).ok()
 }
