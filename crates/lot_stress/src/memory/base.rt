@@ -73,7 +73,7 @@ impl Seen {
     }
 }
 
-// Nodes of the owner, made before the requests are counted.
+// Nodes, made before the requests are counted.
 fn nodes(alloc: Global) -> Result<Vec<Box<Node>>, Fault> {
     let mut nodes = Vec::new(alloc);
     for number in 0..4 {

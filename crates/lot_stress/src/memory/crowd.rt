@@ -34,6 +34,10 @@ const SECOND: usize = 34;
 
 const THIRD: usize = 89;
 
+// The sum of the tokens of all parks: one of 1 and eleven of 10, one of 100 and eleven of 1,000, and
+// twelve of 10,000.
+const TOKENS: usize = 131_211;
+
 const HELD: usize = 5;
 
 const FAR_SECONDS: u64 = 1_000;
@@ -179,6 +183,19 @@ impl<P: ThreadParkerT> Crowd<P> {
         }
     }
 
+    // Shows what all threads saw together, and whether it is right.
+    fn show<R: Print>(&self, rt: &R) -> Result<(), Fault> {
+        let tokens = self.tokens.load(Ordering::SeqCst);
+        let timeouts = self.timeouts.load(Ordering::SeqCst);
+        let records = self.records.load(Ordering::SeqCst);
+        println!(rt; "tokens {tokens} timeouts {timeouts} records {records}")?;
+        if tokens == TOKENS && timeouts == WAITERS && records == 0 {
+            Ok(())
+        } else {
+            Err(Fault::Unlike("what the threads were told"))
+        }
+    }
+
     // Unparks all in each of three ways, each time once they wait.
     fn leads<R: Wait>(&self, rt: &R, alloc: Global) -> [usize; 6] {
         let mut seen = [usize::MAX; 6];
@@ -230,21 +247,23 @@ where
     R: Print + Threads + Wait + Clock + Copy + Send + Sync + 'static,
 {
     let crowd = Crowd::<P>::new(alloc)?;
-    let (seen, waited) = thread::join(
-        rt,
-        || crowd.leads(rt, alloc),
-        || all_wait(rt, alloc, &crowd),
-    );
+    let (seen, waited) = lead_and_wait(rt, alloc, &crowd);
     println!(rt; "answer {seen:?}")?;
-    println!(rt; "tokens {}", crowd.tokens.load(Ordering::SeqCst))?;
-    println!(rt; "timeouts {}", crowd.timeouts.load(Ordering::SeqCst))?;
-    println!(rt; "records {}", crowd.records.load(Ordering::SeqCst))?;
     println!(rt; "refused 0")?;
-    if waited {
-        Ok(())
+    if waited && seen == [1, 11, 11, 11, 12, 12] {
+        crowd.show(rt)
     } else {
-        Err(Fault::Unlike("a wait of one of the threads"))
+        Err(Fault::Unlike("how many of the threads were unparked"))
     }
+}
+
+fn lead_and_wait<P, R>(rt: &R, alloc: Global, crowd: &Crowd<P>) -> ([usize; 6], bool)
+where
+    P: ThreadParkerT + Send + Sync + 'static,
+    P::UnparkHandle: 'static,
+    R: Threads + Wait + Clock + Copy + Send + Sync + 'static,
+{
+    thread::join(rt, || crowd.leads(rt, alloc), || all_wait(rt, alloc, crowd))
 }
 
 fn all_wait<P, R>(rt: &R, alloc: Global, crowd: &Crowd<P>) -> bool
@@ -291,10 +310,10 @@ fn play_lock<R: Print + Threads + Wait + Clock + Copy + Send + Sync + 'static>(
     lock.unlock(held);
     println!(rt; "answer {count}")?;
     println!(rt; "refused 0")?;
-    if are_done && locked {
+    if are_done && locked && count == LOCKERS * LOCKS {
         Ok(())
     } else {
-        Err(Fault::Unlike("a wait of one of the threads"))
+        Err(Fault::Unlike("the count of the threads that locked"))
     }
 }
 
