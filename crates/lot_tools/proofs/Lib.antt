@@ -4,6 +4,7 @@ pub mod WordLemmas
 pub mod ParseLemmas
 pub mod ReplyLemmas
 pub mod ScriptLemmas
+pub mod BufferedLemmas
 pub mod JournalLemmas
 pub mod RecordLemmas
 pub mod RoomLemmas

@@ -1,5 +1,5 @@
 -- What a script does of its lines, and what it writes.
-use Rattle.std.specs.Prelude.{◌≡◌, ℕ, ◌+◌, ◌<◌, ◌≤◌, List, [], ◌∷◌, ◌++◌, length, codes, Option, Some, None}
+use Rattle.std.specs.Prelude.{◌≡◌, ◌≢◌, ℕ, ◌+◌, ◌<◌, ◌≤◌, List, [], ◌∷◌, ◌++◌, length, codes, Option, Some, None}
 use Rattle.std.specs.Prelude.{Result, Ok, Err}
 use Rattle.lot_exclusive.specs.declared.table.TheConstants.{MAX_THREADS}
 use Rattle.lot_exclusive.specs.Run.{IsRun}
@@ -65,3 +65,8 @@ pub record IsDone (lines : List (List ℕ)) (bytes : List ℕ) : Type 0 where
 abbrev pub IsScript : List (List ℕ) → Result (Unit {0}) Fault → List ℕ → Type 0
 IsScript lines (Ok _) written = IsDone lines written
 IsScript lines (Err fault) written = IsStopped lines fault written
+
+-- how a script of lines may end, whatever became of its answers; where a write failed nothing is said
+abbrev pub IsScriptEnd : List (List ℕ) → Result (Unit {0}) Fault → Type 0
+IsScriptEnd lines (Ok _) = (answers : List ℕ) × IsDone lines answers
+IsScriptEnd lines (Err fault) = fault.cause ≢ cause.WriteFailed → (answers : List ℕ) × IsStopped lines fault answers

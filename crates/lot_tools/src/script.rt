@@ -13,6 +13,7 @@ ghost use Rattle.lot_tools.specs.Reply.{state_of, new_state};
 ghost use Rattle.lot_tools.specs.Script.{IsScript, MayStop};
 ghost use Rattle.lot_tools.specs.Private.Turns.{IsTurn, Answers};
 
+mod buffered;
 mod command;
 mod fault;
 mod input;
@@ -23,6 +24,7 @@ mod print;
 mod reply;
 mod words;
 
+pub use buffered::buffered_script;
 pub use fault::{Cause, Fault};
 use input::{MAX_LINE, Next, read_line};
 use lot_base::token::LotError;

@@ -1,15 +1,16 @@
 -- What a script reads and writes at one line.
-use Rattle.std.specs.Prelude.{◌≡◌, ℕ, ◌<◌, List, [], ◌∷◌, ◌++◌, length, ⊤, Option, Some, IsSome, Result, Ok, Err}
+use Rattle.std.specs.Prelude.{◌≡◌, ◌≢◌, ℕ, ◌<◌, List, [], ◌∷◌, ◌++◌, length, ⊤, Option, Some, IsSome, Result, Ok, Err}
 use Rattle.std.specs.Prelude.{MatchResult}
 use Rattle.std.specs.Io.KnownBytes.{Appends}
 use Rattle.lot_tools.specs.declared.script.fault.Cause.{Cause}
 use Rattle.lot_tools.specs.declared.script.fault.Cause.TheVariants as cause
+use Rattle.lot_tools.specs.declared.script.fault.Fault.{Fault}
 use Rattle.lot_tools.specs.declared.script.input.Next.{Next}
 use Rattle.lot_tools.specs.declared.script.input.Next.TheVariants as next
 use Rattle.lot_tools.specs.declared.script.input.TheConstants.{MAX_LINE}
 use Rattle.lot_tools.specs.Lines.{lines_of}
 use Rattle.lot_tools.specs.Reply.{State}
-use Rattle.lot_tools.specs.Script.{IsAnswered, MayStop}
+use Rattle.lot_tools.specs.Script.{IsAnswered, MayStop, IsStopped, IsDone}
 
 -- a beginning of a text was appended
 pub record AppendsFront (old new : Option (List ℕ)) (text : List ℕ) : Type 0 where
@@ -47,3 +48,9 @@ IsTurn old bytes left (Err refusal) written new = MayStop refusal old (lines_of 
 abbrev pub Answers : Option State → List ℕ → Result (Unit {0}) Cause → List ℕ → Option State → Type 0
 Answers old line (Ok _) written new = (answer : List ℕ) × IsAnswered old line answer new × (written ≡ answer ++ 10 ∷ [])
 Answers old line (Err refusal) written new = MayStop refusal old (line ∷ []) written
+
+-- a script appended its answers to known bytes, unless a write failed
+abbrev pub IsWrittenScript : Option (List ℕ) → Option (List ℕ) → List (List ℕ) → Result (Unit {0}) Fault → Type 0
+IsWrittenScript old new lines (Ok _) = (written : List ℕ) × Appends old new written × IsDone lines written
+IsWrittenScript old new lines (Err fault) =
+    fault.cause ≢ cause.WriteFailed → (written : List ℕ) × Appends old new written × IsStopped lines fault written
