@@ -1,6 +1,8 @@
 //! Worked rows of scripts, and readers and writers that fail.
 
 mod ends;
+mod small;
+mod terminal;
 
 use lot_tools::script::{Cause, Fault, script};
 use std::alloc::Global;
@@ -123,24 +125,35 @@ fn a_line_without_a_form_is_refused(rt: HostRuntime) {
     expect(&rt, rt.alloc(), b"lot 1\nretire \xff", "ok\n", ended);
 }
 
-// A line of a filter with so many decisions.
-fn filter_line(alloc: Global, decisions: usize) -> Result<Vec<u8>, Fail> {
+// A line of a filter with so many decisions, and what stands behind it.
+fn filter_line(alloc: Global, decisions: usize, behind: &[u8]) -> Result<Vec<u8>, Fail> {
     let mut input = Vec::from_slice(alloc, b"lot 1\nfilter 7 ")?;
     for _ in 0..decisions {
         input.push(b'S')?;
     }
-    input.extend_from_slice(b" 42\nsize\n")?;
+    input.extend_from_slice(b" 42")?;
+    input.extend_from_slice(behind)?;
     Ok(input)
 }
 
 #[test]
 fn a_line_has_at_most_4096_bytes(rt: HostRuntime) -> Result<(), Fail> {
-    let longest = filter_line(rt.alloc(), 4084)?;
-    let written = "ok\nunparked 0 requeued 0 more false\nbuckets 16 threads 0\n";
-    expect(&rt, rt.alloc(), longest.as_slice(), written, Ok(()));
-    let longer = filter_line(rt.alloc(), 4085)?;
-    let ended = stopped(2, Cause::BadStep);
-    expect(&rt, rt.alloc(), longer.as_slice(), "ok\n", ended);
+    let rows = [("\nsize\n", "buckets 16 threads 0\n"), ("\n", ""), ("", "")];
+    for (behind, answer) in rows {
+        let longest = filter_line(rt.alloc(), 4084, behind.as_bytes())?;
+        let mut written = String::from_str(rt.alloc(), "ok\nunparked 0 requeued 0 more false\n")?;
+        written.push_str(answer)?;
+        expect(
+            &rt,
+            rt.alloc(),
+            longest.as_slice(),
+            written.as_str(),
+            Ok(()),
+        );
+        let longer = filter_line(rt.alloc(), 4085, behind.as_bytes())?;
+        let ended = stopped(2, Cause::BadStep);
+        expect(&rt, rt.alloc(), longer.as_slice(), "ok\n", ended);
+    }
     Ok(())
 }
 

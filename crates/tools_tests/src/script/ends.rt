@@ -1,103 +1,65 @@
-//! Readers and writers that fail.
+//! Readers and writers that give or take one byte at a time, and fail at any of them.
 
+use super::small::{ANSWERS, LINES, answers, lines_in};
 use super::stopped;
 use lot_tools::script::{Cause, script};
 use std::io;
-use std::io::{BufRead, Cursor, ErrorKind, Read, Write};
+use std::io::{BufReader, ErrorKind, Read, Write};
+use std::test::Fail;
 
-// A reader that fails.
+// A reader that gives one byte at a time, each after an interrupted read, and then ends or fails.
 #[derive(Drop)]
-struct Broken;
-
-impl Read for Broken {
-    fn read(&mut self, _buf: &mut [u8]) -> io::Result<usize> {
-        Err(ErrorKind::Other.into())
-    }
-}
-
-impl BufRead for Broken {
-    fn fill_buf(&mut self) -> io::Result<&[u8]> {
-        Err(ErrorKind::Other.into())
-    }
-
-    fn consume(&mut self, _amount: usize) {}
-}
-
-// It refuses a script that takes a failed read for the end of the input.
-#[test]
-fn a_failed_read_is_told_with_its_line(rt: HostRuntime) {
-    let rows = [
-        ("", 1, ""),
-        ("lot 1\nregister\n", 3, "ok\nnumber 0\n"),
-        ("lot 1\nregister\nsi", 3, "ok\nnumber 0\n"),
-    ];
-    for (input, line, written) in rows {
-        let mut output = Vec::new(rt.alloc());
-        let result = script(rt.alloc(), input.as_bytes().chain(Broken), &mut output);
-        assert!(rt; result == stopped(line, Cause::ReadFailed), "{input}");
-        assert!(rt; output.as_slice() == written.as_bytes(), "{input}");
-    }
-}
-
-// A reader of which every second read is interrupted.
-#[derive(Drop)]
-struct Interrupted<'a> {
+struct Dripping<'a> {
     bytes: &'a [u8],
-    reads: u64,
+    interrupted: bool,
+    end: Option<ErrorKind>,
 }
 
-impl Read for Interrupted<'_> {
+impl<'a> Dripping<'a> {
+    fn new(bytes: &'a [u8], end: Option<ErrorKind>) -> Dripping<'a> {
+        Dripping {
+            bytes,
+            interrupted: false,
+            end,
+        }
+    }
+}
+
+impl Read for Dripping<'_> {
     fn read(&mut self, buf: &mut [u8]) -> io::Result<usize> {
-        self.reads = self.reads.wrapping_add(1);
-        if self.reads % 2 == 1 {
+        self.interrupted = !self.interrupted;
+        if self.interrupted {
             return Err(ErrorKind::Interrupted.into());
         }
-        self.bytes.read(buf)
+        match (self.bytes.split_first(), buf.first_mut()) {
+            (Some((byte, rest)), Some(room)) => {
+                *room = *byte;
+                self.bytes = rest;
+                Ok(1)
+            }
+            _ => match self.end {
+                Some(kind) => Err(kind.into()),
+                None => Ok(0),
+            },
+        }
     }
 }
 
-impl BufRead for Interrupted<'_> {
-    fn fill_buf(&mut self) -> io::Result<&[u8]> {
-        Ok(self.bytes)
-    }
-
-    fn consume(&mut self, _amount: usize) {}
-}
-
-#[test]
-fn an_interrupted_read_is_tried_again(rt: HostRuntime) {
-    let input = Interrupted {
-        bytes: b"lot 1\nregister\n",
-        reads: 0,
-    };
-    let mut output = Vec::new(rt.alloc());
-    assert!(rt; script(rt.alloc(), input, &mut output) == Ok(()));
-    assert!(rt; output.as_slice() == b"ok\nnumber 0\n".as_slice());
-}
-
-// It refuses a script that does a line whose predecessor's answer could not be written.
-#[test]
-fn a_full_writer_is_told_with_its_line(rt: HostRuntime) {
-    let input = b"lot 1\nregister\nretire 0\n";
-    let mut room = [0; 6];
-    let mut output = Cursor::new(room.as_mut_slice());
-    let result = script(rt.alloc(), input.as_slice(), &mut output);
-    assert!(rt; result == stopped(2, Cause::WriteFailed));
-    assert!(rt; room == *b"ok\nnum");
-}
-
-// A writer that takes one byte at a time, fails after some of them, and may fail to flush.
+// A writer that takes one byte at a time, up to its room, and then fails or takes no more.
 #[derive(Drop)]
 struct Slow {
     taken: Vec<u8>,
     room: usize,
-    flushed: Option<ErrorKind>,
+    refusal: Option<ErrorKind>,
 }
 
 impl Write for Slow {
     fn write(&mut self, buf: &[u8]) -> io::Result<usize> {
         if self.taken.len() >= self.room {
-            return Err(ErrorKind::BrokenPipe.into());
+            return match self.refusal {
+                Some(kind) => Err(kind.into()),
+                None => Ok(0),
+            };
         }
         match buf.first() {
             Some(byte) => {
@@ -109,35 +71,80 @@ impl Write for Slow {
     }
 
     fn flush(&mut self) -> io::Result<()> {
-        match self.flushed {
-            Some(kind) => Err(kind.into()),
-            None => Ok(()),
+        Ok(())
+    }
+}
+
+// It refuses a script that takes a failed read for the end of the input.
+#[test]
+fn a_read_that_fails_behind_any_byte_is_told_with_its_line(rt: HostRuntime) -> Result<(), Fail> {
+    for given in 0..LINES.len() + 1 {
+        let bytes = &LINES.as_bytes()[..given];
+        let input = Dripping::new(bytes, Some(ErrorKind::Other));
+        let input = BufReader::with_capacity(rt.alloc(), 1, input)?;
+        let mut output = Vec::new(rt.alloc());
+        let ended = script(rt.alloc(), input, &mut output);
+        let lines = lines_in(bytes);
+        let line = lines.wrapping_add(1);
+        assert!(rt; ended == stopped(line, Cause::ReadFailed), "{given}");
+        assert!(rt; output.as_slice() == answers(lines).as_bytes(), "{given}");
+    }
+    Ok(())
+}
+
+#[test]
+fn a_script_is_read_and_answered_byte_by_byte(rt: HostRuntime) -> Result<(), Fail> {
+    let input = Dripping::new(LINES.as_bytes(), None);
+    let input = BufReader::with_capacity(rt.alloc(), 1, input)?;
+    let mut output = Slow {
+        taken: Vec::new(rt.alloc()),
+        room: ANSWERS.len(),
+        refusal: None,
+    };
+    assert!(rt; script(rt.alloc(), input, &mut output) == Ok(()));
+    assert!(rt; output.taken.as_slice() == ANSWERS.as_bytes());
+    Ok(())
+}
+
+// It refuses a script that does a line whose predecessor's answer could not be written. The writer
+// tells an error, or is a full device that takes no byte.
+#[test]
+fn a_write_that_fails_at_any_byte_is_told_with_its_line(rt: HostRuntime) {
+    for refusal in [Some(ErrorKind::BrokenPipe), None] {
+        for room in 0..ANSWERS.len() {
+            let mut output = Slow {
+                taken: Vec::new(rt.alloc()),
+                room,
+                refusal,
+            };
+            let ended = script(rt.alloc(), LINES.as_bytes(), &mut output);
+            let written = &ANSWERS.as_bytes()[..room];
+            let line = lines_in(written).wrapping_add(1);
+            assert!(rt; ended == stopped(line, Cause::WriteFailed), "{room}");
+            assert!(rt; output.taken.as_slice() == written, "{room}");
         }
     }
 }
 
-#[test]
-fn answers_are_written_in_pieces_and_a_failed_write_is_told(rt: HostRuntime) {
-    let rows = [
-        (100, None, Ok(()), "ok\nnumber 0\nretired\n"),
-        (5, None, stopped(2, Cause::WriteFailed), "ok\nnu"),
-        (12, None, stopped(3, Cause::WriteFailed), "ok\nnumber 0\n"),
-        (
-            100,
-            Some(ErrorKind::Other),
-            stopped(3, Cause::WriteFailed),
-            "ok\nnumber 0\nretired\n",
-        ),
-    ];
-    for (room, flushed, ended, written) in rows {
-        let mut output = Slow {
-            taken: Vec::new(rt.alloc()),
-            room,
-            flushed,
-        };
-        let input = b"lot 1\nregister\nretire 0\n";
-        let result = script(rt.alloc(), input.as_slice(), &mut output);
-        assert!(rt; result == ended, "{written}");
-        assert!(rt; output.taken.as_slice() == written.as_bytes(), "{written}");
+// A writer that takes all, and cannot pass it on.
+#[derive(Drop)]
+struct Stuck(Vec<u8>);
+
+impl Write for Stuck {
+    fn write(&mut self, buf: &[u8]) -> io::Result<usize> {
+        self.0.extend_from_slice(buf)?;
+        Ok(buf.len())
     }
+
+    fn flush(&mut self) -> io::Result<()> {
+        Err(ErrorKind::Other.into())
+    }
+}
+
+#[test]
+fn a_flush_that_fails_at_the_end_is_told_of_the_last_line(rt: HostRuntime) {
+    let mut output = Stuck(Vec::new(rt.alloc()));
+    let ended = script(rt.alloc(), LINES.as_bytes(), &mut output);
+    assert!(rt; ended == stopped(3, Cause::WriteFailed));
+    assert!(rt; output.0.as_slice() == ANSWERS.as_bytes());
 }
