@@ -17,7 +17,9 @@ use Rattle.lot_base.specs.declared.word_lock.view.View.{View}
 use Rattle.lot_base.specs.declared.word_lock.view.View.TheVariants.{Trying, Enqueued, Holding, Leaving}
 use Rattle.lot_base.specs.WordPlaces.{IsPlace, AllPlaces, total, one_at, times, head, FollowsLinks}
 use Rattle.lot_base.specs.WordView.{resting, leaving}
-use Rattle.lot_base.specs.WordLockInvariant.{HasValue}
+use Rattle.lot_base.specs.WordLock.{SlotIsWithHolder, seat_of}
+use Rattle.lot_base.specs.WordLockInvariant.{HasValue, IsHolder}
+use Rattle.lot_base.specs.declared.word_lock.steps.Caller.{Caller}
 use Rattle.lot_base.specs.WordRule.{holds_lock, has_place, waits_with, owes_place, SeatOk, PlaceOk}
 use Rattle.lot_base.specs.WordRule.{Orderly}
 use Rattle.lot_base.specs.WordSteps.{ArriveTells, AcquireTells, TakePlaceTells, GiveBackTells, LinkTells, EnqueueTells, LookTells}
@@ -80,3 +82,24 @@ pub seen_from : (v : View) (newest : ℕ) (older : List ℕ) (word : ℕ) → v 
 seen_from v newest older word sees tells-it is =
     let same : newest ≡ word / 2 = omega arith in
     (sees ∙ ap (λ (x : ℕ). seeing (x ∷ older)) same, subst IsPlace same is)
+
+module _ {T : Type 0} (caller : Caller T) where
+  -- a holder that has the slot
+  pub slot-holder : (seen owed : List ℕ) (inside : Option T) → seat_of caller ≡ (Holding seen owed, (0, inside) ∷ [])
+      → SlotIsWithHolder caller
+  slot-holder seen owed inside is = record {
+    holder = λ _. (inside, λ i. (is i).1);
+    other = λ is_other. absurd (is_other (subst IsHolder (sym (λ i. (is i).0)) tt));
+  }
+
+  -- another caller, which has none
+  pub slot-other : (view : View) → seat_of caller ≡ (view, []) → ¬ IsHolder view → SlotIsWithHolder caller
+  slot-other view is is_other = record {
+    holder = λ holds. absurd (is_other (subst IsHolder (λ i. (is i).0) holds));
+    other = λ _. λ i. (is i).1;
+  }
+
+-- a caller that let the lock go does not hold it
+pub leaving_is-other : (places : List ℕ) → ¬ IsHolder (leaving places)
+leaving_is-other [] holds = holds
+leaving_is-other (_ ∷ _) holds = holds

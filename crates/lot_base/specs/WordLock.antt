@@ -6,6 +6,7 @@ use Rattle.lot_base.specs.declared.word_lock.view.View.TheVariants.{Trying, Hold
 use Rattle.lot_base.specs.declared.word_lock.WordLock.{WordLock}
 use Rattle.lot_base.specs.declared.word_lock.Held.{Held}
 use Rattle.lot_base.specs.declared.word_lock.steps.Caller.{Caller}
+use Rattle.lot_base.specs.WordLockInvariant.{IsHolder}
 use Rattle.lot_base.specs.WordPlaces.{IsPlace}
 
 module _ {T : Type 0} where
@@ -28,6 +29,11 @@ module _ {T : Type 0} where
   -- the caller has the slot, and in it a value that fits
   abbrev pub HasFullSlot : (T → Type 0) → Caller T → Type 0
   HasFullSlot fits caller = (value : T) × ((seat_of caller).1 ≡ (0, Some value) ∷ []) × fits value
+
+  -- the slot is out with the caller exactly if it holds the lock
+  pub record SlotIsWithHolder (caller : Caller T) : Type 0 where
+    pub holder : IsHolder (seat_of caller).0 → (inside : Option T) × ((seat_of caller).1 ≡ (0, inside) ∷ [])
+    pub other : ¬ IsHolder (seat_of caller).0 → (seat_of caller).1 ≡ []
 
   -- the caller holds the lock and has seen these places, the oldest of the list, newest first
   abbrev pub Sees : Caller T → List ℕ → Type 0

@@ -1,5 +1,5 @@
 -- The views of the callers of a word lock: what each of them has seen, and owes.
-use Rattle.std.specs.Prelude.{ℕ, false, List, [], ◌∷◌}
+use Rattle.std.specs.Prelude.{◌≡◌, ℕ, ◌≤◌, false, List, [], ◌∷◌, length}
 use Rattle.lot_base.specs.declared.word_lock.view.View.{View}
 use Rattle.lot_base.specs.declared.word_lock.view.View.TheVariants.{Trying, Enqueued, Holding, Leaving}
 
@@ -39,3 +39,8 @@ owed_by (Trying woken p n) = []
 owed_by (Enqueued p) = []
 owed_by (Holding seen owed) = owed
 owed_by (Leaving owed) = owed
+
+-- a step that may remove a place: the caller had removed none since it took the lock, and removed one at most
+pub record RemovesOnce (old new : View) : Type 0 where
+  pub none_before : owed_by old ≡ []
+  pub one : length (owed_by new) ≤ 1

@@ -3,7 +3,7 @@
 ghost use Rattle.std.specs.Prelude.{◌≡◌, ◌≢◌, ℕ, List, ◌+◌, ◌-◌, ◌*◌, ◌/◌, ◌%◌, ◌^◌, ◌<◌, ◌≤◌, [], ◌∷◌, length, None, IfSome, IsTrue, IsFalse};
 ghost use Rattle.lot_base.specs.WordLockInvariant.{IsAwake};
 ghost use Rattle.lot_base.specs.WordPlaces.{head, behind, LinkLeadsTo, IsPlace};
-ghost use Rattle.lot_base.specs.WordView.{resting, leaving, seen_by, owed_by};
+ghost use Rattle.lot_base.specs.WordView.{resting, leaving, seen_by, owed_by, RemovesOnce};
 ghost use Rattle.lot_base.specs.declared.word_lock.view.View.TheVariants.{Enqueued, Holding, Leaving};
 
 use super::plays::{
@@ -49,7 +49,7 @@ impl<T> Caller<T> {
 }
 
 impl<T: Fits> WordLock<T> {
-    ghost use Rattle.lot_base.specs.WordLock.{IsCallerOf, IsTrying, HasFullSlot, Sees, SeesMore, seat_of};
+    ghost use Rattle.lot_base.specs.WordLock.{IsCallerOf, IsTrying, HasFullSlot, Sees, SeesMore, SlotIsWithHolder, seat_of};
 
     /// A new caller.
     pub(super) fn arrive(&self) -> Caller<T>
@@ -82,6 +82,7 @@ impl<T: Fits> WordLock<T> {
         ensures lock { IsCallerOf self.now caller.new }
         ensures holds { IsTrue result → Sees caller.new [] × HasFullSlot T.fits caller.new }
         ensures tries { IsFalse result → seat_of caller.new ≡ seat_of caller.old }
+        ensures slot { SlotIsWithHolder caller.new }
     {
         self.table
             .shared
@@ -207,6 +208,8 @@ impl<T: Fits> WordLock<T> {
         ensures lock { IsCallerOf self.now caller.new }
         ensures left { result ≡ word →
             seat_of caller.new ≡ (leaving (seen_by (seat_of caller.old).0), []) }
+        ensures once { RemovesOnce (seat_of caller.old).0 (seat_of caller.new).0 }
+        ensures slot { SlotIsWithHolder caller.new }
         ensures home { result ≢ word → HasFullSlot T.fits caller.new }
         ensures holds { result ≢ word →
             SeesMore caller.new (length (seen_by (seat_of caller.old).0)) result }
@@ -255,6 +258,7 @@ impl<T: Fits> WordLock<T> {
         ensures lock { IsCallerOf self.now caller.new }
         ensures owes { (seat_of caller.new).0
             ≡ Holding [] (behind (seen_by (seat_of caller.old).0)) }
+        ensures once { RemovesOnce (seat_of caller.old).0 (seat_of caller.new).0 }
         ensures home { (seat_of caller.new).1 ≡ (seat_of caller.old).1 }
     {
         self.table
@@ -269,6 +273,8 @@ impl<T: Fits> WordLock<T> {
         requires owes { (removed : ℕ) × ((seat_of caller.old).0 ≡ Holding [] (removed ∷ [])) }
         ensures lock { IsCallerOf self.now caller.new }
         ensures left { seat_of caller.new ≡ (leaving (owed_by (seat_of caller.old).0), []) }
+        ensures once { owed_by (seat_of caller.new).0 ≡ owed_by (seat_of caller.old).0 }
+        ensures slot { SlotIsWithHolder caller.new }
     {
         self.table
             .shared

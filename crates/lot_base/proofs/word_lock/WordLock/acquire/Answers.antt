@@ -1,11 +1,14 @@
-use Rattle.std.proofs.Common.{rules, ◌+◌, ◌==◌, [], refl}
+use Rattle.std.proofs.Common.{rules, ◌+◌, ◌==◌, [], ◌∷◌, refl, ap, ◌∙◌, Some, Option}
+use mathlib.Core.Logic.{dite}
+use native.Mathlib.Decide.{ℕ_discrete}
 use mathlib.Core.Option.{none}
 use prog.Atomic.{either}
-use Rattle.atomic_table.specs.Table.{step}
-use Rattle.lot_base.specs.declared.word_lock.view.View.TheVariants.{Trying}
+use Rattle.atomic_table.specs.Table.{step, Me}
+use Rattle.lot_base.specs.declared.word_lock.view.View.TheVariants.{Trying, Holding}
 use Rattle.lot_base.specs.WordSteps.{AcquireTells}
 use Rattle.lot_base.proofs.WordTries.{acquires}
-use Rattle.lot_base.proofs.WordKeeps.{at_view}
+use Rattle.lot_base.specs.declared.word_lock.view.View.{View}
+use Rattle.lot_base.proofs.WordKeeps.{at_view, slot-holder, slot-other}
 use Rattle.lot_base.proofs.word_lock.WordLock.acquire.Goals as goal
 
 pub compare_exchange-requires : goal.compare_exchange-requires
@@ -19,3 +22,12 @@ compare_exchange-requires g c =
           (λ x. either (x == word) (word + 1) x) (λ n m. AcquireTells g.T.Fits.fits (step n 0 word (word + 1) none) m)
           c.args.self.now.sized.1 tries.1 (acquires g.T.Fits.fits id tries.0 word (word + 1) none c.requires.free refl),
     )
+
+pub returns-clause-slot : goal.returns-clause-slot
+returns-clause-slot g c =
+    let told = c.compare_exchange.ensures.2 in
+    let tries = c.requires.tries in
+    dite (ℕ_discrete c.compare_exchange.result c.args.word)
+    (λ e. slot-holder _ [] [] (Some (told.0 e).0) ((told.0 e).1
+    ∙ ap (λ (me : Me (Option g.row.T.Denot) View). (Holding [] [], (0, Some (told.0 e).0) ∷ me.1)) tries.1))
+    (λ ne. slot-other _ (Trying tries.0 0 0) (told.1 ne ∙ tries.1) (λ holds. holds))

@@ -1,12 +1,14 @@
-use Rattle.std.proofs.Common.{rules, ◌==◌, ◌∷◌, [], Some}
+use Rattle.std.proofs.Common.{rules, ◌==◌, List, ℕ, ◌∷◌, [], Some, Option, ap, ◌∙◌}
+use mathlib.Core.Logic.{dite}
+use native.Mathlib.Decide.{ℕ_discrete}
 use mathlib.Core.Option.{none}
 use prog.Atomic.{either}
-use Rattle.atomic_table.specs.Table.{step}
-use Rattle.lot_base.specs.WordView.{seen_by}
+use Rattle.atomic_table.specs.Table.{step, rest}
+use Rattle.lot_base.specs.WordView.{seen_by, leaving}
 use Rattle.lot_base.specs.WordSteps.{ReleaseToZeroTells}
 use Rattle.lot_base.specs.declared.word_lock.view.View.TheVariants.{Holding}
 use Rattle.lot_base.proofs.WordHolds.{releases_to_zero}
-use Rattle.lot_base.proofs.WordKeeps.{seat_is, at_view}
+use Rattle.lot_base.proofs.WordKeeps.{seat_is, at_view, slot-holder, slot-other, leaving_is-other}
 use Rattle.lot_base.proofs.word_lock.WordLock.release_to_zero.Goals as goal
 
 pub compare_exchange-requires : goal.compare_exchange-requires
@@ -23,3 +25,14 @@ compare_exchange-requires g c =
           (seat_is me _ _ c.requires.holds home.1) (releases_to_zero g.T.Fits.fits id seen home.0 word none
           c.requires.short c.requires.word home.2),
     )
+
+pub returns-clause-slot : goal.returns-clause-slot
+returns-clause-slot g c =
+    let told = c.compare_exchange.ensures.2 in
+    let seen = seen_by c.args.caller.now.seat.me.0 in
+    let home = c.requires.home in
+    dite (ℕ_discrete c.compare_exchange.result c.args.word)
+    (λ e. slot-other _ (leaving seen) (told.0 e
+    ∙ ap (λ (slots : List (ℕ × Option g.row.T.Denot)). (leaving seen, rest slots)) home.1) (leaving_is-other seen))
+    (λ ne. let longer = told.1 ne in slot-holder _ (longer.0 ∷ longer.1) [] (Some home.0) (longer.2
+    ∙ ap (λ (slots : List (ℕ × Option g.row.T.Denot)). (Holding (longer.0 ∷ longer.1) [], slots)) home.1))
