@@ -383,9 +383,7 @@ fn unpark_by<P: ThreadParkerT, R: Wait>(rt: &R, lot: &ParkingLot<P>, unpark: Unp
         Unpark::All => {
             unpark_all(rt, lot, KEYS[0], UnparkToken(2));
         }
-        Unpark::Filter => {
-            unpark_filter(rt, lot, KEYS[0], |_| FilterOp::Unpark, |_| UnparkToken(3));
-        }
+        Unpark::Filter => unpark_chosen(rt, lot),
         Unpark::Requeue => {
             requeue(rt, lot, KEYS[0], KEYS[1], RequeueOp::RequeueAll);
             requeue(rt, lot, KEYS[1], KEYS[2], RequeueOp::RequeueOne);
@@ -393,6 +391,10 @@ fn unpark_by<P: ThreadParkerT, R: Wait>(rt: &R, lot: &ParkingLot<P>, unpark: Unp
         }
         Unpark::Nobody => (),
     }
+}
+
+fn unpark_chosen<P: ThreadParkerT, R: Wait>(rt: &R, lot: &ParkingLot<P>) {
+    unpark_filter(rt, lot, KEYS[0], |_| FilterOp::Unpark, |_| UnparkToken(3));
 }
 
 fn requeue<P: ThreadParkerT, R: Wait>(

@@ -110,12 +110,7 @@ impl Scene for NewRecording {
     type Answer = Result<usize, LotError>;
 
     fn act<R: Wait + Clock>(&mut self, _rt: &R) -> Result<usize, LotError> {
-        let blanks = (
-            Blank::new(WORKERS as u64),
-            Blank::new(WORKERS as u64),
-            Blank::new(WORKERS as u64),
-        );
-        tickets_of::<Brand, Brand, Brand>(self.0, blanks)
+        tickets_of_workers(self.0)
     }
 
     fn show<R: Print + Wait>(&self, _rt: &R, _moment: Moment) -> Result<(), Fault> {
@@ -128,6 +123,16 @@ impl Scene for NewRecording {
 }
 
 // Makes a recording lot, and answers for how many workers it has tickets.
+fn tickets_of_workers(alloc: Global) -> Result<usize, LotError> {
+    let blanks = (
+        Blank::new(WORKERS as u64),
+        Blank::new(WORKERS as u64),
+        Blank::new(WORKERS as u64),
+    );
+    tickets_of::<Brand, Brand, Brand>(alloc, blanks)
+}
+
+// The same in ledgers of these names.
 fn tickets_of<C: Ledger, W: Ledger, U: Ledger>(
     alloc: Global,
     blanks: (Blank, Blank, Blank),
