@@ -39,7 +39,8 @@ impl fmt::Display for Moment {
     }
 }
 
-// What a scenario stands on, and what is done in it.
+// What a scenario stands on, and what is done in it. Those with a parker do the same by methods of
+// their own, since a lot of any parker gets no proof in an impl of this trait.
 trait Scene: Drop {
     // What the calls answer.
     type Answer: fmt::Debug + Drop;
@@ -65,9 +66,18 @@ fn perform<S: Scene, R: Print + Wait + Clock>(
     marks::begin(alloc);
     let answer = scene.act(rt);
     marks::end(alloc);
-    println!(rt; "answer {answer:?}")?;
+    tell_answer(rt, &answer)?;
     scene.show(rt, Moment::After)?;
     let refused = scene.refused(rt)?;
+    tell_refused(rt, refused)
+}
+
+fn tell_answer<T: fmt::Debug, R: Print>(rt: &R, answer: &T) -> Result<(), Fault> {
+    println!(rt; "answer {answer:?}")?;
+    Ok(())
+}
+
+fn tell_refused<R: Print>(rt: &R, refused: usize) -> Result<(), Fault> {
     println!(rt; "refused {refused}")?;
     Ok(())
 }

@@ -2,7 +2,7 @@
 
 ghost use Rattle.std.specs.Prelude.{◌≡◌, ⊤};
 
-use super::{Moment, Scenario, Scene, perform};
+use super::{Moment, Scenario, Scene, marks, perform, tell_answer, tell_refused};
 use crate::fault::Fault;
 use lot_base::word_lock::{Fits, WordLock};
 use parking_lot_core::{
@@ -34,7 +34,7 @@ pub(super) fn play<P: ThreadParkerT, R: Print + Wait + Clock>(
         Scenario::BucketList => perform(rt, alloc, List(alloc, waiting_bucket(alloc)?)),
         Scenario::Queue => perform(rt, alloc, Queues(nodes(alloc)?, Seen::new(alloc)?)),
         Scenario::Bucket => perform(rt, alloc, Buckets(nodes(alloc)?, Seen::new(alloc)?)),
-        Scenario::Parker => perform(rt, alloc, Parkers::<P>::new(alloc)?),
+        Scenario::Parker => Parkers::<P>::new(alloc)?.perform(rt, alloc),
         _ => perform(rt, alloc, Spins(Seen::new(alloc)?)),
     }
 }
@@ -339,8 +339,17 @@ impl<P: ThreadParkerT> Parkers<P> {
     }
 }
 
-impl<P: ThreadParkerT> Scene for Parkers<P> {
-    type Answer = ();
+impl<P: ThreadParkerT> Parkers<P> {
+    fn perform<R: Print + Wait + Clock>(mut self, rt: &R, alloc: Global) -> Result<(), Fault> {
+        self.show(rt, Moment::Before)?;
+        marks::begin(alloc);
+        let answer = self.act(rt);
+        marks::end(alloc);
+        tell_answer(rt, &answer)?;
+        self.show(rt, Moment::After)?;
+        let refused = self.refused(rt)?;
+        tell_refused(rt, refused)
+    }
 
     fn act<R: Wait + Clock>(&mut self, rt: &R) {
         let Ok(past) = Instant::now(rt) else { return };

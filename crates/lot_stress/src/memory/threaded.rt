@@ -1,7 +1,7 @@
 //! Scenarios on the threaded lot, with one thread.
 
 use super::exclusive::KEYS;
-use super::{Moment, Scenario, Scene, perform};
+use super::{Moment, Scenario, marks, tell_answer, tell_refused};
 use crate::fault::Fault;
 use parking_lot_core::deadlock::{acquire_resource, release_resource};
 use parking_lot_core::{
@@ -32,30 +32,19 @@ pub(super) fn play<P: ThreadParkerT, R: Print + Wait + Clock>(
         _ => FEW,
     };
     if let Scenario::ParkingLotNew = scenario {
-        return perform(rt, alloc, New::<P> { alloc, lot: None });
+        return New::<P> { alloc, lot: None }.perform(rt, alloc);
     }
     let threads = Registered::<P>::new(rt, alloc, registered)?;
     match scenario {
-        Scenario::Registrations => perform(
-            rt,
-            alloc,
-            Register {
-                threads,
-                calls: MOST,
-            },
-        ),
-        Scenario::ParkingLotList => perform(rt, alloc, List(threads)),
-        Scenario::AcquireResource => perform(
-            rt,
-            alloc,
-            Acquire {
-                threads,
-                refused: 0,
-                unlike: false,
-            },
-        ),
-        Scenario::Park => perform(rt, alloc, Parks::new(threads)?),
-        _ => perform(rt, alloc, Register { threads, calls: 1 }),
+        Scenario::Registrations => Register {
+            threads,
+            calls: MOST,
+        }
+        .perform(rt, alloc),
+        Scenario::ParkingLotList => List(threads).perform(rt, alloc),
+        Scenario::AcquireResource => Acquire::new(threads).perform(rt, alloc),
+        Scenario::Park => Parks::new(threads)?.perform(rt, alloc),
+        _ => Register { threads, calls: 1 }.perform(rt, alloc),
     }
 }
 
@@ -160,8 +149,17 @@ struct New<P: ThreadParkerT> {
     lot: Option<ParkingLot<P>>,
 }
 
-impl<P: ThreadParkerT> Scene for New<P> {
-    type Answer = Option<LotError>;
+impl<P: ThreadParkerT> New<P> {
+    fn perform<R: Print + Wait + Clock>(mut self, rt: &R, alloc: Global) -> Result<(), Fault> {
+        self.show(rt, Moment::Before)?;
+        marks::begin(alloc);
+        let answer = self.act(rt);
+        marks::end(alloc);
+        tell_answer(rt, &answer)?;
+        self.show(rt, Moment::After)?;
+        let refused = self.refused(rt)?;
+        tell_refused(rt, refused)
+    }
 
     fn act<R: Wait + Clock>(&mut self, _rt: &R) -> Option<LotError> {
         match ParkingLot::new(self.alloc, MOST) {
@@ -192,8 +190,17 @@ struct Register<P: ThreadParkerT> {
     calls: usize,
 }
 
-impl<P: ThreadParkerT> Scene for Register<P> {
-    type Answer = Result<usize, LotError>;
+impl<P: ThreadParkerT> Register<P> {
+    fn perform<R: Print + Wait + Clock>(mut self, rt: &R, alloc: Global) -> Result<(), Fault> {
+        self.show(rt, Moment::Before)?;
+        marks::begin(alloc);
+        let answer = self.act(rt);
+        marks::end(alloc);
+        tell_answer(rt, &answer)?;
+        self.show(rt, Moment::After)?;
+        let refused = self.refused(rt)?;
+        tell_refused(rt, refused)
+    }
 
     fn act<R: Wait + Clock>(&mut self, rt: &R) -> Result<usize, LotError> {
         let mut last = self.threads.add(rt);
@@ -226,8 +233,17 @@ impl<P: ThreadParkerT> Scene for Register<P> {
 #[derive(Drop)]
 struct List<P: ThreadParkerT>(Registered<P>);
 
-impl<P: ThreadParkerT> Scene for List<P> {
-    type Answer = Option<Result<Vec<usize>, NoMemory>>;
+impl<P: ThreadParkerT> List<P> {
+    fn perform<R: Print + Wait + Clock>(mut self, rt: &R, alloc: Global) -> Result<(), Fault> {
+        self.show(rt, Moment::Before)?;
+        marks::begin(alloc);
+        let answer = self.act(rt);
+        marks::end(alloc);
+        tell_answer(rt, &answer)?;
+        self.show(rt, Moment::After)?;
+        let refused = self.refused(rt)?;
+        tell_refused(rt, refused)
+    }
 
     fn act<R: Wait + Clock>(&mut self, rt: &R) -> Option<Result<Vec<usize>, NoMemory>> {
         let data = self.0.threads.first_mut()?;
@@ -273,6 +289,14 @@ struct Acquire<P: ThreadParkerT> {
 }
 
 impl<P: ThreadParkerT> Acquire<P> {
+    fn new(threads: Registered<P>) -> Acquire<P> {
+        Acquire {
+            threads,
+            refused: 0,
+            unlike: false,
+        }
+    }
+
     // Records the key once more. A refusal leaves the count as it was.
     fn acquire(&mut self, key: usize) {
         let Some(data) = self.threads.threads.first_mut() else {
@@ -290,8 +314,17 @@ impl<P: ThreadParkerT> Acquire<P> {
     }
 }
 
-impl<P: ThreadParkerT> Scene for Acquire<P> {
-    type Answer = usize;
+impl<P: ThreadParkerT> Acquire<P> {
+    fn perform<R: Print + Wait + Clock>(mut self, rt: &R, alloc: Global) -> Result<(), Fault> {
+        self.show(rt, Moment::Before)?;
+        marks::begin(alloc);
+        let answer = self.act(rt);
+        marks::end(alloc);
+        tell_answer(rt, &answer)?;
+        self.show(rt, Moment::After)?;
+        let refused = self.refused(rt)?;
+        tell_refused(rt, refused)
+    }
 
     fn act<R: Wait + Clock>(&mut self, _rt: &R) -> usize {
         for call in 0..RECORDINGS {
@@ -407,8 +440,17 @@ fn requeue<P: ThreadParkerT, R: Wait>(
     unpark_requeue(rt, lot, from, to, || op, |_, _| UnparkToken(4));
 }
 
-impl<P: ThreadParkerT> Scene for Parks<P> {
-    type Answer = ();
+impl<P: ThreadParkerT> Parks<P> {
+    fn perform<R: Print + Wait + Clock>(mut self, rt: &R, alloc: Global) -> Result<(), Fault> {
+        self.show(rt, Moment::Before)?;
+        marks::begin(alloc);
+        let answer = self.act(rt);
+        marks::end(alloc);
+        tell_answer(rt, &answer)?;
+        self.show(rt, Moment::After)?;
+        let refused = self.refused(rt)?;
+        tell_refused(rt, refused)
+    }
 
     fn act<R: Wait + Clock>(&mut self, rt: &R) {
         let Ok(past) = Instant::now(rt) else { return };
