@@ -6,6 +6,7 @@
 mod steps;
 mod walk;
 
+use crate::expect_equal;
 use lot_base::bucket::{Bucket, place};
 use lot_base::token::{FilterOp, NoMemory, ParkToken, RequeueOp, UnparkResult};
 use std::alloc::Global;
@@ -22,8 +23,8 @@ fn expect_taken(
     expected: UnparkResult,
     threads: &[(usize, usize)],
 ) {
-    assert_eq!(rt; (taken.result, taken.told), (expected, Some(expected)));
-    assert_eq!(rt; taken.threads.as_slice(), threads);
+    expect_equal(rt, (taken.result, taken.told), (expected, Some(expected)));
+    expect_equal(rt, taken.threads.as_slice(), threads);
 }
 
 // Compares the list of a key.
@@ -35,7 +36,7 @@ fn expect_list(
     numbers: &[usize],
 ) -> Result<(), NoMemory> {
     let found = list(alloc, bucket, key)?;
-    assert_eq!(rt; found.as_slice(), numbers, "key {key}");
+    expect_equal(rt, (key, found.as_slice()), (key, numbers));
     Ok(())
 }
 
@@ -76,7 +77,7 @@ const THREE: [(usize, usize); 3] = [(0, 1), (1, 1), (2, 1)];
 #[test]
 fn a_new_bucket_is_empty_and_knows_its_place_and_size(rt: HostRuntime) -> Result<(), Fail> {
     let bucket = Bucket::new(5, 32);
-    assert_eq!(rt; (bucket.place(), bucket.size()), (5, 32));
+    expect_equal(&rt, (bucket.place(), bucket.size()), (5, 32));
     Ok(expect_list(&rt, rt.alloc(), &bucket, 7, &[])?)
 }
 
@@ -84,9 +85,10 @@ fn a_new_bucket_is_empty_and_knows_its_place_and_size(rt: HostRuntime) -> Result
 fn an_invalid_entry_gives_the_node_back(rt: HostRuntime) -> Result<(), Fail> {
     let mut bucket = bucket_of(&rt, rt.alloc(), 5, &[(0, 7)])?;
     let back = refused(&rt, rt.alloc(), &mut bucket, 1, 7)?;
-    assert_eq!(rt;
+    expect_equal(
+        &rt,
         (back.number, back.key, back.park_token),
-        (1, 7, ParkToken(1))
+        (1, 7, ParkToken(1)),
     );
     Ok(expect_list(&rt, rt.alloc(), &bucket, 7, &[0])?)
 }
@@ -122,8 +124,8 @@ fn take_one_leaves_the_other_keys_of_the_bucket(rt: HostRuntime) -> Result<(), F
 fn take_all_takes_every_waiter_of_a_key(rt: HostRuntime) -> Result<(), Fail> {
     let mut bucket = bucket_of(&rt, rt.alloc(), 0, &[(0, 0), (1, 13), (2, 0)])?;
     let (count, threads) = take_all(rt.alloc(), &mut bucket, 0, 42)?;
-    assert_eq!(rt; count, 2);
-    assert_eq!(rt; threads.as_slice(), [(0, 42), (2, 42)].as_slice());
+    expect_equal(&rt, count, 2);
+    expect_equal(&rt, threads.as_slice(), [(0, 42), (2, 42)].as_slice());
     for (key, left) in [(0, &[][..]), (13, &[1][..])] {
         expect_list(&rt, rt.alloc(), &bucket, key, left)?;
     }
@@ -180,7 +182,7 @@ fn a_filter_may_count_its_calls(rt: HostRuntime) -> Result<(), Fail> {
     };
     let result = answer(1, 0, true);
     expect_filtered(&rt, rt.alloc(), &THREE, decide, result, &[(0, 42)], &[1, 2])?;
-    assert_eq!(rt; calls, 2);
+    expect_equal(&rt, calls, 2);
     Ok(())
 }
 
@@ -192,7 +194,7 @@ fn a_filter_of_an_empty_key_is_not_called_and_its_callback_is(rt: HostRuntime) -
         FilterOp::Unpark
     };
     expect_filtered(&rt, rt.alloc(), &[], decide, answer(0, 0, false), &[], &[])?;
-    assert_eq!(rt; calls, 0);
+    expect_equal(&rt, calls, 0);
     Ok(())
 }
 
@@ -218,10 +220,10 @@ fn expect_done(rt: &impl Abort, done: &Done, row: &Row<'_>, name: &str) {
         RequeueOp::Abort => None,
         op => Some((op, row.result)),
     };
-    assert_eq!(rt; (done.result, done.told), (row.result, told), "{name}");
-    assert_eq!(rt; done.threads.as_slice(), row.threads, "{name}");
-    assert_eq!(rt; done.moved.as_slice(), row.moved, "{name}");
-    assert_eq!(rt; done.moved_before, row.moved.len(), "{name}");
+    expect_equal(rt, (name, done.result, done.told), (name, row.result, told));
+    expect_equal(rt, (name, done.threads.as_slice()), (name, row.threads));
+    expect_equal(rt, (name, done.moved.as_slice()), (name, row.moved));
+    expect_equal(rt, (name, done.moved_before), (name, row.moved.len()));
 }
 
 fn check_row(rt: &impl Abort, alloc: Global, row: &Row<'_>, name: &str) -> Result<(), NoMemory> {
@@ -358,7 +360,11 @@ fn a_node_is_removed_from_its_own_key_alone(rt: HostRuntime) -> Result<(), Fail>
     ] {
         let removed = remove(&mut bucket, 1, key);
         let expected = (number, answered, told);
-        assert_eq!(rt; (removed.number, removed.answered, removed.told), expected);
+        expect_equal(
+            &rt,
+            (removed.number, removed.answered, removed.told),
+            expected,
+        );
     }
     for (key, left) in [(0, &[0][..]), (13, &[][..])] {
         expect_list(&rt, rt.alloc(), &bucket, key, left)?;
@@ -370,7 +376,11 @@ fn a_node_is_removed_from_its_own_key_alone(rt: HostRuntime) -> Result<(), Fail>
 fn a_removal_tells_of_a_waiter_that_is_left(rt: HostRuntime) -> Result<(), Fail> {
     let mut bucket = bucket_of(&rt, rt.alloc(), 9, &[(0, 1), (1, 1)])?;
     let removed = remove(&mut bucket, 0, 1);
-    assert_eq!(rt; (removed.number, removed.told), (Some(0), Some((1, false))));
+    expect_equal(
+        &rt,
+        (removed.number, removed.told),
+        (Some(0), Some((1, false))),
+    );
     Ok(expect_list(&rt, rt.alloc(), &bucket, 1, &[1])?)
 }
 
@@ -382,12 +392,17 @@ fn pop(bucket: &mut Bucket) -> Option<(usize, usize)> {
 #[test]
 fn pop_takes_the_first_node_whatever_its_key(rt: HostRuntime) -> Result<(), Fail> {
     let mut bucket = bucket_of(&rt, rt.alloc(), 0, &[(0, 0), (1, 13), (2, 0)])?;
-    assert_eq!(rt;
+    expect_equal(
+        &rt,
         [pop(&mut bucket), pop(&mut bucket)],
-        [Some((0, 0)), Some((1, 13))]
+        [Some((0, 0)), Some((1, 13))],
     );
     expect_list(&rt, rt.alloc(), &bucket, 0, &[2])?;
-    assert_eq!(rt; [pop(&mut bucket), pop(&mut bucket)], [Some((2, 0)), None]);
+    expect_equal(
+        &rt,
+        [pop(&mut bucket), pop(&mut bucket)],
+        [Some((2, 0)), None],
+    );
     Ok(())
 }
 

@@ -1,5 +1,6 @@
 //! Tests of queues of nodes.
 
+use crate::expect_equal;
 use lot_base::queue::{Node, Queue};
 use lot_base::token::{NoMemory, ParkToken, UnparkToken};
 use std::alloc::Global;
@@ -117,16 +118,17 @@ fn nodes_leave_in_the_order_in_which_they_came(rt: HostRuntime) -> Result<(), Fa
         Step::Take,
     ];
     let told = after(rt.alloc(), &[3, 1, 2], &[], &steps)?;
-    assert_eq!(rt; told, (31240, NOTHING, NOTHING));
+    expect_equal(&rt, told, (31240, NOTHING, NOTHING));
     Ok(())
 }
 
 #[test]
 fn a_fold_visits_the_nodes_in_order(rt: HostRuntime) -> Result<(), Fail> {
-    assert_eq!(rt; digits(&queue_of(rt.alloc(), &[1, 7, 2, 9])?), 1729);
-    assert_eq!(rt;
+    expect_equal(&rt, digits(&queue_of(rt.alloc(), &[1, 7, 2, 9])?), 1729);
+    expect_equal(
+        &rt,
         Queue::new().fold(5usize, |number, _| number.wrapping_add(1)),
-        5
+        5,
     );
     Ok(())
 }
@@ -134,21 +136,21 @@ fn a_fold_visits_the_nodes_in_order(rt: HostRuntime) -> Result<(), Fail> {
 #[test]
 fn an_append_puts_the_others_nodes_behind(rt: HostRuntime) -> Result<(), Fail> {
     let told = after(rt.alloc(), &[1, 2], &[3, 4], &[Step::Append])?;
-    assert_eq!(rt; told, (0, (1234, Some(1)), NOTHING));
+    expect_equal(&rt, told, (0, (1234, Some(1)), NOTHING));
     Ok(())
 }
 
 #[test]
 fn an_append_of_no_nodes_changes_nothing(rt: HostRuntime) -> Result<(), Fail> {
     let told = after(rt.alloc(), &[1, 2, 3], &[], &[Step::Append])?;
-    assert_eq!(rt; told, (0, (123, Some(1)), NOTHING));
+    expect_equal(&rt, told, (0, (123, Some(1)), NOTHING));
     Ok(())
 }
 
 #[test]
 fn an_append_to_no_nodes_moves_them_all(rt: HostRuntime) -> Result<(), Fail> {
     let told = after(rt.alloc(), &[], &[1, 2, 3], &[Step::Append])?;
-    assert_eq!(rt; told, (0, (123, Some(1)), NOTHING));
+    expect_equal(&rt, told, (0, (123, Some(1)), NOTHING));
     Ok(())
 }
 
@@ -158,7 +160,7 @@ fn a_queue_goes_on_after_its_only_node_left(rt: HostRuntime) -> Result<(), Fail>
         (&[Step::Take][..], (1, NOTHING, NOTHING)),
         (&[Step::Take, Step::Push(2)][..], (1, (2, Some(2)), NOTHING)),
     ] {
-        assert_eq!(rt; after(rt.alloc(), &[1], &[], steps)?, expected);
+        expect_equal(&rt, after(rt.alloc(), &[1], &[], steps)?, expected);
     }
     Ok(())
 }
@@ -171,7 +173,7 @@ fn count(queue: &Queue) -> usize {
 #[test]
 fn a_node_is_last_behind_nodes_that_were_appended(rt: HostRuntime) -> Result<(), Fail> {
     let told = after(rt.alloc(), &[1, 2], &[3, 4], &[Step::Append, Step::Push(5)])?;
-    assert_eq!(rt; told, (0, (12345, Some(1)), NOTHING));
+    expect_equal(&rt, told, (0, (12345, Some(1)), NOTHING));
     Ok(())
 }
 
@@ -183,14 +185,14 @@ fn a_queue_that_gave_its_nodes_away_goes_on(rt: HostRuntime) -> Result<(), Fail>
         &[2, 3],
         &[Step::Append, Step::PushToOther(4)],
     )?;
-    assert_eq!(rt; told, (0, (123, Some(1)), (4, Some(4))));
+    expect_equal(&rt, told, (0, (123, Some(1)), (4, Some(4))));
     Ok(())
 }
 
 #[test]
 fn a_node_that_leaves_a_queue_can_enter_another(rt: HostRuntime) -> Result<(), Fail> {
     let told = after(rt.alloc(), &[1, 2, 3], &[4], &[Step::Move])?;
-    assert_eq!(rt; told, (0, (23, Some(2)), (41, Some(4))));
+    expect_equal(&rt, told, (0, (23, Some(2)), (41, Some(4))));
     Ok(())
 }
 
@@ -215,12 +217,13 @@ fn second_of_three(alloc: Global) -> Result<(Option<usize>, Option<Box<Node>>), 
 #[test]
 fn a_node_leaves_with_what_it_entered_with(rt: HostRuntime) -> Result<(), Fail> {
     let (first, node) = second_of_three(rt.alloc())?;
-    assert_eq!(rt; first, Some(2));
+    expect_equal(&rt, first, Some(2));
     let node = node.expect(&rt, "a node");
-    assert_eq!(rt; (node.number, node.key, node.timed), (1, 7, true));
-    assert_eq!(rt;
+    expect_equal(&rt, (node.number, node.key, node.timed), (1, 7, true));
+    expect_equal(
+        &rt,
         (node.park_token, node.unpark_token),
-        (ParkToken(8), UnparkToken(9))
+        (ParkToken(8), UnparkToken(9)),
     );
     Ok(())
 }
@@ -233,7 +236,7 @@ fn a_long_queue_is_freed_by_a_loop(rt: HostRuntime) -> Result<(), Fail> {
     for number in 0..100_000usize {
         queue.push_back(Node::new(rt.alloc(), number)?);
     }
-    assert_eq!(rt; count(&queue), 100_000);
+    expect_equal(&rt, count(&queue), 100_000);
     drop(queue);
     Ok(())
 }

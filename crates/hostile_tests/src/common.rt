@@ -1,5 +1,6 @@
 //! What several of the tests use: the ways to unpark, and waits for what other threads do.
 
+use crate::expect_equal;
 use parking_lot_core::{
     FilterOp, NoMemory, ParkResult, ParkToken, ParkingLot, RequeueOp, ThreadData, ThreadParkerT,
     UnparkResult, UnparkToken, park, unpark_all, unpark_filter, unpark_one, unpark_requeue,
@@ -19,7 +20,7 @@ pub const TOKEN: UnparkToken = UnparkToken(42);
 pub const TURNS: usize = 10_000_000;
 
 // A way to unpark the thread that waits first on a key.
-#[derive(Copy, Clone, Debug)]
+#[derive(Copy, Clone, Debug, Eq, PartialEq)]
 pub enum Way {
     One,
     All,
@@ -86,7 +87,7 @@ pub fn expect_list<P: ThreadParkerT, R: Wait + Abort>(
     numbers: &[usize],
 ) -> Result<(), NoMemory> {
     let waiting = lot.list(rt, alloc, key)?;
-    assert_eq!(rt; waiting.as_slice(), numbers, "key {key}");
+    expect_equal(rt, (key, waiting.as_slice()), (key, numbers));
     Ok(())
 }
 

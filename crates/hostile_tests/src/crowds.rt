@@ -1,6 +1,7 @@
 //! Several threads that sleep on one key, and are all woken by one call.
 
 use crate::common::{KEY, TOKEN, Way, come_by_turns, from_now, move_all, unpark, wait};
+use crate::expect_equal;
 use parking_lot_core::{
     ParkResult, ParkingLot, ThreadData, ThreadParker, ThreadParkerT, YieldParker, unpark_all,
 };
@@ -15,7 +16,7 @@ use std::time::{Clock, Duration, Instant};
 const OTHER_KEY: usize = 8;
 
 // A way to unpark all threads that wait on `KEY`.
-#[derive(Copy, Clone, Debug)]
+#[derive(Copy, Clone, Debug, Eq, PartialEq)]
 enum Wake {
     AtOnce(Way),
     MovedFirst,
@@ -95,7 +96,7 @@ where
     let mut crowd = Vec::new(alloc);
     for number in 0..threads {
         let data = lot.thread_data(rt, alloc)?;
-        assert_eq!(rt; data.number(), number);
+        expect_equal(rt, data.number(), number);
         let started = start_waiter(rt, Arc::try_clone(lot)?, data, deadline);
         crowd.push(started.expect(rt, "a thread"))?;
     }
@@ -115,14 +116,18 @@ where
     assert!(rt; come_by_turns(rt, alloc, &lot, KEY, threads));
     thread::sleep(rt, Duration::from_millis(10));
     let in_time = from_now(rt, Duration::from_secs(10))?;
-    assert_eq!(rt;
-        unpark_everybody(rt, &lot, wake, threads),
-        threads,
-        "{wake:?}"
+    expect_equal(
+        rt,
+        (wake, unpark_everybody(rt, &lot, wake, threads)),
+        (wake, threads),
     );
     for waiter in crowd {
         let result = waiter.join(rt);
-        assert_eq!(rt; result, Some(ParkResult::Unparked(TOKEN)), "{wake:?}");
+        expect_equal(
+            rt,
+            (wake, result),
+            (wake, Some(ParkResult::Unparked(TOKEN))),
+        );
     }
     assert!(rt; Instant::now(rt)? < in_time, "{wake:?}: somebody slept on");
     Ok(())

@@ -1,6 +1,7 @@
 //! Threads that end badly: with data that nobody retires, in the midst of a park, or too many.
 
 use crate::common::{KEY, TOKEN, TURNS, come_by_turns, raised_by_turns, wait};
+use crate::expect_equal;
 use parking_lot_core::{
     DEFAULT_PARK_TOKEN, LotError, ParkResult, ParkingLot, ThreadData, ThreadParker, ThreadParkerT,
     YieldParker, park, unpark_all,
@@ -72,7 +73,7 @@ where
         }
     }
     for number in 0..NUMBERS {
-        assert_eq!(rt; lot.thread_data(rt, alloc)?.number(), number);
+        expect_equal(rt, lot.thread_data(rt, alloc)?.number(), number);
     }
     Ok(())
 }
@@ -156,8 +157,8 @@ where
     let lot = ParkingLot::<P>::new(alloc, 2)?;
     let data = (lot.thread_data(rt, alloc)?, lot.thread_data(rt, alloc)?);
     let (last, (back, unparked)) = three_meet(rt, alloc, &lot, data);
-    assert_eq!(rt; last, Some((ParkResult::Unparked(TOKEN), true)));
-    assert_eq!(rt; (back, unparked), (Some(ParkResult::Unparked(TOKEN)), 2));
+    expect_equal(rt, last, Some((ParkResult::Unparked(TOKEN), true)));
+    expect_equal(rt, (back, unparked), (Some(ParkResult::Unparked(TOKEN)), 2));
     let refused = lot.thread_data(rt, alloc);
     assert!(rt; matches!(&refused, Err(LotError::Full)), "nobody retired");
     Ok(())
@@ -181,6 +182,6 @@ fn data_of_another_lot_frees_that_number_here(rt: HostRuntime) -> Result<(), Fai
     other.retire(&rt, data);
     let refused = lot.thread_data(&rt, rt.alloc());
     assert!(rt; matches!(&refused, Err(LotError::Full)));
-    assert_eq!(rt; other.thread_data(&rt, rt.alloc())?.number(), 0);
+    expect_equal(&rt, other.thread_data(&rt, rt.alloc())?.number(), 0);
     Ok(())
 }

@@ -1,6 +1,7 @@
 //! A parker whose thread goes on before the commit or the wake of its first unpark ends.
 
 use crate::common::{KEY, TOKEN, WAYS, Way, come_by_turns, comes_to, expect_list, unpark, wait};
+use crate::expect_equal;
 use lot_base::thread_parker::YieldHandle;
 use parking_lot_core::{
     NoMemory, Node, ParkResult, ParkingLot, ThreadData, ThreadParkerT, UnparkHandleT, UnparkToken,
@@ -130,16 +131,16 @@ fn a_thread_that_parks_during_its_wake_waits_for_the_next_unpark(
         let lot = Lot::new(rt.alloc(), 1)?;
         let data = lot.thread_data(&rt, rt.alloc())?;
         let ((first, second), unparked) = both_twice(&rt, rt.alloc(), &lot, data, way);
-        assert_eq!(rt; unparked, (1, 1), "{way:?}");
-        assert_eq!(rt;
-            first,
-            Some(ParkResult::Unparked(UnparkToken(1))),
-            "{way:?}"
+        expect_equal(&rt, (way, unparked), (way, (1, 1)));
+        expect_equal(
+            &rt,
+            (way, first),
+            (way, Some(ParkResult::Unparked(UnparkToken(1)))),
         );
-        assert_eq!(rt;
-            second,
-            Some(ParkResult::Unparked(UnparkToken(2))),
-            "{way:?}"
+        expect_equal(
+            &rt,
+            (way, second),
+            (way, Some(ParkResult::Unparked(UnparkToken(2)))),
         );
     }
     Ok(())
@@ -199,7 +200,7 @@ fn nodes_are_committed_in_the_order_of_the_queue(rt: HostRuntime) -> Result<(), 
     let alloc = rt.alloc();
     let played = thread::map_vec(&rt, jobs, &|job| play(&rt, alloc, &lot, &back, job))?;
     for (number, before) in played.into_iter().enumerate() {
-        assert_eq!(rt; before, Some(number));
+        expect_equal(&rt, before, Some(number));
     }
     expect_list(&rt, rt.alloc(), &lot, KEY, &[])?;
     Ok(())

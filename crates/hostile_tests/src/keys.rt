@@ -1,6 +1,7 @@
 //! The greatest key and tokens, and the keys of another lot.
 
 use crate::common::{KEY, TOKEN, WAYS, Way, expect_list, move_all, unpark};
+use crate::expect_equal;
 use parking_lot_core::deadlock::{acquire_resource, release_resource};
 use parking_lot_core::{
     DEFAULT_PARK_TOKEN, NoMemory, ParkResult, ParkToken, ParkingLot, ThreadParker, ThreadParkerT,
@@ -23,12 +24,12 @@ fn unpark_the_greatest<P: ThreadParkerT, R: Wait + Abort>(
     way: Way,
 ) -> Result<(), NoMemory> {
     for (from, to) in [(GREATEST, GREATEST - 1), (GREATEST - 1, GREATEST)] {
-        assert_eq!(rt; move_all(rt, lot, from, to), 1, "{way:?}");
+        expect_equal(rt, (way, move_all(rt, lot, from, to)), (way, 1));
         expect_list(rt, alloc, lot, from, &[])?;
         expect_list(rt, alloc, lot, to, &[0])?;
     }
     let unparked = unpark(rt, lot, way, GREATEST, UnparkToken(GREATEST));
-    assert_eq!(rt; unparked, 1, "{way:?}");
+    expect_equal(rt, (way, unparked), (way, 1));
     Ok(())
 }
 
@@ -51,10 +52,10 @@ fn the_greatest_comes_through<P: ThreadParkerT, R: Wait + Clock + Abort>(
         ParkToken(GREATEST),
         None,
     );
-    assert_eq!(rt;
-        result,
-        ParkResult::Unparked(UnparkToken(GREATEST)),
-        "{way:?}"
+    expect_equal(
+        rt,
+        (way, result),
+        (way, ParkResult::Unparked(UnparkToken(GREATEST))),
     );
     Ok(unparked?)
 }
@@ -107,9 +108,9 @@ fn a_late_thread_is_told_the_greatest_key(rt: HostRuntime) -> Result<(), Fail> {
         (GREATEST, GREATEST - 1),
     ] {
         let told = time_out_on::<ThreadParker, _>(&rt, rt.alloc(), key, to, passed)?;
-        assert_eq!(rt; told, Some((to, true)));
+        expect_equal(&rt, told, Some((to, true)));
         let told = time_out_on::<YieldParker, _>(&rt, rt.alloc(), key, to, passed)?;
-        assert_eq!(rt; told, Some((to, true)));
+        expect_equal(&rt, told, Some((to, true)));
     }
     Ok(())
 }
@@ -123,15 +124,17 @@ fn a_thread_has_many_records_of_great_keys(rt: HostRuntime) -> Result<(), Fail> 
     for below in 0..1_000 {
         acquire_resource(&mut data, GREATEST - below)?;
     }
-    assert_eq!(rt;
+    expect_equal(
+        &rt,
         (data.records(GREATEST), data.records(GREATEST - 999)),
-        (1, 1)
+        (1, 1),
     );
-    assert_eq!(rt; data.records(u32::MAX as usize), 0);
+    expect_equal(&rt, data.records(u32::MAX as usize), 0);
     release_resource(&mut data, GREATEST);
-    assert_eq!(rt;
+    expect_equal(
+        &rt,
         (data.records(GREATEST), data.records(GREATEST - 999)),
-        (0, 1)
+        (0, 1),
     );
     Ok(())
 }
@@ -144,12 +147,12 @@ fn unpark_on_both<P: ThreadParkerT, R: Wait + Abort>(
     other: &ParkingLot<P>,
 ) -> Result<(), NoMemory> {
     for way in WAYS {
-        assert_eq!(rt; unpark(rt, other, way, KEY, TOKEN), 0, "{way:?}");
+        expect_equal(rt, (way, unpark(rt, other, way, KEY, TOKEN)), (way, 0));
     }
-    assert_eq!(rt; move_all(rt, other, KEY, KEY), 0);
+    expect_equal(rt, move_all(rt, other, KEY, KEY), 0);
     expect_list(rt, alloc, other, KEY, &[])?;
     expect_list(rt, alloc, lot, KEY, &[0])?;
-    assert_eq!(rt; unpark(rt, lot, Way::All, KEY, TOKEN), 1);
+    expect_equal(rt, unpark(rt, lot, Way::All, KEY, TOKEN), 1);
     Ok(())
 }
 
@@ -171,6 +174,6 @@ fn a_key_of_another_lot_is_another_key(rt: HostRuntime) -> Result<(), Fail> {
         DEFAULT_PARK_TOKEN,
         None,
     );
-    assert_eq!(rt; result, ParkResult::Unparked(TOKEN));
+    expect_equal(&rt, result, ParkResult::Unparked(TOKEN));
     Ok(unparked?)
 }

@@ -1,6 +1,7 @@
 //! Threads whose deadline has passed, while others requeue, wait behind them or before them.
 
 use crate::common::{KEY, TOKEN, come_by_turns, comes_to, move_all, raised_by_turns, wait};
+use crate::expect_equal;
 use parking_lot_core::{
     DEFAULT_PARK_TOKEN, DEFAULT_UNPARK_TOKEN, LotError, ParkResult, ParkingLot, RequeueOp,
     ThreadData, ThreadParker, ThreadParkerT, YieldParker, park, unpark_all, unpark_one,
@@ -140,7 +141,7 @@ where
     let passed = Instant::now(rt)?;
     let met = meet(rt, &lot, data, from, to, passed);
     let left = (ParkResult::TimedOut, Some((to, true)));
-    assert_eq!(rt; met, (Some(left), 1), "{from} to {to}");
+    expect_equal(rt, (from, to, met), (from, to, (Some(left), 1)));
     Ok(())
 }
 
@@ -269,7 +270,7 @@ where
     let data = lot.thread_data(rt, alloc)?;
     let passed = Instant::now(rt)?;
     let left = enter_and_requeue(rt, &lot, data, passed);
-    assert_eq!(rt; left, Some((ParkResult::TimedOut, Some((2, true)))));
+    expect_equal(rt, left, Some((ParkResult::TimedOut, Some((2, true)))));
     Ok(())
 }
 
@@ -350,10 +351,10 @@ where
     let passed = Instant::now(rt)?;
     let ended = two_of_whom_one_is_late(rt, alloc, &lot, data, places, passed);
     let left = (ParkResult::TimedOut, Some((KEY, false)));
-    assert_eq!(rt;
-        ended,
-        (Some(left), Some(ParkResult::Unparked(TOKEN))),
-        "{places:?}"
+    expect_equal(
+        rt,
+        (places, ended),
+        (places, (Some(left), Some(ParkResult::Unparked(TOKEN)))),
     );
     Ok(())
 }
@@ -428,7 +429,7 @@ where
         &|index| { move_or_leave(rt, alloc, &lot, passed, &is_moved, index) },
     )?;
     for key in left {
-        assert_eq!(rt; key?, Some(2));
+        expect_equal(rt, key?, Some(2));
     }
     Ok(())
 }

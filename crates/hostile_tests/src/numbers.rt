@@ -1,6 +1,7 @@
 //! All numbers of a large lot, and the table that grows with them.
 
 use crate::common::{KEY, TOKEN, WAYS, expect_list, move_all, unpark};
+use crate::expect_equal;
 use parking_lot_core::{
     DEFAULT_PARK_TOKEN, LotError, ParkResult, ParkingLot, ThreadData, ThreadParker, ThreadParkerT,
     YieldParker, park, unpark_all,
@@ -27,17 +28,17 @@ fn register_the_rest<P: ThreadParkerT, R: Wait + Abort>(
     key: usize,
 ) -> Result<(), LotError> {
     for number in 1..MAX_THREADS - 1 {
-        assert_eq!(rt; lot.thread_data(rt, alloc)?.number(), number);
+        expect_equal(rt, lot.thread_data(rt, alloc)?.number(), number);
     }
     for _ in 0..2 {
         let last = lot.thread_data(rt, alloc)?;
-        assert_eq!(rt; last.number(), MAX_THREADS - 1);
+        expect_equal(rt, last.number(), MAX_THREADS - 1);
         let refused = lot.thread_data(rt, alloc);
         assert!(rt; matches!(&refused, Err(LotError::Full)));
         lot.retire(rt, last);
     }
     expect_list(rt, alloc, lot, key, &[0])?;
-    assert_eq!(rt; unpark_all(rt, lot, key, TOKEN), 1);
+    expect_equal(rt, unpark_all(rt, lot, key, TOKEN), 1);
     Ok(())
 }
 
@@ -61,7 +62,7 @@ fn a_waiter_stays<P: ThreadParkerT, R: Wait + Clock + Abort>(
         DEFAULT_PARK_TOKEN,
         None,
     );
-    assert_eq!(rt; result, ParkResult::Unparked(TOKEN), "{key}");
+    expect_equal(rt, (key, result), (key, ParkResult::Unparked(TOKEN)));
     Ok(registered?)
 }
 
@@ -92,12 +93,12 @@ fn parks_each_way<P: ThreadParkerT, R: Wait + Clock + Abort>(
             data,
             KEY,
             || true,
-            || assert_eq!(rt; unpark(rt, lot, way, KEY, TOKEN), 1, "{way:?}"),
+            || expect_equal(rt, (way, unpark(rt, lot, way, KEY, TOKEN)), (way, 1)),
             |_, _| (),
             DEFAULT_PARK_TOKEN,
             None,
         );
-        assert_eq!(rt; result, ParkResult::Unparked(TOKEN), "{way:?}");
+        expect_equal(rt, (way, result), (way, ParkResult::Unparked(TOKEN)));
     }
 }
 
@@ -116,7 +117,7 @@ fn times_out_after_a_move<P: ThreadParkerT, R: Wait + Clock + Abort>(
         data,
         KEY,
         || true,
-        || assert_eq!(rt; move_all(rt, lot, KEY, OTHER_KEY), 1),
+        || expect_equal(rt, move_all(rt, lot, KEY, OTHER_KEY), 1),
         |key, _| left = Some(key),
         DEFAULT_PARK_TOKEN,
         Some(passed),
@@ -134,9 +135,10 @@ fn the_last_number_parks<P: ThreadParkerT, R: Wait + Clock + Abort>(
     }
     let mut data = lot.thread_data(rt, alloc)?;
     parks_each_way(rt, &lot, &mut data);
-    assert_eq!(rt;
+    expect_equal(
+        rt,
         times_out_after_a_move(rt, &lot, &mut data)?,
-        Some(OTHER_KEY)
+        Some(OTHER_KEY),
     );
     Ok(())
 }

@@ -4,6 +4,7 @@ ghost use Rattle.std.specs.Prelude.{◌≡◌, IfOk};
 ghost use Rattle.lot_base.specs.Node.{fields};
 
 use crate::common::{TOKEN, from_now, raised_by_turns};
+use crate::expect_equal;
 use lot_base::queue::Node;
 use lot_base::thread_parker::{ThreadParker, ThreadParkerT, UnparkHandleT, YieldParker};
 use lot_base::token::NoMemory;
@@ -142,7 +143,7 @@ fn looks_after_the_clock<P: ThreadParkerT + Sync, R: Threads + Wait + Clock + Ab
         is_there || !came,
         "a node was put before the clock was read"
     );
-    assert_eq!(rt; parker.timed_out(rt), is_there, "a node is lost");
+    expect_equal(rt, parker.timed_out(rt), is_there);
     Ok(())
 }
 

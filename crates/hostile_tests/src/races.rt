@@ -1,6 +1,7 @@
 //! Threads that requeue both ways between two buckets.
 
 use crate::common::{TOKEN, TURNS, move_all, wait};
+use crate::expect_equal;
 use parking_lot_core::{
     DEFAULT_UNPARK_TOKEN, LotError, ParkResult, ParkingLot, RequeueOp, ThreadParker, ThreadParkerT,
     YieldParker, unpark_all, unpark_requeue,
@@ -84,7 +85,7 @@ where
     )?;
     for (index, result) in played.into_iter().enumerate() {
         let unparked = (index == MOVERS).then_some(ParkResult::Unparked(TOKEN));
-        assert_eq!(rt; result?, unparked, "{index}");
+        expect_equal(rt, (index, result?), (index, unparked));
     }
     Ok(())
 }

@@ -1,6 +1,7 @@
 //! Runs of an interleaved lot and of the plain machine beside it, which give the same answers and
 //! amount to the same sequential steps.
 
+use crate::expect_equal;
 use lot_base::token::{LotError, NoMemory};
 use lot_exclusive::lot::Lot;
 use lot_exclusive::schedule::{Answer, Step, run};
@@ -54,8 +55,8 @@ impl Both {
         let mut answers = Vec::new(self.alloc);
         let before = self.steps.len();
         run_fine(&mut self.lot, steps, &mut answers, &mut self.steps)?;
-        assert_eq!(rt; answers.as_slice(), expected.as_slice());
-        assert_eq!(rt; self.steps.len(), before.wrapping_add(sequential.len()));
+        expect_equal(rt, answers.as_slice(), expected.as_slice());
+        expect_equal(rt, self.steps.len(), before.wrapping_add(sequential.len()));
         for (told, expected) in self.steps.iter().skip(before).zip(&sequential) {
             assert!(rt; is_same(told, expected), "sequential step");
         }
@@ -71,11 +72,11 @@ impl Both {
     /// Compares what both tell of their sizes and of the lists of these keys. Gives the sequential
     /// steps to a new lot, and compares its answers, and what it means then.
     pub fn compare(&self, rt: &impl Abort, keys: &[usize]) -> Result<(), LotError> {
-        assert_eq!(rt; self.lot.size(), self.plain.size());
-        assert_eq!(rt; self.lot.registered(), self.plain.registered());
+        expect_equal(rt, self.lot.size(), self.plain.size());
+        expect_equal(rt, self.lot.registered(), self.plain.registered());
         for key in keys {
             let found = self.lot.list(*key)?;
-            assert_eq!(rt; found.as_slice(), self.plain.list(*key), "key {key}");
+            expect_equal(rt, (key, found.as_slice()), (key, self.plain.list(*key)));
         }
         self.compare_sequential(rt, keys)
     }
@@ -84,18 +85,22 @@ impl Both {
         let mut lot = Lot::new(self.alloc, self.max_threads)?;
         let mut answers = Vec::new(self.alloc);
         run(&mut lot, self.steps.as_slice(), &mut answers)?;
-        assert_eq!(rt; answers.as_slice(), self.answers.as_slice());
-        assert_eq!(rt; lot.size(), self.plain.size());
+        expect_equal(rt, answers.as_slice(), self.answers.as_slice());
+        expect_equal(rt, lot.size(), self.plain.size());
         for key in keys {
             let found = lot.list(*key)?;
-            assert_eq!(rt; found.as_slice(), self.plain.list(*key), "key {key}");
+            expect_equal(rt, (key, found.as_slice()), (key, self.plain.list(*key)));
         }
         for number in 0..self.max_threads {
             let expected = self.plain.sequential_status(number);
-            assert_eq!(rt; lot.status(number), expected, "{number}");
+            expect_equal(rt, (number, lot.status(number)), (number, expected));
             for key in keys {
                 let expected = self.plain.records(number, *key);
-                assert_eq!(rt; lot.records(number, *key), expected, "{number}, key {key}");
+                expect_equal(
+                    rt,
+                    (number, key, lot.records(number, *key)),
+                    (number, key, expected),
+                );
             }
         }
         Ok(())

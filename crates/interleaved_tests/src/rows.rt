@@ -2,6 +2,7 @@
 //! threads a and b are 0 and 1.
 
 use crate::both::Both;
+use crate::expect_equal;
 use crate::sequential::expect_sequential;
 use lot_base::token::{FilterOp, LotError, RequeueOp};
 use lot_exclusive::schedule::{Answer, Step};
@@ -43,7 +44,7 @@ fn expect(
     rows: &[(FineStep, FineAnswer)],
 ) -> Result<(), LotError> {
     for (index, (step, expected)) in rows.iter().enumerate() {
-        assert_eq!(rt; both.step(rt, step)?, *expected, "step {index}");
+        expect_equal(rt, (index, both.step(rt, step)?), (index, *expected));
     }
     both.compare(rt, [0, 1, 2, 7, 13].as_slice())
 }
@@ -58,7 +59,7 @@ fn both_of(
     let mut both = Both::new(alloc, (6, callers))?;
     for number in 0..threads {
         let given = both.step(rt, &FineStep::Register)?;
-        assert_eq!(rt; given, registered(number));
+        expect_equal(rt, given, registered(number));
     }
     Ok(both)
 }
@@ -135,7 +136,7 @@ fn a_wake_may_come_after_the_thread_has_gone(rt: HostRuntime) -> Result<(), Fail
         (FineStep::Return { thread: 0 }, MISFIT),
     ];
     expect(&rt, &mut both, &rows)?;
-    assert_eq!(rt; both.plain.list(2), [0].as_slice());
+    expect_equal(&rt, both.plain.list(2), [0].as_slice());
     Ok(())
 }
 
@@ -155,7 +156,7 @@ fn a_growth_waits_for_every_section(rt: HostRuntime) -> Result<(), Fail> {
         (FineStep::Register, registered(5)),
     ];
     expect(&rt, &mut both, &rows)?;
-    assert_eq!(rt; both.plain.size(), 32);
+    expect_equal(&rt, both.plain.size(), 32);
     Ok(())
 }
 
@@ -226,7 +227,7 @@ fn a_late_thread_times_out_across_a_growth(rt: HostRuntime) -> Result<(), Fail> 
         (FineStep::Look { thread: A }, timed_out(13, true)),
     ];
     expect(&rt, &mut both, &rows)?;
-    assert_eq!(rt; both.plain.size(), 32);
+    expect_equal(&rt, both.plain.size(), 32);
     Ok(())
 }
 
@@ -271,8 +272,8 @@ fn of_two_that_were_taken_one_returns_and_one_is_late(rt: HostRuntime) -> Result
 #[test]
 fn a_new_interleaved_lot_is_empty(rt: HostRuntime) -> Result<(), Fail> {
     let lot = FineLot::new(rt.alloc(), 6, 2)?;
-    assert_eq!(rt; (lot.size(), lot.registered()), (16, 0));
-    assert_eq!(rt; lot.list(7)?.len(), 0);
+    expect_equal(&rt, (lot.size(), lot.registered()), (16, 0));
+    expect_equal(&rt, lot.list(7)?.len(), 0);
     FineLot::new(rt.alloc(), 1_024, 1_024)?;
     FineLot::new(rt.alloc(), 0, 0)?;
     Ok(())
@@ -286,7 +287,7 @@ fn an_interleaved_lot_is_for_at_most_1024_threads_and_callers(rt: HostRuntime) {
         assert!(rt; matches!(made, Err(LotError::TooManyThreads)));
     }
     if let Err(refused) = FineLot::new(rt.alloc(), 2, 2) {
-        assert_eq!(rt; refused, LotError::NoMemory);
+        expect_equal(&rt, refused, LotError::NoMemory);
         assert!(rt; FineLot::new(rt.alloc(), 2, 2).is_ok());
     }
 }
@@ -298,7 +299,7 @@ fn interleaved_answers_stand_behind_those_that_are_there(rt: HostRuntime) -> Res
     let mut answers = Vec::new(rt.alloc());
     let mut sequential = Vec::new(rt.alloc());
     run_fine(&mut lot, &[], &mut answers, &mut sequential)?;
-    assert_eq!(rt; (answers.len(), sequential.len()), (0, 0));
+    expect_equal(&rt, (answers.len(), sequential.len()), (0, 0));
 
     let steps = [FineStep::Register, WAKE, enter_invalid(A, 1)];
     run_fine(&mut lot, &steps, &mut answers, &mut sequential)?;
@@ -311,13 +312,13 @@ fn interleaved_answers_stand_behind_those_that_are_there(rt: HostRuntime) -> Res
         answer(Answer::Invalid),
         answer(Answer::Retired),
     ];
-    assert_eq!(rt; answers.as_slice(), expected.as_slice());
+    expect_equal(&rt, answers.as_slice(), expected.as_slice());
     let expected = [
         Step::Register,
         whole::enter_invalid(A, 1),
         Step::Retire { thread: A },
     ];
-    assert_eq!(rt; sequential.len(), expected.len());
+    expect_equal(&rt, sequential.len(), expected.len());
     for (told, expected) in sequential.iter().zip(&expected) {
         assert!(rt; is_same(told, expected));
     }
@@ -345,9 +346,10 @@ fn an_interleaved_run_without_room_changes_nothing(rt: HostRuntime) {
     let mut answers = Vec::new(rt.alloc());
     let mut sequential = Vec::new(rt.alloc());
     if run_fine(&mut lot, &steps, &mut answers, &mut sequential).is_err() {
-        assert_eq!(rt;
+        expect_equal(
+            &rt,
             (answers.len(), sequential.len(), lot.registered()),
-            (0, 0, 0)
+            (0, 0, 0),
         );
         assert!(rt; run_fine(&mut lot, &steps, &mut answers, &mut sequential).is_ok());
     }
@@ -377,12 +379,12 @@ fn an_interleaved_lot_has_1024_threads_and_a_thread_records(rt: HostRuntime) -> 
             &mut answers,
             &mut sequential,
         )?;
-        assert_eq!(rt; answers.last(), Some(&registered(number)));
+        expect_equal(&rt, answers.last(), Some(&registered(number)));
     }
     for key in 0..1_000 {
         let acquire = FineStep::Acquire { thread: 1_023, key };
         run_fine(&mut lot, &[acquire], &mut answers, &mut sequential)?;
-        assert_eq!(rt; answers.last(), Some(&answer(Answer::Recorded)));
+        expect_equal(&rt, answers.last(), Some(&answer(Answer::Recorded)));
     }
     Ok(())
 }

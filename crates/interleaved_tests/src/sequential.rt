@@ -3,6 +3,7 @@
 //! same places.
 
 use crate::both::Both;
+use crate::expect_equal;
 use lot_base::token::{LotError, NoMemory, RequeueOp};
 use lot_exclusive::schedule::{Answer, Step};
 use lot_interleaved::interleaved::{FineAnswer, FineStep};
@@ -26,9 +27,9 @@ pub fn expect_sequential(
 ) -> Result<(), LotError> {
     let mut both = Both::new(alloc, numbers)?;
     for (index, (step, expected)) in rows.iter().enumerate() {
-        assert_eq!(rt; both.step(rt, step)?, *expected, "step {index}");
+        expect_equal(rt, (index, both.step(rt, step)?), (index, *expected));
     }
-    assert_eq!(rt; both.steps.len(), sequential.len());
+    expect_equal(rt, both.steps.len(), sequential.len());
     for (index, (step, expected)) in both.steps.iter().zip(sequential).enumerate() {
         assert!(rt; is_same(step, expected), "sequential step {index}");
     }
@@ -151,9 +152,9 @@ fn check_lists(
 #[test]
 fn short_interleaved_lists_amount_to_their_sequential_steps(rt: HostRuntime) -> Result<(), Fail> {
     let kinds = every_kind(rt.alloc())?;
-    assert_eq!(rt; kinds.len(), 30);
+    expect_equal(&rt, kinds.len(), 30);
     let lists = check_lists(&rt, rt.alloc(), &[], kinds.as_slice(), 3)?;
-    assert_eq!(rt; lists, 27_931);
+    expect_equal(&rt, lists, 27_931);
     Ok(())
 }
 
@@ -165,7 +166,7 @@ fn races_amount_to_their_sequential_steps(rt: HostRuntime) -> Result<(), Fail> {
         FineStep::ReadKey { thread: 0 },
     ];
     let lists = check_lists(&rt, rt.alloc(), before.as_slice(), race().as_slice(), 5)?;
-    assert_eq!(rt; lists, 19_608);
+    expect_equal(&rt, lists, 19_608);
     Ok(())
 }
 
@@ -207,8 +208,8 @@ fn long_interleaved_lists_amount_to_their_sequential_steps(rt: HostRuntime) -> R
             }
             both.compare(&rt, KEYS.as_slice())?;
         }
-        assert_eq!(rt; both.plain.size(), 64, "seed {seed}");
+        expect_equal(&rt, (seed, both.plain.size()), (seed, 64));
     }
-    assert_eq!(rt; seen, [true; 13]);
+    expect_equal(&rt, seen, [true; 13]);
     Ok(())
 }

@@ -1,5 +1,6 @@
 //! Worked rows of the exclusive lot, by its own calls.
 
+use crate::expect_equal;
 use lot_base::token::{
     DEFAULT_PARK_TOKEN, FilterOp, LotError, Misfit, NoMemory, ParkResult, ParkToken, RequeueOp,
     StepError, UnparkResult, UnparkToken,
@@ -39,7 +40,7 @@ fn lot_with(alloc: Global, count: usize) -> Result<Lot, LotError> {
 
 fn enter(rt: &impl Abort, lot: &mut Lot, (number, key): (usize, usize), timed: bool) {
     let entered = lot.enter(number, key, || true, DEFAULT_PARK_TOKEN, timed);
-    assert_eq!(rt; entered, Ok(true), "{number} on {key}");
+    expect_equal(rt, (number, key, entered), (number, key, Ok(true)));
 }
 
 // Such a lot, where these threads have entered, each on its key.
@@ -100,30 +101,34 @@ fn requeue(lot: &mut Lot, op: RequeueOp) -> (UnparkResult, Option<(RequeueOp, Un
 // Compares the list of each of these keys.
 fn expect_lists(rt: &impl Abort, lot: &Lot, rows: &[(usize, &[usize])]) -> Result<(), NoMemory> {
     for (key, numbers) in rows {
-        assert_eq!(rt; lot.list(*key)?.as_slice(), *numbers, "key {key}");
+        expect_equal(rt, (key, lot.list(*key)?.as_slice()), (key, *numbers));
     }
     Ok(())
 }
 
 fn expect_status(rt: &impl Abort, lot: &Lot, number: usize, expected: Status) {
-    assert_eq!(rt; lot.status(number), expected, "{number}");
+    expect_equal(rt, (number, lot.status(number)), (number, expected));
 }
 
 // Compares how many threads are registered, and the size of the table.
 fn expect_counts(rt: &impl Abort, lot: &Lot, expected: (usize, usize)) {
-    assert_eq!(rt; (lot.registered(), lot.size()), expected);
+    expect_equal(rt, (lot.registered(), lot.size()), expected);
 }
 
 // Compares how often a thread has recorded a key.
 fn expect_records(rt: &impl Abort, lot: &Lot, (number, key): (usize, usize), times: usize) {
-    assert_eq!(rt; lot.records(number, key), times, "{number} of {key}");
+    expect_equal(
+        rt,
+        (number, key, lot.records(number, key)),
+        (number, key, times),
+    );
 }
 
 // The deadline of a thread passes, and it is told its key and whether it was the last there.
 fn expect_timed_out(rt: &impl Abort, lot: &mut Lot, number: usize, told: (usize, bool)) {
-    assert_eq!(rt; lot.deadline(number), Ok(()));
+    expect_equal(rt, lot.deadline(number), Ok(()));
     let resolved = resolve(lot, number);
-    assert_eq!(rt; resolved, (Ok(ParkResult::TimedOut), Some(told)));
+    expect_equal(rt, resolved, (Ok(ParkResult::TimedOut), Some(told)));
 }
 
 // It refuses a `new` or a `register` that answers `NoMemory` at each call.
@@ -132,11 +137,11 @@ fn six_threads_register_by_number_and_the_seventh_is_refused(rt: HostRuntime) ->
     let mut lot = Lot::new(rt.alloc(), 6)?;
     expect_counts(&rt, &lot, (0, 16));
     for (number, size) in [16, 16, 16, 16, 16, 32].iter().enumerate() {
-        assert_eq!(rt; lot.register()?, number);
+        expect_equal(&rt, lot.register()?, number);
         expect_status(&rt, &lot, number, Status::Running);
         expect_counts(&rt, &lot, (number.wrapping_add(1), *size));
     }
-    assert_eq!(rt; lot.register(), Err(LotError::Full));
+    expect_equal(&rt, lot.register(), Err(LotError::Full));
     expect_counts(&rt, &lot, (6, 32));
     expect_status(&rt, &lot, 6, Status::Free);
     Ok(())
@@ -145,13 +150,13 @@ fn six_threads_register_by_number_and_the_seventh_is_refused(rt: HostRuntime) ->
 #[test]
 fn a_retired_number_is_given_again(rt: HostRuntime) -> Result<(), Fail> {
     let mut lot = lot_with(rt.alloc(), 3)?;
-    assert_eq!(rt; lot.retire(1), Ok(()));
+    expect_equal(&rt, lot.retire(1), Ok(()));
     expect_status(&rt, &lot, 1, Status::Free);
-    assert_eq!(rt; lot.retire(1), Err(Misfit));
-    assert_eq!(rt; lot.registered(), 2);
-    assert_eq!(rt; lot.register(), Ok(1));
+    expect_equal(&rt, lot.retire(1), Err(Misfit));
+    expect_equal(&rt, lot.registered(), 2);
+    expect_equal(&rt, lot.register(), Ok(1));
     enter(&rt, &mut lot, (1, 7), false);
-    assert_eq!(rt; lot.retire(1), Err(Misfit));
+    expect_equal(&rt, lot.retire(1), Err(Misfit));
     Ok(())
 }
 
@@ -159,17 +164,17 @@ fn a_retired_number_is_given_again(rt: HostRuntime) -> Result<(), Fail> {
 #[test]
 fn a_lot_is_for_at_most_1024_threads(rt: HostRuntime) -> Result<(), Fail> {
     let refused = Lot::new(rt.alloc(), 1_025);
-    assert_eq!(rt; refused.err(), Some(LotError::TooManyThreads));
-    assert_eq!(rt; Lot::new(rt.alloc(), 1_024)?.registered(), 0);
+    expect_equal(&rt, refused.err(), Some(LotError::TooManyThreads));
+    expect_equal(&rt, Lot::new(rt.alloc(), 1_024)?.registered(), 0);
     Ok(())
 }
 
 #[test]
 fn a_lot_for_nobody_is_full(rt: HostRuntime) -> Result<(), Fail> {
     let mut lot = Lot::new(rt.alloc(), 0)?;
-    assert_eq!(rt; lot.register(), Err(LotError::Full));
-    assert_eq!(rt; lot.unpark_one(7, |_| TOKEN), UnparkResult::default());
-    assert_eq!(rt; lot.unpark_all(7, TOKEN), 0);
+    expect_equal(&rt, lot.register(), Err(LotError::Full));
+    expect_equal(&rt, lot.unpark_one(7, |_| TOKEN), UnparkResult::default());
+    expect_equal(&rt, lot.unpark_all(7, TOKEN), 0);
     Ok(())
 }
 
@@ -179,8 +184,8 @@ fn a_lot_for_nobody_is_full(rt: HostRuntime) -> Result<(), Fail> {
 fn growth_keeps_the_waiters_of_each_key(rt: HostRuntime) -> Result<(), Fail> {
     let waiters = [(0, 0), (1, 13), (2, 0)];
     let mut lot = lot_where(&rt, rt.alloc(), 5, &waiters, false)?;
-    assert_eq!(rt; lot.register(), Ok(5));
-    assert_eq!(rt; lot.size(), 32);
+    expect_equal(&rt, lot.register(), Ok(5));
+    expect_equal(&rt, lot.size(), 32);
     let lists = [(0, [0, 2].as_slice()), (13, [1].as_slice())];
     expect_lists(&rt, &lot, &lists)?;
     Ok(())
@@ -191,13 +196,13 @@ fn all_waiters_of_a_key_get_the_token(rt: HostRuntime) -> Result<(), Fail> {
     let waiters = [(0, 0), (1, 13), (2, 0)];
     let mut lot = lot_where(&rt, rt.alloc(), 3, &waiters, false)?;
     let token = UnparkToken(usize::MAX);
-    assert_eq!(rt; lot.unpark_all(0, token), 2);
+    expect_equal(&rt, lot.unpark_all(0, token), 2);
     for number in [0, 2] {
-        assert_eq!(rt; lot.give_back(number), Ok(token));
+        expect_equal(&rt, lot.give_back(number), Ok(token));
     }
     let lists = [(0, [].as_slice()), (13, [1].as_slice())];
     expect_lists(&rt, &lot, &lists)?;
-    assert_eq!(rt; lot.unpark_all(0, token), 0);
+    expect_equal(&rt, lot.unpark_all(0, token), 0);
     Ok(())
 }
 
@@ -205,9 +210,9 @@ fn all_waiters_of_a_key_get_the_token(rt: HostRuntime) -> Result<(), Fail> {
 fn an_untimed_waiter_has_no_deadline(rt: HostRuntime) -> Result<(), Fail> {
     let mut lot = lot_where(&rt, rt.alloc(), 2, &[(0, 1)], false)?;
     for number in 0..2 {
-        assert_eq!(rt; lot.deadline(number), Err(Misfit));
+        expect_equal(&rt, lot.deadline(number), Err(Misfit));
     }
-    assert_eq!(rt; lot.retire(0), Err(Misfit));
+    expect_equal(&rt, lot.retire(0), Err(Misfit));
     expect_status(&rt, &lot, 0, Status::Waiting { timed: false });
     Ok(())
 }
@@ -224,7 +229,7 @@ fn expect_unpark_one(
 ) -> Result<Lot, LotError> {
     let mut lot = lot_where(rt, alloc, 3, waiters, false)?;
     let result = lot.unpark_one(key, |_| TOKEN);
-    assert_eq!(rt; result, unparked(1, more));
+    expect_equal(rt, result, unparked(1, more));
     expect_status(rt, &lot, taken, Status::Taken(TOKEN));
     expect_lists(rt, &lot, lists)?;
     Ok(lot)
@@ -236,7 +241,7 @@ fn a_parked_thread_gets_the_token_of_its_unpark(rt: HostRuntime) -> Result<(), F
     expect_status(&rt, &waiting, 0, Status::Waiting { timed: false });
     let lists = [(7, [].as_slice())];
     let mut lot = expect_unpark_one(&rt, rt.alloc(), &[(0, 7)], (7, false), 0, &lists)?;
-    assert_eq!(rt; lot.give_back(0), Ok(TOKEN));
+    expect_equal(&rt, lot.give_back(0), Ok(TOKEN));
     expect_status(&rt, &lot, 0, Status::Running);
     Ok(())
 }
@@ -277,8 +282,8 @@ fn expect_filter(
         asked = asked.wrapping_add(1);
         decision
     });
-    assert_eq!(rt; answered, (answer, Some(answer)));
-    assert_eq!(rt; asked, calls);
+    expect_equal(rt, answered, (answer, Some(answer)));
+    expect_equal(rt, asked, calls);
     expect_lists(rt, &lot, &[(1, left)])?;
     Ok(lot)
 }
@@ -319,20 +324,20 @@ fn a_filter_that_counts_is_called_up_to_its_stop_and_not_for_nobody(
 #[test]
 fn a_late_thread_times_out_and_is_not_unparked_then(rt: HostRuntime) -> Result<(), Fail> {
     let mut lot = lot_where(&rt, rt.alloc(), 1, &[(0, 1)], true)?;
-    assert_eq!(rt; resolve(&mut lot, 0), (Err(Misfit), None));
+    expect_equal(&rt, resolve(&mut lot, 0), (Err(Misfit), None));
     expect_timed_out(&rt, &mut lot, 0, (1, true));
     expect_status(&rt, &lot, 0, Status::Running);
-    assert_eq!(rt; lot.unpark_all(1, TOKEN), 0);
+    expect_equal(&rt, lot.unpark_all(1, TOKEN), 0);
     Ok(())
 }
 
 #[test]
 fn a_late_thread_that_was_unparked_gets_the_token(rt: HostRuntime) -> Result<(), Fail> {
     let mut lot = lot_where(&rt, rt.alloc(), 1, &[(0, 1)], true)?;
-    assert_eq!(rt; lot.deadline(0), Ok(()));
-    assert_eq!(rt; lot.unpark_one(1, |_| TOKEN), unparked(1, false));
+    expect_equal(&rt, lot.deadline(0), Ok(()));
+    expect_equal(&rt, lot.unpark_one(1, |_| TOKEN), unparked(1, false));
     for expected in [(Ok(ParkResult::Unparked(TOKEN)), None), (Err(Misfit), None)] {
-        assert_eq!(rt; resolve(&mut lot, 0), expected);
+        expect_equal(&rt, resolve(&mut lot, 0), expected);
     }
     Ok(())
 }
@@ -349,7 +354,7 @@ fn a_thread_that_times_out_leaves_the_others_of_its_key(rt: HostRuntime) -> Resu
 fn an_entry_that_is_not_valid_changes_nothing(rt: HostRuntime) -> Result<(), Fail> {
     let mut lot = lot_with(rt.alloc(), 1)?;
     let entered = lot.enter(0, 7, || false, DEFAULT_PARK_TOKEN, true);
-    assert_eq!(rt; entered, Ok(false));
+    expect_equal(&rt, entered, Ok(false));
     expect_status(&rt, &lot, 0, Status::Running);
     expect_lists(&rt, &lot, &[(7, [].as_slice())])?;
     Ok(())
@@ -359,7 +364,7 @@ fn an_entry_that_is_not_valid_changes_nothing(rt: HostRuntime) -> Result<(), Fai
 fn a_step_that_does_not_fit_calls_no_closure(rt: HostRuntime) -> Result<(), Fail> {
     let mut lot = lot_with(rt.alloc(), 1)?;
     for number in 0..2 {
-        assert_eq!(rt; lot.give_back(number), Err(Misfit));
+        expect_equal(&rt, lot.give_back(number), Err(Misfit));
     }
     enter(&rt, &mut lot, (0, 7), false);
     let mut called = false;
@@ -373,7 +378,7 @@ fn a_step_that_does_not_fit_calls_no_closure(rt: HostRuntime) -> Result<(), Fail
         DEFAULT_PARK_TOKEN,
         false,
     );
-    assert_eq!(rt; entered, Err(Misfit));
+    expect_equal(&rt, entered, Err(Misfit));
     assert!(rt; !called);
     expect_lists(&rt, &lot, &[(7, [0].as_slice())])?;
     Ok(())
@@ -387,9 +392,9 @@ fn a_refused_request_for_memory_changes_nothing(rt: HostRuntime) {
         return;
     };
     let refused = lot.register().is_err();
-    assert_eq!(rt; lot.status(0) == Status::Free, refused);
+    expect_equal(&rt, lot.status(0) == Status::Free, refused);
     if refused {
-        assert_eq!(rt; lot.register(), Ok(0));
+        expect_equal(&rt, lot.register(), Ok(0));
     }
     enter(&rt, &mut lot, (0, 7), false);
     let first = lot.list(7).is_err();
@@ -412,7 +417,7 @@ fn a_requeue_calls_back_with_its_answer_unless_it_aborts(rt: HostRuntime) -> Res
     ] {
         let waiters = [(0, key), (1, key)];
         let mut lot = lot_where(&rt, rt.alloc(), 2, &waiters, false)?;
-        assert_eq!(rt; requeue(&mut lot, op), expected, "{op:?}");
+        expect_equal(&rt, (op, requeue(&mut lot, op)), (op, expected));
         expect_lists(&rt, &lot, &[(1, on_1), (2, on_2)])?;
     }
     Ok(())
@@ -422,7 +427,7 @@ fn a_requeue_calls_back_with_its_answer_unless_it_aborts(rt: HostRuntime) -> Res
 fn a_requeued_thread_times_out_on_its_new_key(rt: HostRuntime) -> Result<(), Fail> {
     let mut lot = lot_where(&rt, rt.alloc(), 2, &[(0, 1), (1, 1)], true)?;
     let (answer, _) = requeue(&mut lot, RequeueOp::RequeueAll);
-    assert_eq!(rt; answer, requeued(2));
+    expect_equal(&rt, answer, requeued(2));
     expect_timed_out(&rt, &mut lot, 0, (2, false));
     expect_lists(&rt, &lot, &[(2, [1].as_slice())])?;
     Ok(())
@@ -435,12 +440,12 @@ fn a_refused_registration_leaves_the_list_of_each_key(rt: HostRuntime) -> Result
     let mut lot = lot_where(&rt, rt.alloc(), 5, &[(0, 1)], false)?;
     let lists = [(1, [0].as_slice())];
     if let Err(refused) = lot.register() {
-        assert_eq!(rt; refused, LotError::NoMemory);
+        expect_equal(&rt, refused, LotError::NoMemory);
         expect_counts(&rt, &lot, (5, 16));
         expect_lists(&rt, &lot, &lists)?;
-        assert_eq!(rt; lot.register(), Ok(5));
+        expect_equal(&rt, lot.register(), Ok(5));
     }
-    assert_eq!(rt; lot.register(), Err(LotError::Full));
+    expect_equal(&rt, lot.register(), Err(LotError::Full));
     expect_counts(&rt, &lot, (6, 32));
     expect_lists(&rt, &lot, &lists)?;
     Ok(())
@@ -451,17 +456,17 @@ fn a_refused_registration_leaves_the_list_of_each_key(rt: HostRuntime) -> Result
 fn a_thread_has_records_of_what_it_holds(rt: HostRuntime) -> Result<(), Fail> {
     let mut lot = lot_with(rt.alloc(), 1)?;
     for key in [5, 5, 7] {
-        assert_eq!(rt; lot.acquire(0, key), Ok(()));
+        expect_equal(&rt, lot.acquire(0, key), Ok(()));
     }
     for key in [5, 9] {
-        assert_eq!(rt; lot.release(0, key), Ok(()));
+        expect_equal(&rt, lot.release(0, key), Ok(()));
     }
     for (valid, expected) in [(false, Ok(false)), (true, Ok(true)), (false, Err(Misfit))] {
         let entered = lot.enter(0, 1, || valid, DEFAULT_PARK_TOKEN, false);
-        assert_eq!(rt; entered, expected);
+        expect_equal(&rt, entered, expected);
     }
-    assert_eq!(rt; lot.acquire(0, 5), Err(StepError::Misfit));
-    assert_eq!(rt; lot.release(0, 5), Err(Misfit));
+    expect_equal(&rt, lot.acquire(0, 5), Err(StepError::Misfit));
+    expect_equal(&rt, lot.release(0, 5), Err(Misfit));
     for (thread, key, times) in [(0, 5, 1), (0, 7, 1), (0, 9, 0), (6, 5, 0)] {
         expect_records(&rt, &lot, (thread, key), times);
     }
@@ -472,10 +477,14 @@ fn a_thread_has_records_of_what_it_holds(rt: HostRuntime) -> Result<(), Fail> {
 #[test]
 fn a_record_that_is_released_again_leaves_the_others(rt: HostRuntime) -> Result<(), Fail> {
     let mut lot = lot_with(rt.alloc(), 1)?;
-    assert_eq!(rt; lot.acquire(0, 5), Ok(()));
-    assert_eq!(rt; acquire_and_release(&mut lot, 0, 5), Ok(()));
+    expect_equal(&rt, lot.acquire(0, 5), Ok(()));
+    expect_equal(&rt, acquire_and_release(&mut lot, 0, 5), Ok(()));
     expect_records(&rt, &lot, (0, 5), 1);
-    assert_eq!(rt; acquire_and_release(&mut lot, 1, 5), Err(StepError::Misfit));
+    expect_equal(
+        &rt,
+        acquire_and_release(&mut lot, 1, 5),
+        Err(StepError::Misfit),
+    );
     Ok(())
 }
 
@@ -484,11 +493,12 @@ fn all_waiters_are_requeued_to_their_own_key_and_unparked_by_a_filter(
     rt: HostRuntime,
 ) -> Result<(), Fail> {
     let mut lot = lot_where(&rt, rt.alloc(), 2, &[(0, 1), (1, 1)], false)?;
-    assert_eq!(rt; requeue_all_to_itself(&mut lot, 1), requeued(2));
+    expect_equal(&rt, requeue_all_to_itself(&mut lot, 1), requeued(2));
     expect_lists(&rt, &lot, &[(1, [0, 1].as_slice())])?;
-    assert_eq!(rt;
+    expect_equal(
+        &rt,
         unpark_all_by_filter(&mut lot, 1, TOKEN),
-        unparked(2, false)
+        unparked(2, false),
     );
     for number in 0..2 {
         expect_status(&rt, &lot, number, Status::Taken(TOKEN));
@@ -501,12 +511,12 @@ fn all_waiters_are_requeued_to_their_own_key_and_unparked_by_a_filter(
 fn records_go_when_the_thread_retires(rt: HostRuntime) -> Result<(), Fail> {
     let mut lot = lot_with(rt.alloc(), 2)?;
     for number in 0..2 {
-        assert_eq!(rt; lot.acquire(number, 5), Ok(()));
+        expect_equal(&rt, lot.acquire(number, 5), Ok(()));
     }
-    assert_eq!(rt; lot.retire(0), Ok(()));
+    expect_equal(&rt, lot.retire(0), Ok(()));
     expect_records(&rt, &lot, (0, 5), 0);
     expect_records(&rt, &lot, (1, 5), 1);
-    assert_eq!(rt; lot.register(), Ok(0));
+    expect_equal(&rt, lot.register(), Ok(0));
     expect_records(&rt, &lot, (0, 5), 0);
     expect_records(&rt, &lot, (1, 5), 1);
     Ok(())
@@ -523,13 +533,13 @@ fn a_refused_recording_changes_no_records(rt: HostRuntime) {
     for _ in 0..20 {
         match lot.acquire(0, 5) {
             Ok(()) => times = times.wrapping_add(1),
-            Err(refused) => assert_eq!(rt; refused, StepError::NoMemory),
+            Err(refused) => expect_equal(&rt, refused, StepError::NoMemory),
         }
         expect_records(&rt, &lot, (0, 5), times);
     }
     assert!(rt; times >= 19);
     for left in (0..times).rev() {
-        assert_eq!(rt; lot.release(0, 5), Ok(()));
+        expect_equal(&rt, lot.release(0, 5), Ok(()));
         expect_records(&rt, &lot, (0, 5), left);
     }
 }
@@ -539,10 +549,10 @@ fn a_refused_recording_changes_no_records(rt: HostRuntime) {
 fn a_lot_has_1024_threads_and_a_thread_1000_records(rt: HostRuntime) -> Result<(), Fail> {
     let mut lot = Lot::new(rt.alloc(), 1_024)?;
     for number in 0..1_024 {
-        assert_eq!(rt; lot.register(), Ok(number));
+        expect_equal(&rt, lot.register(), Ok(number));
     }
     for key in 0..1_000 {
-        assert_eq!(rt; lot.acquire(1_023, usize::MAX - key), Ok(()));
+        expect_equal(&rt, lot.acquire(1_023, usize::MAX - key), Ok(()));
     }
     expect_records(&rt, &lot, (1_023, usize::MAX), 1);
     Ok(())

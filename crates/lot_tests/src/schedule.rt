@@ -2,6 +2,7 @@
 
 mod compare;
 
+use crate::expect_equal;
 use lot_base::token::{FilterOp, LotError, NoMemory, RequeueOp, UnparkToken};
 use lot_exclusive::lot::{Lot, Status};
 use lot_exclusive::schedule::{Answer, Step, run};
@@ -44,7 +45,7 @@ fn expect(
 ) -> Result<(), NoMemory> {
     let mut answers = Vec::new(alloc);
     run(lot, steps, &mut answers)?;
-    assert_eq!(rt; answers.as_slice(), expected);
+    expect_equal(rt, answers.as_slice(), expected);
     Ok(())
 }
 
@@ -55,8 +56,8 @@ fn expect_lists(
     on_1: &[usize],
     on_2: &[usize],
 ) -> Result<(), NoMemory> {
-    assert_eq!(rt; lot.list(1)?.as_slice(), on_1, "key 1");
-    assert_eq!(rt; lot.list(2)?.as_slice(), on_2, "key 2");
+    expect_equal(rt, lot.list(1)?.as_slice(), on_1);
+    expect_equal(rt, lot.list(2)?.as_slice(), on_2);
     Ok(())
 }
 
@@ -75,7 +76,7 @@ fn six_threads_are_registered_and_the_seventh_is_refused(rt: HostRuntime) -> Res
         &[Step::Register],
         &[Answer::Full],
     )?;
-    assert_eq!(rt; lot.size(), 32);
+    expect_equal(&rt, lot.size(), 32);
     Ok(())
 }
 
@@ -93,7 +94,7 @@ fn expect_requeue(
     let steps = [unpark(requeue((1, to), op, 9))];
     expect(rt, alloc, &mut lot, &steps, &[answer])?;
     for number in taken {
-        assert_eq!(rt; lot.status(*number), Status::Taken(UnparkToken(9)));
+        expect_equal(rt, lot.status(*number), Status::Taken(UnparkToken(9)));
     }
     expect_lists(rt, &lot, on_1, on_2)?;
     Ok(lot)
@@ -108,7 +109,7 @@ fn the_first_is_unparked_and_the_rest_stand_behind_the_second_key(
     let lists = ([].as_slice(), [D, B, C].as_slice());
     let answer = unparked(1, 2, false);
     let lot = expect_requeue(&rt, rt.alloc(), &waiters, moves, answer, &[A], lists)?;
-    assert_eq!(rt; lot.status(B), WAITS);
+    expect_equal(&rt, lot.status(B), WAITS);
     Ok(())
 }
 
@@ -172,7 +173,7 @@ fn expect_filter(
     let steps = [unpark(filter(alloc, 1, decisions, 9)?)];
     expect(rt, alloc, &mut lot, &steps, &[answer])?;
     for number in taken {
-        assert_eq!(rt; lot.status(*number), Status::Taken(UnparkToken(9)));
+        expect_equal(rt, lot.status(*number), Status::Taken(UnparkToken(9)));
     }
     expect_lists(rt, &lot, left, &[])?;
     Ok(())
@@ -291,7 +292,7 @@ fn an_untimed_waiter_stays_until_it_is_handed_a_token(rt: HostRuntime) -> Result
         Answer::Unparked(UnparkToken(usize::MAX)),
     ];
     expect(&rt, rt.alloc(), &mut lot, &steps, &answers)?;
-    assert_eq!(rt; lot.status(A), Status::Running);
+    expect_equal(&rt, lot.status(A), Status::Running);
     Ok(())
 }
 
@@ -311,7 +312,7 @@ fn no_step_fits_a_free_number(rt: HostRuntime) -> Result<(), Fail> {
             release(thread, 1),
         ];
         expect(&rt, rt.alloc(), &mut lot, &steps, &[Answer::Misfit; 8])?;
-        assert_eq!(rt; lot.status(thread), Status::Free);
+        expect_equal(&rt, lot.status(thread), Status::Free);
     }
     expect_lists(&rt, &lot, &[], &[])?;
     Ok(())
@@ -345,7 +346,7 @@ fn records_are_counted_while_the_thread_runs(rt: HostRuntime) -> Result<(), Fail
     ];
     expect(&rt, rt.alloc(), &mut lot, &steps, &answers)?;
     for (key, times) in [(5, 1), (7, 1), (9, 0)] {
-        assert_eq!(rt; lot.records(A, key), times, "key {key}");
+        expect_equal(&rt, (key, lot.records(A, key)), (key, times));
     }
     Ok(())
 }
@@ -356,7 +357,7 @@ fn answers_stand_behind_those_that_are_there(rt: HostRuntime) -> Result<(), Fail
     let mut lot = lot_of(rt.alloc(), &[])?;
     let mut answers = Vec::new(rt.alloc());
     run(&mut lot, &[], &mut answers)?;
-    assert_eq!(rt; answers.len(), 0);
+    expect_equal(&rt, answers.len(), 0);
 
     run(
         &mut lot,
@@ -366,7 +367,7 @@ fn answers_stand_behind_those_that_are_there(rt: HostRuntime) -> Result<(), Fail
     run(&mut lot, &[], &mut answers)?;
     run(&mut lot, &[Step::Retire { thread: D }], &mut answers)?;
     let expected = [Answer::Invalid, Answer::Count(0), Answer::Retired];
-    assert_eq!(rt; answers.as_slice(), expected.as_slice());
+    expect_equal(&rt, answers.as_slice(), expected.as_slice());
     Ok(())
 }
 
@@ -381,9 +382,9 @@ fn a_run_without_room_for_its_answers_changes_nothing(rt: HostRuntime) {
     let steps = [Step::Register, acquire(A, 5), enter(A, 7, false)];
     let mut answers = Vec::new(rt.alloc());
     if run(&mut lot, &steps, &mut answers).is_err() {
-        assert_eq!(rt; (answers.len(), lot.registered()), (0, 0));
+        expect_equal(&rt, (answers.len(), lot.registered()), (0, 0));
         assert!(rt; run(&mut lot, &steps, &mut answers).is_ok());
-        assert_eq!(rt; lot.status(A), WAITS);
+        expect_equal(&rt, lot.status(A), WAITS);
     }
     let (expected, status) = match (lot.registered(), lot.records(A, 5)) {
         (0, _) => (
@@ -399,6 +400,6 @@ fn a_run_without_room_for_its_answers_changes_nothing(rt: HostRuntime) {
             WAITS,
         ),
     };
-    assert_eq!(rt; answers.as_slice(), expected.as_slice());
-    assert_eq!(rt; lot.status(A), status);
+    expect_equal(&rt, answers.as_slice(), expected.as_slice());
+    expect_equal(&rt, lot.status(A), status);
 }

@@ -1,6 +1,7 @@
 //! Worked rows of the table. The threads a, b and c are 0, 1 and 2, and the keys 0 and 13 have
 //! place 0 in a table of 16.
 
+use crate::expect_equal;
 use lot_base::queue::Node;
 use lot_base::token::{LotError, NoMemory, ParkToken};
 use lot_exclusive::table::Table;
@@ -27,7 +28,7 @@ fn expect_lists(
 ) -> Result<(), NoMemory> {
     for (key, numbers) in rows {
         let list = table.bucket(*key).list(alloc, *key)?;
-        assert_eq!(rt; list.as_slice(), *numbers, "key {key}");
+        expect_equal(rt, (key, list.as_slice()), (key, *numbers));
     }
     Ok(())
 }
@@ -48,15 +49,19 @@ fn expect_number(
     number: usize,
     counts: (usize, usize),
 ) -> Result<(), LotError> {
-    assert_eq!(rt; table.register()?, number);
-    assert_eq!(rt; (table.registered(), table.size()), counts, "{number}");
+    expect_equal(rt, table.register()?, number);
+    expect_equal(
+        rt,
+        (number, (table.registered(), table.size())),
+        (number, counts),
+    );
     Ok(())
 }
 
 #[test]
 fn numbers_are_given_from_the_least_free_one_on(rt: HostRuntime) -> Result<(), Fail> {
     let mut table = Table::new(rt.alloc(), 40)?;
-    assert_eq!(rt; (table.registered(), table.size()), (0, 16));
+    expect_equal(&rt, (table.registered(), table.size()), (0, 16));
     for number in 0..11 {
         let size = match number {
             0..=4 => 16,
@@ -67,35 +72,35 @@ fn numbers_are_given_from_the_least_free_one_on(rt: HostRuntime) -> Result<(), F
     }
     for number in [2, 2, 30] {
         table.release(number);
-        assert_eq!(rt; (table.registered(), table.size()), (10, 64));
+        expect_equal(&rt, (table.registered(), table.size()), (10, 64));
     }
     expect_number(&rt, &mut table, 2, (11, 64))?;
 
     for number in 0..50 {
         table.release(number);
     }
-    assert_eq!(rt; (table.registered(), table.size()), (0, 64));
+    expect_equal(&rt, (table.registered(), table.size()), (0, 64));
     Ok(())
 }
 
 #[test]
 fn a_table_is_for_at_most_1024_threads(rt: HostRuntime) {
     let refused = Table::new(rt.alloc(), 1_025);
-    assert_eq!(rt; refused.err(), Some(LotError::TooManyThreads));
+    expect_equal(&rt, refused.err(), Some(LotError::TooManyThreads));
     let made = Table::new(rt.alloc(), 1_024);
-    assert_eq!(rt; made.err(), None);
+    expect_equal(&rt, made.err(), None);
 }
 
 #[test]
 fn a_full_table_refuses_a_registration(rt: HostRuntime) -> Result<(), Fail> {
     let mut none = table_of(rt.alloc(), 0, 0)?;
-    assert_eq!(rt; none.register(), Err(LotError::Full));
+    expect_equal(&rt, none.register(), Err(LotError::Full));
 
     let mut table = table_of(rt.alloc(), 5, 5)?;
-    assert_eq!(rt; table.register(), Err(LotError::Full));
-    assert_eq!(rt; (table.registered(), table.size()), (5, 16));
+    expect_equal(&rt, table.register(), Err(LotError::Full));
+    expect_equal(&rt, (table.registered(), table.size()), (5, 16));
     table.release(3);
-    assert_eq!(rt; table.register(), Ok(3));
+    expect_equal(&rt, table.register(), Ok(3));
     Ok(())
 }
 
@@ -106,22 +111,30 @@ fn growth_keeps_the_list_of_each_key(rt: HostRuntime) -> Result<(), Fail> {
     for (number, key) in [(0, 0), (1, 13), (2, 0)] {
         enter(alloc, &mut table, number, key)?;
     }
-    assert_eq!(rt; (table.bucket(0).place(), table.bucket(13).place()), (0, 0));
+    expect_equal(
+        &rt,
+        (table.bucket(0).place(), table.bucket(13).place()),
+        (0, 0),
+    );
     let lists = [(0, [0, 2].as_slice()), (13, [1].as_slice())];
 
     let number = match table.register() {
         Err(LotError::NoMemory) => {
-            assert_eq!(rt; (table.registered(), table.size()), (5, 16));
+            expect_equal(&rt, (table.registered(), table.size()), (5, 16));
             expect_lists(&rt, alloc, &table, &lists)?;
             table.register()?
         }
         registered => registered?,
     };
-    assert_eq!(rt; (number, table.registered(), table.size()), (5, 6, 32));
+    expect_equal(&rt, (number, table.registered(), table.size()), (5, 6, 32));
     expect_lists(&rt, alloc, &table, &lists)?;
     for (key, place) in [(0, 0), (13, 1)] {
         let bucket = table.bucket(key);
-        assert_eq!(rt; (bucket.place(), bucket.size()), (place, 32), "key {key}");
+        expect_equal(
+            &rt,
+            (key, (bucket.place(), bucket.size())),
+            (key, (place, 32)),
+        );
     }
     Ok(())
 }
@@ -151,8 +164,8 @@ fn the_size_goes_by_the_number_of_threads(rt: HostRuntime) -> Result<(), Fail> {
         for _ in table.registered()..threads {
             table.register()?;
         }
-        assert_eq!(rt; table.size(), size, "the size for {threads} threads");
+        expect_equal(&rt, (threads, table.size()), (threads, size));
     }
-    assert_eq!(rt; table.register(), Err(LotError::Full));
+    expect_equal(&rt, table.register(), Err(LotError::Full));
     Ok(())
 }

@@ -1,5 +1,6 @@
 //! The records of a thread, in its own data.
 
+use crate::expect_equal;
 use parking_lot_core::deadlock::{acquire_resource, release_resource};
 use parking_lot_core::{ParkingLot, ThreadData, ThreadParker};
 use std::process::Abort;
@@ -9,7 +10,7 @@ type Lot = ParkingLot<ThreadParker>;
 
 fn expect(rt: &impl Abort, data: &ThreadData, times: [(usize, usize); 3]) {
     for (key, expected) in times {
-        assert_eq!(rt; data.records(key), expected, "key {key}");
+        expect_equal(rt, (key, data.records(key)), (key, expected));
     }
 }
 
@@ -21,13 +22,13 @@ fn a_thread_records_each_key_as_often_as_it_holds_it(rt: HostRuntime) -> Result<
     let mut data = lot.thread_data(&rt, rt.alloc())?;
     expect(&rt, &data, [(5, 0), (7, 0), (9, 0)]);
     for key in [5, 5, 7] {
-        assert_eq!(rt; acquire_resource(&mut data, key), Ok(()));
+        expect_equal(&rt, acquire_resource(&mut data, key), Ok(()));
     }
     expect(&rt, &data, [(5, 2), (7, 1), (9, 0)]);
     release_resource(&mut data, 5);
     release_resource(&mut data, 9);
     expect(&rt, &data, [(5, 1), (7, 1), (9, 0)]);
-    assert_eq!(rt; data.number(), 0);
+    expect_equal(&rt, data.number(), 0);
     Ok(())
 }
 
@@ -48,7 +49,7 @@ fn a_recording_that_is_refused_leaves_the_records(rt: HostRuntime) {
         [(5, if refused { 0 } else { 1 }), (7, 0), (9, 0)],
     );
     if refused {
-        assert_eq!(rt; acquire_resource(&mut data, 5), Ok(()));
+        expect_equal(&rt, acquire_resource(&mut data, 5), Ok(()));
     }
     expect(&rt, &data, [(5, 1), (7, 0), (9, 0)]);
     release_resource(&mut data, 5);

@@ -4,6 +4,7 @@ mod alone;
 mod races;
 mod together;
 
+use crate::expect_equal;
 use lot_base::thread_parker::{ThreadParker, ThreadParkerT, YieldParker};
 use lot_base::token::{
     DEFAULT_PARK_TOKEN, DEFAULT_UNPARK_TOKEN, FilterOp, LotError, NoMemory, ParkResult, ParkToken,
@@ -129,7 +130,7 @@ fn expect_list<P: ThreadParkerT, R: Wait + Abort>(
     numbers: &[usize],
 ) -> Result<(), NoMemory> {
     let waiting = lot.list(rt, alloc, key)?;
-    assert_eq!(rt; waiting.as_slice(), numbers, "key {key}");
+    expect_equal(rt, (key, waiting.as_slice()), (key, numbers));
     Ok(())
 }
 
@@ -191,9 +192,10 @@ fn two_threads_park_and_unpark(rt: HostRuntime) -> Result<(), Fail> {
         unpark_by_turns(&rt, &lot, KEY, UnparkToken(42)),
         "nobody parked"
     );
-    assert_eq!(rt;
+    expect_equal(
+        &rt,
         waiter.join(&rt),
-        Some(ParkResult::Unparked(UnparkToken(42)))
+        Some(ParkResult::Unparked(UnparkToken(42))),
     );
     Ok(())
 }
@@ -218,9 +220,9 @@ fn a_park_that_is_not_valid_ends_at_once(rt: HostRuntime) -> Result<(), Fail> {
         DEFAULT_PARK_TOKEN,
         None,
     );
-    assert_eq!(rt; result, ParkResult::Invalid);
-    assert_eq!(rt; validations, 1);
-    assert_eq!(rt; data.number(), 0);
+    expect_equal(&rt, result, ParkResult::Invalid);
+    expect_equal(&rt, validations, 1);
+    expect_equal(&rt, data.number(), 0);
     Ok(expect_list(&rt, rt.alloc(), &lot, KEY, &[])?)
 }
 
@@ -233,8 +235,8 @@ fn an_unpark_of_nobody_calls_back_with_the_default_result(rt: HostRuntime) -> Re
         told = Some(answer);
         DEFAULT_UNPARK_TOKEN
     });
-    assert_eq!(rt; result, UnparkResult::default());
-    assert_eq!(rt; told, Some(UnparkResult::default()));
+    expect_equal(&rt, result, UnparkResult::default());
+    expect_equal(&rt, told, Some(UnparkResult::default()));
     Ok(())
 }
 
@@ -243,19 +245,20 @@ fn an_unpark_of_nobody_calls_back_with_the_default_result(rt: HostRuntime) -> Re
 #[test]
 fn dropped_data_keeps_its_number_and_retired_data_frees_it(rt: HostRuntime) -> Result<(), Fail> {
     let lot = Lot::new(rt.alloc(), 3)?;
-    assert_eq!(rt; lot.max_threads(), 3);
+    expect_equal(&rt, lot.max_threads(), 3);
     let first = lot.thread_data(&rt, rt.alloc())?;
     let second = lot.thread_data(&rt, rt.alloc())?;
     let third = lot.thread_data(&rt, rt.alloc())?;
-    assert_eq!(rt;
+    expect_equal(
+        &rt,
         (first.number(), second.number(), third.number()),
-        (0, 1, 2)
+        (0, 1, 2),
     );
     drop(first);
     assert!(rt; is_full(&rt, rt.alloc(), &lot));
     assert!(rt; lot.accepts(&second));
     lot.retire(&rt, second);
-    assert_eq!(rt; lot.thread_data(&rt, rt.alloc())?.number(), 1);
+    expect_equal(&rt, lot.thread_data(&rt, rt.alloc())?.number(), 1);
     assert!(rt; is_full(&rt, rt.alloc(), &lot));
     Ok(())
 }
@@ -267,7 +270,7 @@ fn a_lot_accepts_no_number_that_only_a_larger_lot_has(rt: HostRuntime) -> Result
     for number in 0..3 {
         let data = larger.thread_data(&rt, rt.alloc())?;
         assert!(rt; larger.accepts(&data));
-        assert_eq!(rt; lot.accepts(&data), number < 2, "{number}");
+        expect_equal(&rt, (number, lot.accepts(&data)), (number, number < 2));
     }
     Ok(())
 }
@@ -277,7 +280,7 @@ fn a_lot_accepts_no_number_that_only_a_larger_lot_has(rt: HostRuntime) -> Result
 fn a_lot_is_for_at_most_1024_threads(rt: HostRuntime) -> Result<(), Fail> {
     let refused = Lot::new(rt.alloc(), 1_025);
     assert!(rt; matches!(&refused, Err(LotError::TooManyThreads)));
-    assert_eq!(rt; Lot::new(rt.alloc(), 1_024)?.max_threads(), 1_024);
+    expect_equal(&rt, Lot::new(rt.alloc(), 1_024)?.max_threads(), 1_024);
     let without_threads = Lot::new(rt.alloc(), 0)?;
     assert!(rt; is_full(&rt, rt.alloc(), &without_threads));
     Ok(())
@@ -299,17 +302,17 @@ fn waiters_stay_where_the_table_grows_twice_under_them(rt: HostRuntime) -> Resul
         assert!(rt; come_by_turns(&rt, rt.alloc(), &lot, key, number / 2 + 1)?);
     }
     let numbers = register_eight(&rt, rt.alloc(), &lot)?;
-    assert_eq!(rt; numbers.as_slice(), &[4, 5, 6, 7, 8, 9, 10, 11][..]);
+    expect_equal(&rt, numbers.as_slice(), &[4, 5, 6, 7, 8, 9, 10, 11][..]);
     expect_list(&rt, rt.alloc(), &lot, 0, &[0, 2])?;
     expect_list(&rt, rt.alloc(), &lot, 13, &[1, 3])?;
     for (key, number) in [(0, 0), (13, 1), (0, 2), (13, 3)] {
         let result = unpark_one(&rt, &lot, key, |_| UnparkToken(10 + number));
-        assert_eq!(rt; result.unparked_threads, 1);
-        assert_eq!(rt; result.have_more_threads, number < 2);
+        expect_equal(&rt, result.unparked_threads, 1);
+        expect_equal(&rt, result.have_more_threads, number < 2);
     }
     for (number, waiter) in waiters.into_iter().enumerate() {
         let token = UnparkToken(10 + number);
-        assert_eq!(rt; waiter.join(&rt), Some(ParkResult::Unparked(token)));
+        expect_equal(&rt, waiter.join(&rt), Some(ParkResult::Unparked(token)));
     }
     Ok(())
 }
@@ -339,7 +342,7 @@ fn a_refused_request_for_memory_leaves_the_lot_as_it_was(rt: HostRuntime) -> Res
     };
     for number in 0..6 {
         let data = register_again_if_refused(&rt, rt.alloc(), &lot)?;
-        assert_eq!(rt; data.number(), number);
+        expect_equal(&rt, data.number(), number);
     }
     let seventh = register_again_if_refused(&rt, rt.alloc(), &lot);
     assert!(rt; matches!(&seventh, Err(LotError::Full)));

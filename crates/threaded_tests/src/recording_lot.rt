@@ -2,6 +2,7 @@
 
 ghost use Rattle.std.specs.Prelude.{◌≡◌};
 
+use crate::expect_equal;
 use lot_base::token::{DEFAULT_PARK_TOKEN, FilterOp, NoMemory, UnparkResult, UnparkToken};
 use lot_tools::record::{Record, RecordError};
 use lot_tools::recording_lot::{RecordingLot, Ticket};
@@ -88,12 +89,12 @@ fn use_two_tickets<C: Ledger, W: Ledger, U: Ledger, R: Wait + Abort>(
     ];
     for (ticket, step, answer) in steps {
         if let Some(ticket) = tickets.get_mut(ticket) {
-            assert_eq!(rt; lot.step(rt, ticket, step), Ok(answer));
+            expect_equal(rt, lot.step(rt, ticket, step), Ok(answer));
         }
     }
-    assert_eq!(rt; totals(&tickets[s]), (3, 1, 0));
-    assert_eq!(rt; totals(&tickets[t]), (3, 0, 1));
-    assert_eq!(rt; lot.close(tickets).journal().len(), 6);
+    expect_equal(rt, totals(&tickets[s]), (3, 1, 0));
+    expect_equal(rt, totals(&tickets[t]), (3, 0, 1));
+    expect_equal(rt, lot.close(tickets).journal().len(), 6);
     Ok(())
 }
 
@@ -132,13 +133,13 @@ fn fill_the_journal<C: Ledger, W: Ledger, U: Ledger, R: Wait + Abort>(
     ];
     for (step, expected) in steps {
         if let Some(ticket) = tickets.get_mut(0) {
-            assert_eq!(rt; lot.step(rt, ticket, step), expected);
+            expect_equal(rt, lot.step(rt, ticket, step), expected);
         }
     }
-    assert_eq!(rt; totals(&tickets[0]), (4, 0, 0));
+    expect_equal(rt, totals(&tickets[0]), (4, 0, 0));
     let recorded = lot.close(tickets);
     expect_replay(rt, alloc, &recorded, 1)?;
-    assert_eq!(rt; recorded.journal().len(), 4);
+    expect_equal(rt, recorded.journal().len(), 4);
     Ok(())
 }
 
@@ -157,7 +158,7 @@ fn expect_replay<R: Abort>(
 ) -> Result<(), Fail> {
     let mut lot = Lot::new(alloc, threads)?;
     for (step, answer) in recorded.journal() {
-        assert_eq!(rt; lot.apply(step), *answer);
+        expect_equal(rt, lot.apply(step), *answer);
     }
     Ok(())
 }
@@ -247,7 +248,7 @@ where
     }
     let recorded = lot.close(tickets);
     assert!(rt; counted > CALLS);
-    assert_eq!(rt; recorded.journal().len(), counted);
+    expect_equal(rt, recorded.journal().len(), counted);
     expect_replay(rt, alloc, &recorded, THREADS)
 }
 

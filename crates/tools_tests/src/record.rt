@@ -5,6 +5,7 @@ ghost use Rattle.lot_tools.specs.declared.record.TheConstants.{MAX_JOURNAL};
 
 mod plain;
 
+use crate::expect_equal;
 use lot_base::token::{FilterOp, LotError, NoMemory, RequeueOp, UnparkToken};
 use lot_exclusive::lot::Lot;
 use lot_exclusive::schedule::{Answer, Step};
@@ -27,13 +28,15 @@ const ROOM: usize = 40;
 
 #[test]
 fn each_refusal_has_its_text(rt: HostRuntime) -> Result<(), Fail> {
-    assert_eq!(&rt;
+    expect_equal(
+        &rt,
         RecordError::JournalFull.to_string(rt.alloc())?.as_str(),
-        "journal is full"
+        "journal is full",
     );
-    assert_eq!(&rt;
+    expect_equal(
+        &rt,
         RecordError::NoMemory.to_string(rt.alloc())?.as_str(),
-        "no memory"
+        "no memory",
     );
     Ok(())
 }
@@ -54,9 +57,9 @@ fn a_full_journal_has_room_for_the_end_of_a_park(rt: HostRuntime) -> Result<(), 
         (Step::Resolve { thread: 0 }, Ok(Answer::Misfit)),
     ];
     for (step, expected) in rows {
-        assert_eq!(&rt; record.step(step), expected);
+        expect_equal(&rt, record.step(step), expected);
     }
-    assert_eq!(&rt; record.journal().len(), 4);
+    expect_equal(&rt, record.journal().len(), 4);
     Ok(())
 }
 
@@ -67,32 +70,48 @@ fn a_skipping_filter_and_a_requeue_to_itself_are_journalled(rt: HostRuntime) -> 
         record.step(Step::Register).expect(&rt, "room");
     }
     for thread in 0..3 {
-        assert_eq!(&rt; record.step(enter(thread, 1, false)), Ok(Answer::Entered));
+        expect_equal(
+            &rt,
+            record.step(enter(thread, 1, false)),
+            Ok(Answer::Entered),
+        );
     }
     let decisions = [FilterOp::Skip, FilterOp::Unpark];
     let filtered = record.step(unpark(filter(rt.alloc(), 1, decisions.as_slice(), 5)?));
-    assert_eq!(&rt; filtered, Ok(unparked(1, 0, true)));
-    assert_eq!(&rt; record.lot().list(1)?.as_slice(), &[0, 2][..]);
+    expect_equal(&rt, filtered, Ok(unparked(1, 0, true)));
+    expect_equal(&rt, record.lot().list(1)?.as_slice(), &[0, 2][..]);
     let requeued = record.step(unpark(requeue(
         (1, 1),
         RequeueOp::UnparkOneRequeueRest,
         usize::MAX,
     )));
-    assert_eq!(&rt; requeued, Ok(unparked(1, 1, false)));
-    assert_eq!(&rt; record.lot().list(1)?.as_slice(), &[2][..]);
-    assert_eq!(&rt; record.journal().len(), 8);
+    expect_equal(&rt, requeued, Ok(unparked(1, 1, false)));
+    expect_equal(&rt, record.lot().list(1)?.as_slice(), &[2][..]);
+    expect_equal(&rt, record.journal().len(), 8);
     Ok(())
 }
 
 #[test]
 fn a_journal_without_room_takes_no_step_that_fits(rt: HostRuntime) -> Result<(), Fail> {
     let mut record = Record::new(rt.alloc(), 0, 0)?;
-    assert_eq!(&rt; record.step(Step::Register), Err(RecordError::JournalFull));
-    assert_eq!(&rt; record.step(Step::Retire { thread: 0 }), Ok(Answer::Misfit));
+    expect_equal(
+        &rt,
+        record.step(Step::Register),
+        Err(RecordError::JournalFull),
+    );
+    expect_equal(
+        &rt,
+        record.step(Step::Retire { thread: 0 }),
+        Ok(Answer::Misfit),
+    );
     let mut record = Record::new(rt.alloc(), 0, 1)?;
-    assert_eq!(&rt; record.step(Step::Register), Ok(Answer::Full));
-    assert_eq!(&rt; record.step(Step::Register), Err(RecordError::JournalFull));
-    assert_eq!(&rt; record.journal().len(), 1);
+    expect_equal(&rt, record.step(Step::Register), Ok(Answer::Full));
+    expect_equal(
+        &rt,
+        record.step(Step::Register),
+        Err(RecordError::JournalFull),
+    );
+    expect_equal(&rt, record.journal().len(), 1);
     Ok(())
 }
 
@@ -100,7 +119,7 @@ fn a_journal_without_room_takes_no_step_that_fits(rt: HostRuntime) -> Result<(),
 fn expect_replay(rt: &impl Abort, alloc: Global, record: &Record) -> Result<(), LotError> {
     let mut lot = Lot::new(alloc, THREADS)?;
     for (step, answer) in record.journal() {
-        assert_eq!(rt; lot.apply(step), *answer);
+        expect_equal(rt, lot.apply(step), *answer);
     }
     Ok(())
 }
@@ -116,13 +135,13 @@ fn expect_plain(rt: &impl Abort, alloc: Global, capacity: usize) -> Result<(), L
     for number in 0..STEPS {
         let step = arbitrary.step(alloc, THREADS + 1)?;
         let expected = plain.step(&step)?;
-        assert_eq!(rt;
-            record.step(step),
-            expected,
-            "step {number} of room {capacity}"
+        expect_equal(
+            rt,
+            (number, capacity, record.step(step)),
+            (number, capacity, expected),
         );
     }
-    assert_eq!(rt; record.journal().len(), plain.entries());
+    expect_equal(rt, record.journal().len(), plain.entries());
     expect_replay(rt, alloc, &record)
 }
 

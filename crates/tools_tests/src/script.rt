@@ -4,6 +4,7 @@ mod ends;
 mod small;
 mod terminal;
 
+use crate::expect_equal;
 use lot_tools::script::{Cause, Fault, script};
 use std::alloc::Global;
 use std::process::Abort;
@@ -168,7 +169,7 @@ fn faults_have_their_texts(rt: HostRuntime) -> Result<(), Fail> {
     ];
     for (cause, text) in rows {
         let fault = Fault { line: 7, cause };
-        assert_eq!(rt; fault.to_string(rt.alloc())?.as_str(), text);
+        expect_equal(&rt, fault.to_string(rt.alloc())?.as_str(), text);
     }
     Ok(())
 }

@@ -1,6 +1,6 @@
 //! Tests of the event among threads.
 
-use crate::expect;
+use crate::expect_equal;
 use parking_lot_core::{ParkingLot, ThreadData, ThreadParker, ThreadParkerT};
 use std::alloc::Global;
 use std::sync::{Arc, Wait};
@@ -80,7 +80,7 @@ fn the_event_wakes_every_thread(rt: HostRuntime) -> Result<(), Fail> {
     }
     come_by_turns(&rt, rt.alloc(), &shared.lot).expect(&rt, "the waiters");
     assert!(rt; !shared.event.is_set());
-    expect(&rt, shared.event.set(&rt, &shared.lot), THREADS);
+    expect_equal(&rt, shared.event.set(&rt, &shared.lot), THREADS);
     for waiter in waiters {
         assert!(rt; waiter.join(&rt));
     }
@@ -88,6 +88,6 @@ fn the_event_wakes_every_thread(rt: HostRuntime) -> Result<(), Fail> {
     // Who comes after the event does not sleep.
     let mut data = shared.lot.thread_data(&rt, rt.alloc())?;
     assert!(rt; shared.event.wait(&rt, &shared.lot, &mut data, None));
-    expect(&rt, shared.event.set(&rt, &shared.lot), 0);
+    expect_equal(&rt, shared.event.set(&rt, &shared.lot), 0);
     Ok(())
 }

@@ -1,6 +1,6 @@
 //! Tests of what an interleaved schedule amounts to.
 
-use crate::expect;
+use crate::expect_equal;
 use parking_lot_core::interleaved::{FineAnswer, FineStep};
 use parking_lot_core::schedule::{Answer, Op, Step};
 use parking_lot_core::{DEFAULT_PARK_TOKEN, UnparkToken};
@@ -41,8 +41,8 @@ fn a_deadline_that_an_unpark_overtook_is_no_step(rt: HostRuntime) -> Result<(), 
         FineAnswer::Read(1),
         FineAnswer::Answer(Answer::Unparked(token)),
     ];
-    expect(&rt, answers.as_slice(), expected.as_slice());
-    expect(&rt, sequential.len(), 4);
+    expect_equal(&rt, answers.as_slice(), expected.as_slice());
+    expect_equal(&rt, sequential.len(), 4);
     assert!(rt; matches!(sequential.last(), Some(Step::Return { thread: 0 })));
     Ok(())
 }

@@ -23,8 +23,9 @@ use std::fmt::Debug;
 #[cfg(test)]
 use std::process::Abort;
 
-// Compares what was found with what is expected. A comparison in a function is proved once.
+// Compares what was found with what is expected. For any type it is proved once; an `assert_eq!` of
+// lists or tuples costs a proof seconds wherever it stands.
 #[cfg(test)]
-fn expect<T: PartialEq + Debug + Drop>(rt: &impl Abort, found: T, expected: T) {
+fn expect_equal<T: PartialEq + Debug + Drop>(rt: &impl Abort, found: T, expected: T) {
     assert_eq!(rt; found, expected);
 }

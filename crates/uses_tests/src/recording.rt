@@ -1,6 +1,6 @@
 //! Tests of recordings and their replay.
 
-use crate::expect;
+use crate::expect_equal;
 use lot_tools::record::{Record, RecordError};
 use parking_lot_core::DEFAULT_PARK_TOKEN;
 use parking_lot_core::lot::{Lot, Status};
@@ -18,9 +18,9 @@ fn a_journal_of_two_threads_replays(rt: HostRuntime) -> Result<(), Fail> {
         assert!(&rt; recorded.journal().len() > 2);
         let mut lot = Lot::new(rt.alloc(), 2)?;
         for (step, answer) in recorded.journal() {
-            expect(&rt, lot.apply(step), *answer);
+            expect_equal(&rt, lot.apply(step), *answer);
         }
-        expect(
+        expect_equal(
             &rt,
             lot.list(7)?.as_slice(),
             recorded.lot().list(7)?.as_slice(),
@@ -36,7 +36,7 @@ fn a_replay_gives_a_lot_like_the_records(rt: HostRuntime) -> Result<(), Fail> {
         assert!(&rt; recorded.step(step).is_ok());
     }
     let lot = replay(rt.alloc(), &recorded)?;
-    expect(
+    expect_equal(
         &rt,
         (lot.status(0), lot.status(1)),
         (Status::Free, Status::Running),
@@ -47,7 +47,7 @@ fn a_replay_gives_a_lot_like_the_records(rt: HostRuntime) -> Result<(), Fail> {
 #[test]
 fn a_park_ends_where_the_journal_is_full(rt: HostRuntime) -> Result<(), Fail> {
     let mut recorded = Record::new(rt.alloc(), 1, 4)?;
-    expect(
+    expect_equal(
         &rt,
         recorded.step(Step::Register),
         Ok(Answer::Registered(0)),
@@ -59,23 +59,23 @@ fn a_park_ends_where_the_journal_is_full(rt: HostRuntime) -> Result<(), Fail> {
         park_token: DEFAULT_PARK_TOKEN,
         timed: true,
     };
-    expect(&rt, recorded.step(enter), Ok(Answer::Entered));
-    expect(
+    expect_equal(&rt, recorded.step(enter), Ok(Answer::Entered));
+    expect_equal(
         &rt,
         recorded.step(Step::Register),
         Err(RecordError::JournalFull),
     );
-    expect(&rt, end_park(&mut recorded, 0), Answer::Misfit);
-    expect(
+    expect_equal(&rt, end_park(&mut recorded, 0), Answer::Misfit);
+    expect_equal(
         &rt,
         recorded.step(Step::Deadline { thread: 0 }),
         Ok(Answer::Late),
     );
-    expect(
+    expect_equal(
         &rt,
         end_park(&mut recorded, 0),
         Answer::TimedOut { key: 7, last: true },
     );
-    expect(&rt, recorded.journal().len(), 4);
+    expect_equal(&rt, recorded.journal().len(), 4);
     Ok(())
 }

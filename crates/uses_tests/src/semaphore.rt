@@ -1,6 +1,6 @@
 //! Tests of the semaphore for the tasks of a simulation.
 
-use crate::expect;
+use crate::expect_equal;
 use parking_lot_core::lot::Lot;
 use parking_lot_core::{LotError, Misfit, ParkResult};
 use std::alloc::Global;
@@ -26,25 +26,25 @@ fn lot_of_two(alloc: Global) -> Result<Lot, LotError> {
 fn a_permit_goes_from_hand_to_hand(rt: HostRuntime) -> Result<(), Fail> {
     let mut lot = lot_of_two(rt.alloc())?;
     let mut semaphore = Semaphore::new(KEY, 1);
-    expect(
+    expect_equal(
         &rt,
         semaphore.acquire(&mut lot, A, false),
         Ok(Acquired::Now),
     );
-    expect(&rt, semaphore.permits(), 0);
-    expect(
+    expect_equal(&rt, semaphore.permits(), 0);
+    expect_equal(
         &rt,
         semaphore.acquire(&mut lot, B, true),
         Ok(Acquired::Parked),
     );
-    expect(&rt, semaphore.acquire(&mut lot, B, true), Err(Misfit));
-    expect(&rt, lot.list(KEY)?.as_slice(), [B].as_slice());
-    expect(&rt, semaphore.permits(), 0);
+    expect_equal(&rt, semaphore.acquire(&mut lot, B, true), Err(Misfit));
+    expect_equal(&rt, lot.list(KEY)?.as_slice(), [B].as_slice());
+    expect_equal(&rt, semaphore.permits(), 0);
     assert!(rt; semaphore.release(&mut lot));
-    expect(&rt, semaphore.permits(), 0);
-    expect(&rt, lot.give_back(B), Ok(PERMIT));
+    expect_equal(&rt, semaphore.permits(), 0);
+    expect_equal(&rt, lot.give_back(B), Ok(PERMIT));
     assert!(rt; !semaphore.release(&mut lot));
-    expect(&rt, semaphore.permits(), 1);
+    expect_equal(&rt, semaphore.permits(), 1);
     Ok(())
 }
 
@@ -52,19 +52,19 @@ fn a_permit_goes_from_hand_to_hand(rt: HostRuntime) -> Result<(), Fail> {
 fn a_waiter_whose_time_is_up_has_no_permit(rt: HostRuntime) -> Result<(), Fail> {
     let mut lot = lot_of_two(rt.alloc())?;
     let mut semaphore = Semaphore::new(KEY, 1);
-    expect(
+    expect_equal(
         &rt,
         semaphore.acquire(&mut lot, A, false),
         Ok(Acquired::Now),
     );
-    expect(
+    expect_equal(
         &rt,
         semaphore.acquire(&mut lot, B, true),
         Ok(Acquired::Parked),
     );
-    expect(&rt, let_time_out(&mut lot, B), Ok(ParkResult::TimedOut));
-    expect(&rt, semaphore.permits(), 0);
+    expect_equal(&rt, let_time_out(&mut lot, B), Ok(ParkResult::TimedOut));
+    expect_equal(&rt, semaphore.permits(), 0);
     assert!(rt; !semaphore.release(&mut lot));
-    expect(&rt, semaphore.permits(), 1);
+    expect_equal(&rt, semaphore.permits(), 1);
     Ok(())
 }

@@ -1,6 +1,6 @@
 //! Tests of simulations.
 
-use crate::expect;
+use crate::expect_equal;
 use parking_lot_core::lot::{Lot, Status};
 use parking_lot_core::schedule::{Answer, Op, Step};
 use parking_lot_core::{DEFAULT_PARK_TOKEN, ParkResult, UnparkToken};
@@ -33,15 +33,15 @@ fn a_run_tells_each_answer(rt: HostRuntime) -> Result<(), Fail> {
         Answer::Count(1),
         Answer::Unparked(token),
     ];
-    expect(&rt, answers.as_slice(), expected.as_slice());
+    expect_equal(&rt, answers.as_slice(), expected.as_slice());
     Ok(())
 }
 
 #[test]
 fn who_waits_in_vain_leaves_the_others(rt: HostRuntime) -> Result<(), Fail> {
     let mut lot = Lot::new(rt.alloc(), 2)?;
-    expect(&rt, lot.register(), Ok(0));
-    expect(&rt, lot.register(), Ok(1));
+    expect_equal(&rt, lot.register(), Ok(0));
+    expect_equal(&rt, lot.register(), Ok(1));
     for last in [true, false] {
         assert_eq!(rt; lot.status(1), Status::Running);
         let answers = wait_in_vain(rt.alloc(), &mut lot, 1, 5)?;
@@ -50,21 +50,21 @@ fn who_waits_in_vain_leaves_the_others(rt: HostRuntime) -> Result<(), Fail> {
             Answer::Late,
             Answer::TimedOut { key: 5, last },
         ];
-        expect(&rt, answers.as_slice(), expected.as_slice());
+        expect_equal(&rt, answers.as_slice(), expected.as_slice());
         let entered = lot.enter(0, 5, || true, DEFAULT_PARK_TOKEN, false);
-        expect(&rt, entered.is_ok(), last);
-        expect(&rt, lot.list(5)?.as_slice(), [0].as_slice());
+        expect_equal(&rt, entered.is_ok(), last);
+        expect_equal(&rt, lot.list(5)?.as_slice(), [0].as_slice());
     }
     Ok(())
 }
 
 #[test]
 fn the_second_task_has_the_permit_in_time_or_not_at_all(rt: HostRuntime) -> Result<(), Fail> {
-    expect(
+    expect_equal(
         &rt,
         two_tasks(rt.alloc(), true)?,
         ParkResult::Unparked(PERMIT),
     );
-    expect(&rt, two_tasks(rt.alloc(), false)?, ParkResult::TimedOut);
+    expect_equal(&rt, two_tasks(rt.alloc(), false)?, ParkResult::TimedOut);
     Ok(())
 }

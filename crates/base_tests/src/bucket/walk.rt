@@ -7,6 +7,7 @@ ghost use Rattle.std.specs.Prelude.{◌<◌};
 use crate::bucket::steps::{
     Done, Taken, answer, enter, filter, list, note, requeue, take_all, take_one,
 };
+use crate::expect_equal;
 use lot_base::bucket::Bucket;
 use lot_base::token::{FilterOp, NoMemory, ParkToken, RequeueOp, UnparkResult};
 use std::alloc::Global;
@@ -120,16 +121,16 @@ fn fill(rt: &impl Abort, alloc: Global, filling: Code) -> Result<Table, NoMemory
 fn compare_lists(rt: &impl Abort, alloc: Global, table: &mut Table) -> Result<(), NoMemory> {
     for key in KEYS {
         let found = list(alloc, table.bucket(key), key)?;
-        assert_eq!(rt; found.as_slice(), table.waiting.on(key).as_slice());
+        expect_equal(rt, found.as_slice(), table.waiting.on(key).as_slice());
     }
     Ok(())
 }
 
 // Compares the threads that were taken, each with the token.
 fn compare_taken(rt: &impl Abort, threads: &[(usize, usize)], expected: &[usize]) {
-    assert_eq!(rt; threads.len(), expected.len());
+    expect_equal(rt, threads.len(), expected.len());
     for ((number, token), expected) in threads.iter().zip(expected) {
-        assert_eq!(rt; (*number, *token), (*expected, TOKEN));
+        expect_equal(rt, (*number, *token), (*expected, TOKEN));
     }
 }
 
@@ -222,8 +223,8 @@ fn check_requeue(
     let mut table = fill(rt, alloc, filling)?;
     let done = requeue_in(rt, alloc, &mut table, keys, op)?;
     let parts = parts_of_requeue(alloc, op, table.waiting.on(keys.0).as_slice())?;
-    assert_eq!(rt; (done.result, done.told), answers_of_requeue(op, &parts));
-    assert_eq!(rt; done.moved.as_slice(), parts.moved.as_slice());
+    expect_equal(rt, (done.result, done.told), answers_of_requeue(op, &parts));
+    expect_equal(rt, done.moved.as_slice(), parts.moved.as_slice());
     compare_taken(rt, done.threads.as_slice(), parts.taken.as_slice());
     move_parts(&mut table.waiting, keys, parts)?;
     compare_lists(rt, alloc, &mut table)
@@ -252,7 +253,7 @@ fn requeues_are_those_of_plain_lists(rt: HostRuntime) -> Result<(), Fail> {
             cases = cases.wrapping_add(check_requeues(&rt, rt.alloc(), filling)?);
         }
     }
-    assert_eq!(rt; cases, 121 * 9 * 5);
+    expect_equal(&rt, cases, 121 * 9 * 5);
     Ok(())
 }
 
@@ -287,9 +288,10 @@ fn compare(
     taken: Taken,
     parts: Parts,
 ) -> Result<(), NoMemory> {
-    assert_eq!(rt;
+    expect_equal(
+        rt,
         (taken.result, taken.told),
-        (parts.result(), Some(parts.result()))
+        (parts.result(), Some(parts.result())),
     );
     compare_taken(rt, taken.threads.as_slice(), parts.taken.as_slice());
     *table.waiting.on(key) = parts.left;
@@ -312,7 +314,7 @@ fn check_filter(
     };
     let taken = filter(alloc, table.bucket(key), key, decide, TOKEN)?;
     let (parts, expected) = parts_of_filter(alloc, decisions, table.waiting.on(key).as_slice())?;
-    assert_eq!(rt; asked?.as_slice(), expected.as_slice());
+    expect_equal(rt, asked?.as_slice(), expected.as_slice());
     compare(rt, alloc, &mut table, key, taken, parts)
 }
 
@@ -339,7 +341,7 @@ fn filters_are_those_of_plain_lists(rt: HostRuntime) -> Result<(), Fail> {
             cases = cases.wrapping_add(check_filters(&rt, rt.alloc(), filling)?);
         }
     }
-    assert_eq!(rt; cases, 121 * 3 * 40);
+    expect_equal(&rt, cases, 121 * 3 * 40);
     Ok(())
 }
 
@@ -366,7 +368,7 @@ fn check_all(rt: &impl Abort, alloc: Global, filling: Code, key: usize) -> Resul
     let mut table = fill(rt, alloc, filling)?;
     let (count, threads) = take_all(alloc, table.bucket(key), key, TOKEN)?;
     let expected = std::mem::replace(table.waiting.on(key), Vec::new(alloc));
-    assert_eq!(rt; count, expected.len());
+    expect_equal(rt, count, expected.len());
     compare_taken(rt, threads.as_slice(), expected.as_slice());
     compare_lists(rt, alloc, &mut table)
 }
@@ -384,6 +386,6 @@ fn takes_of_one_and_of_all_are_those_of_plain_lists(rt: HostRuntime) -> Result<(
             }
         }
     }
-    assert_eq!(rt; cases, 121 * 3 * 2);
+    expect_equal(&rt, cases, 121 * 3 * 2);
     Ok(())
 }

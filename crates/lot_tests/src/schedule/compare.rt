@@ -1,5 +1,6 @@
 //! The lot beside the plain machine: all short lists of steps, and long lists of arbitrary ones.
 
+use crate::expect_equal;
 use lot_base::token::{FilterOp, LotError, NoMemory, RequeueOp};
 use lot_exclusive::lot::Lot;
 use lot_exclusive::schedule::{Answer, Step, run};
@@ -73,7 +74,7 @@ impl Pair {
     // Does the step in both, and compares the answers. The code names the list that it is in.
     fn step(&mut self, rt: &impl Abort, code: usize, step: &Step) -> Result<(), NoMemory> {
         let answer = self.lot.apply(step);
-        assert_eq!(rt; answer, self.plain.step(step)?, "in the list {code}");
+        expect_equal(rt, (code, answer), (code, self.plain.step(step)?));
         Ok(())
     }
 
@@ -84,7 +85,7 @@ impl Pair {
         }
         for key in keys {
             let found = self.lot.list(*key)?;
-            assert_eq!(rt; found.as_slice(), self.plain.list(*key), "key {key}");
+            expect_equal(rt, (key, found.as_slice()), (key, self.plain.list(*key)));
         }
         Ok(())
     }
@@ -92,13 +93,13 @@ impl Pair {
     // Compares the status of the number, and its records of the keys.
     fn compare_thread(&self, rt: &impl Abort, number: usize, keys: &[usize]) {
         let status = self.lot.status(number);
-        assert_eq!(rt; status, self.plain.status(number), "{number}");
+        expect_equal(rt, (number, status), (number, self.plain.status(number)));
         for key in keys {
             let records = self.lot.records(number, *key);
-            assert_eq!(rt;
-                records,
-                self.plain.records(number, *key),
-                "{number} of {key}"
+            expect_equal(
+                rt,
+                (number, key, records),
+                (number, key, self.plain.records(number, *key)),
             );
         }
     }
@@ -122,7 +123,7 @@ fn check_list(
         pair.step(rt, code, step)?;
         kinds /= KINDS;
     }
-    assert_eq!(rt; (pair.lot.size(), kinds), (16, 0));
+    expect_equal(rt, (pair.lot.size(), kinds), (16, 0));
     pair.compare(rt, 3, [0, 13].as_slice())?;
     Ok(())
 }
@@ -131,7 +132,7 @@ fn check_list(
 #[test]
 fn short_lists_of_steps_are_those_of_the_plain_machine(rt: HostRuntime) -> Result<(), Fail> {
     let steps = alphabet(rt.alloc())?;
-    assert_eq!(rt; steps.len(), KINDS);
+    expect_equal(&rt, steps.len(), KINDS);
     let mut lists: usize = 0;
     let mut count: usize = 1;
     for length in 0..=LONGEST {
@@ -141,7 +142,7 @@ fn short_lists_of_steps_are_those_of_the_plain_machine(rt: HostRuntime) -> Resul
         }
         count = count.wrapping_mul(KINDS);
     }
-    assert_eq!(rt; lists, 732_541);
+    expect_equal(&rt, lists, 732_541);
     Ok(())
 }
 
@@ -176,9 +177,9 @@ fn check_run(
 ) -> Result<(), NoMemory> {
     let mut answers = Vec::new(alloc);
     run(&mut pair.lot, steps, &mut answers)?;
-    assert_eq!(rt; answers.len(), steps.len());
+    expect_equal(rt, answers.len(), steps.len());
     for (index, (step, answer)) in steps.iter().zip(&answers).enumerate() {
-        assert_eq!(rt; *answer, pair.plain.step(step)?, "step {index}");
+        expect_equal(rt, (index, *answer), (index, pair.plain.step(step)?));
         note(seen, *answer);
     }
     Ok(())
@@ -199,7 +200,11 @@ fn long_lists_of_steps_are_those_of_the_plain_machine(rt: HostRuntime) -> Result
             check_run(&rt, rt.alloc(), &mut pair, steps.as_slice(), &mut seen)?;
             pair.compare(&rt, 41, KEYS.as_slice())?;
         }
-        assert_eq!(rt; (pair.lot.size(), seen), (128, expected), "seed {seed}");
+        expect_equal(
+            &rt,
+            (seed, (pair.lot.size(), seen)),
+            (seed, (128, expected)),
+        );
     }
     Ok(())
 }

@@ -1,6 +1,7 @@
 //! One thread alone, which parks and unparks itself before it sleeps.
 
 use super::*;
+use crate::expect_equal;
 use std::cell::Cell;
 
 const OTHER_KEY: usize = 8;
@@ -41,16 +42,16 @@ fn a_requeue_that_aborts_does_nothing(rt: HostRuntime) -> Result<(), Fail> {
         || true,
         || {
             let (result, asked, told) = abort_a_requeue(&rt, &lot);
-            assert_eq!(rt; result, UnparkResult::default());
+            expect_equal(&rt, result, UnparkResult::default());
             assert!(rt; asked && !told);
             let result = unpark_one(&rt, &lot, KEY, |_| UnparkToken(42));
-            assert_eq!(rt; result.unparked_threads, 1);
+            expect_equal(&rt, result.unparked_threads, 1);
         },
         |_, _| (),
         DEFAULT_PARK_TOKEN,
         None,
     );
-    assert_eq!(rt; result, ParkResult::Unparked(UnparkToken(42)));
+    expect_equal(&rt, result, ParkResult::Unparked(UnparkToken(42)));
     Ok(())
 }
 
@@ -70,10 +71,11 @@ fn a_requeue_of_nobody_calls_back_with_the_default_result(rt: HostRuntime) -> Re
             DEFAULT_UNPARK_TOKEN
         },
     );
-    assert_eq!(rt; result, UnparkResult::default());
-    assert_eq!(rt;
+    expect_equal(&rt, result, UnparkResult::default());
+    expect_equal(
+        &rt,
         told,
-        Some((RequeueOp::RequeueAll, UnparkResult::default()))
+        Some((RequeueOp::RequeueAll, UnparkResult::default())),
     );
     Ok(())
 }
@@ -111,14 +113,14 @@ fn a_filter_that_counts_is_called_once_a_waiter(rt: HostRuntime) -> Result<(), F
         || true,
         || {
             let of_nobody = unpark_and_count(&rt, &lot, OTHER_KEY);
-            assert_eq!(rt; of_nobody, (0, Some(UnparkResult::default())));
-            assert_eq!(rt; unpark_and_count(&rt, &lot, KEY), (1, Some(one)));
+            expect_equal(&rt, of_nobody, (0, Some(UnparkResult::default())));
+            expect_equal(&rt, unpark_and_count(&rt, &lot, KEY), (1, Some(one)));
         },
         |_, _| (),
         DEFAULT_PARK_TOKEN,
         None,
     );
-    assert_eq!(rt; result, ParkResult::Unparked(UnparkToken(42)));
+    expect_equal(&rt, result, ParkResult::Unparked(UnparkToken(42)));
     Ok(())
 }
 
@@ -155,13 +157,13 @@ fn the_greatest_key_and_tokens_come_through(rt: HostRuntime) -> Result<(), Fail>
         || {
             let unparked = unpark_the_greatest(&rt, rt.alloc(), &lot);
             let (waiting, shown) = unparked.expect(&rt, "the thread waits");
-            assert_eq!(rt; waiting.as_slice(), &[1][..]);
-            assert_eq!(rt; shown, ParkToken(usize::MAX));
+            expect_equal(&rt, waiting.as_slice(), &[1][..]);
+            expect_equal(&rt, shown, ParkToken(usize::MAX));
         },
         |_, _| (),
         ParkToken(usize::MAX),
         None,
     );
-    assert_eq!(rt; result, ParkResult::Unparked(UnparkToken(usize::MAX)));
+    expect_equal(&rt, result, ParkResult::Unparked(UnparkToken(usize::MAX)));
     Ok(())
 }

@@ -1,6 +1,7 @@
 //! Sections that race with one another and with a growing table.
 
 use super::*;
+use crate::expect_equal;
 
 const PARKERS: usize = 8;
 
@@ -188,7 +189,7 @@ where
         received = received.wrapping_add(tally.received);
         answered = answered.wrapping_add(tally.answered);
     }
-    assert_eq!(rt; received, answered);
+    expect_equal(rt, received, answered);
     expect_list(rt, alloc, &lot, 0, &[])?;
     Ok(expect_list(rt, alloc, &lot, 13, &[])?)
 }

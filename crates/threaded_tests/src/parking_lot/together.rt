@@ -1,6 +1,7 @@
 //! Threads that meet: in one queue, in two, and across two buckets.
 
 use super::*;
+use crate::expect_equal;
 
 // Starts so many threads, each of which parks on the key once the one before it waits there.
 fn start_row<P, R>(
@@ -40,9 +41,10 @@ fn unpark_three<P: ThreadParkerT, R: Wait + Abort>(
         || RequeueOp::UnparkOneRequeueRest,
         |_, _| UnparkToken(9),
     );
-    assert_eq!(rt;
+    expect_equal(
+        rt,
         (requeued.unparked_threads, requeued.requeued_threads),
-        (1, 2)
+        (1, 2),
     );
     assert!(rt; !requeued.have_more_threads);
     expect_list(rt, alloc, lot, 1, &[])?;
@@ -53,12 +55,13 @@ fn unpark_three<P: ThreadParkerT, R: Wait + Abort>(
         FilterOp::Unpark
     };
     let filtered = unpark_by(rt, lot, 2, filter, |_| UnparkToken(5));
-    assert_eq!(rt;
+    expect_equal(
+        rt,
         (filtered.unparked_threads, filtered.requeued_threads),
-        (1, 0)
+        (1, 0),
     );
     assert!(rt; filtered.have_more_threads);
-    assert_eq!(rt; unpark_all(rt, lot, 2, UnparkToken(42)), 1);
+    expect_equal(rt, unpark_all(rt, lot, 2, UnparkToken(42)), 1);
     Ok(())
 }
 
@@ -72,9 +75,10 @@ where
     let waiters = start_row(rt, alloc, &lot, 1, 3)?;
     unpark_three(rt, alloc, &lot)?;
     for (waiter, token) in waiters.into_iter().zip([9, 42, 5]) {
-        assert_eq!(rt;
+        expect_equal(
+            rt,
             waiter.join(rt),
-            Some(ParkResult::Unparked(UnparkToken(token)))
+            Some(ParkResult::Unparked(UnparkToken(token))),
         );
     }
     Ok(())
@@ -151,8 +155,8 @@ where
         drop(lot.thread_data(rt, alloc)?);
     }
     let (parked, unparked) = two_sections_at_once(rt, &lot, data);
-    assert_eq!(rt; parked, Some((ParkResult::Invalid, true)));
-    assert_eq!(rt; unparked, Some(0));
+    expect_equal(rt, parked, Some((ParkResult::Invalid, true)));
+    expect_equal(rt, unparked, Some(0));
     Ok(())
 }
 
@@ -233,7 +237,7 @@ fn leaves_its_new_key<P: ThreadParkerT + Send + Sync, R: Threads + Wait + Clock 
     let deadline = from_now(rt, Duration::from_millis(20))?;
     let (left, moved) = is_moved_and_times_out(rt, &lot, data, from, to, deadline);
     assert!(rt; moved, "nobody came to be moved");
-    assert_eq!(rt; left, Some((ParkResult::TimedOut, to)));
+    expect_equal(rt, left, Some((ParkResult::TimedOut, to)));
     Ok(expect_list(rt, alloc, &lot, to, &[])?)
 }
 
