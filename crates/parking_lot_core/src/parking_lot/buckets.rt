@@ -1,14 +1,14 @@
 //! The buckets of a threaded lot, each behind a lock of its own, and how a section reaches the one
 //! of its key.
 
-ghost use Rattle.std.specs.Prelude.{◌≡◌, ◌≢◌, ◌+◌, ◌*◌, ◌<◌, ◌≤◌, ◌↔◌, IsTrue, IsErrOf, IfOk, OnErr, IfSome, Err, MatchOption, length, slice_set};
+ghost use Rattle.std.specs.Prelude.{◌≡◌, ◌≢◌, ◌+◌, ◌*◌, ◌<◌, ◌≤◌, ◌↔◌, IsTrue, IsErrOf, IfOk, OnErr, IfSome, Err, MatchOption, None, Some, length, slice_set};
 ghost use Rattle.lot_base.specs.Node.{fields};
 ghost use Rattle.lot_base.specs.Place.{IsTableSize};
 ghost use Rattle.lot_base.specs.WordLock.{IsHeldOf};
 ghost use Rattle.lot_exclusive.specs.Represents.{Represents, waiters_in};
 ghost use Rattle.lot_exclusive.specs.Size.{IsSizeFor};
 ghost use Rattle.lot_exclusive.specs.Table.{IsRowOf, count_registered, IsLeastUnregistered};
-ghost use Rattle.parking_lot_core.specs.Private.Section.{HasPlaceOf, AreApart};
+ghost use Rattle.parking_lot_core.specs.Private.Section.{HasPlaceOf, AreApart, AreLockedInOrder};
 
 mod current;
 mod registry;
@@ -26,9 +26,12 @@ use std::marker::Model;
 use std::sync::{Mutex, OnceLock, Wait};
 use std::{array, mem};
 
-// A bucket that a section has locked. It has no `Drop`: it ends in `unlock`.
+// A bucket that a section has locked, with its place in the row, and the place of the bucket that
+// the section had locked before, if there is one. It has no `Drop`: it ends in `unlock`.
 pub(super) struct Locked<'b> {
     cell: &'b WordLock<Bucket>,
+    place: usize,
+    behind: Option<usize>,
     pub(super) held: Held<Bucket>,
 }
 
@@ -38,7 +41,12 @@ impl Locked<'_> {
     pub(super) fn unlock(self)
         requires { IsHeldOf self.cell.now self.held }
     {
-        let Locked { cell, held } = self;
+        let Locked {
+            cell,
+            place: _,
+            behind: _,
+            held,
+        } = self;
         cell.unlock(held);
     }
 }
@@ -90,17 +98,33 @@ impl Row {
         self.cells.len()
     }
 
-    // Locks the bucket at this place.
+    // Locks the bucket at this place, which is the section's only one or its first.
     #[inline]
     fn lock<R: Wait>(&self, rt: &R, place: usize) -> Locked<'_>
         requires { place < self.now }
-        ensures { IsHeldOf result.cell.now result.held }
+        ensures held { IsHeldOf result.cell.now result.held }
+        ensures place { (result.place ≡ place) × (result.behind ≡ None) }
     {
         let cell = &self.cells[place];
         Locked {
             cell,
+            place,
+            behind: None,
             held: cell.lock(rt),
         }
+    }
+
+    // Locks the bucket at this place for a section that has that of a lower place locked.
+    #[inline]
+    fn lock_behind<R: Wait>(&self, rt: &R, first: &Locked<'_>, place: usize) -> Locked<'_>
+        requires below { place < self.now }
+        requires order { first.now.place < place }
+        ensures held { IsHeldOf result.cell.now result.held }
+        ensures place { (result.place ≡ place) × (result.behind ≡ Some first.now.place) }
+    {
+        let mut second = self.lock(rt, place);
+        second.behind = Some(first.place);
+        second
     }
 
     // Locks the buckets of both places, the lower one first. If they are one place, it is locked
@@ -111,17 +135,18 @@ impl Row {
         ensures held { IsHeldOf result.0.cell.now result.0.held }
         ensures second { MatchOption result.1 (from ≡ to)
             (λ target. (from ≢ to) × IsHeldOf target.cell.now target.held) }
+        ensures order { IfSome result.1 (AreLockedInOrder result.0) }
     {
         if from == to {
             return (self.lock(rt, from), None);
         }
         if from < to {
             let source = self.lock(rt, from);
-            let target = self.lock(rt, to);
+            let target = self.lock_behind(rt, &source, to);
             return (source, Some(target));
         }
         let target = self.lock(rt, to);
-        let source = self.lock(rt, from);
+        let source = self.lock_behind(rt, &target, from);
         (source, Some(target))
     }
 
@@ -218,6 +243,7 @@ impl Buckets {
         ensures to { MatchOption result.1 (HasPlaceOf to result.0.held.value)
             (λ target. HasPlaceOf to target.held.value
             × AreApart result.0.held.value target.held.value) }
+        ensures order { IfSome result.1 (AreLockedInOrder result.0) }
     {
         for _ in rt.forever() {
             let current = self.current.load();
