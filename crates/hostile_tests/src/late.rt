@@ -274,9 +274,9 @@ where
     Ok(())
 }
 
-// It refuses a thread that notes its key once it has let the bucket go. In some rounds a requeue that
-// waited for the bucket notes the new key first then, and the thread looks for itself in its old
-// queue for ever.
+// It refuses a thread that notes its key once it has let the bucket go. In some rounds a requeue
+// that waited for the bucket notes the new key first then, and the thread looks for itself in its
+// old queue for ever.
 #[test]
 fn a_key_is_noted_before_the_bucket_is_let_go(rt: HostRuntime) -> Result<(), Fail> {
     notes_its_key_in_time::<ThreadParker, _>(&rt, rt.alloc())?;

@@ -52,7 +52,8 @@ fn a_late_thread_times_out_and_the_table_has_its_size(rt: HostRuntime) {
 #[test]
 fn a_thread_has_its_records(rt: HostRuntime) {
     let input = "lot 1\nregister\nregister\nacquire 0 5\nacquire 0 5\nrelease 0 5\nrecords 0 5\n\
-        records 3 5\nenter 0 9 yes 1 timed\nacquire 0 5\nrelease 0 5\ndeadline 0\nresolve 0\nsize\n";
+        records 3 5\nenter 0 9 yes 1 timed\nacquire 0 5\nrelease 0 5\ndeadline 0\nresolve 0\n\
+        size\n";
     let written =
         "ok\nnumber 0\nfull\nrecorded\nrecorded\nreleased\nrecords 1\nrecords 0\nentered\n\
         misfit\nmisfit\nlate\ntimed out 9 true\nbuckets 16 threads 1\n";
@@ -70,7 +71,8 @@ fn each_form_has_its_answers(rt: HostRuntime) {
     let written = "ok\nnumber 0\nnumber 1\nretired\nmisfit\ninvalid\n\
         entered\nmisfit\ncount 0\ncount 1\n\
         misfit\nunparked 18446744073709551615\nmisfit\nnumber 1\nentered\nentered\n\
-        late\ntimed out 3 false\nunparked 0 requeued 0 more true\nunparked 0 requeued 0 more false\n\
+        late\ntimed out 3 false\nunparked 0 requeued 0 more true\n\
+        unparked 0 requeued 0 more false\n\
         unparked 0 requeued 1 more false\n\
         unparked 0 requeued 1 more false\nunparked 1 requeued 0 more false\nunparked 8\nmisfit\n";
     expect(&rt, rt.alloc(), input.as_bytes(), written, Ok(()));
