@@ -224,6 +224,7 @@ fn expect_done(rt: &impl Abort, done: &Done, row: &Row<'_>, name: &str) {
     expect_equal(rt, (name, done.threads.as_slice()), (name, row.threads));
     expect_equal(rt, (name, done.moved.as_slice()), (name, row.moved));
     expect_equal(rt, (name, done.moved_before), (name, row.moved.len()));
+    expect_equal(rt, (name, done.told_otherwise), (name, 0));
 }
 
 fn check_row(rt: &impl Abort, alloc: Global, row: &Row<'_>, name: &str) -> Result<(), NoMemory> {

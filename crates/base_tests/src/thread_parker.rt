@@ -5,7 +5,7 @@ ghost use Rattle.lot_base.specs.Node.{fields};
 
 use lot_base::queue::Node;
 use lot_base::thread_parker::{
-    Slot, ThreadParker, ThreadParkerT, UnparkHandleT, YieldParker, thread_yield,
+    Slot, ThreadParker, ThreadParkerT, UnparkHandleT, WordParker, YieldParker, thread_yield,
 };
 use lot_base::token::{DEFAULT_PARK_TOKEN, NoMemory, UnparkToken};
 use std::alloc::Global;
@@ -90,7 +90,7 @@ fn commits_take_turns<P: ThreadParkerT, R: Wait + Abort>(
     rt: &R,
     alloc: Global,
 ) -> Result<(), NoMemory> {
-    let parker = P::new(OWNER)?;
+    let parker = P::new(alloc, OWNER)?;
     parker.prepare_park();
     assert!(rt; parker.timed_out(rt), "nobody has put a node");
     take_a_commit(rt, &parker, owners_node(alloc, UnparkToken(42))?);
@@ -107,8 +107,11 @@ fn waits_in_vain<P: ThreadParkerT, R: Wait + Clock>(rt: &R, parker: &P, deadline
 
 // No clause says when a timed wait ends. With a `park_until` that looks at no clock, this does not
 // end.
-fn waits_to_the_deadline<P: ThreadParkerT, R: Wait + Clock + Abort>(rt: &R) -> Result<(), Fail> {
-    let parker = P::new(OWNER)?;
+fn waits_to_the_deadline<P: ThreadParkerT, R: Wait + Clock + Abort>(
+    rt: &R,
+    alloc: Global,
+) -> Result<(), Fail> {
+    let parker = P::new(alloc, OWNER)?;
     let soon = from_now(rt, Duration::from_millis(20))?;
     assert!(rt; waits_in_vain(rt, &parker, soon), "nobody puts a node");
     assert!(rt; soon <= Instant::now(rt)?, "the deadline has passed");
@@ -121,8 +124,11 @@ fn waits_to_the_deadline<P: ThreadParkerT, R: Wait + Clock + Abort>(rt: &R) -> R
 }
 
 // No clause says what a wait without a clock does. With one that goes on, this takes an hour.
-fn waits_for_no_clock<P: ThreadParkerT, R: Wait + Clock + Abort>(rt: &R) -> Result<(), Fail> {
-    let parker = P::new(OWNER)?;
+fn waits_for_no_clock<P: ThreadParkerT, R: Wait + Clock + Abort>(
+    rt: &R,
+    alloc: Global,
+) -> Result<(), Fail> {
+    let parker = P::new(alloc, OWNER)?;
     let in_an_hour = from_now(rt, Duration::from_hours(1))?;
     assert!(rt; waits_in_vain(&Clockless(rt), &parker, in_an_hour));
     Ok(())
@@ -134,7 +140,7 @@ fn looks_after_the_deadline<P: ThreadParkerT, R: Wait + Clock + Abort>(
     rt: &R,
     alloc: Global,
 ) -> Result<(), Fail> {
-    let parker = P::new(OWNER)?;
+    let parker = P::new(alloc, OWNER)?;
     let late = parker.unpark_lock(rt, owners_node(alloc, UnparkToken(42))?);
     drop(parker.unpark_lock(rt, owners_node(alloc, UnparkToken(43))?));
     for token in [UnparkToken(42), UnparkToken(43)] {
@@ -145,6 +151,35 @@ fn looks_after_the_deadline<P: ThreadParkerT, R: Wait + Clock + Abort>(
     late.unpark(&parker);
     assert!(rt; parker.timed_out(rt), "a late unpark fills no slot");
     Ok(())
+}
+
+// Waits in vain for a while, and takes a node that is put after that. It prepares to park between
+// the two, or not.
+fn takes_a_commit_after_a_timeout<P: ThreadParkerT, R: Wait + Clock + Abort>(
+    rt: &R,
+    alloc: Global,
+    prepares: bool,
+) -> Result<(), Fail> {
+    let parker = P::new(alloc, OWNER)?;
+    let soon = from_now(rt, Duration::from_millis(5))?;
+    assert!(rt; waits_in_vain(rt, &parker, soon), "nobody puts a node");
+    if prepares {
+        parker.prepare_park();
+        assert!(rt; parker.timed_out(rt), "nobody has put a node");
+    }
+    take_a_commit(rt, &parker, owners_node(alloc, UnparkToken(42))?);
+    assert!(rt; waits_in_vain(rt, &parker, soon), "the node was taken");
+    Ok(())
+}
+
+// No clause says what a wait that ended at its deadline leaves. This refuses a parker that takes it
+// for a node, or that loses the next one.
+fn a_timeout_leaves_nothing<P: ThreadParkerT, R: Wait + Clock + Abort>(
+    rt: &R,
+    alloc: Global,
+) -> Result<(), Fail> {
+    takes_a_commit_after_a_timeout::<P, _>(rt, alloc, false)?;
+    takes_a_commit_after_a_timeout::<P, _>(rt, alloc, true)
 }
 
 fn wait_until(started: &AtomicBool) {
@@ -213,7 +248,7 @@ fn token_between_threads<P: ThreadParkerT + Sync, R: Threads + Wait + Clock + Sy
     token: UnparkToken,
     deadline: Option<Instant>,
 ) -> Result<Option<UnparkToken>, NoMemory> {
-    let parker = P::new(OWNER)?;
+    let parker = P::new(alloc, OWNER)?;
     let node = owners_node(alloc, token)?;
     let node = node_between_threads(rt, &parker, node, deadline);
     Ok(node.map(|node| node.unpark_token))
@@ -245,6 +280,71 @@ fn wakes_its_thread_in_time<P: ThreadParkerT + Sync, R: Threads + Wait + Clock +
     Ok(())
 }
 
+// What the other thread does, once the owner sleeps.
+fn commit_to_a_sleeper<P: ThreadParkerT, R: Wait + Clock>(
+    rt: &R,
+    parker: &P,
+    starts: &AtomicBool,
+    node: Box<Node>,
+)
+    requires { (fields node.value).number ≡ P.owner parker.now }
+{
+    wait_until(starts);
+    thread::sleep(rt, Duration::from_millis(5));
+    parker.unpark_lock(rt, node).unpark(parker);
+}
+
+// The node that comes back to the owner, which sleeps before it is put.
+fn node_to_a_sleeper<P: ThreadParkerT + Sync, R: Threads + Wait + Clock + Sync>(
+    rt: &R,
+    parker: &P,
+    node: Box<Node>,
+    deadline: Option<Instant>,
+) -> Option<Box<Node>>
+    requires { (fields node.value).number ≡ P.owner parker.now }
+{
+    let starts = AtomicBool::new(false);
+    let (node, ()) = thread::join(
+        rt,
+        || start_and_park(rt, parker, &starts, deadline),
+        ||
+            requires { (fields node.value).number ≡ P.owner parker.now }
+        {
+            commit_to_a_sleeper(rt, parker, &starts, node);
+        },
+    );
+    node
+}
+
+// The owner sleeps in vain first, and again until its node is put.
+fn token_to_a_sleeper<P: ThreadParkerT + Sync, R: Threads + Wait + Clock + Sync + Abort>(
+    rt: &R,
+    alloc: Global,
+    deadline: Option<Instant>,
+) -> Result<Option<UnparkToken>, Fail> {
+    let parker = P::new(alloc, OWNER)?;
+    let soon = from_now(rt, Duration::from_millis(2))?;
+    assert!(rt; waits_in_vain(rt, &parker, soon), "nobody puts a node");
+    let node = owners_node(alloc, UnparkToken(42))?;
+    let node = node_to_a_sleeper(rt, &parker, node, deadline);
+    Ok(node.map(|node| node.unpark_token))
+}
+
+// No clause says that a sleeper is woken. With a commit that takes the owner for awake, this does
+// not end, or ends at the deadline.
+fn wakes_a_sleeper<P: ThreadParkerT + Sync, R: Threads + Wait + Clock + Sync + Abort>(
+    rt: &R,
+    alloc: Global,
+) -> Result<(), Fail> {
+    let late = from_now(rt, Duration::from_secs(30))?;
+    for deadline in [None, Some(late)] {
+        let came = token_to_a_sleeper::<P, _>(rt, alloc, deadline)?;
+        assert_eq!(rt; came, Some(UnparkToken(42)));
+    }
+    assert!(rt; Instant::now(rt)? < late, "no sleep lasted to the deadline");
+    Ok(())
+}
+
 #[test]
 fn thread_parker_commits_take_turns(rt: HostRuntime) -> Result<(), Fail> {
     assert!(rt; !ThreadParker::IS_CHEAP_TO_CONSTRUCT);
@@ -263,12 +363,12 @@ fn thread_parker_wakes_its_thread_in_time(rt: HostRuntime) -> Result<(), Fail> {
 
 #[test]
 fn thread_parker_waits_to_the_deadline(rt: HostRuntime) -> Result<(), Fail> {
-    waits_to_the_deadline::<ThreadParker, _>(&rt)
+    waits_to_the_deadline::<ThreadParker, _>(&rt, rt.alloc())
 }
 
 #[test]
 fn thread_parker_waits_for_no_clock(rt: HostRuntime) -> Result<(), Fail> {
-    waits_for_no_clock::<ThreadParker, _>(&rt)
+    waits_for_no_clock::<ThreadParker, _>(&rt, rt.alloc())
 }
 
 #[test]
@@ -294,17 +394,63 @@ fn yield_parker_finds_its_node_in_time(rt: HostRuntime) -> Result<(), Fail> {
 
 #[test]
 fn yield_parker_waits_to_the_deadline(rt: HostRuntime) -> Result<(), Fail> {
-    waits_to_the_deadline::<YieldParker, _>(&rt)
+    waits_to_the_deadline::<YieldParker, _>(&rt, rt.alloc())
 }
 
 #[test]
 fn yield_parker_waits_for_no_clock(rt: HostRuntime) -> Result<(), Fail> {
-    waits_for_no_clock::<YieldParker, _>(&rt)
+    waits_for_no_clock::<YieldParker, _>(&rt, rt.alloc())
 }
 
 #[test]
 fn yield_parker_looks_after_the_deadline(rt: HostRuntime) -> Result<(), Fail> {
     looks_after_the_deadline::<YieldParker, _>(&rt, rt.alloc())
+}
+
+#[test]
+fn word_parker_commits_take_turns(rt: HostRuntime) -> Result<(), Fail> {
+    assert!(rt; !WordParker::IS_CHEAP_TO_CONSTRUCT);
+    Ok(commits_take_turns::<WordParker, _>(&rt, rt.alloc())?)
+}
+
+#[test]
+fn word_parker_wakes_its_thread(rt: HostRuntime) -> Result<(), Fail> {
+    Ok(wakes_its_thread::<WordParker, _>(&rt, rt.alloc(), None)?)
+}
+
+#[test]
+fn word_parker_wakes_its_thread_in_time(rt: HostRuntime) -> Result<(), Fail> {
+    wakes_its_thread_in_time::<WordParker, _>(&rt, rt.alloc())
+}
+
+#[test]
+fn word_parker_waits_to_the_deadline(rt: HostRuntime) -> Result<(), Fail> {
+    waits_to_the_deadline::<WordParker, _>(&rt, rt.alloc())
+}
+
+#[test]
+fn word_parker_waits_for_no_clock(rt: HostRuntime) -> Result<(), Fail> {
+    waits_for_no_clock::<WordParker, _>(&rt, rt.alloc())
+}
+
+#[test]
+fn word_parker_looks_after_the_deadline(rt: HostRuntime) -> Result<(), Fail> {
+    looks_after_the_deadline::<WordParker, _>(&rt, rt.alloc())
+}
+
+// A timeout leaves nothing that the next wait, or the next commit, finds.
+#[test]
+fn a_timeout_leaves_no_trace(rt: HostRuntime) -> Result<(), Fail> {
+    a_timeout_leaves_nothing::<ThreadParker, _>(&rt, rt.alloc())?;
+    a_timeout_leaves_nothing::<YieldParker, _>(&rt, rt.alloc())?;
+    a_timeout_leaves_nothing::<WordParker, _>(&rt, rt.alloc())
+}
+
+#[test]
+fn a_sleeper_is_woken(rt: HostRuntime) -> Result<(), Fail> {
+    wakes_a_sleeper::<ThreadParker, _>(&rt, rt.alloc())?;
+    wakes_a_sleeper::<YieldParker, _>(&rt, rt.alloc())?;
+    wakes_a_sleeper::<WordParker, _>(&rt, rt.alloc())
 }
 
 // Puts a node that waits on the key.

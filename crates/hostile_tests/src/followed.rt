@@ -38,9 +38,9 @@ impl ThreadParkerT for FollowedParker {
 
     ghost owner = { λ followed. ⟦<YieldParker as ThreadParkerT>⟧.owner followed.parker };
 
-    fn new(number: usize) -> Result<FollowedParker, NoMemory> {
+    fn new(alloc: Global, number: usize) -> Result<FollowedParker, NoMemory> {
         Ok(FollowedParker {
-            parker: YieldParker::new(number)?,
+            parker: YieldParker::new(alloc, number)?,
             prepared: AtomicUsize::new(0),
             parked: AtomicUsize::new(0),
         })

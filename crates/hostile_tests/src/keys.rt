@@ -15,6 +15,9 @@ use std::time::{Clock, Instant};
 
 const GREATEST: usize = usize::MAX;
 
+// Of 16 buckets.
+const KEY_IN_THE_BUCKET_OF_0: usize = 13;
+
 // A thread waits on the greatest key, is moved to the key below it and back, and is unparked with
 // the greatest token.
 fn unpark_the_greatest<P: ThreadParkerT, R: Wait + Abort>(
@@ -98,14 +101,16 @@ fn the_greatest_key_and_tokens_come_through_each_way(rt: HostRuntime) -> Result<
     Ok(())
 }
 
-// It refuses a thread that notes less of its key than all of it, so that it never finds itself.
+// It refuses a thread that notes less of its key than all of it, or not where a requeue within its
+// bucket moved it, so that it never finds itself.
 #[test]
-fn a_late_thread_is_told_the_greatest_key(rt: HostRuntime) -> Result<(), Fail> {
+fn a_late_thread_is_told_the_key_to_which_it_was_moved(rt: HostRuntime) -> Result<(), Fail> {
     let passed = Instant::now(&rt)?;
     for (key, to) in [
         (GREATEST, GREATEST),
         (1, GREATEST),
         (GREATEST, GREATEST - 1),
+        (0, KEY_IN_THE_BUCKET_OF_0),
     ] {
         let told = time_out_on::<ThreadParker, _>(&rt, rt.alloc(), key, to, passed)?;
         expect_equal(&rt, told, Some((to, true)));

@@ -6,7 +6,9 @@ ghost use Rattle.lot_base.specs.Node.{fields};
 use crate::common::{TOKEN, from_now, raised_by_turns};
 use crate::expect_equal;
 use lot_base::queue::Node;
-use lot_base::thread_parker::{ThreadParker, ThreadParkerT, UnparkHandleT, YieldParker};
+use lot_base::thread_parker::{
+    ThreadParker, ThreadParkerT, UnparkHandleT, WordParker, YieldParker,
+};
 use lot_base::token::NoMemory;
 use std::alloc::Global;
 use std::process::Abort;
@@ -136,7 +138,7 @@ fn looks_after_the_clock<P: ThreadParkerT + Sync, R: Threads + Wait + Clock + Ab
     rt: &R,
     alloc: Global,
 ) -> Result<(), Fail> {
-    let parker = P::new(OWNER)?;
+    let parker = P::new(alloc, OWNER)?;
     let passed = Instant::now(rt)?;
     let (is_there, came) = commit_at_a_read(rt, &parker, owners_node(alloc)?, passed);
     assert!(rt;
@@ -152,7 +154,8 @@ fn looks_after_the_clock<P: ThreadParkerT + Sync, R: Threads + Wait + Clock + Ab
 #[test]
 fn a_node_that_comes_while_the_clock_is_read_is_found(rt: HostRuntime) -> Result<(), Fail> {
     looks_after_the_clock::<ThreadParker, _>(&rt, rt.alloc())?;
-    looks_after_the_clock::<YieldParker, _>(&rt, rt.alloc())
+    looks_after_the_clock::<YieldParker, _>(&rt, rt.alloc())?;
+    looks_after_the_clock::<WordParker, _>(&rt, rt.alloc())
 }
 
 // Waits until the deadline, and tells whether a node came.
@@ -213,7 +216,7 @@ fn comes_back<P: ThreadParkerT + Sync, R: Threads + Wait + Clock + Abort + Sync>
     duration: Duration,
     wakes: bool,
 ) -> Result<(), Fail> {
-    let parker = P::new(OWNER)?;
+    let parker = P::new(alloc, OWNER)?;
     let deadline = from_now(rt, duration)?;
     let node = owners_node(alloc)?;
     let (came, in_time) = commit_in_time(rt, &parker, node, deadline, wakes);
@@ -226,7 +229,8 @@ fn comes_back<P: ThreadParkerT + Sync, R: Threads + Wait + Clock + Abort + Sync>
 fn a_node_that_nobody_woke_for_is_found_at_the_deadline(rt: HostRuntime) -> Result<(), Fail> {
     let soon = Duration::from_millis(100);
     comes_back::<ThreadParker, _>(&rt, rt.alloc(), soon, false)?;
-    comes_back::<YieldParker, _>(&rt, rt.alloc(), soon, false)
+    comes_back::<YieldParker, _>(&rt, rt.alloc(), soon, false)?;
+    comes_back::<WordParker, _>(&rt, rt.alloc(), soon, false)
 }
 
 // It refuses a `park_until` that takes a deadline far away for one that has passed.
@@ -236,6 +240,7 @@ fn a_deadline_far_away_has_not_passed(rt: HostRuntime) -> Result<(), Fail> {
         let duration = Duration::from_hours(24 * 365 * years);
         comes_back::<ThreadParker, _>(&rt, rt.alloc(), duration, true)?;
         comes_back::<YieldParker, _>(&rt, rt.alloc(), duration, true)?;
+        comes_back::<WordParker, _>(&rt, rt.alloc(), duration, true)?;
     }
     Ok(())
 }
@@ -290,7 +295,7 @@ fn outlasts_a_late_wake<P: ThreadParkerT + Sync, R: Threads + Wait + Clock + Abo
     rt: &R,
     alloc: Global,
 ) -> Result<(), Fail> {
-    let parker = P::new(OWNER)?;
+    let parker = P::new(alloc, OWNER)?;
     let handle = parker.unpark_lock(rt, owners_node(alloc)?);
     drop(parker.park(rt));
     let deadline = from_now(rt, Duration::from_millis(50))?;
@@ -302,5 +307,6 @@ fn outlasts_a_late_wake<P: ThreadParkerT + Sync, R: Threads + Wait + Clock + Abo
 #[test]
 fn a_late_wake_does_not_end_the_next_wait(rt: HostRuntime) -> Result<(), Fail> {
     outlasts_a_late_wake::<ThreadParker, _>(&rt, rt.alloc())?;
-    outlasts_a_late_wake::<YieldParker, _>(&rt, rt.alloc())
+    outlasts_a_late_wake::<YieldParker, _>(&rt, rt.alloc())?;
+    outlasts_a_late_wake::<WordParker, _>(&rt, rt.alloc())
 }

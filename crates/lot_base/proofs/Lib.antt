@@ -19,4 +19,6 @@ pub mod WordTries
 pub mod WordWaits
 pub mod WordHolds
 pub mod WordKeeps
+pub mod WordKeyLemmas
 pub mod WordLockHolds
+pub mod WordParkerLemmas

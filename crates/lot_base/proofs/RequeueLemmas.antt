@@ -20,7 +20,7 @@ use Rattle.lot_base.specs.Waiting.{Split, with_value, split_none, split_by}
 use Rattle.lot_base.specs.NodeLists.{lists_of, ChangesOnly, with_new_key}
 use Rattle.lot_base.specs.Waiting.{lists_after_requeue}
 use Rattle.lot_base.specs.NodeLists.{split_to}
-use Rattle.lot_base.specs.Requeue.{numbers, IsCallableAtEach, IsCalledAtEach, AreCalled}
+use Rattle.lot_base.specs.Requeue.{Move, moves_of, IsCallableAtEach, IsCalledAtEach, AreCalled}
 
 -- the nodes of all other keys
 abbrev pub others_of : ℕ → List NodeFields → List NodeFields
@@ -61,29 +61,34 @@ pub moved_one_more : (key : ℕ) (first : NodeFields) (rest nodes target next al
 moved_one_more key first rest nodes target next all popped pushed before =
     rw (pushed, append_assoc) (rw popped at before)
 
-pub callable_first : {M : Type 0} (m : Mut M (ℕ × Unit {0}) (Unit {0})) (moved : M) (first : NodeFields)
-    (rest nodes : List NodeFields) (n : ℕ) → nodes ≡ first ∷ rest → n ≡ first.number
-    → IsCallableAtEach m moved (numbers nodes) → m.pre moved (n, tt)
-callable_first m moved first rest nodes n popped of_first callable =
-    rw of_first (callable.at [] first.number (numbers rest) moved (ap numbers popped) refl)
+-- what is told of the first node
+abbrev pub move_of : NodeFields → Move
+move_of node = (node.number, (node.timed, tt))
 
-module _ {M : Type 0} (m : Mut M (ℕ × Unit {0}) (Unit {0})) (moved next : M) (first : NodeFields)
-    (rest nodes : List NodeFields) (n : ℕ) (popped : nodes ≡ first ∷ rest) (call : Called m moved (n, tt) tt next)
-    (of_first : n ≡ first.number) where
-  pub callable_one_more : IsCallableAtEach m moved (numbers nodes) → IsCallableAtEach m next (numbers rest)
+pub callable_first : {M : Type 0} (m : Mut M Move (Unit {0})) (on_move : M) (first : NodeFields)
+    (rest nodes : List NodeFields) (move : Move) → nodes ≡ first ∷ rest → move ≡ move_of first
+    → IsCallableAtEach m on_move (moves_of nodes) → m.pre on_move move
+callable_first m on_move first rest nodes move popped of_first callable =
+    rw of_first (callable.at [] (move_of first) (moves_of rest) on_move (ap moves_of popped) refl)
+
+module _ {M : Type 0} (m : Mut M Move (Unit {0})) (on_move next : M) (first : NodeFields)
+    (rest nodes : List NodeFields) (move : Move) (popped : nodes ≡ first ∷ rest)
+    (call : Called m on_move move tt next) (of_first : move ≡ move_of first) where
+  pub callable_one_more : IsCallableAtEach m on_move (moves_of nodes) → IsCallableAtEach m next (moves_of rest)
   callable_one_more callable =
       record {
-        at = λ before number after now parts calls. callable.at (first.number ∷ before) number after now
+        at = λ before also after now parts calls. callable.at (move_of first ∷ before) also after now
             (rw (popped, parts)) (next, rw of_first at call, calls);
       }
 
-  pub called_one_more : (last : M) → IsCalledAtEach m next (numbers rest) last
-      → IsCalledAtEach m moved (numbers nodes) last
+  pub called_one_more : (last : M) → IsCalledAtEach m next (moves_of rest) last
+      → IsCalledAtEach m on_move (moves_of nodes) last
   called_one_more last after = rw popped (next, rw of_first at call, after)
 
--- reading the number of a node
-pub number_read : (node seen : Node) → seen ≡ node → seen.number ≡ (fields node).number
-number_read node seen same = ap (λ n. n.number) same
+-- reading the number of a node, and whether its thread waits with a timeout
+pub move_read : (node seen also : Node) → seen ≡ node → also ≡ node
+    → (seen.number, (also.timed, tt)) ≡ move_of (fields node)
+move_read node seen also same too = rw (same, too) refl
 
 -- nodes with a new key stand in its list alone
 lists_of-with_new_key : (key : ℕ) (nodes : List NodeFields)
@@ -156,7 +161,7 @@ no_answer = record { unparked_threads = 0; requeued_threads = 0; have_more_threa
 
 -- at an abort no closure is called
 pub AreCalled-aborted : {C M : Type 0} (c : Once C (RequeueOp × (UnparkResult × Unit {0})) UnparkToken)
-    (m : Mut M (ℕ × Unit {0}) (Unit {0})) (op : RequeueOp) (waiters : List NodeFields) (callback : C) (moved last : M)
+    (m : Mut M Move (Unit {0})) (op : RequeueOp) (waiters : List NodeFields) (callback : C) (moved last : M)
     (taken : List NodeFields) → op ≡ Abort → last ≡ moved → taken ≡ []
     → AreCalled c m op waiters callback moved last no_answer taken
 AreCalled-aborted c m op waiters callback moved last taken aborts same none =

@@ -44,7 +44,7 @@ module _ {T : Type 0} (fits : T → Type 0) where
   pub rebuilt : (s : St T) (o : Orderly fits s) (id : ℕ) (v w : View) (ws : List ℕ) (hs : Slots T)
       (list : List ℕ) (n : ℕ)
       → get_elem? s.views id ≡ some v
-      → length ws ≡ 9 → n + holds_lock v ≡ total holds_lock s.views + holds_lock w → n ≤ 1
+      → length ws ≡ 24 → n + holds_lock v ≡ total holds_lock s.views + holds_lock w → n ≤ 1
       → get_or ws 0 0 ≡ n + 2 * head list
       → (n ≡ 0 → HasValue fits hs) → (n ≡ 1 → get_elem? hs 0 ≡ some none) → FollowsLinks ws list → AllPlaces list
       → ((p : ℕ) → IsPlace p → PlaceOk s.words o.list s.views p → PlaceOk ws list (set s.views id w) p)

@@ -34,7 +34,7 @@ use Rattle.lot_base.proofs.WordSeats.{leaving_waits, leaving_owes, leaving_ok, l
 
 module _ {T : Type 0} (fits : T → Type 0) where
   -- a new lock
-  pub opens : (value : T) → fits value → Orderly fits (opening (replicate 9 0) (Some value ∷ []) resting)
+  pub opens : (value : T) → fits value → Orderly fits (opening (replicate 24 0) (Some value ∷ []) resting)
   opens value fit = record {
     list = [];
     long = refl;
@@ -46,17 +46,17 @@ module _ {T : Type 0} (fits : T → Type 0) where
     in_places = tt;
     each_place = λ p is.
         let pos = is.0 in
-        let mark = zeros 9 (p + 4) in
+        let mark = zeros 24 (p + 4) in
         let no-place = one_at-other p 0 (λ e. omega arith) in
         record {
           marked = omega arith;
           once = omega arith;
           removed = λ _. refl;
-          waiting = λ ne. absurd (ne (zeros 9 p));
+          waiting = λ ne. absurd (ne (zeros 24 p));
         };
     charged = inl refl;
     each_seat = λ j u e. ⊎_elim (λ t. absurd (some-ne-none u (sym t)))
-        (λ t. subst (SeatOk (replicate 9 0) []) t (λ pos. absurd (omega arith))) (at_snoc [] resting u j e);
+        (λ t. subst (SeatOk (replicate 24 0) []) t (λ pos. absurd (omega arith))) (at_snoc [] resting u j e);
   }
 
   -- a step of a seat, where the view and the number of slots are known by equations
@@ -83,7 +83,7 @@ seen_from v newest older word sees tells-it is =
     let same : newest ≡ word / 2 = omega arith in
     (sees ∙ ap (λ (x : ℕ). seeing (x ∷ older)) same, subst IsPlace same is)
 
-module _ {T : Type 0} (caller : Caller T) where
+module _ {T K : Type 0} (caller : Caller T K) where
   -- a holder that has the slot
   pub slot-holder : (seen owed : List ℕ) (inside : Option T) → seat_of caller ≡ (Holding seen owed, (0, inside) ∷ [])
       → SlotIsWithHolder caller

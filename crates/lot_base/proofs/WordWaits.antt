@@ -110,7 +110,7 @@ module _ {T : Type 0} (fits : T → Type 0) where
       let list : List ℕ = p ∷ o.list in
       let here : get_or ws 0 0 ≡ new = get_or-set_same s.words 0 new 0 (omega arith) in
       let ok = o.each_place p is in
-      let mine : get_or s.words p 0 ≡ link = (o.each_seat id m.0 me low).1 in
+      let mine : get_or s.words p 0 ≡ link = (o.each_seat id m.0 me (omega arith)).1 in
       let apart = not_waiting s.views id m.0 s.words o.list p me (one_at-same p) refl ok in
       let at-p : PlaceOk ws list (set s.views id w) p =
       let h = total-set (has_place p) s.views id m.0 w me in

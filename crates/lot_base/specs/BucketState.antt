@@ -15,6 +15,11 @@ pub record IsInPlace (bucket : BucketState) : Type 0 where
   pub below : bucket.place < bucket.size
   pub in_place : All (λ node. place_of node.key bucket.size ≡ bucket.place) bucket.nodes
 
+-- the bucket is that of the place p in a table of n buckets
+pub record StandsAt (p n : ℕ) (bucket : BucketState) : Type 0 where
+  pub place : bucket.place ≡ p
+  pub size : bucket.size ≡ n
+
 -- every step: the bucket is that of the same place of a table of the same size
 pub record KeepsPlace (old new : BucketState) : Type 0 where
   pub place : new.place ≡ old.place

@@ -1,9 +1,9 @@
 -- The places of a word lock, and lists of them, newest first.
 use Rattle.std.specs.Prelude.{◌≡◌, ◌≢◌, ℕ, ◌+◌, ◌-◌, ◌<◌, ◌≤◌, List, [], ◌∷◌, ◌==◌, cond, slice_index}
 
--- a place is a number from 1 to 4
+-- a place is a number from 8 to 11, the index of its link among the words
 abbrev pub IsPlace : ℕ → Type 0
-IsPlace p = (0 < p) × (p < 5)
+IsPlace p = (7 < p) × (p < 12)
 
 abbrev pub AllPlaces : List ℕ → Type 0
 AllPlaces [] = Unit {0}

@@ -59,7 +59,7 @@ SomeCharge words views = (id : ℕ) × (view : View) × (get_elem? views id ≡ 
 -- `list` is the waiting list, newest first
 pub record Orderly {T : Type 0} (fits : T → Type 0) (s : State (Option T) View) : Type 0 where
   pub list : List ℕ
-  pub long : length s.words ≡ 9
+  pub long : length s.words ≡ 24
   pub word : slice_index s.words 0 ≡ total holds_lock s.views + 2 * head list
   pub single : total holds_lock s.views ≤ 1
   pub home : total holds_lock s.views ≡ 0 → HasValue fits s.homes

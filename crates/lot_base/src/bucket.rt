@@ -67,11 +67,24 @@ impl Model for Bucket {
         IsInPlace (record { place = bucket.place; size = bucket.size; nodes = bucket.queue }) };
 }
 
-// A bucket behind a lock is asked for no more than what its type says.
-impl Fits for Bucket {
-    ghost use Rattle.std.specs.Prelude.{⊤};
+/// Which bucket a lock is around: the key of a bucket's `WordLock`.
+///
+/// Upstream has no such type, since its buckets do not know their place.
+#[derive(Copy, Clone)]
+pub struct BucketPlace {
+    /// The bucket's place in its table.
+    pub place: usize,
 
-    ghost fits = { λ _. ⊤ };
+    /// How many buckets the table has.
+    pub size: usize,
+}
+
+impl Fits for Bucket {
+    type Key = BucketPlace;
+
+    ghost use Rattle.lot_base.specs.BucketState.{StandsAt};
+
+    ghost fits = { λ key bucket. StandsAt key.place key.size bucket };
 }
 
 impl Bucket {
@@ -236,12 +249,12 @@ impl Bucket {
     /// keys have this bucket's place, and they may be equal.
     ///
     /// `validate` is called first, once. If it aborts, then no list changes, no other closure is
-    /// called, and the answer is the default result and no node. Otherwise `moved` is called with
-    /// the number of each thread that is requeued, in order, and then `callback`, once, with the
-    /// operation and the result, also where no thread waited. The result is answered too; a count
-    /// that no `usize` can hold is `usize::MAX` in it. Requeued nodes stand behind the waiters of
-    /// `to`, in order. The queue in the answer holds the node that was taken, with the token from
-    /// `callback`.
+    /// called, and the answer is the default result and no node. Otherwise `moved` is called for
+    /// each thread that is requeued, in order, with its number and whether it waits with a timeout,
+    /// and then `callback`, once, with the operation and the result, also where no thread waited.
+    /// The result is answered too; a count that no `usize` can hold is `usize::MAX` in it. Requeued
+    /// nodes stand behind the waiters of `to`, in order. The queue in the answer holds the node
+    /// that was taken, with the token from `callback`.
     ///
     /// An operation on one thread looks for waiters of `from` up to the second one, and any other
     /// looks at each node of the bucket once. Each node that was passed or moves is one `push_back`
@@ -252,7 +265,7 @@ impl Bucket {
     pub fn requeue_one<
         V: FnOnce() -> RequeueOp,
         C: FnOnce(RequeueOp, UnparkResult) -> UnparkToken,
-        M: FnMut(usize),
+        M: FnMut(usize, bool),
     >(
         &mut self,
         from: usize,
@@ -294,7 +307,7 @@ impl Bucket {
     pub fn requeue_two<
         V: FnOnce() -> RequeueOp,
         C: FnOnce(RequeueOp, UnparkResult) -> UnparkToken,
-        M: FnMut(usize),
+        M: FnMut(usize, bool),
     >(
         &mut self,
         target: &mut Bucket,

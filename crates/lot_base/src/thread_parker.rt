@@ -10,15 +10,18 @@ ghost use Rattle.lot_base.specs.Node.{fields, option_nodes};
 
 mod generic;
 mod mutex;
+mod word;
 
 use crate::queue::{Node, Queue};
 use crate::token::NoMemory;
 pub use generic::{YieldHandle, YieldParker};
 pub use mutex::{ThreadParker, UnparkHandle};
+use std::alloc::Global;
 use std::marker::Model;
 use std::sync::{Mutex, MutexGuard, Wait};
 use std::thread;
 use std::time::{Clock, Duration, Instant};
+pub use word::{WordHandle, WordParker};
 
 /// Puts one thread to sleep until another hands it its node.
 ///
@@ -26,9 +29,9 @@ use std::time::{Clock, Duration, Instant};
 /// owner is parked or may go to park; a node in the slot means that an unpark of the owner was
 /// committed. The law of the trait: a node that comes back has the owner's number.
 ///
-/// `timed_out`, `park`, `park_until` and `unpark_lock` take the parker's own lock and no other,
-/// behind any lock of a table or a bucket that their caller holds, and let it go before they
-/// return. No call but `new` may ask for memory.
+/// `timed_out`, `park`, `park_until` and `unpark_lock` take the parker's own lock, or what it has
+/// in place of one, and no other, behind any lock of a table or a bucket that their caller holds,
+/// and let it go before they return. No call but `new` may ask for memory.
 ///
 /// Upstream has the trait under this name, with unsafe calls. There a thread's data stays at its
 /// address and a flag says who may use it; here the node itself moves through the calls.
@@ -44,26 +47,26 @@ pub trait ThreadParkerT: Sized + Drop {
     /// The number of the thread that the parker belongs to.
     ghost owner: { Self → ℕ };
 
-    /// A parker of the thread of this number, with an empty slot.
+    /// A parker of the thread of this number, with an empty slot. It may ask the allocator for
+    /// memory.
     ///
-    /// Upstream's `new` takes no number and cannot be refused.
+    /// Upstream's `new` takes nothing, asks for no memory and cannot be refused.
     ///
     /// # Errors
     ///
-    /// `NoMemory` if the parker's lock cannot be made.
-    fn new(number: usize) -> Result<Self, NoMemory>
+    /// `NoMemory` if the parker cannot be made.
+    fn new(alloc: Global, number: usize) -> Result<Self, NoMemory>
         ensures { IfOk result (λ parker. owner parker ≡ number) };
 
     /// Prepares to park. The owner calls it before it enters a queue. It takes no lock and does not
-    /// wait.
+    /// wait, and it leaves the slot as it is.
     ///
-    /// Upstream sets its flag here. A slot is empty once its node was taken, so that nothing is
-    /// left to change.
+    /// Upstream sets its flag here. A slot is empty once its node was taken.
     fn prepare_park(&self);
 
-    /// Whether the slot was empty while its lock was held, so that no unpark had been committed.
-    /// The owner calls it after a deadline, with the lock of the bucket that it waits in. It waits
-    /// for the parker's lock alone.
+    /// Whether the slot was empty while no other thread worked on it, so that no unpark had been
+    /// committed. The owner calls it after a deadline, with the lock of the bucket that it waits
+    /// in. It waits for the parker's lock alone.
     ///
     /// Upstream answers its flag.
     fn timed_out<R: Wait>(&self, rt: &R) -> bool;
@@ -168,8 +171,8 @@ impl Slot {
         self.owner
     }
 
-    // Whether the slot holds no node.
-    fn is_empty(&self) -> bool
+    /// Whether the slot holds no node.
+    pub fn is_empty(&self) -> bool
         ensures { IsTrue result ↔ (self.now.nodes ≡ []) }
     {
         self.nodes.front().is_none()

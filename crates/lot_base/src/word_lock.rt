@@ -1,10 +1,12 @@
 //! A lock of one word around a value, whose callers wait in a list and sleep.
 //!
-//! A lock has nine words. Word 0 is the lock's: bit 0 tells that somebody holds it, and the other
-//! bits are the newest place of the waiting list, or 0. There are four places, 1 to 4. The word of
+//! A lock has 24 words. Word 0 is the lock's: bit 0 tells that somebody holds it, and the other
+//! bits are the newest place of the waiting list, or 0. There are four places, 8 to 11. The word of
 //! a place's number is its link: while the place is in the list, 1 if it is the oldest, and else 1
-//! more than the place that entered before it; and 0 once it was told that it was removed. Four
-//! more words tell which places are taken.
+//! more than the place that entered before it; and 0 once it was told that it was removed. Words 12
+//! to 15 tell which places are taken. Nobody writes the others: they keep links and marks out of
+//! the cache line of word 0, and the words of the next lock out of the lines of these. A caller
+//! that comes reads word 16.
 //!
 //! Whoever finds bit 0 clear sets it by one exchange of the word, and needs no place. Whoever finds
 //! it set, and has spun in vain, takes a place, writes the link, makes the place the newest by an
@@ -16,12 +18,16 @@
 //! Upstream's list is one of the waiters' own nodes, linked both ways, with a second bit in the
 //! word for whoever works on it after the release. Here the holder does that before it lets go.
 //!
-//! What is proved is `WordLockInvariant`, and that a `lock` gives a value that fits. That whoever
-//! sleeps is woken is shown by tests.
+//! A lock has a key, which is fixed when it is made and tells proofs which lock it is: what a value
+//! has to fit may speak of it. Neither the lock nor a caller keeps a byte of it.
+//!
+//! What is proved is `WordLockInvariant`, and that a `lock` gives a value that fits the lock's key.
+//! That whoever sleeps is woken is shown by tests.
 
-ghost use Rattle.std.specs.Prelude.{◌≡◌, ◌-◌, ◌%◌, ◌/◌, ◌+◌, ℕ, List, [], ◌∷◌, Option, IsTrue};
+ghost use Rattle.std.specs.Prelude.{◌≡◌, ◌-◌, ◌%◌, ◌/◌, ◌+◌, ℕ, List, [], ◌∷◌, IfOk, Option, IsTrue};
 ghost use Rattle.atomic_table.specs.Table.{State};
 ghost use Rattle.lot_base.specs.WordPlaces.{IsPlace};
+ghost use Rattle.lot_base.specs.WordKey.{without_keys};
 ghost use Rattle.lot_base.specs.WordLockInvariant.{WordLockInvariant, IsAwake};
 ghost use Rattle.lot_base.specs.declared.word_lock.view.View.{View};
 ghost use Rattle.lot_base.specs.declared.word_lock.view.View.TheVariants.{Enqueued};
@@ -36,7 +42,7 @@ use crate::spinwait::SpinWait;
 use crate::thread_parker::thread_yield;
 use crate::token::NoMemory;
 use crate::word_lock::plays::Order;
-use crate::word_lock::steps::{Caller, LOCKED, OLDEST, TOLD};
+use crate::word_lock::steps::{Caller, LOCKED, OLDEST, TOLD, WORDS};
 use crate::word_lock::view::View;
 use atomic_table::{Refused, Table, TableRule};
 use std::alloc::Global;
@@ -46,34 +52,40 @@ use std::sync::Wait;
 /// until a place is free. Upstream has no such limit.
 pub const WORD_SLOTS: usize = 4;
 
-/// What a value behind a lock satisfies. `WordLock::new` and `unlock` ask it, and `lock` gives it.
+/// What a value behind a lock satisfies, given the lock's key. `WordLock::new` and `unlock` ask it,
+/// and `lock` gives it.
 ///
 /// It has `Drop` as its parent, so that a lock can be dropped with its value. Upstream's lock has
 /// no value.
 pub trait Fits: Drop {
-    /// What the value satisfies.
-    ghost fits: { Self → Type 0 };
+    /// What tells one lock from another in proofs, as the place of a bucket does; `()` where all
+    /// locks are alike.
+    type Key;
+
+    /// What the value behind a lock of this key satisfies.
+    ghost fits: { Self.Key → Self → Type 0 };
 }
 
 /// A lock of one word around a value, which threads share by reference.
 ///
-/// A lock has two blocks on the heap, one of nine words and one for the value, and points to them.
+/// A lock has two blocks on the heap, one of 24 words and one for the value, and points to them.
 /// If nobody else uses it, a `lock` and an `unlock` touch the lock itself, of 64 bytes, the line of
-/// its first words, and the lines of the value: three or four cache lines for a value of 40 bytes.
-/// Each goes by a pointer from the lock to the word, and by another to the value.
+/// its word and that of a word that nobody writes, and the lines of the value: four or five cache
+/// lines for a value of 40 bytes. Each goes by a pointer from the lock to the words, and by another
+/// to the value.
 ///
 /// Upstream has it under this name, as one word in place.
 #[derive(Drop)]
 pub struct WordLock<T: Fits> {
-    table: Table<Option<T>, View, (), Order, Global>,
-    ghost sized: { (table.shared.table_id.words ≡ 9) × (table.shared.table_id.slots ≡ 1) },
+    table: Table<Option<T>, (T::Key, View), T::Key, Order, Global>,
+    ghost sized: { (table.shared.table_id.words ≡ 24) × (table.shared.table_id.slots ≡ 1) },
 }
 
 /// The value of a lock, and the right to it. It has no `Drop`, so it ends in `unlock`, which takes
 /// it if this lock gave it.
 ///
 /// Upstream has no such type: there a caller keeps in mind that it holds the lock.
-pub struct Held<T> {
+pub struct Held<T: Fits> {
     /// The value, to read and to change.
     pub value: T,
 
@@ -81,9 +93,10 @@ pub struct Held<T> {
 }
 
 impl<T: Fits> WordLock<T> {
-    ghost use Rattle.lot_base.specs.WordLock.{IsCallerOf, IsHeldOf, IsTrying, HasFullSlot, Sees, SeesMore, seat_of};
+    ghost use Rattle.lot_base.specs.WordLock.{IsCallerOf, IsHeldOf, IsTrying, HasFullSlot, Sees, SeesMore, key_of, seat_of};
 
-    /// A lock that nobody holds, around a value that fits.
+    /// A lock of this key that nobody holds, around a value that fits it. The key is for proofs
+    /// alone: nothing reads or keeps it.
     ///
     /// It asks for memory three times: for the block of the words, for the block of the value, and
     /// for a block of the value's size that is freed before it returns. No other call of a lock
@@ -92,19 +105,20 @@ impl<T: Fits> WordLock<T> {
     /// # Errors
     ///
     /// `NoMemory` if a request for memory was refused. The value is dropped.
-    pub fn new(alloc: Global, value: T) -> Result<WordLock<T>, NoMemory>
-        requires { T.fits value }
+    pub fn new(alloc: Global, value: T, key: &T::Key) -> Result<WordLock<T>, NoMemory>
+        requires { T.fits key.now value }
+        ensures { IfOk result (λ lock. key_of lock ≡ key.now) }
     {
         let mut slots = Vec::with_capacity(alloc, 1)?;
         slots.push_reserved(Some(value));
-        match Table::new(alloc, &[0; 2 * WORD_SLOTS + 1], slots, &()) {
+        match Table::new(alloc, &[0; WORDS], slots, key) {
             Ok((table, _resting)) => Ok(WordLock { table }),
             Err(Refused { slots: _ }) => Err(NoMemory),
         }
     }
 
-    /// Waits until nobody holds the lock, and takes it with its value, which fits. Any thread may
-    /// call it; one that holds the lock already waits forever.
+    /// Waits until nobody holds the lock, and takes it with its value, which fits the lock's key.
+    /// Any thread may call it; one that holds the lock already waits forever.
     ///
     /// If nobody holds the lock or is in the list, it is one exchange of the word. If somebody
     /// holds it, it spins by a `SpinWait` while nobody is in the list, and then enters the list and
@@ -115,15 +129,15 @@ impl<T: Fits> WordLock<T> {
     #[inline]
     pub fn lock<R: Wait>(&self, rt: &R) -> Held<T>
         ensures held { IsHeldOf self.now result }
-        ensures fits { T.fits result.value }
+        ensures fits { T.fits (key_of self.now) result.value }
     {
         let mut caller = self.hold(rt);
         let value = self.take_value(&mut caller);
         Held { value, caller }
     }
 
-    /// Puts the value back, which has to fit, and lets the lock go. The contract asks that this
-    /// lock's `lock` gave what is passed. It does not wait.
+    /// Puts the value back, which has to fit the lock's key, and lets the lock go. The contract asks
+    /// that this lock's `lock` gave what is passed. It does not wait.
     ///
     /// If nobody is in the list, it is one exchange of the word. Else it reads the links of the
     /// list, at most five times in all, tries the word up to three times, of which the last changes
@@ -134,7 +148,7 @@ impl<T: Fits> WordLock<T> {
     #[inline]
     pub fn unlock(&self, held: Held<T>)
         requires held { IsHeldOf self.now held }
-        requires fits { T.fits held.value }
+        requires fits { T.fits (key_of self.now) held.value }
     {
         let Held { value, mut caller } = held;
         self.put_value(&mut caller, value);
@@ -146,7 +160,7 @@ impl<T: Fits> WordLock<T> {
     fn hold<R: Wait>(&self, rt: &R) -> Caller<T>
         ensures lock { IsCallerOf self.now result }
         ensures holds { Sees result [] }
-        ensures home { HasFullSlot T.fits result }
+        ensures home { HasFullSlot (T.fits (key_of self.now)) result }
     {
         let mut caller = self.arrive();
         if self.acquire(&mut caller, 0) {
@@ -163,7 +177,7 @@ impl<T: Fits> WordLock<T> {
         requires tries { IsTrying arrived 0 0 }
         ensures lock { IsCallerOf self.now result }
         ensures holds { Sees result [] }
-        ensures home { HasFullSlot T.fits result }
+        ensures home { HasFullSlot (T.fits (key_of self.now)) result }
     {
         let mut caller = arrived;
         let mut spin = SpinWait::new();
@@ -173,10 +187,10 @@ impl<T: Fits> WordLock<T> {
                 if self.acquire(&mut caller, word) {
                     return caller;
                 }
-            } else if word != LOCKED || !spin.spin() {
-                if self.wait(rt, &mut caller, word) {
-                    spin.reset();
-                }
+            } else if word == LOCKED && spin.spin() {
+                continue;
+            } else if self.wait(rt, &mut caller, word) {
+                spin.reset();
             }
         }
         unreachable!()
@@ -247,7 +261,7 @@ impl<T: Fits> WordLock<T> {
     fn let_go(&self, holder: Caller<T>)
         requires lock { IsCallerOf self.now holder }
         requires holds { Sees holder [] }
-        requires home { HasFullSlot T.fits holder }
+        requires home { HasFullSlot (T.fits (key_of self.now)) holder }
     {
         let mut caller = holder;
         let word = self.release_to_zero(&mut caller, LOCKED);
@@ -264,7 +278,7 @@ impl<T: Fits> WordLock<T> {
     fn unlock_slow(&self, holder: Caller<T>, word: u64)
         requires lock { IsCallerOf self.now holder }
         requires holds { SeesMore holder 0 word }
-        requires home { HasFullSlot T.fits holder }
+        requires home { HasFullSlot (T.fits (key_of self.now)) holder }
     {
         let mut caller = holder;
         let link = self.first_link(&mut caller, word);
@@ -287,7 +301,7 @@ impl<T: Fits> WordLock<T> {
         requires lock { IsCallerOf self.now holder }
         requires places { IsPlace newest × IsPlace next }
         requires holds { (older : List ℕ) × Sees holder (newest ∷ next ∷ older) }
-        requires home { HasFullSlot T.fits holder }
+        requires home { HasFullSlot (T.fits (key_of self.now)) holder }
     {
         let mut caller = holder;
         let (newer, oldest) = self.find_oldest(&mut caller, newest, next);
@@ -321,9 +335,9 @@ impl<T: Fits> WordLock<T> {
 }
 
 /// Between any two steps of its callers a word lock keeps its invariant, since the rule that the
-/// table of every lock keeps gives it.
+/// table of every lock keeps gives it. The state is one without the key that each caller carries.
 pub fn word_locks_keep_their_invariant<T: Fits>()
-    ensures { (state : State (Option T) View)
-        → ⟦<Order as TableRule<Option<T>, View, ()>>⟧.holds tt state
-        → WordLockInvariant T.fits state }
+    ensures { (key : T.Key) → (state : State (Option T) (T.Key × View))
+        → ⟦<Order as TableRule<Option<T>, (T::Key, View), T::Key>>⟧.holds key state
+        → WordLockInvariant (T.fits key) (without_keys state) }
 {}

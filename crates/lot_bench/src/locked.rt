@@ -46,7 +46,9 @@ struct Tally {
 }
 
 impl Fits for Tally {
-    ghost fits = { λ _. ⊤ };
+    type Key = ();
+
+    ghost fits = { λ _ _. ⊤ };
 }
 
 impl Tally {
@@ -111,7 +113,7 @@ pub fn word_lock<R: Threads + Wait + Clock + Sync>(
     threads: usize,
     section: Section,
 ) -> Option<Cost> {
-    let lock = WordLock::new(alloc, Tally::new()).ok()?;
+    let lock = WordLock::new(alloc, Tally::new(), &()).ok()?;
     cost_of_lock(rt, alloc, &lock, threads, section)
 }
 

@@ -3,8 +3,8 @@ use Rattle.std.specs.Prelude.{◌≡◌, ℕ, List, length}
 use Rattle.lot_base.specs.BucketState.{BucketState}
 use Rattle.lot_exclusive.specs.declared.lot.Status.{Status}
 
--- a thread: its number, the key that it waits on or last came to wait on, also where it was not let in, its status, and
--- the keys that it recorded
+-- a thread: its number, the key that it waits on or last came to wait on, in an exclusive lot also where it was not let
+-- in, its status, and the keys that it recorded
 pub record ThreadState : Type 0 where
   pub number : ℕ
   pub key : ℕ

@@ -13,7 +13,7 @@ abbrev pub is_running : Status → Bool
 is_running Running = true
 is_running _ = false
 
--- it stands in a list: it waits, or its deadline has passed and it is still there
+-- it waits, or its deadline has passed: in the machine it stands in a list
 abbrev pub is_queued : Status → Bool
 is_queued (Waiting _) = true
 is_queued Late = true

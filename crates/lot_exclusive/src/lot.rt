@@ -121,6 +121,7 @@ impl Lot {
         if self.table.registered() == self.threads.len() {
             return Err(LotError::Full);
         }
+        // Its number is not known yet.
         let mut node = Node::new(*self.threads.allocator(), 0)?;
         let number = self.table.register()?;
         node.number = number;
@@ -483,6 +484,7 @@ impl Lot {
     pub fn consistency(&self)
         ensures { IsConsistent (machine self.now) }
     {
+        // A use of a field opens what the type keeps.
         let _ = &self.threads;
     }
 

@@ -275,6 +275,7 @@ impl FineLot {
         ensures no_other_list { let s = fine_state self.now in (number key : ℕ)
             → key ≢ s.key_words number → times_in number (s.threads_view.lists key) ≡ 0 }
     {
+        // A use of a field opens what the type keeps.
         let _ = &self.threads;
     }
 }

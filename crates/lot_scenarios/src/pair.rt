@@ -3,7 +3,7 @@
 use crate::turns::by_turns;
 use crate::{KEY, TOKEN};
 use parking_lot_core::{
-    DEFAULT_PARK_TOKEN, ParkResult, ParkingLot, ThreadData, ThreadParker, UnparkToken, park,
+    DEFAULT_PARK_TOKEN, ParkResult, ParkingLot, ThreadData, UnparkToken, WordParker, park,
     unpark_one,
 };
 use std::alloc::Global;
@@ -12,7 +12,7 @@ use std::thread;
 use std::thread::{JoinHandle, Threads};
 use std::time::Clock;
 
-type Lot = ParkingLot<ThreadParker>;
+type Lot = ParkingLot<WordParker>;
 
 /// What the unpark and the park of a pair of threads answered.
 #[derive(Copy, Clone)]

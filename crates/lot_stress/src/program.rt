@@ -3,7 +3,7 @@
 use crate::fault::Fault;
 use crate::memory::{self, SCENARIOS, Scenario};
 use crate::race;
-use parking_lot_core::{ThreadParker, YieldParker};
+use parking_lot_core::{ThreadParker, WordParker, YieldParker};
 use std::process::ExitCode;
 use std::rt::Env;
 use std::sync::Wait;
@@ -15,6 +15,7 @@ const USAGE_STATUS: u8 = 2;
 
 #[derive(Copy, Clone)]
 enum Parker {
+    OfOneWord,
     Sleeping,
     Yielding,
 }
@@ -32,7 +33,7 @@ pub fn run<
     R: Env + Print + Eprint + AllocGlobal + Threads + Wait + Clock + Copy + Send + Sync + 'static,
 >(rt: &R) -> ExitCode {
     let Some(command) = chosen_command(rt) else {
-        let _ = eprintln!(rt; "usage: lot_stress memory [SCENARIO thread|yield]");
+        let _ = eprintln!(rt; "usage: lot_stress memory [SCENARIO word|thread|yield]");
         let _ = eprintln!(rt; "       lot_stress race SECONDS SEED");
         return ExitCode::from(USAGE_STATUS);
     };
@@ -72,6 +73,7 @@ fn command_of(command: &str, first: &str, second: &str) -> Option<Command> {
 
 fn parker_named(name: &str) -> Option<Parker> {
     match name {
+        "word" => Some(Parker::OfOneWord),
         "thread" => Some(Parker::Sleeping),
         "yield" => Some(Parker::Yielding),
         _ => None,
@@ -84,6 +86,9 @@ fn follow<R: Print + Eprint + AllocGlobal + Threads + Wait + Clock + Copy + Send
 ) -> Result<(), Fault> {
     match command {
         Command::List => Ok(print_names(rt)?),
+        Command::Memory(scenario, Parker::OfOneWord) => {
+            memory::play::<WordParker, _>(rt, rt.alloc(), scenario)
+        }
         Command::Memory(scenario, Parker::Sleeping) => {
             memory::play::<ThreadParker, _>(rt, rt.alloc(), scenario)
         }

@@ -68,5 +68,5 @@ IsScript lines (Err fault) written = IsStopped lines fault written
 
 -- how a script of lines may end, whatever became of its answers; where a write failed nothing is said
 abbrev pub IsScriptEnd : List (List ℕ) → Result (Unit {0}) Fault → Type 0
-IsScriptEnd lines (Ok _) = (answers : List ℕ) × IsDone lines answers
-IsScriptEnd lines (Err fault) = fault.cause ≢ cause.WriteFailed → (answers : List ℕ) × IsStopped lines fault answers
+IsScriptEnd lines (Ok _) = (bytes : List ℕ) × IsDone lines bytes
+IsScriptEnd lines (Err fault) = fault.cause ≢ cause.WriteFailed → (bytes : List ℕ) × IsStopped lines fault bytes

@@ -155,6 +155,7 @@ impl Record {
     pub fn consistency(&self)
         ensures { IsRecord self.now }
     {
+        // A use of a field opens what the type keeps.
         let _ = &self.lot;
     }
 

@@ -99,7 +99,8 @@ impl<C: Ledger, W: Ledger, U: Ledger> RecordingLot<C, W, U> {
 
     /// Does the step as `Record::step` does, and adds its answer to the ticket's totals. It takes
     /// the lot's lock, and waits for it. The contract does not know the record that it finds: it
-    /// says that the answer is one that some record gives to this step.
+    /// says that the answer is one that some record gives to this step. That the step stands in the
+    /// journal with this answer is shown by tests; the contract ties both by the totals alone.
     ///
     /// # Errors
     ///

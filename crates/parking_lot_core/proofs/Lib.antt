@@ -1,2 +1,3 @@
 pub mod ParkingLotLemmas
+pub mod RowLemmas
 pub mod HandleLemmas

@@ -6,7 +6,7 @@ pub mod deadlock;
 pub mod parking_lot;
 pub mod table;
 
-pub use lot_base::bucket::{Bucket, place};
+pub use lot_base::bucket::{Bucket, BucketPlace, place};
 pub use lot_base::laws::{
     abort_changes_nothing, filter_covers_unparks, requeue_to_itself_changes_nothing,
     spreading_keeps_order, steps_keep_park_tokens,
@@ -14,8 +14,8 @@ pub use lot_base::laws::{
 pub use lot_base::queue::{Node, Queue};
 pub use lot_base::spinwait::SpinWait;
 pub use lot_base::thread_parker::{
-    Slot, ThreadParker, ThreadParkerT, UnparkHandle, UnparkHandleT, YieldHandle, YieldParker,
-    thread_yield,
+    Slot, ThreadParker, ThreadParkerT, UnparkHandle, UnparkHandleT, WordHandle, WordParker,
+    YieldHandle, YieldParker, thread_yield,
 };
 pub use lot_base::token::{
     DEFAULT_PARK_TOKEN, DEFAULT_UNPARK_TOKEN, FilterOp, LotError, Misfit, NoMemory, ParkResult,

@@ -100,7 +100,7 @@ impl<P: ThreadParkerT> Model for ParkingLot<P> {
 impl<P: ThreadParkerT> ParkingLot<P> {
     /// A lot for at most this many threads, none of which is registered.
     ///
-    /// It allocates 16 buckets, and a parker and a key word for each number.
+    /// It allocates 16 buckets, and a parker, a key word and a node for each number.
     ///
     /// # Errors
     ///
@@ -133,9 +133,9 @@ impl<P: ThreadParkerT> ParkingLot<P> {
 
     /// Registers a thread under the least free number. It has no records.
     ///
-    /// It takes the lock of the numbers, looks for a free one, and allocates the thread's node, and
-    /// then what the table needs to grow. Growth waits for each section of the old buckets in turn.
-    /// From then on the thread parks without asking for memory.
+    /// It takes the lock of the numbers, looks for a free one, and allocates what the table needs to
+    /// grow, if it has to. Growth waits for each section of the old buckets in turn. The thread's
+    /// node was made with the lot, so it parks without asking for memory.
     ///
     /// # Errors
     ///
@@ -154,10 +154,11 @@ impl<P: ThreadParkerT> ParkingLot<P> {
         })
     }
 
-    /// Frees the thread's number. It takes the lock of the numbers, and allocates nothing. With
-    /// another lot's data it frees whoever has that number here.
+    /// Frees the thread's number, and takes its node back. It takes the lock of the numbers, and
+    /// allocates nothing. With another lot's data it frees whoever has that number here.
     pub fn retire<R: Wait>(&self, rt: &R, data: ThreadData) {
-        self.buckets.release(rt, data.number);
+        // The data of a thread that does not wait has its node: its type keeps that.
+        self.buckets.release(rt, data.node.unwrap());
     }
 
     /// The numbers of the threads that waited on the key while its bucket was locked, in order.
@@ -168,10 +169,7 @@ impl<P: ThreadParkerT> ParkingLot<P> {
     ///
     /// `NoMemory` if memory for the list cannot be had. The empty list needs none.
     pub fn list<R: Wait>(&self, rt: &R, alloc: Global, key: usize) -> Result<Vec<usize>, NoMemory> {
-        let bucket = self.buckets.lock(rt, key);
-        let numbers = sections::list_of(&bucket.held.value, alloc, key);
-        bucket.unlock();
-        numbers
+        self.list_in_section(rt, alloc, key)
     }
 }
 

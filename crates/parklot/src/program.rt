@@ -4,7 +4,7 @@ mod session;
 
 use lot_scenarios::pair::Pair;
 use lot_scenarios::{Scenario, TOKEN, pair};
-use parking_lot_core::ThreadParker;
+use parking_lot_core::WordParker;
 use std::process::ExitCode;
 use std::rt::Env;
 use std::sync::Wait;
@@ -86,7 +86,7 @@ fn run_all<R: Print + AllocGlobal + Threads + Wait + Clock + Copy + Send + 'stat
 ) -> io::Result<bool> {
     let mut passed = run_pair(rt)?;
     for (name, scenario) in all_scenarios() {
-        if lot_scenarios::run::<ThreadParker, _>(rt, rt.alloc(), scenario).is_some() {
+        if lot_scenarios::run::<WordParker, _>(rt, rt.alloc(), scenario).is_some() {
             println!(rt; "{name} ok")?;
         } else {
             println!(rt; "{name} failed")?;

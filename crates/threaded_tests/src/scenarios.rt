@@ -1,6 +1,6 @@
-//! The program's scenarios, each with both parkers, and those of latches also without a delay.
+//! The program's scenarios, each with every parker, and those of latches also without a delay.
 
-use lot_base::thread_parker::{ThreadParker, YieldParker};
+use lot_base::thread_parker::{ThreadParker, WordParker, YieldParker};
 use lot_scenarios::{Plan, Scenario};
 use std::alloc::Global;
 use std::process::Abort;
@@ -16,8 +16,13 @@ fn passes<R: Threads + Wait + Clock + Abort + Copy + Send + 'static>(
     scenario: Scenario,
 ) {
     for _ in 0..repeats {
+        let passed = lot_scenarios::run::<WordParker, _>(rt, alloc, scenario).is_some();
+        assert!(rt; passed, "with the parker that sleeps on a word");
         let passed = lot_scenarios::run::<ThreadParker, _>(rt, alloc, scenario).is_some();
-        assert!(rt; passed, "with the parker that sleeps");
+        assert!(rt;
+            passed,
+            "with the parker that sleeps on a condition variable"
+        );
         let passed = lot_scenarios::run::<YieldParker, _>(rt, alloc, scenario).is_some();
         assert!(rt; passed, "with the parker that yields");
     }

@@ -1,6 +1,6 @@
 //! Tests of the mutex among threads.
 
-use parking_lot_core::{ParkingLot, ThreadData, ThreadParker, ThreadParkerT};
+use parking_lot_core::{ParkingLot, ThreadData, ThreadParkerT, WordParker};
 use std::alloc::Global;
 use std::sync::atomic::{AtomicUsize, Ordering};
 use std::sync::{Arc, Wait};
@@ -93,7 +93,7 @@ where
 // and unlocks it too.
 #[test]
 fn threads_count_in_turn(rt: HostRuntime) -> Result<(), Fail> {
-    let lot = ParkingLot::<ThreadParker>::new(rt.alloc(), THREADS)?;
+    let lot = ParkingLot::<WordParker>::new(rt.alloc(), THREADS)?;
     let shared = Arc::new(rt.alloc(), Shared::new(lot))?;
     let mut counting = Vec::new(rt.alloc());
     for _ in 0..THREADS {
@@ -125,7 +125,7 @@ fn come_by_turns<P: ThreadParkerT, R: Wait>(rt: &R, alloc: Global, lot: &Parking
 // It refuses a `lock` that does not wait, and an `unlock` that wakes nobody.
 #[test]
 fn a_waiter_is_handed_the_mutex(rt: HostRuntime) -> Result<(), Fail> {
-    let lot = ParkingLot::<ThreadParker>::new(rt.alloc(), 1)?;
+    let lot = ParkingLot::<WordParker>::new(rt.alloc(), 1)?;
     let shared = Arc::new(rt.alloc(), Shared::new(lot))?;
     let data = shared.lot.thread_data(&rt, rt.alloc())?;
     let theirs = Arc::try_clone(&shared)?;

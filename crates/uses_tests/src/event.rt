@@ -1,7 +1,7 @@
 //! Tests of the event among threads.
 
 use crate::expect_equal;
-use parking_lot_core::{ParkingLot, ThreadData, ThreadParker, ThreadParkerT};
+use parking_lot_core::{ParkingLot, ThreadData, ThreadParkerT, WordParker};
 use std::alloc::Global;
 use std::sync::{Arc, Wait};
 use std::test::Fail;
@@ -68,7 +68,7 @@ fn come_by_turns<P: ThreadParkerT, R: Wait>(
 #[test]
 fn the_event_wakes_every_thread(rt: HostRuntime) -> Result<(), Fail> {
     let shared = Shared {
-        lot: ParkingLot::<ThreadParker>::new(rt.alloc(), THREADS + 1)?,
+        lot: ParkingLot::<WordParker>::new(rt.alloc(), THREADS + 1)?,
         event: Event::new(KEY),
     };
     let shared = Arc::new(rt.alloc(), shared)?;

@@ -1,6 +1,6 @@
 //! Tests of the semaphore among threads.
 
-use parking_lot_core::{ParkingLot, ThreadData, ThreadParker, ThreadParkerT};
+use parking_lot_core::{ParkingLot, ThreadData, ThreadParkerT, WordParker};
 use std::alloc::AllocError;
 use std::sync::Wait;
 use std::sync::atomic::{AtomicUsize, Ordering};
@@ -76,7 +76,7 @@ where
 #[test]
 fn as_many_threads_are_inside_as_there_are_permits(rt: HostRuntime) -> Result<(), Fail> {
     let shared = Shared {
-        lot: ParkingLot::<ThreadParker>::new(rt.alloc(), THREADS + 1)?,
+        lot: ParkingLot::<WordParker>::new(rt.alloc(), THREADS + 1)?,
         semaphore: ThreadSemaphore::new(KEY, PERMITS),
         inside: AtomicUsize::new(0),
         came: AtomicUsize::new(0),

@@ -20,12 +20,17 @@ pub fn answer(unparked: usize, requeued: usize, more: bool) -> UnparkResult {
     }
 }
 
+// Whether the thread of this number waits with a timeout.
+fn is_timed(number: usize) -> bool {
+    number % 2 == 0
+}
+
 // The node of a thread that is about to wait on the key, with its number for a park token.
 fn node(alloc: Global, number: usize, key: usize) -> Result<Box<Node>, NoMemory>
     ensures { IfOk result (λ node. (fields node.value).key ≡ key) }
 {
     let mut node = Node::new(alloc, number)?;
-    node.prepare(key, ParkToken(number), false);
+    node.prepare(key, ParkToken(number), is_timed(number));
     Ok(node)
 }
 
@@ -144,7 +149,8 @@ pub fn filter<F: FnMut(ParkToken) -> FilterOp>(
 }
 
 /// What a requeue answered, what its callback was handed, how many calls of `moved` came before it,
-/// the threads that it took, each with its token, and those that `moved` was called with.
+/// the threads that it took, each with its token, and those that `moved` was called with, and of
+/// how many of these it was told otherwise whether they are timed.
 #[derive(Drop)]
 pub struct Done {
     pub result: UnparkResult,
@@ -152,6 +158,7 @@ pub struct Done {
     pub moved_before: usize,
     pub threads: Vec<(usize, usize)>,
     pub moved: Vec<usize>,
+    pub told_otherwise: usize,
 }
 
 /// A requeue from the first key to the second, within the bucket or to a target.
@@ -168,8 +175,12 @@ pub fn requeue(
     let calls = Cell::new(0usize);
     let mut moved_before = 0;
     let mut moved = Ok(Vec::new(alloc));
-    let note_moved = &mut |number| {
+    let mut told_otherwise = 0usize;
+    let note_moved = &mut |number, timed| {
         calls.set(calls.get().wrapping_add(1));
+        if timed != is_timed(number) {
+            told_otherwise = told_otherwise.wrapping_add(1);
+        }
         note(&mut moved, number);
     };
     let note_told = |op, handed| {
@@ -195,6 +206,7 @@ pub fn requeue(
         moved_before,
         threads: threads(alloc, &taken)?,
         moved: moved?,
+        told_otherwise,
     })
 }
 

@@ -2,7 +2,7 @@
 
 ghost use Rattle.std.specs.Prelude.{◌≡◌, ◌≢◌, [], map, IfNone, IfSome, length};
 ghost use Rattle.lot_base.specs.Node.{fields, option_nodes};
-ghost use Rattle.lot_base.specs.Requeue.{numbers, IsCallableAtEach, IsCalledAtEach, AreCallable, AreCalled};
+ghost use Rattle.lot_base.specs.Requeue.{moves_of, IsCallableAtEach, IsCalledAtEach, AreCallable, AreCalled};
 ghost use Rattle.lot_base.specs.Waiting.{split_by, has_any};
 ghost use Rattle.lot_base.specs.NodeLists.{lists_of, ChangesOnly, saturated, with_new_key, split_to};
 ghost use Rattle.lot_base.specs.declared.token.RequeueOp.{RequeueOp};
@@ -21,7 +21,10 @@ pub(super) struct Requeued {
 
 // Does what a requeue does to the list of its first key and calls its closures, or nothing if it
 // is to abort.
-pub(super) fn requeue_from<C: FnOnce(RequeueOp, UnparkResult) -> UnparkToken, M: FnMut(usize)>(
+pub(super) fn requeue_from<
+    C: FnOnce(RequeueOp, UnparkResult) -> UnparkToken,
+    M: FnMut(usize, bool),
+>(
     queue: &mut Queue,
     from: usize,
     to: usize,
@@ -72,8 +75,8 @@ struct Picked {
 }
 
 // Picks what the operation asks for from the nodes of the key `from`, or nothing if it is to abort.
-// Those that it moves get the key `to`, and `moved` is called with the number of each.
-fn pick<M: FnMut(usize)>(
+// Those that it moves get the key `to`, and `moved` is called for each.
+fn pick<M: FnMut(usize, bool)>(
     queue: &mut Queue,
     from: usize,
     to: usize,
@@ -81,7 +84,7 @@ fn pick<M: FnMut(usize)>(
     moved: &mut M,
 ) -> Option<Picked>
     requires { op ≢ RequeueOp.Abort → IsCallableAtEach M.FnMut moved.old
-        (numbers (split_by op (lists_of queue.old from)).moved) }
+        (moves_of (split_by op (lists_of queue.old from)).moved) }
     ensures aborted { IfNone result
         ((op ≡ RequeueOp.Abort) × (queue.new ≡ queue.old) × (moved.new ≡ moved.old)) }
     ensures chosen { IfSome result (λ _. op ≢ RequeueOp.Abort) }
@@ -92,7 +95,7 @@ fn pick<M: FnMut(usize)>(
     ensures count { IfSome result (λ picked. picked.requeued_threads
         ≡ saturated (length (split_by op (lists_of queue.old from)).moved)) }
     ensures told { IfSome result (λ _. IsCalledAtEach M.FnMut moved.old
-        (numbers (split_by op (lists_of queue.old from)).moved) moved.new) }
+        (moves_of (split_by op (lists_of queue.old from)).moved) moved.new) }
     ensures more { IfSome result (λ picked.
         picked.have_more_threads ≡ has_any (split_by op (lists_of queue.old from)).left) }
     ensures lists { IfSome result (λ _.
@@ -144,18 +147,19 @@ fn pick<M: FnMut(usize)>(
     }
 }
 
-// Takes all nodes of the key `from` from the queue, gives each the key `to`, calls `moved` with its
-// number, and tells how many they are.
-fn rekey_every<M: FnMut(usize)>(
+// Takes all nodes of the key `from` from the queue, gives each the key `to`, calls `moved` for it,
+// and tells how many they are.
+fn rekey_every<M: FnMut(usize, bool)>(
     queue: &mut Queue,
     from: usize,
     to: usize,
     moved: &mut M,
 ) -> (Queue, usize)
-    requires { IsCallableAtEach M.FnMut moved.old (numbers (lists_of queue.old from)) }
+    requires { IsCallableAtEach M.FnMut moved.old (moves_of (lists_of queue.old from)) }
     ensures nodes { result.0 ≡ map (with_new_key to) (lists_of queue.old from) }
     ensures count { result.1 ≡ saturated (length (lists_of queue.old from)) }
-    ensures moved { IsCalledAtEach M.FnMut moved.old (numbers (lists_of queue.old from)) moved.new }
+    ensures moved { IsCalledAtEach M.FnMut moved.old (moves_of (lists_of queue.old from))
+        moved.new }
     ensures lists { ChangesOnly queue.old queue.new from [] }
 {
     let mut rekeyed = Queue::new();
@@ -163,7 +167,7 @@ fn rekey_every<M: FnMut(usize)>(
     let mut count: usize = 0;
     while let Some(node) = queue.pop_front() {
         if node.key == from {
-            moved(node.number);
+            moved(node.number, node.timed);
             rekeyed.push_back(with_key(node, to));
             count = count.saturating_add(1);
         } else {

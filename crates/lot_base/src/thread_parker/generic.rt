@@ -5,6 +5,7 @@ ghost use Rattle.std.specs.Prelude.{◌≡◌, IsOk, IfOk};
 use super::{LockedSlot, ThreadParkerT, UnparkHandleT, thread_yield, time_left};
 use crate::queue::Node;
 use crate::token::NoMemory;
+use std::alloc::Global;
 use std::sync::Wait;
 use std::time::{Clock, Instant};
 
@@ -26,7 +27,7 @@ impl ThreadParkerT for YieldParker {
     ghost owner = { λ parker. parker.slot.owner };
 
     /// It is never refused: the lock does not ask for memory.
-    fn new(number: usize) -> Result<YieldParker, NoMemory>
+    fn new(_alloc: Global, number: usize) -> Result<YieldParker, NoMemory>
         ensures made { IsOk result }
         ensures owner { IfOk result (λ parker.
             ⟦<YieldParker as ThreadParkerT>⟧.owner parker ≡ number) }

@@ -5,6 +5,7 @@ ghost use Rattle.std.specs.Prelude.{◌≡◌, IsOk, IfOk};
 use super::{LockedSlot, ThreadParkerT, UnparkHandleT, time_left};
 use crate::queue::Node;
 use crate::token::NoMemory;
+use std::alloc::Global;
 use std::sync::{Condvar, Wait};
 use std::time::{Clock, Instant};
 
@@ -28,7 +29,7 @@ impl ThreadParkerT for ThreadParker {
     /// It is never refused: neither the lock nor the condition variable asks for memory.
     ///
     /// Upstream makes the system's mutex and condition variable ready in `prepare_park`.
-    fn new(number: usize) -> Result<ThreadParker, NoMemory>
+    fn new(_alloc: Global, number: usize) -> Result<ThreadParker, NoMemory>
         ensures made { IsOk result }
         ensures owner { IfOk result (λ parker.
             ⟦<ThreadParker as ThreadParkerT>⟧.owner parker ≡ number) }

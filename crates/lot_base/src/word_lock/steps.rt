@@ -15,8 +15,21 @@ use super::{Fits, WORD_SLOTS, WordLock};
 use atomic_table::Seat;
 use std::sync::Wait;
 
-// The index of the lock's word. A link is the word whose index is its place.
+/// How many words a lock has: three cache lines of them.
+pub(super) const WORDS: usize = 24;
+
+// The index of the lock's word.
 const WORD: usize = 0;
+
+// The first of the places. A link is the word whose index is its place, and a place's mark, which
+// tells whether it is taken, is as many words further as there are places.
+const FIRST_PLACE: usize = 8;
+
+// The last of them.
+const LAST_PLACE: usize = FIRST_PLACE + WORD_SLOTS - 1;
+
+// The index of a word that nobody writes.
+const UNWRITTEN: usize = 16;
 
 // The index of the slot of the value.
 const VALUE: usize = 0;
@@ -33,11 +46,11 @@ pub(super) const OLDEST: u64 = 1;
 
 /// One caller of a word lock. It has no `Drop`, and none but this module reads its seat, so that
 /// each one made by `arrive` ends in `leave`.
-pub struct Caller<T> {
-    seat: Seat<Option<T>, View>,
+pub struct Caller<T: Fits> {
+    seat: Seat<Option<T>, (T::Key, View)>,
 }
 
-impl<T> Caller<T> {
+impl<T: Fits> Caller<T> {
     ghost use Rattle.lot_base.specs.WordLock.{seat_of};
 
     /// Ends a caller that neither holds the lock nor owes anything.
@@ -49,16 +62,17 @@ impl<T> Caller<T> {
 }
 
 impl<T: Fits> WordLock<T> {
-    ghost use Rattle.lot_base.specs.WordLock.{IsCallerOf, IsTrying, HasFullSlot, Sees, SeesMore, SlotIsWithHolder, seat_of};
+    ghost use Rattle.lot_base.specs.WordLock.{IsCallerOf, IsTrying, HasFullSlot, key_of, Sees, SeesMore, SlotIsWithHolder, seat_of};
 
     /// A new caller.
     pub(super) fn arrive(&self) -> Caller<T>
         ensures lock { IsCallerOf self.now result }
         ensures rests { seat_of result ≡ (resting, []) }
     {
-        // A load of the lock's own word would wait for the exchange before it.
+        // A load of the lock's own word would wait for the exchange before it, and a load from its
+        // line for whoever holds the line.
         Caller {
-            seat: self.table.shared.load_new_seat::<Arrive>(WORD + 1).1,
+            seat: self.table.shared.load_new_seat::<Arrive>(UNWRITTEN).1,
         }
     }
 
@@ -71,7 +85,7 @@ impl<T: Fits> WordLock<T> {
     pub(super) fn free_place(&self) -> Option<usize>
         ensures { IfSome result IsPlace }
     {
-        (1..=WORD_SLOTS).find(|&place| self.table.shared.peek(place + WORD_SLOTS) == 0)
+        (FIRST_PLACE..=LAST_PLACE).find(|&place| self.table.shared.peek(place + WORD_SLOTS) == 0)
     }
 
     /// Sets bit 0 of the word if the word is still this one. Answers whether it was.
@@ -80,7 +94,8 @@ impl<T: Fits> WordLock<T> {
         requires tries { IsTrying caller.old 0 0 }
         requires free { word % 2 ≡ 0 }
         ensures lock { IsCallerOf self.now caller.new }
-        ensures holds { IsTrue result → Sees caller.new [] × HasFullSlot T.fits caller.new }
+        ensures holds { IsTrue result →
+            Sees caller.new [] × HasFullSlot (T.fits (key_of self.now)) caller.new }
         ensures tries { IsFalse result → seat_of caller.new ≡ seat_of caller.old }
         ensures slot { SlotIsWithHolder caller.new }
     {
@@ -94,10 +109,10 @@ impl<T: Fits> WordLock<T> {
     pub(super) fn take_value(&self, caller: &mut Caller<T>) -> T
         requires lock { IsCallerOf self.now caller.old }
         requires holds { Sees caller.old [] }
-        requires home { HasFullSlot T.fits caller.old }
+        requires home { HasFullSlot (T.fits (key_of self.now)) caller.old }
         ensures lock { IsCallerOf self.now caller.new }
         ensures out { seat_of caller.new ≡ (Holding [] [], (0, None) ∷ []) }
-        ensures fits { T.fits result }
+        ensures fits { T.fits (key_of self.now) result }
     {
         // A caller that holds the lock and has not taken the value out has the slot full.
         self.table
@@ -110,10 +125,10 @@ impl<T: Fits> WordLock<T> {
     pub(super) fn put_value(&self, caller: &mut Caller<T>, value: T)
         requires lock { IsCallerOf self.now caller.old }
         requires out { seat_of caller.old ≡ (Holding [] [], (0, None) ∷ []) }
-        requires fits { T.fits value }
+        requires fits { T.fits (key_of self.now) value }
         ensures lock { IsCallerOf self.now caller.new }
         ensures holds { Sees caller.new [] }
-        ensures home { HasFullSlot T.fits caller.new }
+        ensures home { HasFullSlot (T.fits (key_of self.now)) caller.new }
     {
         let old = self
             .table
@@ -201,7 +216,7 @@ impl<T: Fits> WordLock<T> {
     /// so it lets the lock go and removes that place. Answers the word as it was.
     pub(super) fn release_to_zero(&self, caller: &mut Caller<T>, word: u64) -> u64
         requires lock { IsCallerOf self.now caller.old }
-        requires home { HasFullSlot T.fits caller.old }
+        requires home { HasFullSlot (T.fits (key_of self.now)) caller.old }
         requires holds { Sees caller.old (seen_by (seat_of caller.old).0) }
         requires short { length (seen_by (seat_of caller.old).0) ≤ 1 }
         requires word { word ≡ 1 + 2 * head (seen_by (seat_of caller.old).0) }
@@ -210,7 +225,7 @@ impl<T: Fits> WordLock<T> {
             seat_of caller.new ≡ (leaving (seen_by (seat_of caller.old).0), []) }
         ensures once { RemovesOnce (seat_of caller.old).0 (seat_of caller.new).0 }
         ensures slot { SlotIsWithHolder caller.new }
-        ensures home { result ≢ word → HasFullSlot T.fits caller.new }
+        ensures home { result ≢ word → HasFullSlot (T.fits (key_of self.now)) caller.new }
         ensures holds { result ≢ word →
             SeesMore caller.new (length (seen_by (seat_of caller.old).0)) result }
     {
@@ -269,7 +284,7 @@ impl<T: Fits> WordLock<T> {
     /// Clears bit 0 of the word, after a cut.
     pub(super) fn release_after_cut(&self, caller: &mut Caller<T>)
         requires lock { IsCallerOf self.now caller.old }
-        requires home { HasFullSlot T.fits caller.old }
+        requires home { HasFullSlot (T.fits (key_of self.now)) caller.old }
         requires owes { (removed : ℕ) × ((seat_of caller.old).0 ≡ Holding [] (removed ∷ [])) }
         ensures lock { IsCallerOf self.now caller.new }
         ensures left { seat_of caller.new ≡ (leaving (owed_by (seat_of caller.old).0), []) }

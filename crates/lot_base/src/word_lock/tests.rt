@@ -22,7 +22,9 @@ struct Pair {
 }
 
 impl Fits for Pair {
-    ghost fits = { λ pair. pair.first ≡ pair.second };
+    type Key = ();
+
+    ghost fits = { λ _ pair. pair.first ≡ pair.second };
 }
 
 fn new_lock(alloc: Global) -> Result<WordLock<Pair>, NoMemory> {
@@ -32,6 +34,7 @@ fn new_lock(alloc: Global) -> Result<WordLock<Pair>, NoMemory> {
             first: 0,
             second: 0,
         },
+        &(),
     )
 }
 
@@ -46,10 +49,10 @@ fn link(lock: &WordLock<Pair>, place: usize) -> u64
 fn expect(rt: &impl Abort, lock: &WordLock<Pair>, words: [u64; 5]) {
     let found = [
         lock.word(),
-        link(lock, 1),
-        link(lock, 2),
-        link(lock, 3),
-        link(lock, 4),
+        link(lock, 8),
+        link(lock, 9),
+        link(lock, 10),
+        link(lock, 11),
     ];
     assert_eq!(rt; found, words);
 }
@@ -59,7 +62,7 @@ fn hold<R: Abort>(rt: &R, lock: &WordLock<Pair>, word: u64) -> Caller<Pair>
     requires { word % 2 ≡ 0 }
     ensures lock { IsCallerOf lock.now result }
     ensures holds { Sees result [] }
-    ensures home { HasFullSlot ⟦<Pair as Fits>⟧.fits result }
+    ensures home { HasFullSlot (⟦<Pair as Fits>⟧.fits tt) result }
 {
     let mut caller = lock.arrive();
     assert!(rt; lock.acquire(&mut caller, word), "the lock is free");
@@ -123,16 +126,16 @@ fn the_only_waiter_is_removed_and_told(rt: HostRuntime) -> Result<(), Fail> {
     let lock = new_lock(rt.alloc())?;
     let mut a = hold(&rt, &lock, 0);
     let mut b = lock.arrive();
-    enter(&rt, &lock, &mut b, 2, 1);
-    expect(&rt, &lock, [5, 0, 1, 0, 0]);
-    assert_eq!(rt; lock.release_to_zero(&mut a, 1), 5, "somebody waits");
-    assert_eq!(rt; lock.first_link(&mut a, 5), 1, "nobody else does");
-    assert_eq!(rt; lock.release_to_zero(&mut a, 5), 5);
+    enter(&rt, &lock, &mut b, 9, 1);
+    expect(&rt, &lock, [19, 0, 1, 0, 0]);
+    assert_eq!(rt; lock.release_to_zero(&mut a, 1), 19, "somebody waits");
+    assert_eq!(rt; lock.first_link(&mut a, 19), 1, "nobody else does");
+    assert_eq!(rt; lock.release_to_zero(&mut a, 19), 19);
     expect(&rt, &lock, [0, 0, 1, 0, 0]);
-    lock.tell(&mut a, 2);
+    lock.tell(&mut a, 9);
     expect(&rt, &lock, [0, 0, 0, 0, 0]);
     a.leave();
-    wake_up(&rt, &lock, &mut b, 2);
+    wake_up(&rt, &lock, &mut b, 9);
     assert!(rt; lock.acquire(&mut b, 0), "the lock is free");
     lock.let_go(b);
     expect(&rt, &lock, [0, 0, 0, 0, 0]);
@@ -146,26 +149,26 @@ fn the_oldest_of_two_is_cut_off_and_told(rt: HostRuntime) -> Result<(), Fail> {
     let mut a = hold(&rt, &lock, 0);
     let mut b = lock.arrive();
     let mut c = lock.arrive();
-    enter(&rt, &lock, &mut b, 2, 1);
-    enter(&rt, &lock, &mut c, 3, 5);
-    expect(&rt, &lock, [7, 0, 1, 3, 0]);
-    assert_eq!(rt; lock.release_to_zero(&mut a, 1), 7, "somebody waits");
-    assert_eq!(rt; lock.first_link(&mut a, 7), 3, "another waits behind");
-    let (newer, oldest) = lock.find_oldest(&mut a, 3, 2);
-    assert_eq!(rt; [newer, oldest], [3, 2]);
+    enter(&rt, &lock, &mut b, 9, 1);
+    enter(&rt, &lock, &mut c, 10, 19);
+    expect(&rt, &lock, [21, 0, 1, 10, 0]);
+    assert_eq!(rt; lock.release_to_zero(&mut a, 1), 21, "somebody waits");
+    assert_eq!(rt; lock.first_link(&mut a, 21), 10, "another waits behind");
+    let (newer, oldest) = lock.find_oldest(&mut a, 10, 9);
+    assert_eq!(rt; [newer, oldest], [10, 9]);
     lock.cut(&mut a, newer);
-    expect(&rt, &lock, [7, 0, 1, 1, 0]);
+    expect(&rt, &lock, [21, 0, 1, 1, 0]);
     lock.release_after_cut(&mut a);
-    expect(&rt, &lock, [6, 0, 1, 1, 0]);
+    expect(&rt, &lock, [20, 0, 1, 1, 0]);
     lock.tell(&mut a, oldest);
-    expect(&rt, &lock, [6, 0, 0, 1, 0]);
+    expect(&rt, &lock, [20, 0, 0, 1, 0]);
     a.leave();
-    wake_up(&rt, &lock, &mut b, 2);
-    assert!(rt; lock.acquire(&mut b, 6), "the lock is free");
-    expect(&rt, &lock, [7, 0, 0, 1, 0]);
+    wake_up(&rt, &lock, &mut b, 9);
+    assert!(rt; lock.acquire(&mut b, 20), "the lock is free");
+    expect(&rt, &lock, [21, 0, 0, 1, 0]);
     lock.let_go(b);
     expect(&rt, &lock, [0, 0, 0, 0, 0]);
-    wake_up(&rt, &lock, &mut c, 3);
+    wake_up(&rt, &lock, &mut c, 10);
     assert!(rt; lock.acquire(&mut c, 0), "the lock is free");
     lock.let_go(c);
     expect(&rt, &lock, [0, 0, 0, 0, 0]);
@@ -179,22 +182,22 @@ fn a_told_caller_can_enter_again(rt: HostRuntime) -> Result<(), Fail> {
     let a = hold(&rt, &lock, 0);
     let mut b = lock.arrive();
     let mut c = lock.arrive();
-    enter(&rt, &lock, &mut b, 2, 1);
-    enter(&rt, &lock, &mut c, 3, 5);
+    enter(&rt, &lock, &mut b, 9, 1);
+    enter(&rt, &lock, &mut c, 10, 19);
     lock.let_go(a);
-    expect(&rt, &lock, [6, 0, 0, 1, 0]);
-    wake_up(&rt, &lock, &mut b, 2);
-    let d = hold(&rt, &lock, 6);
-    expect(&rt, &lock, [7, 0, 0, 1, 0]);
-    enter(&rt, &lock, &mut b, 2, 7);
-    expect(&rt, &lock, [5, 0, 4, 1, 0]);
+    expect(&rt, &lock, [20, 0, 0, 1, 0]);
+    wake_up(&rt, &lock, &mut b, 9);
+    let d = hold(&rt, &lock, 20);
+    expect(&rt, &lock, [21, 0, 0, 1, 0]);
+    enter(&rt, &lock, &mut b, 9, 21);
+    expect(&rt, &lock, [19, 0, 11, 1, 0]);
     lock.let_go(d);
-    expect(&rt, &lock, [4, 0, 1, 0, 0]);
-    wake_up(&rt, &lock, &mut c, 3);
-    assert!(rt; lock.acquire(&mut c, 4), "the lock is free");
+    expect(&rt, &lock, [18, 0, 1, 0, 0]);
+    wake_up(&rt, &lock, &mut c, 10);
+    assert!(rt; lock.acquire(&mut c, 18), "the lock is free");
     lock.let_go(c);
     expect(&rt, &lock, [0, 0, 0, 0, 0]);
-    wake_up(&rt, &lock, &mut b, 2);
+    wake_up(&rt, &lock, &mut b, 9);
     assert!(rt; lock.acquire(&mut b, 0), "the lock is free");
     lock.let_go(b);
     expect(&rt, &lock, [0, 0, 0, 0, 0]);
@@ -208,17 +211,21 @@ fn a_release_to_0_fails_once_another_waits(rt: HostRuntime) -> Result<(), Fail> 
     let mut a = hold(&rt, &lock, 0);
     let mut b = lock.arrive();
     let mut c = lock.arrive();
-    enter(&rt, &lock, &mut b, 4, 1);
-    assert_eq!(rt; lock.release_to_zero(&mut a, 1), 9);
-    assert_eq!(rt; lock.first_link(&mut a, 9), 1);
-    enter(&rt, &lock, &mut c, 1, 9);
-    assert_eq!(rt; lock.release_to_zero(&mut a, 9), 3, "the word has changed");
-    lock.unlock_slow(a, 3);
-    expect(&rt, &lock, [2, 1, 0, 0, 0]);
-    wake_up(&rt, &lock, &mut b, 4);
-    assert!(rt; lock.acquire(&mut b, 2), "the lock is free");
+    enter(&rt, &lock, &mut b, 11, 1);
+    assert_eq!(rt; lock.release_to_zero(&mut a, 1), 23);
+    assert_eq!(rt; lock.first_link(&mut a, 23), 1);
+    enter(&rt, &lock, &mut c, 8, 23);
+    assert_eq!(rt;
+        lock.release_to_zero(&mut a, 23),
+        17,
+        "the word has changed"
+    );
+    lock.unlock_slow(a, 17);
+    expect(&rt, &lock, [16, 1, 0, 0, 0]);
+    wake_up(&rt, &lock, &mut b, 11);
+    assert!(rt; lock.acquire(&mut b, 16), "the lock is free");
     lock.let_go(b);
-    wake_up(&rt, &lock, &mut c, 1);
+    wake_up(&rt, &lock, &mut c, 8);
     assert!(rt; lock.acquire(&mut c, 0), "the lock is free");
     lock.let_go(c);
     expect(&rt, &lock, [0, 0, 0, 0, 0]);
@@ -231,12 +238,12 @@ fn four_callers_have_places(rt: HostRuntime) -> Result<(), Fail> {
     let lock = new_lock(rt.alloc())?;
     let mut caller = lock.arrive();
     let mut other = lock.arrive();
-    assert_eq!(rt; lock.free_place(), Some(1));
-    assert!(rt; lock.take_place(&mut caller, 1), "the place is free");
-    assert!(rt; !lock.take_place(&mut other, 1), "the place is taken");
-    assert_eq!(rt; lock.free_place(), Some(2));
-    lock.give_back(&mut caller, 1);
-    assert_eq!(rt; lock.free_place(), Some(1));
+    assert_eq!(rt; lock.free_place(), Some(8));
+    assert!(rt; lock.take_place(&mut caller, 8), "the place is free");
+    assert!(rt; !lock.take_place(&mut other, 8), "the place is taken");
+    assert_eq!(rt; lock.free_place(), Some(9));
+    lock.give_back(&mut caller, 8);
+    assert_eq!(rt; lock.free_place(), Some(8));
     assert!(rt; lock.acquire(&mut caller, 0), "the lock is free");
     lock.let_go(caller);
     assert!(rt; lock.acquire(&mut other, 0), "the lock is free");
@@ -346,7 +353,7 @@ fn a_caller_waits_in_the_list(rt: HostRuntime) -> Result<(), Fail> {
     let lock = new_lock(rt.alloc())?;
     for _ in 0..100 {
         let word = word_while_waited_for(&rt, &lock);
-        assert!(rt; [3, 5, 7, 9].contains(&word), "the word was {word}");
+        assert!(rt; [17, 19, 21, 23].contains(&word), "the word was {word}");
         assert_eq!(rt; lock.word(), 0);
     }
     Ok(())

@@ -48,7 +48,7 @@ pub(super) fn requeue_waiters<
           × (result.1 ≡ map (with_token token) (split_by op waiters).taken);
     } }
 {
-    let mut moved = |number: usize|
+    let mut moved = |number: usize, _: bool|
         ensures same_threads { threads.exit.ghost_name ≡ threads.entry.ghost_name }
         ensures moved { threads.exit.now.items
             ≡ threads_with_key threads.entry.now.items number to }

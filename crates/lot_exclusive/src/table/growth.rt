@@ -1,6 +1,7 @@
 //! Growth: how many buckets a table has, and how nodes move into the buckets of a larger one.
 
 ghost use Rattle.std.specs.Prelude.{◌≡◌, ◌*◌, ◌≤◌, ◌++◌, ◌∷◌, [], ℕ, IfOk, OnOk, OnErr, All, length};
+ghost use Rattle.lot_base.specs.BucketState.{KeepsPlace};
 ghost use Rattle.lot_base.specs.Node.{fields};
 ghost use Rattle.lot_base.specs.NodeLists.{lists_of};
 ghost use Rattle.lot_base.specs.Place.{IsTableSize, place_of};
@@ -58,6 +59,7 @@ pub fn rehash_bucket(bucket: &mut Bucket, row: &mut Vec<Bucket>)
     requires size { IsTableSize (length row.old.items) }
     requires row { IsRowOf (length row.old.items) row.old.items }
     requires represents { Represents row.old.items (waiters_in row.old.items) }
+    ensures place { KeepsPlace bucket.old bucket.new }
     ensures in_place { All (λ node. place_of node.key bucket.old.size
         ≡ bucket.old.place) bucket.old.nodes }
     ensures row { IsRowOf (length row.old.items) row.new.items }

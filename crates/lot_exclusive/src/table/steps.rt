@@ -123,14 +123,15 @@ impl Table {
     }
 
     /// Requeues waiters of the key `from` onto the key `to`, as `validate` chooses; `moved` is
-    /// called with the number of each that moves, in order, before `callback`.
+    /// called with the number of each that moves and with whether it is timed, in order, before
+    /// `callback`.
     ///
     /// It is one `Bucket::requeue_one`, or `requeue_two` where the keys have different places, and
     /// allocates nothing.
     pub fn requeue<
         V: FnOnce() -> RequeueOp,
         C: FnOnce(RequeueOp, UnparkResult) -> UnparkToken,
-        M: FnMut(usize),
+        M: FnMut(usize, bool),
     >(
         &mut self,
         from: usize,

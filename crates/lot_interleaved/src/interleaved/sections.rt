@@ -122,7 +122,7 @@ fn requeue(
     ensures nodes { result.1
         ≡ map (with_token token) (split_by op (nodes_in table.old.cells from)).taken }
 {
-    let mut moved = |number: usize|
+    let mut moved = |number: usize, _: bool|
         ensures same_threads { threads.exit.ghost_name ≡ threads.entry.ghost_name }
         ensures moved { threads.exit.now.items
             ≡ fine_threads_with_key threads.entry.now.items number to }

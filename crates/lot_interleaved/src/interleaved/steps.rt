@@ -297,6 +297,7 @@ impl FineLot {
         ensures { IsFineStep (fine_state self.old) FineStep.Register result
             (fine_state self.new) }
     {
+        // Its number is not known yet.
         let Ok(mut node) = Node::new(*self.threads.allocator(), 0) else {
             return FineAnswer::Answer(Answer::NoMemory);
         };

@@ -139,8 +139,7 @@ impl FineThread {
         ensures ok { OnOk result (self.new ≡ with_state self.old Status.Late None) }
         ensures err { OnErr result (self.new ≡ self.old) }
     {
-        if let Some(node) = self.slot.take() {
-            self.slot.put(node);
+        if !self.slot.is_empty() {
             return Err(Misfit);
         }
         self.thread.deadline()

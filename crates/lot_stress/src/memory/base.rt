@@ -125,7 +125,9 @@ impl Scene for NewNode {
 struct Number(usize);
 
 impl Fits for Number {
-    ghost fits = { λ _. ⊤ };
+    type Key = ();
+
+    ghost fits = { λ _ _. ⊤ };
 }
 
 // `WordLock::new`.
@@ -136,7 +138,7 @@ impl Scene for NewWordLock {
     type Answer = Result<usize, NoMemory>;
 
     fn act<R: Wait + Clock>(&mut self, rt: &R) -> Result<usize, NoMemory> {
-        let lock = WordLock::new(self.0, Number(OWNER))?;
+        let lock = WordLock::new(self.0, Number(OWNER), &())?;
         let held = lock.lock(rt);
         let number = held.value.0;
         lock.unlock(held);
@@ -343,7 +345,7 @@ impl<P: ThreadParkerT> Parkers<P> {
     fn perform<R: Print + Wait + Clock>(mut self, rt: &R, alloc: Global) -> Result<(), Fault> {
         self.show(rt, Moment::Before)?;
         marks::begin(alloc);
-        let answer = self.act(rt);
+        let answer = self.act(rt, alloc);
         marks::end(alloc);
         tell_answer(rt, &answer)?;
         self.show(rt, Moment::After)?;
@@ -351,9 +353,9 @@ impl<P: ThreadParkerT> Parkers<P> {
         tell_refused(rt, refused)
     }
 
-    fn act<R: Wait + Clock>(&mut self, rt: &R) {
+    fn act<R: Wait + Clock>(&mut self, rt: &R, alloc: Global) {
         let Ok(past) = Instant::now(rt) else { return };
-        if let Ok(parker) = P::new(OWNER) {
+        if let Ok(parker) = P::new(alloc, OWNER) {
             self.commit_and_take(rt, &parker, past);
             self.parker = Some(parker);
         }

@@ -291,14 +291,16 @@ fn are_all_true(answers: &[bool]) -> bool {
 struct Count(usize);
 
 impl Fits for Count {
-    ghost fits = { λ _. ⊤ };
+    type Key = ();
+
+    ghost fits = { λ _ _. ⊤ };
 }
 
 fn play_lock<R: Print + Threads + Wait + Clock + Copy + Send + Sync + 'static>(
     rt: &R,
     alloc: Global,
 ) -> Result<(), Fault> {
-    let lock = WordLock::new(alloc, Count(0))?;
+    let lock = WordLock::new(alloc, Count(0), &())?;
     let gate = Gate::new();
     let (are_done, locked) = thread::join(
         rt,

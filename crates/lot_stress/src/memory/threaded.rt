@@ -15,6 +15,9 @@ use std::time::{Clock, Instant};
 
 const MOST: usize = 1_024;
 
+// A lot for so many is made with few enough requests to refuse each in turn.
+const SOME: usize = 40;
+
 // As many threads as have three buckets each of 16.
 const FEW: usize = 5;
 
@@ -162,7 +165,7 @@ impl<P: ThreadParkerT> New<P> {
     }
 
     fn act<R: Wait + Clock>(&mut self, _rt: &R) -> Option<LotError> {
-        match ParkingLot::new(self.alloc, MOST) {
+        match ParkingLot::new(self.alloc, SOME) {
             Ok(lot) => {
                 self.lot = Some(lot);
                 None

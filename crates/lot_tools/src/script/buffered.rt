@@ -8,16 +8,17 @@ ghost use Rattle.lot_tools.specs.Lines.{lines_of};
 ghost use Rattle.lot_tools.specs.Script.{IsScriptEnd};
 ghost use Rattle.lot_tools.specs.Private.Turns.{IsWrittenScript};
 
-mod counted;
+mod line_counter;
 
 use super::fault::{Cause, Fault};
 use super::input::Next;
 use super::turn;
-use counted::Counted;
+use line_counter::LineCounter;
 use std::alloc::Global;
 use std::io::{BufReader, BufWriter, Read, Write};
 
-/// Does the lines of the input as `script` does, over ends without buffers: both get one here.
+/// Does the lines of the input as `script` does, over ends without buffers: both get one here. Its
+/// contract says that it ends as a script may; what it writes is shown by tests.
 ///
 /// Answers that are held back are written out before a read of the input, which may wait, and at
 /// the end or a fault. So a line that is typed is answered at once, and a file at full speed. Once
@@ -38,7 +39,7 @@ pub fn buffered_script<R: Read + Drop, W: Write>(
     let Ok(mut input) = BufReader::new(alloc, input) else {
         return Err(no_memory());
     };
-    let Ok(mut output) = BufWriter::new(alloc, Counted::new(output)) else {
+    let Ok(mut output) = BufWriter::new(alloc, LineCounter::new(output)) else {
         return Err(no_memory());
     };
     let ended = answer_lines(alloc, &mut input, &mut output);

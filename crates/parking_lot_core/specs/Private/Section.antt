@@ -1,8 +1,28 @@
--- The buckets that a section has locked.
-use Rattle.std.specs.Prelude.{◌≡◌, ◌≢◌, ◌<◌, ℕ, Some}
-use Rattle.lot_base.specs.BucketState.{BucketState}
+-- The locks of a row of buckets, and the buckets that a section has locked.
+use Rattle.std.specs.Prelude.{◌≡◌, ◌≢◌, ◌<◌, ℕ, List, length, map, Some}
+use Rattle.std.specs.List.{range_with_len}
+use Rattle.lot_base.specs.BucketState.{BucketState, StandsAt}
 use Rattle.lot_base.specs.Place.{place_of}
+use Rattle.lot_base.specs.WordLock.{key_of}
+use Rattle.lot_base.specs.declared.bucket.BucketPlace.{BucketPlace}
+use Rattle.lot_base.specs.declared.word_lock.WordLock.{WordLock}
 use Rattle.parking_lot_core.specs.declared.parking_lot.buckets.Locked.{Locked}
+
+-- a lock around a bucket, which says of which place
+abbrev pub BucketLock : Type 0
+BucketLock = WordLock BucketState BucketPlace
+
+-- the place p in a table of n buckets
+abbrev pub place_in : ℕ → ℕ → BucketPlace
+place_in n p = record { place = p; size = n }
+
+-- the lock is that of the bucket of this place
+abbrev pub IsLockAt : ℕ → ℕ → BucketLock → Type 0
+IsLockAt p n cell = key_of cell ≡ place_in n p
+
+-- the locks of the first buckets of a table of n, each at its place
+abbrev pub AreLocksOfRow : ℕ → List BucketLock → Type 0
+AreLocksOfRow n cells = map (λ cell. key_of cell) cells ≡ map (place_in n) (range_with_len 0 (length cells))
 
 -- the bucket is that of the key, in a table of the bucket's size
 abbrev pub HasPlaceOf : ℕ → BucketState → Type 0
@@ -17,3 +37,7 @@ pub record AreApart (source target : BucketState) : Type 0 where
 pub record AreLockedInOrder (source target : Locked) : Type 0 where
   pub target_behind : source.place < target.place → target.behind ≡ Some source.place
   pub source_behind : target.place < source.place → source.behind ≡ Some target.place
+
+-- the bucket that was locked is that of its lock, so it may go back there
+abbrev pub IsOfItsLock : Locked → Type 0
+IsOfItsLock locked = StandsAt (key_of locked.cell.now).place (key_of locked.cell.now).size locked.held.value

@@ -2,19 +2,21 @@
 //! of its key.
 
 ghost use Rattle.std.specs.Prelude.{◌≡◌, ◌≢◌, ◌+◌, ◌*◌, ◌<◌, ◌≤◌, ◌↔◌, IsTrue, IsErrOf, IfOk, OnErr, IfSome, Err, MatchOption, None, Some, length, slice_set};
+ghost use Rattle.lot_base.specs.BucketState.{StandsAt};
 ghost use Rattle.lot_base.specs.Node.{fields};
 ghost use Rattle.lot_base.specs.Place.{IsTableSize};
 ghost use Rattle.lot_base.specs.WordLock.{IsHeldOf};
 ghost use Rattle.lot_exclusive.specs.Represents.{Represents, waiters_in};
 ghost use Rattle.lot_exclusive.specs.Size.{IsSizeFor};
 ghost use Rattle.lot_exclusive.specs.Table.{IsRowOf, count_registered, IsLeastUnregistered};
-ghost use Rattle.parking_lot_core.specs.Private.Section.{HasPlaceOf, AreApart, AreLockedInOrder};
+ghost use Rattle.parking_lot_core.specs.Private.Section.{HasPlaceOf, AreApart, AreLockedInOrder, IsLockAt, IsOfItsLock};
 
 mod current;
+mod nodes;
 mod registry;
 
 use current::{Current, ROWS, RowInUse, index_of};
-use lot_base::bucket::{Bucket, place};
+use lot_base::bucket::{Bucket, BucketPlace, place};
 use lot_base::queue::Node;
 use lot_base::token::{LotError, NoMemory};
 use lot_base::word_lock::{Held, WordLock};
@@ -39,7 +41,8 @@ impl Locked<'_> {
     // Lets the bucket go.
     #[inline]
     pub(super) fn unlock(self)
-        requires { IsHeldOf self.cell.now self.held }
+        requires held { IsHeldOf self.cell.now self.held }
+        requires own { IsOfItsLock self }
     {
         let Locked {
             cell,
@@ -53,7 +56,8 @@ impl Locked<'_> {
 
 // Lets the second bucket of a section go, where there is one.
 fn unlock_if_any(bucket: Option<Locked<'_>>)
-    requires { IfSome bucket (λ bucket. IsHeldOf bucket.cell.now bucket.held) }
+    requires held { IfSome bucket (λ bucket. IsHeldOf bucket.cell.now bucket.held) }
+    requires own { IfSome bucket IsOfItsLock }
 {
     if let Some(bucket) = bucket {
         bucket.unlock();
@@ -69,12 +73,14 @@ struct Row {
 impl Model for Row {
     ghost use Rattle.std.specs.Prelude.{ℕ, length};
     ghost use Rattle.lot_base.specs.Place.{IsTableSize};
+    ghost use Rattle.parking_lot_core.specs.Private.Section.{AreLocksOfRow};
 
     ghost Value = { ℕ };
 
     ghost view = { λ row. length row.cells.items };
 
-    ghost invariant = { λ row. IsTableSize (length row.cells.items) };
+    ghost invariant = { λ row. IsTableSize (length row.cells.items)
+        × AreLocksOfRow (length row.cells.items) row.cells.items };
 }
 
 impl Row {
@@ -85,7 +91,7 @@ impl Row {
     {
         let mut cells = Vec::with_capacity(alloc, size)?;
         for place in 0..size {
-            cells.push(WordLock::new(alloc, Bucket::new(place, size))?)?;
+            cells.push(new_cell(alloc, place, size)?)?;
         }
         Ok(Row { cells })
     }
@@ -103,6 +109,8 @@ impl Row {
     fn lock<R: Wait>(&self, rt: &R, place: usize) -> Locked<'_>
         requires { place < self.now }
         ensures held { IsHeldOf result.cell.now result.held }
+        ensures own { IsOfItsLock result }
+        ensures bucket { StandsAt place self.now result.held.value }
         ensures place { (result.place ≡ place) × (result.behind ≡ None) }
     {
         let cell = &self.cells[place];
@@ -120,6 +128,8 @@ impl Row {
         requires below { place < self.now }
         requires order { first.now.place < place }
         ensures held { IsHeldOf result.cell.now result.held }
+        ensures own { IsOfItsLock result }
+        ensures bucket { StandsAt place self.now result.held.value }
         ensures place { (result.place ≡ place) × (result.behind ≡ Some first.now.place) }
     {
         let mut second = self.lock(rt, place);
@@ -135,6 +145,9 @@ impl Row {
         ensures held { IsHeldOf result.0.cell.now result.0.held }
         ensures second { MatchOption result.1 (from ≡ to)
             (λ target. (from ≢ to) × IsHeldOf target.cell.now target.held) }
+        ensures own { IsOfItsLock result.0 × IfSome result.1 IsOfItsLock }
+        ensures source { StandsAt from self.now result.0.held.value }
+        ensures target { IfSome result.1 (λ target. StandsAt to self.now target.held.value) }
         ensures order { IfSome result.1 (AreLockedInOrder result.0) }
     {
         if from == to {
@@ -155,6 +168,7 @@ impl Row {
         requires size { IsTableSize (length buckets.old.items) }
         requires row { IsRowOf (length buckets.old.items) buckets.old.items }
         requires represents { Represents buckets.old.items (waiters_in buckets.old.items) }
+        ensures { IsRowOf (length buckets.old.items) buckets.new.items }
     {
         for cell in &self.cells {
             let mut held = cell.lock(rt);
@@ -164,11 +178,14 @@ impl Row {
     }
 
     // Puts the buckets into their places, where empty ones stand.
-    fn fill<R: Wait>(&self, rt: &R, buckets: Vec<Bucket>) {
-        for (cell, bucket) in self.cells.iter().zip(buckets) {
-            let mut held = cell.lock(rt);
-            let _ = mem::replace(&mut held.value, bucket);
-            cell.unlock(held);
+    fn fill<R: Wait>(&self, rt: &R, buckets: Vec<Bucket>)
+        requires { IsRowOf self.now buckets.items }
+    {
+        let mut buckets = buckets;
+        while let Some(bucket) = buckets.pop() {
+            let mut locked = self.lock(rt, buckets.len());
+            let _ = mem::replace(&mut locked.held.value, bucket);
+            locked.unlock();
         }
     }
 }
@@ -187,7 +204,8 @@ pub(super) struct Buckets {
 }
 
 impl Buckets {
-    // A row of 16 buckets, and numbers for so many threads, none of them registered.
+    // A row of 16 buckets, and numbers for so many threads, none of them registered, with their
+    // nodes.
     pub(super) fn new(alloc: Global, max_threads: usize) -> Result<Buckets, LotError>
         ensures too_many { IsErrOf result LotError.TooManyThreads ↔ (MAX_THREADS < max_threads) }
         ensures not_full { result ≢ Err LotError.Full }
@@ -212,14 +230,14 @@ impl Buckets {
     #[inline(always)]
     pub(super) fn lock<R: Wait>(&self, rt: &R, key: usize) -> Locked<'_>
         ensures held { IsHeldOf result.cell.now result.held }
+        ensures own { IsOfItsLock result }
         ensures place { HasPlaceOf key result.held.value }
     {
         for _ in rt.forever() {
             let current = self.current.load();
             if let Some(row) = self.row(current) {
-                let place = place(key, row.size());
-                let bucket = row.lock(rt, place);
-                if self.is_in_use(current) && stands_at(&bucket.held.value, place, row.size()) {
+                let bucket = row.lock(rt, place(key, row.size()));
+                if self.is_in_use(current) {
                     return bucket;
                 }
                 bucket.unlock();
@@ -239,6 +257,7 @@ impl Buckets {
     ) -> (Locked<'_>, Option<Locked<'_>>)
         ensures held { IsHeldOf result.0.cell.now result.0.held }
         ensures second { IfSome result.1 (λ target. IsHeldOf target.cell.now target.held) }
+        ensures own { IsOfItsLock result.0 × IfSome result.1 IsOfItsLock }
         ensures from { HasPlaceOf from result.0.held.value }
         ensures to { MatchOption result.1 (HasPlaceOf to result.0.held.value)
             (λ target. HasPlaceOf to target.held.value
@@ -249,12 +268,8 @@ impl Buckets {
             let current = self.current.load();
             if let Some(row) = self.row(current) {
                 let size = row.size();
-                let (source_place, target_place) = (place(from, size), place(to, size));
-                let (source, target) = row.lock_two(rt, source_place, target_place);
-                if self.is_in_use(current)
-                    && stands_at(&source.held.value, source_place, size)
-                    && stands_at_if_any(&target, target_place, size)
-                {
+                let (source, target) = row.lock_two(rt, place(from, size), place(to, size));
+                if self.is_in_use(current) {
                     return (source, target);
                 }
                 source.unlock();
@@ -278,7 +293,7 @@ impl Buckets {
     }
 
     // Registers the least free number, which is to be below `max_threads`, under the lock of the
-    // registry. The answer is a node of that number.
+    // registry, and answers its node.
     pub(super) fn register<R: Wait>(
         &self,
         rt: &R,
@@ -294,8 +309,8 @@ impl Buckets {
         registered
     }
 
-    // Registers the least free number of the registry, which is locked, and makes the node of its
-    // thread. If the table has less than three buckets for each thread then, it grows first.
+    // Registers the least free number of the registry, which is locked, and answers its node. If the
+    // table has less than three buckets for each thread then, it grows first.
     //
     // Whether a number is free is asked before memory is, so a full lot is `Full` and never
     // `NoMemory`.
@@ -321,10 +336,8 @@ impl Buckets {
         ensures err { OnErr result (registry.new ≡ registry.old) }
     {
         let number = registry.least_free(max_threads)?;
-        let node = Node::new(alloc, number)?;
         let row = self.make_room(rt, alloc, registry)?;
-        registry.register(number, row);
-        Ok(node)
+        Ok(registry.register(number, row))
     }
 
     // The row in use once one more thread is to be registered: where the present one is too small,
@@ -349,9 +362,9 @@ impl Buckets {
         Ok(registry.row())
     }
 
-    // Frees the number. The row in use stays.
-    pub(super) fn release<R: Wait>(&self, rt: &R, number: usize) {
-        self.registry.lock(rt).release(number);
+    // Frees the number of the node, and keeps the node. The row in use stays.
+    pub(super) fn release<R: Wait>(&self, rt: &R, node: Box<Node>) {
+        self.registry.lock(rt).release(node);
     }
 
     // Puts the row of the new size in the place of the one in use. The registry is locked.
@@ -371,8 +384,9 @@ impl Buckets {
         ensures { IfOk result (λ row. row.size ≡ new_size) }
     {
         let row = self.row_of_size(rt, alloc, new_size)?;
-        // Nodes move into buckets that no lock hides, of which a proof knows the lists.
-        let mut buckets = empty_buckets(alloc, new_size)?;
+        // Nodes move into buckets that no lock hides, of which a proof knows the lists. They are
+        // for the row's own size, since no contract tells what size of row its place holds.
+        let mut buckets = empty_buckets(alloc, row.size())?;
         // The row in use was made before, so this asks for no memory.
         let old = self.row_of_size(rt, alloc, old_size)?;
         let growth = self.current.begin_growth();
@@ -394,21 +408,15 @@ impl Buckets {
     }
 }
 
-// Whether the bucket is that of this place in a row of this size. No contract tells what a lock
-// holds; the lock of a place always holds the bucket of that place.
-fn stands_at(bucket: &Bucket, place: usize, size: usize) -> bool
-    ensures { IsTrue result ↔ (bucket.now.place ≡ place) × (bucket.now.size ≡ size) }
+// An empty bucket of this place in a row of this size, behind a lock of that place.
+fn new_cell(alloc: Global, place: usize, size: usize) -> Result<WordLock<Bucket>, NoMemory>
+    requires size { IsTableSize size }
+    requires place { place < size }
+    ensures { IfOk result (IsLockAt place size) }
 {
-    bucket.place() == place && bucket.size() == size
-}
-
-// The same of a second bucket, where there is one.
-fn stands_at_if_any(bucket: &Option<Locked<'_>>, place: usize, size: usize) -> bool
-    ensures { IsTrue result ↔ IfSome bucket.now (λ locked.
-        (locked.held.value.place ≡ place) × (locked.held.value.size ≡ size)) }
-{
-    match bucket {
-        Some(bucket) => stands_at(&bucket.held.value, place, size),
-        None => true,
-    }
+    WordLock::new(
+        alloc,
+        Bucket::new(place, size),
+        &BucketPlace { place, size },
+    )
 }

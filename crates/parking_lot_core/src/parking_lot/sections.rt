@@ -191,8 +191,21 @@ impl<P: ThreadParkerT> ParkingLot<P> {
         answer
     }
 
-    // Puts the node last in the bucket that is its key's, and notes that key of its thread, or gives
-    // the node back if `validate` answers false.
+    // The section of a list.
+    pub(super) fn list_in_section<R: Wait>(
+        &self,
+        rt: &R,
+        alloc: Global,
+        key: usize,
+    ) -> Result<Vec<usize>, NoMemory> {
+        let bucket = self.buckets.lock(rt, key);
+        let numbers = list_of(&bucket.held.value, alloc, key);
+        bucket.unlock();
+        numbers
+    }
+
+    // Puts the node last in the bucket that is its key's, and notes that key of a thread that has a
+    // timeout, or gives the node back if `validate` answers false.
     fn enter_in<V: FnOnce() -> bool>(
         &self,
         bucket: &mut Bucket,
@@ -207,10 +220,15 @@ impl<P: ThreadParkerT> ParkingLot<P> {
         ensures refused { OnErr result (bucket.new ≡ bucket.old) }
         ensures returned { IfErr result (λ back. back.value ≡ node.value) }
     {
-        let Node { number, key, .. } = *node;
+        let Node {
+            number,
+            key,
+            timed,
+            ..
+        } = *node;
         let entered = bucket.enter(node, validate);
         if entered.is_ok() {
-            self.set_key(number, key);
+            self.note_key(number, timed, key);
         }
         entered
     }
@@ -319,7 +337,7 @@ impl<P: ThreadParkerT> ParkingLot<P> {
               ≡ thread_numbers self.now.max_threads (split_by requeued.op requeued.waiters).taken;
         } }
     {
-        let mut moved = |number: usize| self.set_key(number, to);
+        let mut moved = |number: usize, timed: bool| self.note_key(number, timed, to);
         let (result, taken) = bucket.requeue_one(from, to, validate, callback, &mut moved);
         (result, self.commit_one(rt, taken))
     }
@@ -356,14 +374,14 @@ impl<P: ThreadParkerT> ParkingLot<P> {
               ≡ thread_numbers self.now.max_threads (split_by requeued.op requeued.waiters).taken;
         } }
     {
-        let mut moved = |number: usize| self.set_key(number, to);
+        let mut moved = |number: usize, timed: bool| self.note_key(number, timed, to);
         let (result, taken) = source.requeue_two(target, from, to, validate, callback, &mut moved);
         (result, self.commit_one(rt, taken))
     }
 }
 
 // The list of the key, of the bucket that is the key's.
-pub(super) fn list_of(bucket: &Bucket, alloc: Global, key: usize) -> Result<Vec<usize>, NoMemory>
+fn list_of(bucket: &Bucket, alloc: Global, key: usize) -> Result<Vec<usize>, NoMemory>
     requires { HasPlaceOf key bucket.now }
     ensures refused { OnErr result (IsTrue (has_any (lists_of bucket.now.nodes key))) }
     ensures told { IfOk result (λ list. list.items ≡ numbers (lists_of bucket.now.nodes key)) }

@@ -68,12 +68,13 @@ fn key_word<P: ThreadParkerT>(lot: &ParkingLot<P>) -> Option<usize> {
     Some(lot.key(0))
 }
 
-// It refuses a requeue that notes where the thread went only after it called back.
+// It refuses a requeue that notes where a timed thread went only after it called back.
 #[test]
 fn a_requeue_calls_back_once_the_thread_is_moved(rt: HostRuntime) -> Result<(), Fail> {
     let lot = Lot::new(rt.alloc(), 1)?;
     let mut data = lot.thread_data(&rt, rt.alloc())?;
     let noted = Cell::new(None);
+    let passed = Instant::now(&rt)?;
     let result = park(
         &rt,
         &lot,
@@ -91,7 +92,7 @@ fn a_requeue_calls_back_once_the_thread_is_moved(rt: HostRuntime) -> Result<(), 
         },
         |_, _| (),
         DEFAULT_PARK_TOKEN,
-        None,
+        Some(passed),
     );
     assert_eq!(rt; result, ParkResult::Unparked(UnparkToken(42)));
     assert_eq!(rt; noted.get(), Some(OTHER_KEY));

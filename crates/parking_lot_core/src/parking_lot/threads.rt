@@ -15,7 +15,7 @@ use std::sync::Wait;
 use std::sync::atomic::{AtomicUsize, Ordering};
 
 // What the lot keeps for one thread number from the first: its parker, and the key of the queue
-// that its thread entered last, or was moved to.
+// that its thread entered last with a timeout, or was moved to then.
 #[derive(Drop)]
 pub(super) struct PerThread<P: ThreadParkerT> {
     parker: P,
@@ -51,17 +51,19 @@ impl<P: ThreadParkerT> ParkingLot<P> {
         }
     }
 
-    // The key of the queue that the thread of this number entered last, or was moved to.
+    // The key of the queue that the thread of this number entered last with a timeout, or was moved
+    // to then.
     pub(super) fn key(&self, number: usize) -> usize
         requires { number < self.now.max_threads }
     {
         self.threads[number].key.load(Ordering::SeqCst)
     }
 
-    // Notes in which queue the thread of this number is. A number that is no thread's of this lot
-    // is skipped.
-    pub(super) fn set_key(&self, number: usize, key: usize) {
-        if let Some(thread) = self.threads.get(number) {
+    // Notes in which queue the thread of this number is, if it waits with a timeout: only after its
+    // deadline does a thread look where it stands, and the store is the dearest part of a move. A
+    // number that is no thread's of this lot is skipped.
+    pub(super) fn note_key(&self, number: usize, timed: bool, key: usize) {
+        if timed && let Some(thread) = self.threads.get(number) {
             thread.key.store(key, Ordering::SeqCst);
         }
     }
@@ -118,7 +120,7 @@ pub(super) fn for_each_number<P: ThreadParkerT>(
     let mut threads = Vec::with_capacity(alloc, max_threads)?;
     for number in 0..max_threads {
         threads.push(PerThread {
-            parker: P::new(number)?,
+            parker: P::new(alloc, number)?,
             key: AtomicUsize::new(0),
         })?;
     }

@@ -1,11 +1,14 @@
-//! The numbers of a threaded lot, and the size that its table needs for them.
+//! The numbers of a threaded lot with their nodes, and the size that its table needs for them.
 
 ghost use Rattle.std.specs.Prelude.{◌≡◌, ◌≢◌, ◌↔◌, ◌+◌, ◌*◌, ◌<◌, ◌≤◌, IfOk, OnOk, IsErrOf, Err, Some, length, slice_get, slice_set, replicate};
+ghost use Rattle.lot_base.specs.Node.{fields};
 ghost use Rattle.lot_base.specs.Place.{IsTableSize};
 ghost use Rattle.lot_exclusive.specs.Size.{IsSizeFor};
 ghost use Rattle.lot_exclusive.specs.Table.{count_registered, IsLeastUnregistered};
 
 use super::current::RowInUse;
+use super::nodes::Nodes;
+use lot_base::queue::Node;
 use lot_base::token::LotError;
 use lot_exclusive::table::growth::size_for;
 use lot_exclusive::table::numbers::Numbers;
@@ -13,17 +16,20 @@ use lot_exclusive::table::{MAX_THREADS, Use};
 use std::alloc::Global;
 use std::marker::Model;
 
-// The use of each number, and the row in use: three buckets for each thread, at least.
+// The use of each number, with the node of each that is free, and the row in use: three buckets for
+// each thread, at least.
 #[derive(Drop)]
 pub(super) struct Registry {
     numbers: Numbers,
+    nodes: Nodes,
     row: RowInUse,
 }
 
 impl Model for Registry {
-    ghost use Rattle.std.specs.Prelude.{◌*◌, ◌≤◌};
+    ghost use Rattle.std.specs.Prelude.{◌≡◌, ◌*◌, ◌≤◌, map};
     ghost use Rattle.lot_base.specs.Place.{IsTableSize};
     ghost use Rattle.parking_lot_core.specs.Private.RegistryState.{RegistryState};
+    ghost use Rattle.parking_lot_core.specs.Private.RegistryState.{is_free};
     ghost use Rattle.lot_exclusive.specs.Table.{count_registered};
 
     ghost Value = { RegistryState };
@@ -31,11 +37,12 @@ impl Model for Registry {
     ghost view = { λ registry. record { numbers = registry.numbers; size = registry.row.size } };
 
     ghost invariant = { λ registry. IsTableSize registry.row.size
-        × (3 * count_registered registry.numbers ≤ registry.row.size) };
+        × (3 * count_registered registry.numbers ≤ registry.row.size)
+        × (registry.nodes ≡ map is_free registry.numbers) };
 }
 
 impl Registry {
-    // Numbers for so many threads, none of them registered, and the row in use.
+    // Numbers for so many threads, none of them registered, a node for each, and the row in use.
     pub(super) fn new(
         alloc: Global,
         max_threads: usize,
@@ -49,6 +56,7 @@ impl Registry {
     {
         Ok(Registry {
             numbers: Numbers::new(alloc, max_threads)?,
+            nodes: Nodes::new(alloc, max_threads)?,
             row,
         })
     }
@@ -97,26 +105,29 @@ impl Registry {
         size_for(self.numbers.registered() + 1, self.row.size())
     }
 
-    // Registers a free number, where this row is in use.
-    pub(super) fn register(&mut self, number: usize, row: RowInUse)
+    // Registers a free number, where this row is in use, and answers its node.
+    pub(super) fn register(&mut self, number: usize, row: RowInUse) -> Box<Node>
         requires free { slice_get self.old.numbers number ≡ Some Use.Free }
         requires table { IsTableSize row.size }
         requires room { 3 * (count_registered self.old.numbers + 1) ≤ row.size }
-        ensures { self.new ≡ record {
+        ensures registered { self.new ≡ record {
           numbers = slice_set self.old.numbers number Use.Registered;
           size = row.size;
         } }
+        ensures node { (fields result.value).number ≡ number }
     {
         self.numbers.register(number);
         self.row = row;
+        self.nodes.take(number)
     }
 
-    // Frees the number. One that is not registered changes nothing.
-    pub(super) fn release(&mut self, number: usize)
+    // Frees the number of the node, and keeps the node for the next who registers it.
+    pub(super) fn release(&mut self, node: Box<Node>)
         ensures { self.new ≡ record self.old {
-          numbers = slice_set self.old.numbers number Use.Free;
+          numbers = slice_set self.old.numbers (fields node.value).number Use.Free;
         } }
     {
-        self.numbers.release(number);
+        self.numbers.release(node.number);
+        self.nodes.put(node);
     }
 }

@@ -99,9 +99,9 @@ impl ThreadParkerT for WatchedParker {
 
     ghost owner = { λ watched. ⟦<YieldParker as ThreadParkerT>⟧.owner watched.parker };
 
-    fn new(number: usize) -> Result<WatchedParker, NoMemory> {
+    fn new(alloc: Global, number: usize) -> Result<WatchedParker, NoMemory> {
         Ok(WatchedParker {
-            parker: YieldParker::new(number)?,
+            parker: YieldParker::new(alloc, number)?,
             watch: Watch::new(),
             prepared: AtomicUsize::new(0),
             timed: AtomicUsize::new(0),

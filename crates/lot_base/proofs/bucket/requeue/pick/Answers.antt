@@ -13,3 +13,7 @@ returns-in-RequeueOne-clause-count g c =
 pub returns-in-RequeueOne-clause-told : goal.returns-in-RequeueOne-clause-told
 returns-in-RequeueOne-clause-told g c =
     search (rules, lists_of-take_one c.args.from c.args.queue.now)
+
+pub rekey_every-moved-requires : goal.rekey_every-moved-requires
+rekey_every-moved-requires g c =
+    search (rules, lists_of-take_one c.args.from c.args.queue.now)

@@ -1,6 +1,6 @@
 use Rattle.std.proofs.Common.{◌≡◌, ◌+◌, ◌-◌, ◌^◌, ◌<◌, ◌++◌, min, map, length}
 use Rattle.lot_base.specs.NodeLists.{lists_of, with_new_key, saturated}
-use Rattle.lot_base.specs.Requeue.{numbers, IsCallableAtEach, IsCalledAtEach}
+use Rattle.lot_base.specs.Requeue.{moves_of, IsCallableAtEach, IsCalledAtEach}
 use Rattle.lot_base.proofs.RequeueLemmas.{others_of}
 use Rattle.lot_base.proofs.bucket.requeue.rekey_every.Given as goal
 
@@ -10,9 +10,9 @@ invariant-loop-node g l = let waiters = lists_of l.fn.queue l.from in record {
   others : l.others ++ others_of l.from l.queue ≡ others_of l.from l.fn.queue;
   count : min (l.count + length (lists_of l.queue l.from)) (2 ^ 64 - 1) ≡ saturated (length waiters);
   fits : l.count < 2 ^ 64;
-  callable : IsCallableAtEach g.M.FnMut l.moved (numbers (lists_of l.queue l.from));
-  called : (last : _) → IsCalledAtEach g.M.FnMut l.moved (numbers (lists_of l.queue l.from)) last
-      → IsCalledAtEach g.M.FnMut l.fn.moved (numbers waiters) last;
+  callable : IsCallableAtEach g.M.FnMut l.moved (moves_of (lists_of l.queue l.from));
+  called : (last : _) → IsCalledAtEach g.M.FnMut l.moved (moves_of (lists_of l.queue l.from)) last
+      → IsCalledAtEach g.M.FnMut l.fn.moved (moves_of waiters) last;
 }
 
 abbrev pub decreases-loop-node : goal.decreases-loop-node

@@ -7,26 +7,28 @@ use Rattle.lot_base.specs.WordView.{with_place}
 use Rattle.lot_base.specs.WordSteps.{TakePlaceTells}
 use Rattle.lot_base.specs.declared.word_lock.view.View.TheVariants.{Trying}
 use Rattle.lot_base.proofs.WordTries.{takes_place}
-use Rattle.lot_base.proofs.WordKeeps.{at_view}
+use Rattle.lot_base.proofs.WordKeyLemmas.{at_key}
 use Rattle.lot_base.proofs.word_lock.WordLock.take_place.Goals as goal
 
 pub compare_exchange-requires : goal.compare_exchange-requires
 compare_exchange-requires g c =
+    let fits = g.T.Fits.fits in
+    let key = c.args.self.now.table.shared.key in
     let place = c.args.place in
     let id = c.args.caller.now.seat.id in
     let tries = c.requires.tries in (
+      c.requires.lock.table,
       search rules,
-      search rules,
-      at_view g.T.Fits.fits _ _ id _ (Trying tries.0 0 0, []) (place + 4)
-          (λ x. either (x == 0) 1 x) (λ n m. TakePlaceTells (step n (place + 4) 0 1 none) m) refl tries.1
-          (takes_place g.T.Fits.fits _ id tries.0 place none c.requires.place),
+      at_key fits key _ _ id _ (Trying tries.0 0 0, []) (place + 4)
+          (λ x. either (x == 0) 1 x) (λ r. r) (λ _. TakePlaceTells) (λ n. step n (place + 4) 0 1 none) refl c.requires.lock.carried tries.1
+          (takes_place (fits key) _ id tries.0 place none c.requires.place),
     )
 
 pub returns-clause-has : goal.returns-clause-has
 returns-clause-has g c = λ won.
     let place = c.args.place in
     let tries = c.requires.tries in
-    let took = c.compare_exchange.ensures.2.0 (eqb-true c.compare_exchange.result 0 won) place refl in (
+    let took = c.compare_exchange.ensures.2.told.0 (eqb-true c.compare_exchange.result 0 won) place refl in (
       took.0,
       (
         tries.0,

@@ -12,11 +12,11 @@ pub remove_oldest-requires-then-found-word-clause-places : goal.remove_oldest-re
 remove_oldest-requires-then-found-word-clause-places g c =
     let more = c.release_to_zero-found.ensures.holds c.if-found-word.true in
     let again = c.first_link-link-then-found-word in
-    let before = c.first_link-link.new.caller.seat.me.0 in
+    let before = c.first_link-link.new.caller.seat.me.0.1 in
     let one = ap (λ (v : View). length (seen_by v)) (c.first_link-link.ensures.last c.if-link-ne-OLDEST.false) in
     let link = goes_on (length (seen_by before)) again.result before
     (λ e. again.ensures.alone e (length (seen_by before)) more) (λ i. length (seen_by before)) one in (
-      (seen_from c.release_to_zero-found.new.caller.seat.me.0 more.0 more.1 c.release_to_zero-found.result more.2
+      (seen_from c.release_to_zero-found.new.caller.seat.me.0.1 more.0 more.1 c.release_to_zero-found.result more.2
           more.3 more.4).1,
       (again.ensures.next link).0,
     )
@@ -25,7 +25,7 @@ pub remove_oldest-requires-then-found-word-clause-holds : goal.remove_oldest-req
 remove_oldest-requires-then-found-word-clause-holds g c =
     let more = c.release_to_zero-found.ensures.holds c.if-found-word.true in
     let again = c.first_link-link-then-found-word in
-    let before = c.first_link-link.new.caller.seat.me.0 in
+    let before = c.first_link-link.new.caller.seat.me.0.1 in
     let one = ap (λ (v : View). length (seen_by v)) (c.first_link-link.ensures.last c.if-link-ne-OLDEST.false) in
     let link = goes_on (length (seen_by before)) again.result before
     (λ e. again.ensures.alone e (length (seen_by before)) more) (λ i. length (seen_by before)) one in

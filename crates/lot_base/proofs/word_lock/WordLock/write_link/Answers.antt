@@ -4,18 +4,20 @@ use Rattle.atomic_table.specs.Table.{step}
 use Rattle.lot_base.specs.declared.word_lock.view.View.TheVariants.{Trying}
 use Rattle.lot_base.specs.WordSteps.{LinkTells}
 use Rattle.lot_base.proofs.WordWaits.{links_own}
-use Rattle.lot_base.proofs.WordKeeps.{at_view}
+use Rattle.lot_base.proofs.WordKeyLemmas.{at_key}
 use Rattle.lot_base.proofs.word_lock.WordLock.write_link.Goals as goal
 
 pub store-requires : goal.store-requires
 store-requires g c =
+    let fits = g.T.Fits.fits in
+    let key = c.args.self.now.table.shared.key in
     let place = c.args.place in
     let new = 1 + c.args.newest in
     let id = c.args.caller.now.seat.id in
     let has = c.requires.has in (
+      c.requires.lock.table,
       search rules,
-      search rules,
-      at_view g.T.Fits.fits _ _ id _ (Trying has.1.0 place has.0, []) place (λ _. new)
-          (λ n m _. LinkTells (step n place new 0 none) m new) refl has.1.1
-          (links_own g.T.Fits.fits _ id has.1.0 place has.0 new c.requires.place),
+      at_key fits key _ _ id _ (Trying has.1.0 place has.0, []) place (λ _. new)
+          (λ _. new) (λ _. LinkTells) (λ n. step n place new 0 none) refl c.requires.lock.carried has.1.1
+          (links_own (fits key) _ id has.1.0 place has.0 new c.requires.place),
     )

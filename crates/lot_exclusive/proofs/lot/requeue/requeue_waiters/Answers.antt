@@ -9,10 +9,10 @@ returns-clause-requeued g c =
     let moves = done.called.moves in
     let same = all_kept threads_with_key threads_with_keys (λ key threads. refl) (λ key number numbers threads. refl) _
     (λ moved. moved.0.now.items) (λ moved. (moved.1.now, moved.0.ghost_name))
-    (λ now next number called. (search rules, search rules)) _ _ _ moves in
+    (λ now next number timed called. (search rules, search rules)) _ _ _ moves in
     let keys = keys_set threads_with_key threads_with_keys (λ key threads. refl) (λ key number numbers threads. refl) _
     (λ moved. moved.0.now.items) (λ moved. (moved.1.now, moved.0.ghost_name))
-    (λ now next number called. (search rules, search rules)) _ _ _ moves in
+    (λ now next number timed called. (search rules, search rules)) _ _ _ moves in
     record {
       op = done.op;
       chosen = done.chosen;

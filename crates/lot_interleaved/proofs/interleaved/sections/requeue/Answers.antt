@@ -45,10 +45,10 @@ returns-clause-threads c =
     let moves = c.requeue.ensures.requeued.called.moves in
     let same = all_kept fine_threads_with_key fine_threads_with_keys (λ key threads. refl)
     (λ key number numbers threads. refl) _ (λ moved. moved.0.now.items) (λ moved. (moved.1.now, moved.0.ghost_name))
-    (λ now next number called. (search rules, search rules)) _ _ _ moves in
+    (λ now next number timed called. (search rules, search rules)) _ _ _ moves in
     let keys = keys_set fine_threads_with_key fine_threads_with_keys (λ key threads. refl)
     (λ key number numbers threads. refl) _ (λ moved. moved.0.now.items) (λ moved. (moved.1.now, moved.0.ghost_name))
-    (λ now next number called. (search rules, search rules)) _ _ _ moves in
+    (λ now next number timed called. (search rules, search rules)) _ _ _ moves in
     ap (λ (threads : Vec _ _). threads.items) (c.threads-1.given.1 (sym (ap (λ kept. kept.1) same))) ∙ keys
     ∙ ap (λ (op : RequeueOp). fine_threads_with_keys c.args.to
     (numbers (split_by op (nodes_in c.args.table.now.cells c.args.from)).moved) c.args.threads.now.items) op_is

@@ -6,17 +6,17 @@ use std::io;
 use std::io::Write;
 
 #[derive(Drop)]
-pub(super) struct Counted<W> {
+pub(super) struct LineCounter<W> {
     inner: W,
     lines: usize,
 }
 
-impl<W: Write> Counted<W> {
-    pub(super) fn new(inner: W) -> Counted<W>
+impl<W: Write> LineCounter<W> {
+    pub(super) fn new(inner: W) -> LineCounter<W>
         ensures inner { result.inner ≡ inner }
         ensures lines { result.lines ≡ 0 }
     {
-        Counted { inner, lines: 0 }
+        LineCounter { inner, lines: 0 }
     }
 
     // How many line feeds the writer has taken.
@@ -27,8 +27,8 @@ impl<W: Write> Counted<W> {
     }
 }
 
-impl<W: Write> Write for Counted<W> {
-    ghost contents = { λ counted. W.contents counted.inner };
+impl<W: Write> Write for LineCounter<W> {
+    ghost contents = { λ counter. W.contents counter.inner };
 
     fn write(&mut self, buf: &[u8]) -> io::Result<usize> {
         let taken = self.inner.write(buf)?;

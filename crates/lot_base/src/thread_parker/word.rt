@@ -1,0 +1,406 @@
+//! A parker of one word, on which its thread sleeps.
+//!
+//! The word tells whether the slot is empty and whether the owner sleeps, so a look reads the word
+//! alone. Whoever works on the slot makes the word `BUSY` by a swap, changes the slot, and stores
+//! what is so then. The owner sleeps on the word, once it has marked there that it does; so an
+//! unpark makes a call of the system only where it may have to wake the owner.
+//!
+//! It is proved that the word tells whether the slot is empty whenever nobody works on the slot,
+//! and that one thread at a time does. That the owner is woken is shown by tests.
+
+ghost use Rattle.std.specs.Prelude.{◌≡◌, ◌≢◌, ◌⊎◌, ◌↔◌, [], IsTrue, IfSome};
+ghost use Rattle.lot_base.specs.Node.{fields};
+ghost use Rattle.lot_base.specs.WordParkerRule.{Orderly, OpenTells, Untold, HasSlot, Tells, MaySleep};
+
+use super::{Slot, ThreadParkerT, UnparkHandleT, thread_yield, time_left};
+use crate::queue::Node;
+use crate::spinwait::SpinWait;
+use crate::token::NoMemory;
+use atomic_table::{Play, Refused, Seat, Table, TableRule};
+use std::alloc::Global;
+use std::sync::Wait;
+use std::time::{Clock, Instant};
+
+// The slot is empty, and the owner does not sleep.
+const EMPTY: u64 = 0;
+
+// Somebody works on the slot.
+const BUSY: u64 = 1;
+
+// The slot is empty, and the owner sleeps, or did until its deadline.
+const EMPTY_ASLEEP: u64 = 2;
+
+// The slot holds a node, and the owner does not sleep. The words below say that it holds none.
+const FULL: u64 = 3;
+
+// The slot holds a node, and the owner may sleep still.
+const FULL_ASLEEP: u64 = 4;
+
+// The index of the word in its block. With seven words before it and seven behind it the block has
+// all of the cache line of 64 bytes in which the word lies, so that no other block is in that line.
+const WORD: usize = 7;
+
+// How many words the block has.
+const WORDS: usize = 15;
+
+// The index of the slot.
+const SLOT: usize = 0;
+
+// What holds of the word and the slot between any two steps.
+struct Order;
+
+impl TableRule<Slot, usize, usize> for Order {
+    ghost holds = { Orderly };
+
+    ghost first = { λ owner. owner };
+}
+
+// The step after which the caller has the slot, if nobody had it before.
+struct Open;
+
+impl Play<Slot, usize> for Open {
+    ghost then = { OpenTells };
+}
+
+// Any other step.
+struct Step;
+
+impl Play<Slot, usize> for Step {
+    ghost then = { Untold };
+}
+
+// The slot out with one thread, and the word that this found. It has no `Drop`, so that it ends in
+// `close`.
+struct OpenSlot {
+    seat: Seat<Slot, usize>,
+    found: u64,
+}
+
+/// A parker over one word, beside which the slot lies in a block of its own. Its thread sleeps on
+/// the word. No call of it allocates but `new`.
+///
+/// Upstream's `linux.rs` has it as `ThreadParker`, over a word alone. There an unpark is one store
+/// and always a call of the system; here a node goes through the slot, in two steps on the word,
+/// and where the owner does not sleep there is no such call.
+#[derive(Drop)]
+pub struct WordParker {
+    table: Table<Slot, usize, usize, Order, Global>,
+    ghost sized: { (table.shared.table_id.words ≡ 15) × (table.shared.table_id.slots ≡ 1) },
+}
+
+// What the word says of a slot that a node was put into. The mark that the owner sleeps stays.
+fn filled(found: u64) -> u64
+    ensures full { (result ≡ FULL) ⊎ (result ≡ FULL_ASLEEP) }
+    ensures mark { MaySleep result ↔ MaySleep found }
+{
+    match found {
+        EMPTY_ASLEEP | FULL_ASLEEP => FULL_ASLEEP,
+        _ => FULL,
+    }
+}
+
+impl WordParker {
+    // The word, as it was at a moment when nobody worked on the slot.
+    #[inline]
+    fn word<R: Wait>(&self, rt: &R) -> u64 {
+        let word = self.table.shared.peek(WORD);
+        if word == BUSY {
+            return self.word_slow(rt);
+        }
+        word
+    }
+
+    // The same, after a look that found the word busy.
+    #[cold]
+    #[inline(never)]
+    fn word_slow<R: Wait>(&self, rt: &R) -> u64 {
+        let mut spin = SpinWait::new();
+        for _ in rt.forever() {
+            if !spin.spin() {
+                thread_yield();
+            }
+            let word = self.table.shared.peek(WORD);
+            if word != BUSY {
+                return word;
+            }
+        }
+        unreachable!()
+    }
+
+    // Makes the word busy, and takes the slot out if nobody worked on it.
+    #[inline]
+    fn try_open(&self) -> Option<OpenSlot>
+        ensures table { IfSome result (λ opened.
+            opened.seat.table_id ≡ self.now.table.shared.table_id) }
+        ensures slot { IfSome result (λ opened.
+            HasSlot opened.seat.me (Tells self.now.table.shared.key opened.found)) }
+    {
+        let (found, seat) = self.table.shared.swap_new_seat::<Open>(WORD, BUSY);
+        if found == BUSY {
+            return None;
+        }
+        Some(OpenSlot { seat, found })
+    }
+
+    // The same, once nobody works on it.
+    #[inline]
+    fn open<R: Wait>(&self, rt: &R) -> OpenSlot
+        ensures table { result.seat.table_id ≡ self.now.table.shared.table_id }
+        ensures slot { HasSlot result.seat.me (Tells self.now.table.shared.key result.found) }
+    {
+        if let Some(opened) = self.try_open() {
+            return opened;
+        }
+        self.open_slow(rt)
+    }
+
+    // The same, after a try in vain.
+    #[cold]
+    #[inline(never)]
+    fn open_slow<R: Wait>(&self, rt: &R) -> OpenSlot
+        ensures table { result.seat.table_id ≡ self.now.table.shared.table_id }
+        ensures slot { HasSlot result.seat.me (Tells self.now.table.shared.key result.found) }
+    {
+        for _ in rt.forever() {
+            self.word_slow(rt);
+            if let Some(opened) = self.try_open() {
+                return opened;
+            }
+        }
+        unreachable!()
+    }
+
+    // Puts the slot back, of which the word tells.
+    #[inline]
+    fn close(&self, opened: OpenSlot, word: u64)
+        requires table { opened.seat.table_id ≡ self.now.table.shared.table_id }
+        requires slot { HasSlot opened.seat.me (Tells self.now.table.shared.key word) }
+        requires settled { word ≢ BUSY }
+    {
+        let OpenSlot { mut seat, found: _ } = opened;
+        self.table.shared.store::<Step>(&mut seat, WORD, word);
+    }
+
+    // Puts a node of the owner last.
+    #[inline]
+    fn put(&self, seat: &mut Seat<Slot, usize>, node: Box<Node>)
+        requires table { seat.old.table_id ≡ self.now.table.shared.table_id }
+        requires slot { HasSlot seat.old.me (λ slot. slot.owner ≡ self.now.table.shared.key) }
+        requires number { (fields node.value).number ≡ self.now.table.shared.key }
+        ensures table { seat.new.table_id ≡ seat.old.table_id }
+        ensures slot { HasSlot seat.new.me (λ slot.
+            (slot.owner ≡ self.now.table.shared.key) × (slot.nodes ≢ [])) }
+    {
+        seat.slot_mut(&self.table.shared, SLOT).put(node);
+    }
+
+    // Takes the first node, if there is one. Answers it, and whether no other is left.
+    #[inline]
+    fn take_first(&self, seat: &mut Seat<Slot, usize>) -> (Option<Box<Node>>, bool)
+        requires table { seat.old.table_id ≡ self.now.table.shared.table_id }
+        requires slot { HasSlot seat.old.me (λ slot. slot.owner ≡ self.now.table.shared.key) }
+        ensures table { seat.new.table_id ≡ seat.old.table_id }
+        ensures slot { HasSlot seat.new.me (λ slot. (slot.owner ≡ self.now.table.shared.key)
+            × (IsTrue result.1 ↔ (slot.nodes ≡ []))) }
+        ensures number { IfSome result.0 (λ node.
+            (fields node.value).number ≡ self.now.table.shared.key) }
+    {
+        let slot = seat.slot_mut(&self.table.shared, SLOT);
+        let node = slot.take();
+        (node, slot.is_empty())
+    }
+
+    // Puts a node of the owner last, and puts the slot back. Answers whether the owner may sleep.
+    #[inline]
+    fn fill(&self, mut opened: OpenSlot, node: Box<Node>) -> bool
+        requires table { opened.seat.table_id ≡ self.now.table.shared.table_id }
+        requires slot { HasSlot opened.seat.me (Tells self.now.table.shared.key opened.found) }
+        requires number { (fields node.value).number ≡ self.now.table.shared.key }
+        ensures { IsTrue result ↔ MaySleep opened.found }
+    {
+        let word = filled(opened.found);
+        self.put(&mut opened.seat, node);
+        self.close(opened, word);
+        word == FULL_ASLEEP
+    }
+
+    // Takes the first node, or answers `None` if the slot was empty at a look. The owner is awake,
+    // so no mark of its sleep is left.
+    #[inline]
+    fn take<R: Wait>(&self, rt: &R) -> Option<Box<Node>>
+        ensures { IfSome result (λ node. (fields node.value).number ≡ self.now.table.shared.key) }
+    {
+        if self.word(rt) < FULL {
+            return None;
+        }
+        let mut opened = self.open(rt);
+        let (node, is_empty) = self.take_first(&mut opened.seat);
+        self.close(opened, if is_empty { EMPTY } else { FULL });
+        node
+    }
+
+    // Marks that the owner sleeps, if the slot is empty. Answers whether the mark is there.
+    fn mark_asleep(&self) -> bool {
+        let (word, mut seat) = self.table.shared.load_new_seat::<Step>(WORD);
+        if word != EMPTY {
+            return word == EMPTY_ASLEEP;
+        }
+        self.table
+            .shared
+            .compare_exchange::<Step>(&mut seat, WORD, EMPTY, EMPTY_ASLEEP)
+            == EMPTY
+    }
+
+    // Removes the mark that the owner sleeps, which a sleep until a deadline leaves.
+    #[cold]
+    #[inline(never)]
+    fn unmark_asleep(&self) {
+        let (_, mut seat) = self.table.shared.load_new_seat::<Step>(WORD);
+        self.table
+            .shared
+            .compare_exchange::<Step>(&mut seat, WORD, EMPTY_ASLEEP, EMPTY);
+    }
+
+    // Sleeps until the slot holds a node, and takes it.
+    #[cold]
+    #[inline(never)]
+    fn park_slow<R: Wait>(&self, rt: &R) -> Box<Node>
+        ensures { (fields result.value).number ≡ self.now.table.shared.key }
+    {
+        for _ in rt.forever() {
+            if self.mark_asleep() {
+                self.table.shared.park(rt, WORD, EMPTY_ASLEEP as u32);
+            }
+            if let Some(node) = self.take(rt) {
+                return node;
+            }
+        }
+        unreachable!()
+    }
+
+    // Sleeps until the slot holds a node, and takes it, or until the deadline.
+    #[cold]
+    #[inline(never)]
+    fn park_until_slow<R: Wait + Clock>(&self, rt: &R, timeout: Instant) -> Option<Box<Node>>
+        ensures { IfSome result (λ node. (fields node.value).number ≡ self.now.table.shared.key) }
+    {
+        for _ in rt.forever() {
+            let Some(left) = time_left(rt, timeout) else {
+                return self.take(rt);
+            };
+            if self.mark_asleep() {
+                let shared = &self.table.shared;
+                shared.park_timeout(rt, WORD, EMPTY_ASLEEP as u32, left);
+            }
+            if let Some(node) = self.take(rt) {
+                return Some(node);
+            }
+        }
+        unreachable!()
+    }
+}
+
+impl ThreadParkerT for WordParker {
+    type UnparkHandle = WordHandle;
+
+    const IS_CHEAP_TO_CONSTRUCT: bool = false;
+
+    ghost owner = { λ parker. parker.table.shared.key };
+
+    /// It asks for memory three times: for the block of the word, for the block of the slot, and
+    /// for a block of the slot's size that is freed before it returns.
+    ///
+    /// # Errors
+    ///
+    /// `NoMemory` if a request for memory was refused.
+    fn new(alloc: Global, number: usize) -> Result<WordParker, NoMemory> {
+        let slot = Slot::new(number);
+        let mut slots = Vec::with_capacity(alloc, 1)?;
+        slots.push_reserved(slot);
+        match Table::new(alloc, &[EMPTY; WORDS], slots, &number) {
+            Ok((table, _seat)) => Ok(WordParker { table }),
+            Err(Refused { slots: _ }) => Err(NoMemory),
+        }
+    }
+
+    /// Removes the mark that the owner sleeps, which a sleep until a deadline leaves; else it only
+    /// reads the word.
+    #[inline]
+    fn prepare_park(&self) {
+        if self.table.shared.peek(WORD) == EMPTY_ASLEEP {
+            self.unmark_asleep();
+        }
+    }
+
+    /// Reads the word, again while somebody works on the slot.
+    ///
+    /// Upstream reads its word.
+    #[inline]
+    fn timed_out<R: Wait>(&self, rt: &R) -> bool {
+        self.word(rt) < FULL
+    }
+
+    /// A node that is there it takes by a swap and a store. Else it marks that the owner sleeps,
+    /// and sleeps on the word. A wake that comes with no node sends it back to sleep.
+    ///
+    /// Upstream sleeps on its word in the same way, which `prepare_park` has marked.
+    #[inline]
+    fn park<R: Wait>(&self, rt: &R) -> Box<Node> {
+        if let Some(node) = self.take(rt) {
+            return node;
+        }
+        self.park_slow(rt)
+    }
+
+    /// The same until the deadline. It reads the clock after each look, and looks again after the
+    /// deadline.
+    ///
+    /// Upstream sleeps in the same way, and answers at the deadline without a last look.
+    #[inline]
+    fn park_until<R: Wait + Clock>(&self, rt: &R, timeout: Instant) -> Option<Box<Node>> {
+        if let Some(node) = self.take(rt) {
+            return Some(node);
+        }
+        self.park_until_slow(rt, timeout)
+    }
+
+    /// Makes the word busy, puts the node last, and stores that the slot is full. It waits only
+    /// while another thread does the same or the owner takes a node, and for no sleeper.
+    ///
+    /// Upstream clears its word.
+    #[inline]
+    fn unpark_lock<R: Wait>(&self, rt: &R, node: Box<Node>) -> WordHandle {
+        let number = node.number;
+        let opened = self.open(rt);
+        let wakes = self.fill(opened, node);
+        WordHandle { number, wakes }
+    }
+}
+
+/// The handle of a `WordParker`. It keeps the number of the thread, and whether that may sleep.
+///
+/// Upstream's `linux.rs` has it as `UnparkHandle`; there it points to the parker's word.
+#[derive(Drop)]
+pub struct WordHandle {
+    number: usize,
+    wakes: bool,
+}
+
+impl UnparkHandleT<WordParker> for WordHandle {
+    ghost number = { λ handle. handle.number };
+
+    fn number(&self) -> usize {
+        self.number
+    }
+
+    /// Wakes the parker's thread by a call of the system, if it may have slept at the commit.
+    ///
+    /// Upstream makes that call always, and the parker may be gone by then; here the borrow keeps
+    /// it.
+    #[inline]
+    fn unpark(self, parker: &WordParker) {
+        if self.wakes {
+            parker.table.shared.wake_one(WORD);
+        }
+    }
+}

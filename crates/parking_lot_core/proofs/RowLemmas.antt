@@ -1,0 +1,62 @@
+-- The locks of a row, each with the key of its place, and the buckets that growth puts there.
+use Rattle.std.proofs.Common.{◌≡◌, ℕ, ◌+◌, ◌<◌, ◌≤◌, List, [], ◌∷◌, ◌++◌, length, map, zero, suc, get_or, refl, sym, ap, ◌∙◌, arith}
+use Rattle.std.proofs.Common.{length-append, subst}
+use Rattle.std.proofs.Math.Seq.{get_or-append_seam}
+use Rattle.std.specs.List.{range_with_len}
+use Rattle.std.proofs.lemmas.List.{map-append, get_or-map}
+use Rattle.std.proofs.lemmas.List.FromFn.{get_or-map-range_with_len}
+use Rattle.lot_base.specs.BucketState.{BucketState, KeepsPlace, StandsAt}
+use Rattle.lot_exclusive.specs.Represents.{bucket_at}
+use Rattle.parking_lot_core.specs.Private.Section.{BucketLock, place_in, IsLockAt, AreLocksOfRow}
+use Rattle.parking_lot_core.proofs.ParkingLotLemmas.{range-push}
+use Rattle.lot_base.specs.WordLock.{key_of}
+
+-- one more lock, of the next place
+pub locks-push : (n : ℕ) (cells : List BucketLock) (cell : BucketLock) → IsLockAt (length cells) n cell
+    → AreLocksOfRow n cells → AreLocksOfRow n (cells ++ cell ∷ [])
+locks-push n cells cell is so_far =
+    let k = length cells in
+    let next : k ≡ 0 + k = omega arith in
+    let longer : suc k ≡ length (cells ++ cell ∷ []) = omega (arith, length-append cells (cell ∷ [])) in
+    map-append (λ (c : BucketLock). key_of c) cells (cell ∷ [])
+    ∙ ap (λ keys. keys ++ key_of cell ∷ []) so_far
+    ∙ ap (λ key. map (place_in n) (range_with_len 0 k) ++ key ∷ []) (is ∙ ap (place_in n) next)
+    ∙ sym (map-append (place_in n) (range_with_len 0 k) ((0 + k) ∷ []))
+    ∙ ap (map (place_in n)) (sym (range-push 0 k))
+    ∙ ap (λ count. map (place_in n) (range_with_len 0 count)) longer
+
+-- the lock that was read at a place
+pub lock_at : (n p : ℕ) (cells : List BucketLock) (cell : BucketLock) → p < length cells → cell ≡ get_or cells p cell
+    → AreLocksOfRow n cells → IsLockAt p n cell
+lock_at n p cells cell below read all =
+    let key = key_of cell in
+    ap (λ (c : BucketLock). key_of c) read
+    ∙ sym (get_or-map (λ (c : BucketLock). key_of c) cells p cell key below)
+    ∙ ap (λ keys. get_or keys p key) all
+    ∙ get_or-map-range_with_len (place_in n) 0 (length cells) p p key below (omega arith)
+
+-- a step that keeps a bucket's place keeps it that of its lock
+pub still_stands : (p n : ℕ) (old new : BucketState) → KeepsPlace old new → StandsAt p n old → StandsAt p n new
+still_stands p n old new keeps stands = record {
+  place = keeps.place ∙ stands.place;
+  size = keeps.size ∙ stands.size;
+}
+
+-- what is left of a row of n buckets once some of the last are taken off
+pub record IsFrontOfRow (n : ℕ) (row : List BucketState) : Type 0 where
+  pub short : length row ≤ n
+  pub stand : (i : ℕ) → i < length row → StandsAt i n (bucket_at row i)
+
+-- the bucket that was last
+pub last_stands : (n : ℕ) (row : List BucketState) (bucket : BucketState) → IsFrontOfRow n (row ++ bucket ∷ [])
+    → StandsAt (length row) n bucket
+last_stands n row bucket front =
+    let blank : BucketState = record { place = length row; size = 0; nodes = [] } in
+    subst (StandsAt (length row) n) (get_or-append_seam row bucket [] blank)
+    (front.stand (length row) (omega (arith, length-append row (bucket ∷ []))))
+
+-- it may go where a bucket of the same place was locked
+pub replaces : (p n i size : ℕ) (old new : BucketState) → StandsAt p n old → StandsAt i size old → StandsAt i size new
+    → StandsAt p n new
+replaces p n i size old new own stands other =
+    still_stands p n old new (record { place = other.place ∙ sym stands.place; size = other.size ∙ sym stands.size }) own
