@@ -20,7 +20,7 @@ pub enum Fault {
 impl fmt::Display for Fault {
     fn fmt<W: fmt::Write>(&self, f: &mut fmt::Formatter<W>) -> fmt::Result {
         match self {
-            Fault::NotMade => f.write_str("no memory, no number or no thread to begin with"),
+            Fault::NotMade => f.write_str("no memory or no thread to begin with"),
             Fault::NoSystem => f.write_str("no output or no clock"),
             Fault::Unlike(what) => write!(f, "not as it should be: {what}"),
         }
@@ -52,19 +52,26 @@ impl From<NoMemory> for Fault {
 }
 
 impl From<LotError> for Fault {
-    fn from(_error: LotError) -> Fault {
-        Fault::NotMade
+    fn from(error: LotError) -> Fault {
+        match error {
+            LotError::NoMemory => Fault::NotMade,
+            LotError::Full => Fault::Unlike("a lot that is full"),
+            LotError::TooManyThreads => Fault::Unlike("a lot for too many threads"),
+        }
     }
 }
 
 impl From<Misfit> for Fault {
     fn from(_error: Misfit) -> Fault {
-        Fault::NotMade
+        Fault::Unlike("a step that does not fit")
     }
 }
 
 impl From<StepError> for Fault {
-    fn from(_error: StepError) -> Fault {
-        Fault::NotMade
+    fn from(error: StepError) -> Fault {
+        match error {
+            StepError::NoMemory => Fault::NotMade,
+            StepError::Misfit => Fault::Unlike("a step that does not fit"),
+        }
     }
 }

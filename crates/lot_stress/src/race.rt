@@ -7,17 +7,16 @@ mod round;
 
 use crate::fault::Fault;
 use figures::Figures;
-use parking_lot_core::{ThreadParker, YieldParker};
+use parking_lot_core::{ThreadParker, WordParker, YieldParker};
 use std::alloc::Global;
 use std::io;
 use std::sync::Wait;
 use std::thread::Threads;
 use std::time::{Clock, Duration, Instant};
 
-/// Lets threads race for so long, in rounds of a second, each on a lot of its own, with either
-/// parker by turns. Each round is told on the error output, and the sum of all on the output. The
-/// seed of a round is that of the one before and one more, so a round that failed is the first of a
-/// race with its seed.
+/// Lets threads race for so long, in short rounds, each on a lot of its own, with each parker by
+/// turns. The sum of all is told on the output. The seed of a round is that of the one before and
+/// one more, so a round that failed is the first of a race with its seed.
 pub fn run<R: Print + Eprint + Threads + Wait + Clock + Copy + Send + Sync + 'static>(
     rt: &R,
     alloc: Global,
@@ -31,9 +30,7 @@ pub fn run<R: Print + Eprint + Threads + Wait + Clock + Copy + Send + Sync + 'st
         if start.elapsed(rt)? >= whole {
             break;
         }
-        let figures = run_round(rt, alloc, seed.wrapping_add(number))?;
-        total.add(figures);
-        eprintln!(rt; "round {number}: {figures}")?;
+        total.add(run_round(rt, alloc, seed.wrapping_add(number))?);
     }
     println!(rt; "{total}")?;
     Ok(())
@@ -45,10 +42,10 @@ fn run_round<R: Eprint + Threads + Wait + Clock + Copy + Send + Sync + 'static>(
     alloc: Global,
     seed: u64,
 ) -> Result<Figures, Fault> {
-    let figures = if seed % 2 == 0 {
-        round::run::<ThreadParker, _>(rt, alloc, seed)
-    } else {
-        round::run::<YieldParker, _>(rt, alloc, seed)
+    let figures = match seed % 3 {
+        0 => round::run::<WordParker, _>(rt, alloc, seed),
+        1 => round::run::<ThreadParker, _>(rt, alloc, seed),
+        _ => round::run::<YieldParker, _>(rt, alloc, seed),
     };
     if figures.is_err() {
         tell_failure(rt, seed)?;

@@ -33,7 +33,6 @@ pub(super) struct Figures {
     pub(super) timeouts: u64,
     pub(super) requeues: u64,
     pub(super) registrations: u64,
-    pub(super) growths: u64,
     pub(super) longest: Duration,
     pub(super) handed: Tokens,
     pub(super) told: Tokens,
@@ -45,7 +44,6 @@ impl Figures {
         self.timeouts = self.timeouts.wrapping_add(other.timeouts);
         self.requeues = self.requeues.wrapping_add(other.requeues);
         self.registrations = self.registrations.wrapping_add(other.registrations);
-        self.growths = self.growths.wrapping_add(other.growths);
         self.longest = self.longest.max(other.longest);
         self.handed.merge(other.handed);
         self.told.merge(other.told);
@@ -66,9 +64,8 @@ impl fmt::Display for Figures {
         )?;
         write!(
             f,
-            "registrations {} growths {} longest wait {} ms",
+            "registrations {} longest wait {} ms",
             self.registrations,
-            self.growths,
             self.longest.as_millis()
         )
     }

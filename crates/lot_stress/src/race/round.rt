@@ -13,15 +13,17 @@ use std::thread;
 use std::thread::{JoinHandle, Threads};
 use std::time::{Clock, Duration, Instant};
 
-// Keys of which several have one bucket: the first two of 16, the first and the fourth of 64.
-const KEYS: [usize; 6] = [0, 13, 34, 89, 7, 14];
+// Keys of which the first two have one bucket in each table of a round, and the next two another;
+// the fifth has the first's while the table is of 16 buckets, the last while it is of 64 at most.
+const KEYS: [usize; 6] = [0, 233, 7, 384, 13, 34];
 
 // How many numbers the lot has.
 const MOST: usize = 64;
 
 const PARKERS: usize = 8;
 
-const ROUND_MILLISECONDS: u64 = 1_000;
+// A table grows in the first of these alone, so rounds are short.
+const ROUND_MILLISECONDS: u64 = 50;
 
 // How long those who park have to end once they are all woken.
 const PATIENCE_SECONDS: u64 = 20;
@@ -151,8 +153,8 @@ impl<P: ThreadParkerT> Round<P> {
     ) -> Option<Figures> {
         match role {
             Role::Park => roles::park_often(rt, alloc, self, draws),
-            Role::Unpark => roles::unpark_often(rt, self, draws),
-            Role::Requeue => roles::requeue_often(rt, self, draws),
+            Role::Unpark => roles::unpark_often(rt, self, draws, &roles::UNPARKS),
+            Role::Requeue => roles::unpark_often(rt, self, draws, &roles::REQUEUES),
             Role::Register => roles::register_often(rt, alloc, self, draws),
         }
     }

@@ -16,8 +16,8 @@ use std::time::{Clock, Duration, Instant};
 // How many numbers the thread that registers holds at most.
 const HELD: usize = 48;
 
-// As many buckets as a lot begins with.
-const FIRST_SIZE: usize = 16;
+// How many parks a thread does with one number.
+const PARKS: usize = 64;
 
 const OPS: [RequeueOp; 5] = [
     RequeueOp::Abort,
@@ -27,15 +27,25 @@ const OPS: [RequeueOp; 5] = [
     RequeueOp::RequeueAll,
 ];
 
-// One way to unpark.
+/// One way to unpark, or to requeue.
 #[derive(Copy, Clone)]
-enum Way {
+pub(super) enum Way {
+    /// `unpark_one`.
     One,
+
+    /// `unpark_all`.
     All,
+
+    /// `unpark_filter`, with any decisions.
     Filter,
+
+    /// `unpark_requeue` with any operation, to any key or to the same.
+    Requeue,
 }
 
-const WAYS: [Way; 3] = [Way::One, Way::All, Way::Filter];
+pub(super) const UNPARKS: [Way; 3] = [Way::One, Way::All, Way::Filter];
+
+pub(super) const REQUEUES: [Way; 1] = [Way::Requeue];
 
 /// Parks on any key, with a deadline or without, and registers anew now and then.
 pub(super) fn park_often<P: ThreadParkerT, R: Wait + Clock>(
@@ -64,7 +74,7 @@ fn park_some<P: ThreadParkerT, R: Wait + Clock>(
     draws: &mut Draws,
     figures: &mut Figures,
 ) -> Option<bool> {
-    for _ in 0..64 {
+    for _ in 0..PARKS {
         if round.is_over() {
             break;
         }
@@ -124,11 +134,12 @@ fn note_park(figures: &mut Figures, ended: ParkResult, wait: Duration) {
     }
 }
 
-/// Unparks one, all, or those that a filter chooses, on any key.
+/// Unparks or requeues again and again, each time in one of these ways.
 pub(super) fn unpark_often<P: ThreadParkerT, R: Wait + Clock>(
     rt: &R,
     round: &Round<P>,
     mut draws: Draws,
+    ways: &[Way],
 ) -> Option<Figures> {
     let mut figures = Figures::default();
     for _ in 0..u64::MAX {
@@ -136,8 +147,11 @@ pub(super) fn unpark_often<P: ThreadParkerT, R: Wait + Clock>(
             break;
         }
         let token = UnparkToken(draws.next() as usize);
-        let unparked = unpark_once(rt, round, &mut draws, token);
-        figures.handed.add(token, unparked);
+        let result = unpark_once(rt, round, &mut draws, ways, token);
+        figures.handed.add(token, result.unparked_threads);
+        figures.requeues = figures
+            .requeues
+            .wrapping_add(result.requeued_threads as u64);
         pause(rt, &mut draws);
     }
     Some(figures)
@@ -147,13 +161,23 @@ fn unpark_once<P: ThreadParkerT, R: Wait>(
     rt: &R,
     round: &Round<P>,
     draws: &mut Draws,
+    ways: &[Way],
     token: UnparkToken,
-) -> usize {
+) -> UnparkResult {
     let key = draws.choose(&KEYS, 0);
-    match draws.choose(&WAYS, Way::One) {
-        Way::One => unpark_one(rt, &round.lot, key, |_| token).unparked_threads,
-        Way::All => unpark_all(rt, &round.lot, key, token),
-        Way::Filter => unpark_chosen(rt, round, key, token, draws.next()).unparked_threads,
+    match draws.choose(ways, Way::One) {
+        Way::One => unpark_one(rt, &round.lot, key, |_| token),
+        Way::All => UnparkResult {
+            unparked_threads: unpark_all(rt, &round.lot, key, token),
+            requeued_threads: 0,
+            have_more_threads: false,
+        },
+        Way::Filter => unpark_chosen(rt, round, key, token, draws.next()),
+        Way::Requeue => {
+            let to = draws.choose(&KEYS, 0);
+            let op = draws.choose(&OPS, RequeueOp::RequeueAll);
+            unpark_requeue(rt, &round.lot, key, to, || op, |_, _| token)
+        }
     }
 }
 
@@ -184,40 +208,6 @@ fn pause<R: Clock>(rt: &R, draws: &mut Draws) {
     }
 }
 
-/// Requeues from any key to any other, or to the same.
-pub(super) fn requeue_often<P: ThreadParkerT, R: Wait + Clock>(
-    rt: &R,
-    round: &Round<P>,
-    mut draws: Draws,
-) -> Option<Figures> {
-    let mut figures = Figures::default();
-    for _ in 0..u64::MAX {
-        if round.is_over() {
-            break;
-        }
-        let token = UnparkToken(draws.next() as usize);
-        let result = requeue_once(rt, round, &mut draws, token);
-        figures.handed.add(token, result.unparked_threads);
-        figures.requeues = figures
-            .requeues
-            .wrapping_add(result.requeued_threads as u64);
-        pause(rt, &mut draws);
-    }
-    Some(figures)
-}
-
-fn requeue_once<P: ThreadParkerT, R: Wait>(
-    rt: &R,
-    round: &Round<P>,
-    draws: &mut Draws,
-    token: UnparkToken,
-) -> UnparkResult {
-    let from = draws.choose(&KEYS, 0);
-    let to = draws.choose(&KEYS, 0);
-    let op = draws.choose(&OPS, RequeueOp::RequeueAll);
-    unpark_requeue(rt, &round.lot, from, to, || op, |_, _| token)
-}
-
 /// Registers many threads one after another and retires them, again and again.
 pub(super) fn register_often<P: ThreadParkerT, R: Wait + Clock>(
     rt: &R,
@@ -226,50 +216,31 @@ pub(super) fn register_often<P: ThreadParkerT, R: Wait + Clock>(
     mut draws: Draws,
 ) -> Option<Figures> {
     let mut figures = Figures::default();
-    let mut most = 0usize;
     for _ in 0..u64::MAX {
         if round.is_over() {
             break;
         }
         let mut held = Vec::with_capacity(alloc, HELD).ok()?;
-        most = most.max(register_some(rt, alloc, round, &mut draws, &mut held)?);
+        register_some(rt, alloc, round, &mut draws, &mut held)?;
         figures.registrations = figures.registrations.wrapping_add(held.len() as u64);
         for data in held {
             round.lot.retire(rt, data);
         }
     }
-    figures.growths = growths_to(most);
     Some(figures)
 }
 
-// Registers threads with pauses between, and answers how many were registered at once.
+// Registers threads with pauses between.
 fn register_some<P: ThreadParkerT, R: Wait + Clock>(
     rt: &R,
     alloc: Global,
     round: &Round<P>,
     draws: &mut Draws,
     held: &mut Vec<ThreadData>,
-) -> Option<usize> {
-    let mut most = 0usize;
+) -> Option<()> {
     for _ in 0..HELD {
-        let data = round.lot.thread_data(rt, alloc).ok()?;
-        most = most.max(data.number().wrapping_add(1));
-        held.push(data).ok()?;
+        held.push(round.lot.thread_data(rt, alloc).ok()?).ok()?;
         pause(rt, draws);
     }
-    Some(most)
-}
-
-// How often a table grew that has three buckets for each of so many threads.
-fn growths_to(threads: usize) -> u64 {
-    let mut size = FIRST_SIZE;
-    let mut growths = 0u64;
-    for _ in 0..16 {
-        if size >= threads.wrapping_mul(3) {
-            break;
-        }
-        size = size.wrapping_mul(2);
-        growths = growths.wrapping_add(1);
-    }
-    growths
+    Some(())
 }
