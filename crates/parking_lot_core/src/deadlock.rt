@@ -1,5 +1,5 @@
-//! Records of the resources that a thread holds, in the thread's own data. Whoever looks for a
-//! deadlock reads them.
+//! Records of the resources that a thread holds, in the thread's own data, which alone tells them.
+//! No detector of deadlocks is here.
 
 ghost use Rattle.std.specs.Prelude.{◌≡◌, OnOk, OnErr};
 ghost use Rattle.lot_exclusive.specs.Records.{times_recorded, one_more, one_less};

@@ -21,7 +21,7 @@ use std::alloc::Global;
 use std::marker::Model;
 use std::sync::Wait;
 use std::time::{Clock, Instant};
-use threads::{PerThread, for_each_number};
+use threads::{PerThread, new_threads};
 
 /// A registered thread: its number, its node while it does not wait, and the records of what it
 /// holds, which `deadlock` changes. It belongs to the lot that gave it. With another lot's data
@@ -72,10 +72,14 @@ impl ThreadData {
 /// registration that lets the table grow also that of each bucket in turn; sections that meet it
 /// sleep until it is done.
 ///
-/// What is proved of its calls is how their closures are called, what form their answers have, and
-/// that an unpark hands each node that it took to the parker of its thread, up to eight. Which
-/// threads wait and are unparked, that each gets its token and wakes, and which numbers are given,
-/// is shown by tests.
+/// At most four callers sleep for one bucket's lock. Any others yield until a place is free, and no
+/// order is kept among callers.
+///
+/// What is proved of its calls is how their closures are called and what form their answers have;
+/// of private functions, that a node that was taken goes to no parker but its thread's, and that at
+/// least eight threads, or all where fewer were taken, are handed theirs to be woken. Which threads
+/// wait and are unparked, that each gets its token and wakes, and which numbers are given, is shown
+/// by tests.
 ///
 /// Upstream has one lot for the process, in statics.
 #[derive(Drop)]
@@ -112,7 +116,7 @@ impl<P: ThreadParkerT> ParkingLot<P> {
         ensures ok { IfOk result (λ lot. lot.max_threads ≡ max_threads) }
     {
         let buckets = Buckets::new(alloc, max_threads)?;
-        let threads = for_each_number(alloc, max_threads)?;
+        let threads = new_threads(alloc, max_threads)?;
         Ok(ParkingLot { buckets, threads })
     }
 
@@ -134,13 +138,15 @@ impl<P: ThreadParkerT> ParkingLot<P> {
     /// Registers a thread under the least free number. It has no records.
     ///
     /// It takes the lock of the numbers, looks for a free one, and allocates what the table needs to
-    /// grow, if it has to. Growth waits for each section of the old buckets in turn. The thread's
-    /// node was made with the lot, so it parks without asking for memory.
+    /// grow, if it has to, with that lock held. Growth waits for each section of the old buckets in
+    /// turn, and sections that come meanwhile sleep until it is done. The thread's node was made with
+    /// the lot, so it parks without asking for memory.
     ///
     /// # Errors
     ///
     /// `Full` if the greatest number of threads is registered, which is tested first, and else
-    /// `NoMemory` if memory cannot be had. No number was given then.
+    /// `NoMemory` if memory cannot be had. No number was given then; the lot may keep the buckets of
+    /// a larger table for the next time.
     pub fn thread_data<R: Wait>(&self, rt: &R, alloc: Global) -> Result<ThreadData, LotError>
         ensures not_too_many { result ≢ Err LotError.TooManyThreads }
         ensures number { IfOk result (λ thread. thread.number < self.now.max_threads) }
@@ -163,7 +169,7 @@ impl<P: ThreadParkerT> ParkingLot<P> {
 
     /// The numbers of the threads that waited on the key while its bucket was locked, in order.
     ///
-    /// It is one section with one `Bucket::list`.
+    /// It is one section with one `Bucket::list`, which asks for memory with the bucket locked.
     ///
     /// # Errors
     ///
@@ -191,10 +197,14 @@ impl<P: ThreadParkerT> ParkingLot<P> {
 ///
 /// The park token is what a filter sees of the thread.
 ///
-/// It is one section with one `Bucket::enter`, and after a deadline one more with one
-/// `Bucket::remove`; between them it takes the parker's lock alone. It is never refused and
-/// allocates nothing. `validate` and `timed_out` must not call the lot, nor wait for a thread that
-/// does. `before_sleep` may unpark, but not park.
+/// What the other thread did before its unpark is seen once this answers `Unparked`, and what a
+/// section did by the next section of that bucket: every step on a shared word is `SeqCst`.
+///
+/// It is one section with one `Bucket::enter`, and after a deadline one more, or more where requeues
+/// move the thread meanwhile; in it it looks at the parker, and does one `Bucket::remove` unless it
+/// was unparked. Between them it takes the parker's lock alone. It is never refused and allocates
+/// nothing. `validate` and `timed_out` must not call the lot, nor wait for a thread that does.
+/// `before_sleep` may make any call of the lot, `park` with other data.
 ///
 /// Upstream has it under this name. There the lot and the thread's data are found, not handed in,
 /// and any number that the caller has no right to is unsafe as a key; here it is only unwise.

@@ -13,7 +13,7 @@ abbrev pub handle_numbers : {H : Type 0} → (H → ℕ) → Option H → List �
 handle_numbers number None = []
 handle_numbers number (Some handle) = number handle ∷ []
 
--- how many handles a room keeps: one for a handle, one of two rooms, and the one of a section
+-- how many handles are kept: in an option, in a pair of rooms, and in the room of a section, for eight
 abbrev pub kept_in_option : {H : Type 0} → Option H → ℕ
 kept_in_option None = 0
 kept_in_option (Some _) = 1

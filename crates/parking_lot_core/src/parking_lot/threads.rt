@@ -14,8 +14,8 @@ use std::alloc::Global;
 use std::sync::Wait;
 use std::sync::atomic::{AtomicUsize, Ordering};
 
-// What the lot keeps for one thread number from the first: its parker, and the key of the queue
-// that its thread entered last with a timeout, or was moved to then.
+// What the lot keeps for one thread number from the first: its parker, and the key on which its
+// thread last waited with a timeout, after all moves.
 #[derive(Drop)]
 pub(super) struct PerThread<P: ThreadParkerT> {
     parker: P,
@@ -51,8 +51,7 @@ impl<P: ThreadParkerT> ParkingLot<P> {
         }
     }
 
-    // The key of the queue that the thread of this number entered last with a timeout, or was moved
-    // to then.
+    // The key on which the thread of this number last waited with a timeout, after all moves.
     pub(super) fn key(&self, number: usize) -> usize
         requires { number < self.now.max_threads }
     {
@@ -110,7 +109,7 @@ impl<P: ThreadParkerT> ParkingLot<P> {
 }
 
 // A parker and a key word for each number below `max_threads`.
-pub(super) fn for_each_number<P: ThreadParkerT>(
+pub(super) fn new_threads<P: ThreadParkerT>(
     alloc: Global,
     max_threads: usize,
 ) -> Result<Vec<PerThread<P>>, NoMemory>

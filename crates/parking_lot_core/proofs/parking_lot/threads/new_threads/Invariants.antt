@@ -1,6 +1,6 @@
 use Rattle.std.proofs.Common.{◌≡◌, map}
 use Rattle.std.specs.List.{range_with_len}
-use Rattle.parking_lot_core.proofs.parking_lot.threads.for_each_number.Given as goal
+use Rattle.parking_lot_core.proofs.parking_lot.threads.new_threads.Given as goal
 
 abbrev pub invariant-loop-number : goal.invariant-loop-number
 invariant-loop-number g l =

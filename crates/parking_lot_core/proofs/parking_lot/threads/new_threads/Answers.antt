@@ -1,5 +1,5 @@
 use Rattle.parking_lot_core.proofs.ParkingLotLemmas.{owners-push}
-use Rattle.parking_lot_core.proofs.parking_lot.threads.for_each_number.Goals as goal
+use Rattle.parking_lot_core.proofs.parking_lot.threads.new_threads.Goals as goal
 
 pub loop-number-preserved : goal.loop-number-preserved
 loop-number-preserved g c =
