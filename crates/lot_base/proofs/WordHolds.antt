@@ -38,7 +38,6 @@ module _ {T : Type 0} (fits : T → Type 0) where
       (λ ne.
       let ok = o.each_place p (member_place o.list p o.in_places (omega arith)) in
       let below = total_le (waits_with p) (has_place p) (waits_has p) s.views in
-      let marked = ok.marked in
       let once = ok.once in
       dite (ℕ_discrete (get_or s.words p 0) 0)
       (λ e. let r = ok.removed e in omega arith)
@@ -286,6 +285,7 @@ module _ {T : Type 0} (fits : T → Type 0) where
       let sum = ok.waiting some-link in
       let below = total_le (waits_with p) (has_place p) (waits_has p) s.views in
       let marked = ok.marked in
+      let asked = ok.asked in
       let once = ok.once in
       let absent : times p o.list ≡ 0 = omega arith in
       let waits : total (waits_with p) s.views ≡ 1 = omega arith in
@@ -311,7 +311,9 @@ module _ {T : Type 0} (fits : T → Type 0) where
       let mark = elsewhere (p + 4) (λ e. omega arith) in
       let no-place = one_at-other p 0 (λ e. omega arith) in
       record {
+        wanted = ok.wanted;
         marked = omega arith;
+        asked = omega arith;
         once = omega arith;
         removed = λ _. omega arith;
         waiting = λ ne. absurd (ne here);

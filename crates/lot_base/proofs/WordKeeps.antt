@@ -49,7 +49,9 @@ module _ {T : Type 0} (fits : T → Type 0) where
         let mark = zeros 24 (p + 4) in
         let no-place = one_at-other p 0 (λ e. omega arith) in
         record {
+          wanted = 0;
           marked = omega arith;
+          asked = omega arith;
           once = omega arith;
           removed = λ _. refl;
           waiting = λ ne. absurd (ne (zeros 24 p));

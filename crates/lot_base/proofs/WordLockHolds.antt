@@ -103,7 +103,6 @@ module _ {T : Type 0} (fits : T → Type 0) (s : State (Option T) View) (o : Ord
       (total (waits_with p) s.views ≡ 1)
   waited_for p is needed =
       let ok = o.each_place p is in
-      let marked = ok.marked in
       let once = ok.once in
       let below = total_le (waits_with p) (has_place p) (waits_has p) s.views in
       let linked : get_or s.words p 0 ≢ 0 = λ e. let r = ok.removed e in absurd (omega arith) in
@@ -151,7 +150,6 @@ module _ {T : Type 0} (fits : T → Type 0) (s : State (Option T) View) (o : Ord
             let waits-u = waiter_waits p u is-u in
             let is : IsPlace p = subst (SeatOk s.words o.list) is-v (o.each_seat i v at-i) in
             let below = total_le (waits_with p) (has_place p) (waits_has p) s.views in
-            let marked = (o.each_place p is).marked in
             let once = (o.each_place p is).once in
             absurd (omega arith));
       }

@@ -9,7 +9,7 @@ use prog.Atomic.{either}
 use Rattle.atomic_table.specs.Table.{Me, Act, keeps, takes, gives, Valid, stepped, step, opening, Allows, Arrives, Enters}
 use Rattle.atomic_table.proofs.Lists.{set_here, exchanged}
 use Rattle.lot_base.specs.SlotState.{SlotState}
-use Rattle.lot_base.specs.WordParkerRule.{Tells, Orderly, HasSlot, OpenTells}
+use Rattle.lot_base.specs.WordParkerRule.{Tells, ParkerOrderly, HasSlot, OpenTells}
 
 module _ (owner : ℕ) where
   -- a word that is less than 3 tells of a slot what another such word does
@@ -21,7 +21,7 @@ module _ (owner : ℕ) where
   }
 
   pub starts : (slot : SlotState) → slot ≡ record { owner = owner; nodes = [] }
-      → Orderly owner (opening (replicate 15 0) (slot ∷ []) owner)
+      → ParkerOrderly owner (opening (replicate 15 0) (slot ∷ []) owner)
   starts slot is = record {
     long = refl;
     home = λ _. (
@@ -36,12 +36,12 @@ module _ (owner : ℕ) where
   }
 
   -- a new seat
-  pub arrives : (n i : ℕ) → Enters (Orderly owner) n i (λ _ _. Unit {0})
+  pub arrives : (n i : ℕ) → Enters (ParkerOrderly owner) n i (λ _ _. Unit {0})
   arrives n i s o wide _ = (0, record { long = o.long; home = o.home }, tt)
 
   -- a new seat that makes the word busy
   pub busies : (n new : ℕ) → new ≡ 1
-      → Arrives (Orderly owner) n 7 (λ _. new) (OpenTells (step n 7 new 0 none) (owner, []))
+      → Arrives (ParkerOrderly owner) n 7 (λ _. new) (OpenTells (step n 7 new 0 none) (owner, []))
   busies n new is s o wide _ =
       let long = o.long in
       let here : get_or (set s.words 7 new) 7 0 ≡ 1 = get_or-set_same s.words 7 new 0 (omega arith) ∙ is in
@@ -63,9 +63,9 @@ module _ (owner : ℕ) where
 
   -- a seat that has the slot puts it back, and the word tells of it
   pub closes : (n id word : ℕ) (me : Me SlotState ℕ) → n ≡ 1 → HasSlot me (Tells owner word)
-      → Allows (Orderly owner) n id me 7 (λ _. word) (λ _ _. Unit {0})
+      → Allows (ParkerOrderly owner) n id me 7 (λ _. word) (λ _ _. Unit {0})
   closes n id word me slots has =
-      subst (λ (c : List (ℕ × SlotState)). Allows (Orderly owner) n id (me.0, c) 7 (λ _. word) (λ _ _. Unit {0}))
+      subst (λ (c : List (ℕ × SlotState)). Allows (ParkerOrderly owner) n id (me.0, c) 7 (λ _. word) (λ _ _. Unit {0}))
       (sym has.1)
       (λ s o wide _ _.
       let long = o.long in (
@@ -85,12 +85,12 @@ module _ (owner : ℕ) where
 
   -- a seat exchanges one word for another that tells the same
   pub marks : (n id old new : ℕ) (me : Me SlotState ℕ) → old ≢ 1 → old < 3 → new < 3
-      → Allows (Orderly owner) n id me 7 (λ y. either (eqb y old) new y) (λ _ _. Unit {0})
+      → Allows (ParkerOrderly owner) n id me 7 (λ y. either (eqb y old) new y) (λ _ _. Unit {0})
   marks n id old new me settled low lower s o wide _ _ =
       let long = o.long in
       let there : get_or (set s.words 7 new) 7 0 ≡ new = get_or-set_same s.words 7 new 0 (omega arith) in
       exchanged (get_or s.words 7 0) old new
-      (λ k. (w : ℕ) × (a : Act SlotState) × Valid s.homes me.1 a × Orderly owner (stepped s 7 k id me.1 w a) × Unit {0})
+      (λ k. (w : ℕ) × (a : Act SlotState) × Valid s.homes me.1 a × ParkerOrderly owner (stepped s 7 k id me.1 w a) × Unit {0})
       (λ hit. let at = o.home (λ e. settled (sym hit ∙ e)) in (
         me.0,
         keeps,
@@ -110,7 +110,7 @@ module _ (owner : ℕ) where
         me.0,
         keeps,
         tt,
-        subst (λ (ws : List ℕ). Orderly owner record { words = ws; homes = s.homes; views = set s.views id me.0 })
+        subst (λ (ws : List ℕ). ParkerOrderly owner record { words = ws; homes = s.homes; views = set s.views id me.0 })
             (sym (set-get_or s.words 7 0)) (record { long = o.long; home = o.home }),
         tt,
       ))

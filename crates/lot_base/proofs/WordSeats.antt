@@ -35,9 +35,13 @@ place_kept vs id v w ws ws' list list' p me has waits owes zero-kept one-kept ma
     let t = total-set (waits_with p) vs id v w me in
     let o = total-set (owes_place p) vs id v w me in
     let marked = ok.marked in
+    let asked = ok.asked in
+    let once = ok.once in
     record {
+      wanted = ok.wanted;
       marked = omega arith;
-      once = subst (λ (n : ℕ). n ≤ 1) (sym mark) ok.once;
+      asked = omega arith;
+      once = omega arith;
       removed = λ e. let r = ok.removed (zero-kept e) in omega arith;
       waiting = λ ne. let r = ok.waiting (one-kept ne) in omega arith;
     }
@@ -48,7 +52,6 @@ pub not_waiting : (vs : List View) (id : ℕ) (v : View) (ws list : List ℕ) (p
     → (total (has_place p) vs ≡ 1) × (total (waits_with p) vs ≡ 0) × (times p list ≡ 0) × (total (owes_place p) vs ≡ 0)
 not_waiting vs id v ws list p me has waits ok =
     let below = total_below (waits_with p) (has_place p) (waits_has p) vs id v me in
-    let marked = ok.marked in
     let once = ok.once in
     let mine = one_term (has_place p) vs id v me in
     let none : total (waits_with p) vs ≡ 0 = omega arith in
@@ -62,7 +65,6 @@ pub one_owner : (vs : List View) (i j : ℕ) (v u : View) (ws list : List ℕ) (
     → has_place p v ≡ 1 → has_place p u ≡ 1 → PlaceOk ws list vs p → ⊥
 one_owner vs i j v u ws list p ne at-i at-j has-i has-j ok =
     let two = two_terms (has_place p) vs i j v u ne at-i at-j in
-    let marked = ok.marked in
     let once = ok.once in
     absurd (omega arith)
 

@@ -20,7 +20,8 @@ use Rattle.lot_base.specs.WordView.{resting, leaving}
 use Rattle.lot_base.specs.WordLockInvariant.{HasValue}
 use Rattle.lot_base.specs.WordRule.{holds_lock, has_place, waits_with, owes_place, SeatOk, PlaceOk}
 use Rattle.lot_base.specs.WordRule.{Orderly}
-use Rattle.lot_base.specs.WordSteps.{ArriveTells, AcquireTells, TakePlaceTells, GiveBackTells, LinkTells, EnqueueTells, LookTells}
+use Rattle.lot_base.specs.WordSteps.{ArriveTells, AcquireTells, TakePlaceTells, GiveBackTells, AskTells, LinkTells}
+use Rattle.lot_base.specs.WordSteps.{EnqueueTells, LookTells}
 use Rattle.lot_base.specs.WordSteps.{ReleaseToZeroTells, ReadFirstTells, ReadNextTells, CutTells, ReleaseAfterCutTells, TellTells}
 use Rattle.lot_base.proofs.WordCounts.{total-append, total-set, one_term, two_terms, some_term, total_le}
 use Rattle.lot_base.proofs.WordCounts.{one_at-same, one_at-other, times-append, member_place, AllPlaces-behind}
@@ -54,9 +55,13 @@ module _ {T : Type 0} (fits : T → Type 0) where
           let t = total-append (waits_with p) s.views (resting ∷ []) in
           let d = total-append (owes_place p) s.views (resting ∷ []) in
           let marked = ok.marked in
+          let asked = ok.asked in
+          let once = ok.once in
           record {
+            wanted = ok.wanted;
             marked = omega arith;
-            once = ok.once;
+            asked = omega arith;
+            once = omega arith;
             removed = λ e. let r = ok.removed e in omega arith;
             waiting = λ ne. let r = ok.waiting ne in omega arith;
           };
@@ -106,13 +111,15 @@ module _ {T : Type 0} (fits : T → Type 0) where
       ))
       (λ miss. (m.0, keeps, tt, (unmoved fits) s o 0 id m.0 me, ((λ hit. absurd (miss hit)), λ _. refl)))
 
-  -- the rule after a caller that tries took or gave back the place p, whose mark says so
-  marks : (s : St T) (o : Orderly fits s) (id : ℕ) (woken : Bool) (p a x b y mark : ℕ) → IsPlace p
+  -- the rule after a caller that tries took or gave back the place p, or asked for it, as its mark says
+  marks : (s : St T) (o : Orderly fits s) (id : ℕ) (woken : Bool) (p a x b y mark wanted : ℕ) → IsPlace p
       → get_elem? s.views id ≡ some (Trying woken a x)
-      → mark + one_at p a ≡ get_or s.words (p + 4) 0 + one_at p b → mark ≤ 1
+      → total (has_place p) (set s.views id (Trying woken b y)) + wanted ≡ mark
+      → wanted ≤ total (has_place p) (set s.views id (Trying woken b y))
+      → total (has_place p) (set s.views id (Trying woken b y)) ≤ 1
       → ((q : ℕ) → IsPlace q → q ≢ p → one_at q b ≡ one_at q a) → (0 < b → IsPlace b × (get_or s.words b 0 ≡ y))
       → Orderly fits (board (set s.words (p + 4) mark) s.homes (set s.views id (Trying woken b y)))
-  marks s o id woken p a x b y mark is me moved few others mine =
+  marks s o id woken p a x b y mark wanted is me marked asked once others mine =
       let low = is.0 in
       let high = is.1 in
       let long = o.long in
@@ -125,14 +132,14 @@ module _ {T : Type 0} (fits : T → Type 0) where
       let links : (q : ℕ) → IsPlace q → get_or ws q 0 ≡ get_or s.words q 0 = λ q is-q. let high-q = is-q.1 in
       elsewhere q (λ e. omega arith) in
       let ok = o.each_place p is in
-      let marked = ok.marked in
       let at-p : PlaceOk ws o.list (set s.views id w) p =
-      let h = total-set (has_place p) s.views id v w me in
       let t = total-set (waits_with p) s.views id v w me in
       let d = total-set (owes_place p) s.views id v w me in
       record {
+        wanted = wanted;
         marked = omega arith;
-        once = omega arith;
+        asked = asked;
+        once = once;
         removed = λ e. let r = ok.removed (sym (links p is) ∙ e) in omega arith;
         waiting = λ ne. let r = ok.waiting (λ e. ne (links p is ∙ e)) in omega arith;
       } in
@@ -157,22 +164,27 @@ module _ {T : Type 0} (fits : T → Type 0) where
       let pos = is.0 in
       one_at-other q p (λ e. ne (sym e)) ∙ sym (one_at-other q 0 (λ e. omega arith))
 
-  -- a caller takes a place
-  pub takes_place : (n id : ℕ) (woken : Bool) (p : ℕ) (said : maybe.Option (Option T)) → IsPlace p
-      → Allows (Orderly fits) n id (Trying woken 0 0, []) (p + 4) (λ y. either (eqb y 0) 1 y)
-      (TakePlaceTells (step n (p + 4) 0 1 said) (Trying woken 0 0, []))
-  takes_place n id woken p said is s o wide me _ =
+  -- a caller takes a place, with a mark that may say that others ask for it
+  pub takes_place : (n id : ℕ) (woken : Bool) (p mark : ℕ) (said : maybe.Option (Option T)) → IsPlace p
+      → 0 < mark → mark ≤ 2
+      → Allows (Orderly fits) n id (Trying woken 0 0, []) (p + 4) (λ y. either (eqb y 0) mark y)
+      (TakePlaceTells (step n (p + 4) 0 mark said) (Trying woken 0 0, []))
+  takes_place n id woken p mark said is some-mark known s o wide me _ =
       let m : Me (Option T) View = (Trying woken 0 0, []) in
       let i : ℕ = p + 4 in
-      exchanged (get_or s.words i 0) 0 1 ((Goes fits) s i id m (TakePlaceTells (step n i 0 1 said) m))
+      exchanged (get_or s.words i 0) 0 mark ((Goes fits) s i id m (TakePlaceTells (step n i 0 mark said) m))
       (λ hit.
       let low = is.0 in
-      let link : ℕ = get_or s.words p 0 in (
+      let link : ℕ = get_or s.words p 0 in
+      let ok = o.each_place p is in
+      let marked = ok.marked in
+      let same = one_at-same p in
+      let none = one_at-other p 0 (λ e. omega arith) in
+      let h = total-set (has_place p) s.views id (Trying woken 0 0) (Trying woken p link) me in (
         Trying woken p link,
         keeps,
         tt,
-        marks s o id woken p 0 0 p link 1 is me
-            (omega (arith, one_at-same p, one_at-other p 0 (λ e. omega arith))) (omega arith)
+        marks s o id woken p 0 0 p link mark (mark - 1) is me (omega arith) (omega arith) (omega arith)
             (other_places p) (λ _. (is, refl)),
         (
           (λ _ q e. let same : p ≡ q = omega arith in (
@@ -188,18 +200,42 @@ module _ {T : Type 0} (fits : T → Type 0) where
   -- a caller gives its place back
   pub gives_back : (n id : ℕ) (woken : Bool) (p link : ℕ) → IsPlace p
       → Allows (Orderly fits) n id (Trying woken p link, []) (p + 4) (λ _. 0)
-      (λ _. GiveBackTells (step n (p + 4) 0 0 none) (Trying woken p link, []) 0)
+      (GiveBackTells (step n (p + 4) 0 0 none) (Trying woken p link, []))
   gives_back n id woken p link is s o wide me _ =
       let low = is.0 in
       let ok = o.each_place p is in
-      let marked = ok.marked in
       let once = ok.once in
-      let mine = one_term (has_place p) s.views id (Trying woken p link) me in (
+      let same = one_at-same p in
+      let none = one_at-other p 0 (λ e. omega arith) in
+      let h = total-set (has_place p) s.views id (Trying woken p link) (Trying woken 0 0) me in (
         Trying woken 0 0,
         keeps,
         tt,
-        marks s o id woken p p link 0 0 0 is me
-            (omega (arith, one_at-same p, one_at-other p 0 (λ e. omega arith))) (omega arith)
+        marks s o id woken p p link 0 0 0 0 is me (omega arith) (omega arith) (omega arith)
             (λ q is-q ne. sym (other_places p q is-q ne)) (λ pos. absurd (omega arith)),
         refl,
       )
+
+  -- a caller asks to be woken when a place is given back
+  pub asks : (n id : ℕ) (woken : Bool) (p : ℕ) (said : maybe.Option (Option T)) → IsPlace p
+      → Allows (Orderly fits) n id (Trying woken 0 0, []) (p + 4) (λ y. either (eqb y 1) 2 y)
+      (AskTells (step n (p + 4) 1 2 said) (Trying woken 0 0, []))
+  asks n id woken p said is s o wide me _ =
+      let m : Me (Option T) View = (Trying woken 0 0, []) in
+      let i : ℕ = p + 4 in
+      exchanged (get_or s.words i 0) 1 2 ((Goes fits) s i id m (AskTells (step n i 1 2 said) m))
+      (λ hit.
+      let low = is.0 in
+      let ok = o.each_place p is in
+      let marked = ok.marked in
+      let asked = ok.asked in
+      let once = ok.once in
+      let h = total-set (has_place p) s.views id (Trying woken 0 0) (Trying woken 0 0) me in (
+        Trying woken 0 0,
+        keeps,
+        tt,
+        marks s o id woken p 0 0 0 0 2 1 is me (omega arith) (omega arith) (omega arith)
+            (λ q is-q ne. refl) (λ pos. absurd (omega arith)),
+        refl,
+      ))
+      (λ miss. (m.0, keeps, tt, (unmoved fits) s o i id m.0 me, refl))

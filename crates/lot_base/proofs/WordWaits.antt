@@ -60,9 +60,12 @@ module _ {T : Type 0} (fits : T → Type 0) where
       let waits = apart.1 in
       let mark = elsewhere (p + 4) (λ e. omega arith) in
       let marked = ok.marked in
+      let asked = ok.asked in
       let once = ok.once in
       record {
+        wanted = ok.wanted;
         marked = omega arith;
+        asked = omega arith;
         once = omega arith;
         removed = λ e. omega arith;
         waiting = λ ne. omega arith;
@@ -122,10 +125,13 @@ module _ {T : Type 0} (fits : T → Type 0) where
       let mark = (marks_than_0 fits) s new p in
       let same = (others_than_0 fits) s new p is in
       let marked = ok.marked in
+      let asked = ok.asked in
       let once = ok.once in
       let one = one_at-same p in
       record {
+        wanted = ok.wanted;
         marked = omega arith;
+        asked = omega arith;
         once = omega arith;
         removed = λ e. absurd (omega arith);
         waiting = λ ne. omega arith;
@@ -168,10 +174,14 @@ module _ {T : Type 0} (fits : T → Type 0) where
       let h = total-set (has_place p) s.views id m.0 w me in
       let d = total-set (owes_place p) s.views id m.0 w me in
       let marked = ok.marked in
+      let asked = ok.asked in
+      let once = ok.once in
       let r = ok.removed gone in
       record {
+        wanted = ok.wanted;
         marked = omega arith;
-        once = ok.once;
+        asked = omega arith;
+        once = omega arith;
         removed = λ _. omega arith;
         waiting = λ ne. absurd (ne gone);
       } in (

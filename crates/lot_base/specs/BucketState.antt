@@ -16,7 +16,7 @@ pub record IsInPlace (bucket : BucketState) : Type 0 where
   pub in_place : All (λ node. place_of node.key bucket.size ≡ bucket.place) bucket.nodes
 
 -- the bucket is that of the place p in a table of n buckets
-pub record StandsAt (p n : ℕ) (bucket : BucketState) : Type 0 where
+pub record IsBucketAt (p n : ℕ) (bucket : BucketState) : Type 0 where
   pub place : bucket.place ≡ p
   pub size : bucket.size ≡ n
 

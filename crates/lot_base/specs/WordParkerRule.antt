@@ -21,7 +21,7 @@ pub record Tells (owner word : ℕ) (slot : SlotState) : Type 0 where
   pub known : word < 5
 
 -- while nobody works on the slot, it is at home and the word tells of it
-pub record Orderly (owner : ℕ) (s : State SlotState ℕ) : Type 0 where
+pub record ParkerOrderly (owner : ℕ) (s : State SlotState ℕ) : Type 0 where
   pub long : length s.words ≡ 15
   pub home : slice_index s.words 7 ≢ busy →
       (slot : SlotState) × (get_elem? s.homes 0 ≡ some (some slot)) × Tells owner (slice_index s.words 7) slot

@@ -1,5 +1,6 @@
 -- The rule of a word lock, as its table keeps it: in the form in which each step is proved to keep it.
--- Word 0 is the lock's, word p the link of the place p, and word p + 4 is 1 while a caller has the place p.
+-- Word 0 is the lock's, word p the link of the place p, and word p + 4 its mark: 0 while nobody has the place, and else 1,
+-- or 2 once somebody has asked to be woken when it is given back.
 use Rattle.std.specs.Prelude.{◌≡◌, ◌≢◌, ◌⊎◌, ℕ, ◌+◌, ◌*◌, ◌<◌, ◌≤◌, List, [], ◌++◌, length, slice_index, true, Option}
 use mathlib.Core.Option.{some, none}
 use lib.ListN.{get_elem?}
@@ -41,8 +42,10 @@ SeatOk words list (Leaving owed) = AllPlaces owed × (length owed ≤ 1)
 
 -- one place: at most one caller has it, and it is in the list or owed, once, while that caller waits and was not told
 pub record PlaceOk (words list : List ℕ) (views : List View) (p : ℕ) : Type 0 where
-  pub marked : total (has_place p) views ≡ slice_index words (p + 4)
-  pub once : slice_index words (p + 4) ≤ 1
+  pub wanted : ℕ
+  pub marked : total (has_place p) views + wanted ≡ slice_index words (p + 4)
+  pub asked : wanted ≤ total (has_place p) views
+  pub once : total (has_place p) views ≤ 1
   pub removed : slice_index words p ≡ 0 → times p list + total (owes_place p) views ≡ 0
   pub waiting : slice_index words p ≢ 0 → times p list + total (owes_place p) views ≡ total (waits_with p) views
 

@@ -26,6 +26,9 @@ module _ {T : Type 0} where
   abbrev pub GiveBackTells : Play T
   GiveBackTells st m r n = n ≡ (with_place m.0 0 0, m.1)
 
+  abbrev pub AskTells : Play T
+  AskTells st m r n = n ≡ m
+
   abbrev pub LinkTells : Play T
   LinkTells st m r n = n ≡ (with_place m.0 (place_of_caller m.0) st.first, m.1)
 

@@ -82,9 +82,9 @@ pub struct BucketPlace {
 impl Fits for Bucket {
     type Key = BucketPlace;
 
-    ghost use Rattle.lot_base.specs.BucketState.{StandsAt};
+    ghost use Rattle.lot_base.specs.BucketState.{IsBucketAt};
 
-    ghost fits = { λ key bucket. StandsAt key.place key.size bucket };
+    ghost fits = { λ key bucket. IsBucketAt key.place key.size bucket };
 }
 
 impl Bucket {

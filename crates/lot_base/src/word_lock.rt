@@ -4,7 +4,8 @@
 //! bits are the newest place of the waiting list, or 0. There are four places, 8 to 11. The word of
 //! a place's number is its link: while the place is in the list, 1 if it is the oldest, and else 1
 //! more than the place that entered before it; and 0 once it was told that it was removed. Words 12
-//! to 15 tell which places are taken. Nobody writes the others: they keep links and marks out of
+//! to 15 are the places' marks: 0 while nobody has the place, and else 1, or 2 where somebody sleeps
+//! until it is given back. Nobody writes the others: they keep links and marks out of
 //! the cache line of word 0, and the words of the next lock out of the lines of these. A caller
 //! that comes reads word 16.
 //!
@@ -24,7 +25,7 @@
 //! What is proved is `WordLockInvariant`, and that a `lock` gives a value that fits the lock's key.
 //! That whoever sleeps is woken is shown by tests.
 
-ghost use Rattle.std.specs.Prelude.{◌≡◌, ◌-◌, ◌%◌, ◌/◌, ◌+◌, ℕ, List, [], ◌∷◌, IfOk, Option, IsTrue};
+ghost use Rattle.std.specs.Prelude.{◌≡◌, ◌-◌, ◌%◌, ◌/◌, ◌+◌, ℕ, List, [], ◌∷◌, IfOk, IfSome, IfNone, Option, IsTrue};
 ghost use Rattle.atomic_table.specs.Table.{State};
 ghost use Rattle.lot_base.specs.WordPlaces.{IsPlace};
 ghost use Rattle.lot_base.specs.WordKey.{without_keys};
@@ -39,16 +40,15 @@ mod tests;
 pub mod view;
 
 use crate::spinwait::SpinWait;
-use crate::thread_parker::thread_yield;
 use crate::token::NoMemory;
 use crate::word_lock::plays::Order;
-use crate::word_lock::steps::{Caller, LOCKED, OLDEST, TOLD, WORDS};
+use crate::word_lock::steps::{Caller, LOCKED, OLDEST, TAKEN, TOLD, WANTED, WORDS};
 use crate::word_lock::view::View;
 use atomic_table::{Refused, Table, TableRule};
 use std::alloc::Global;
 use std::sync::Wait;
 
-/// How many places a lock has, so how many callers can wait in its list at once. Any others yield
+/// How many places a lock has, so how many callers can wait in its list at once. Any others sleep
 /// until a place is free. Upstream has no such limit.
 pub const WORD_SLOTS: usize = 4;
 
@@ -123,7 +123,7 @@ impl<T: Fits> WordLock<T> {
     /// If nobody holds the lock or is in the list, it is one exchange of the word. If somebody
     /// holds it, it spins by a `SpinWait` while nobody is in the list, and then enters the list and
     /// sleeps until it was removed; then it tries again, like any other caller. Where no place is
-    /// free it yields and tries again.
+    /// free it sleeps until one is.
     ///
     /// Upstream's `lock` waits in the same way and gives nothing.
     #[inline]
@@ -196,9 +196,8 @@ impl<T: Fits> WordLock<T> {
         unreachable!()
     }
 
-    // Waits in the list until the caller was removed from it. Answers false where no place is free,
-    // after a yield, where another caller took the place first, and where the word is another by
-    // now.
+    // Waits in the list until the caller was removed from it. Answers false where another caller
+    // took the place first, and where the word is another by now.
     fn wait<R: Wait>(&self, rt: &R, caller: &mut Caller<T>, word: u64) -> bool
         requires lock { IsCallerOf self.now caller.old }
         requires tries { IsTrying caller.old 0 0 }
@@ -207,19 +206,56 @@ impl<T: Fits> WordLock<T> {
         ensures tries { IsTrying caller.new 0 0 }
         ensures awake { IsTrue result → IsAwake (seat_of caller.new).0 }
     {
-        let Some(place) = self.free_place() else {
-            thread_yield();
+        let Some(place) = self.find_place(rt, caller, word) else {
             return false;
         };
-        if !self.take_place(caller, place) {
-            return false;
-        }
         let waited = self.wait_with(rt, caller, place, word);
         self.give_back(caller, place);
         waited
     }
 
-    // The same with a place.
+    // Takes a place that is free, or waits for one. Answers `None` where another caller took the
+    // place first.
+    fn find_place<R: Wait>(&self, rt: &R, caller: &mut Caller<T>, word: u64) -> Option<usize>
+        requires lock { IsCallerOf self.now caller.old }
+        requires tries { IsTrying caller.old 0 0 }
+        ensures lock { IsCallerOf self.now caller.new }
+        ensures has { IfSome result (λ place.
+            IsPlace place × ((link : ℕ) × IsTrying caller.new place link)) }
+        ensures tries { IfNone result (IsTrying caller.new 0 0) }
+    {
+        let Some(place) = self.free_place() else {
+            return Some(self.wait_for_place(rt, caller, word));
+        };
+        if self.take_place(caller, place, TAKEN) {
+            Some(place)
+        } else {
+            None
+        }
+    }
+
+    // Takes a place that was taken, once it is given back. It is marked as wanted then too, since
+    // whoever sleeps for it as well is woken by nobody else.
+    fn wait_for_place<R: Wait>(&self, rt: &R, caller: &mut Caller<T>, word: u64) -> usize
+        requires lock { IsCallerOf self.now caller.old }
+        requires tries { IsTrying caller.old 0 0 }
+        ensures lock { IsCallerOf self.now caller.new }
+        ensures place { IsPlace result }
+        ensures has { (link : ℕ) × IsTrying caller.new result link }
+    {
+        let place = WordLock::<T>::place_to_want(word);
+        for _ in rt.forever() {
+            if self.take_place(caller, place, WANTED) {
+                return place;
+            }
+            if self.ask_for_place(caller, place) {
+                self.sleep_for_place(rt, place);
+            }
+        }
+        unreachable!()
+    }
+
+    // Waits in the list with this place.
     fn wait_with<R: Wait>(&self, rt: &R, caller: &mut Caller<T>, place: usize, word: u64) -> bool
         requires lock { IsCallerOf self.now caller.old }
         requires place { IsPlace place }

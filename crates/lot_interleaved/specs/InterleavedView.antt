@@ -57,7 +57,7 @@ sequential_view s = record s.threads_view { status = sequential_status s }
 abbrev pub times_taken : ℕ → List TakenThread → ℕ
 times_taken number threads = count_by (λ thread. thread.number == number) threads
 
--- one, if so
+-- 1 if it holds, else 0
 abbrev pub once_if : Bool → ℕ
 once_if b = if b then 1 else 0
 

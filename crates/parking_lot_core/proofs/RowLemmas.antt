@@ -5,7 +5,7 @@ use Rattle.std.proofs.Math.Seq.{get_or-append_seam}
 use Rattle.std.specs.List.{range_with_len}
 use Rattle.std.proofs.lemmas.List.{map-append, get_or-map}
 use Rattle.std.proofs.lemmas.List.FromFn.{get_or-map-range_with_len}
-use Rattle.lot_base.specs.BucketState.{BucketState, KeepsPlace, StandsAt}
+use Rattle.lot_base.specs.BucketState.{BucketState, KeepsPlace, IsBucketAt}
 use Rattle.lot_exclusive.specs.Represents.{bucket_at}
 use Rattle.parking_lot_core.specs.Private.Section.{BucketLock, place_in, IsLockAt, AreLocksOfRow}
 use Rattle.parking_lot_core.proofs.ParkingLotLemmas.{range-push}
@@ -36,7 +36,7 @@ lock_at n p cells cell below read all =
     ∙ get_or-map-range_with_len (place_in n) 0 (length cells) p p key below (omega arith)
 
 -- a step that keeps a bucket's place keeps it that of its lock
-pub still_stands : (p n : ℕ) (old new : BucketState) → KeepsPlace old new → StandsAt p n old → StandsAt p n new
+pub still_stands : (p n : ℕ) (old new : BucketState) → KeepsPlace old new → IsBucketAt p n old → IsBucketAt p n new
 still_stands p n old new keeps stands = record {
   place = keeps.place ∙ stands.place;
   size = keeps.size ∙ stands.size;
@@ -45,18 +45,18 @@ still_stands p n old new keeps stands = record {
 -- what is left of a row of n buckets once some of the last are taken off
 pub record IsFrontOfRow (n : ℕ) (row : List BucketState) : Type 0 where
   pub short : length row ≤ n
-  pub stand : (i : ℕ) → i < length row → StandsAt i n (bucket_at row i)
+  pub stand : (i : ℕ) → i < length row → IsBucketAt i n (bucket_at row i)
 
 -- the bucket that was last
 pub last_stands : (n : ℕ) (row : List BucketState) (bucket : BucketState) → IsFrontOfRow n (row ++ bucket ∷ [])
-    → StandsAt (length row) n bucket
+    → IsBucketAt (length row) n bucket
 last_stands n row bucket front =
     let blank : BucketState = record { place = length row; size = 0; nodes = [] } in
-    subst (StandsAt (length row) n) (get_or-append_seam row bucket [] blank)
+    subst (IsBucketAt (length row) n) (get_or-append_seam row bucket [] blank)
     (front.stand (length row) (omega (arith, length-append row (bucket ∷ []))))
 
 -- it may go where a bucket of the same place was locked
-pub replaces : (p n i size : ℕ) (old new : BucketState) → StandsAt p n old → StandsAt i size old → StandsAt i size new
-    → StandsAt p n new
+pub replaces : (p n i size : ℕ) (old new : BucketState) → IsBucketAt p n old → IsBucketAt i size old → IsBucketAt i size new
+    → IsBucketAt p n new
 replaces p n i size old new own stands other =
     still_stands p n old new (record { place = other.place ∙ sym stands.place; size = other.size ∙ sym stands.size }) own

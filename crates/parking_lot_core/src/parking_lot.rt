@@ -72,8 +72,7 @@ impl ThreadData {
 /// registration that lets the table grow also that of each bucket in turn; sections that meet it
 /// sleep until it is done.
 ///
-/// At most four callers sleep for one bucket's lock. Any others yield until a place is free, and no
-/// order is kept among callers.
+/// Whoever finds a bucket locked sleeps, once it has spun in vain. No order is kept among callers.
 ///
 /// What is proved of its calls is how their closures are called and what form their answers have;
 /// of private functions, that a node that was taken goes to no parker but its thread's, and that at

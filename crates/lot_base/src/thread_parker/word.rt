@@ -10,7 +10,7 @@
 
 ghost use Rattle.std.specs.Prelude.{◌≡◌, ◌≢◌, ◌⊎◌, ◌↔◌, [], IsTrue, IfSome};
 ghost use Rattle.lot_base.specs.Node.{fields};
-ghost use Rattle.lot_base.specs.WordParkerRule.{Orderly, OpenTells, Untold, HasSlot, Tells, MaySleep};
+ghost use Rattle.lot_base.specs.WordParkerRule.{ParkerOrderly, OpenTells, Untold, HasSlot, Tells, MaySleep};
 
 use super::{Slot, ThreadParkerT, UnparkHandleT, thread_yield, time_left};
 use crate::queue::Node;
@@ -50,7 +50,7 @@ const SLOT: usize = 0;
 struct Order;
 
 impl TableRule<Slot, usize, usize> for Order {
-    ghost holds = { Orderly };
+    ghost holds = { ParkerOrderly };
 
     ghost first = { λ owner. owner };
 }

@@ -4,7 +4,7 @@
 ghost use Rattle.lot_base.specs.WordView.{resting};
 ghost use Rattle.lot_base.specs.WordKey.{UnderKey, TellsUnderKey};
 ghost use Rattle.lot_base.specs.WordRule.{Orderly};
-ghost use Rattle.lot_base.specs.WordSteps.{ArriveTells, AcquireTells, TakePlaceTells, GiveBackTells, LinkTells, EnqueueTells, LookTells, ReleaseToZeroTells, ReadFirstTells, ReadNextTells, CutTells, ReleaseAfterCutTells, TellTells};
+ghost use Rattle.lot_base.specs.WordSteps.{ArriveTells, AcquireTells, TakePlaceTells, AskTells, GiveBackTells, LinkTells, EnqueueTells, LookTells, ReleaseToZeroTells, ReadFirstTells, ReadNextTells, CutTells, ReleaseAfterCutTells, TellTells};
 
 use super::Fits;
 use super::view::View;
@@ -35,6 +35,12 @@ pub(super) struct TakePlace;
 
 impl<T: Fits> Play<Option<T>, (T::Key, View)> for TakePlace {
     ghost then = { TellsUnderKey (λ _. TakePlaceTells) };
+}
+
+pub(super) struct Ask;
+
+impl<T: Fits> Play<Option<T>, (T::Key, View)> for Ask {
+    ghost then = { TellsUnderKey (λ _. AskTells) };
 }
 
 pub(super) struct GiveBack;

@@ -7,7 +7,7 @@ ghost use Rattle.lot_base.specs.WordView.{resting, leaving, seen_by, owed_by, Re
 ghost use Rattle.lot_base.specs.declared.word_lock.view.View.TheVariants.{Enqueued, Holding, Leaving};
 
 use super::plays::{
-    Acquire, Arrive, Cut, Enqueue, GiveBack, Link, Look, ReadFirst, ReadNext, ReleaseAfterCut,
+    Acquire, Arrive, Ask, Cut, Enqueue, GiveBack, Link, Look, ReadFirst, ReadNext, ReleaseAfterCut,
     ReleaseToZero, TakePlace, Tell,
 };
 use super::view::View;
@@ -21,8 +21,8 @@ pub(super) const WORDS: usize = 24;
 // The index of the lock's word.
 const WORD: usize = 0;
 
-// The first of the places. A link is the word whose index is its place, and a place's mark, which
-// tells whether it is taken, is as many words further as there are places.
+// The first of the places. A link is the word whose index is its place, and a place's mark is as
+// many words further as there are places.
 const FIRST_PLACE: usize = 8;
 
 // The last of them.
@@ -33,6 +33,15 @@ const UNWRITTEN: usize = 16;
 
 // The index of the slot of the value.
 const VALUE: usize = 0;
+
+/// The mark of a place that nobody has.
+const FREE: u64 = 0;
+
+/// The mark of a place that a caller has.
+pub(super) const TAKEN: u64 = 1;
+
+/// The mark of a place that a caller has, where another may sleep until it is given back.
+pub(super) const WANTED: u64 = 2;
 
 /// The lock's word while somebody holds the lock and nobody is in the list; in any word, the bit
 /// that tells that somebody holds it.
@@ -85,7 +94,7 @@ impl<T: Fits> WordLock<T> {
     pub(super) fn free_place(&self) -> Option<usize>
         ensures { IfSome result IsPlace }
     {
-        (FIRST_PLACE..=LAST_PLACE).find(|&place| self.table.shared.peek(place + WORD_SLOTS) == 0)
+        (FIRST_PLACE..=LAST_PLACE).find(|&place| self.table.shared.peek(place + WORD_SLOTS) == FREE)
     }
 
     /// Sets bit 0 of the word if the word is still this one. Answers whether it was.
@@ -138,22 +147,55 @@ impl<T: Fits> WordLock<T> {
         let None = old else { unreachable!() };
     }
 
-    /// Takes the place if nobody has it. Answers whether it did.
-    pub(super) fn take_place(&self, caller: &mut Caller<T>, place: usize) -> bool
+    /// The place that a caller asks for who found none free: the newest of the list, as the word
+    /// told it.
+    pub(super) fn place_to_want(word: u64) -> usize
+        ensures { IsPlace result }
+    {
+        FIRST_PLACE + (word / 2 % WORD_SLOTS as u64) as usize
+    }
+
+    /// Takes the place if nobody has it, and leaves the mark there that it is taken, or wanted
+    /// besides. Answers whether it did.
+    pub(super) fn take_place(&self, caller: &mut Caller<T>, place: usize, mark: u64) -> bool
         requires lock { IsCallerOf self.now caller.old }
         requires place { IsPlace place }
         requires tries { IsTrying caller.old 0 0 }
+        requires mark { (0 < mark) × (mark ≤ 2) }
         ensures lock { IsCallerOf self.now caller.new }
         ensures has { IsTrue result → (link : ℕ) × IsTrying caller.new place link }
         ensures tries { IsFalse result → seat_of caller.new ≡ seat_of caller.old }
     {
         self.table
             .shared
-            .compare_exchange::<TakePlace>(&mut caller.seat, place + WORD_SLOTS, 0, 1)
-            == 0
+            .compare_exchange::<TakePlace>(&mut caller.seat, place + WORD_SLOTS, FREE, mark)
+            == FREE
     }
 
-    /// Gives the place back.
+    /// Marks that the place is wanted, if somebody has it. Answers whether somebody has.
+    pub(super) fn ask_for_place(&self, caller: &mut Caller<T>, place: usize) -> bool
+        requires lock { IsCallerOf self.now caller.old }
+        requires place { IsPlace place }
+        requires tries { IsTrying caller.old 0 0 }
+        ensures lock { IsCallerOf self.now caller.new }
+        ensures tries { IsTrying caller.new 0 0 }
+    {
+        self.table
+            .shared
+            .compare_exchange::<Ask>(&mut caller.seat, place + WORD_SLOTS, TAKEN, WANTED)
+            != FREE
+    }
+
+    /// Sleeps while the place is marked as wanted.
+    pub(super) fn sleep_for_place<R: Wait>(&self, rt: &R, place: usize)
+        requires { IsPlace place }
+    {
+        self.table
+            .shared
+            .park(rt, place + WORD_SLOTS, WANTED as u32);
+    }
+
+    /// Gives the place back, and wakes one who sleeps until then.
     pub(super) fn give_back(&self, caller: &mut Caller<T>, place: usize)
         requires lock { IsCallerOf self.now caller.old }
         requires place { IsPlace place }
@@ -162,9 +204,13 @@ impl<T: Fits> WordLock<T> {
         ensures tries { IsTrying caller.new 0 0 }
         ensures awake { IsAwake (seat_of caller.old).0 → IsAwake (seat_of caller.new).0 }
     {
-        self.table
+        let mark = self
+            .table
             .shared
-            .store::<GiveBack>(&mut caller.seat, place + WORD_SLOTS, 0);
+            .swap::<GiveBack>(&mut caller.seat, place + WORD_SLOTS, FREE);
+        if mark == WANTED {
+            self.table.shared.wake_one(place + WORD_SLOTS);
+        }
     }
 
     /// Writes into the link of the caller's place which place was entered before it, or 0.

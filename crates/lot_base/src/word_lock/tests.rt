@@ -6,6 +6,7 @@ ghost use Rattle.lot_base.specs.WordLock.{IsCallerOf, IsTrying, HasFullSlot, See
 ghost use Rattle.lot_base.specs.declared.word_lock.view.View.TheVariants.{Enqueued};
 
 use super::*;
+use crate::thread_parker::thread_yield;
 use std::process::Abort;
 use std::sync::atomic::{AtomicBool, Ordering};
 use std::test::Fail;
@@ -84,7 +85,7 @@ fn enter<R: Abort>(
     ensures lock { IsCallerOf lock.now caller.new }
     ensures waits { seat_of caller.new ≡ (Enqueued place, []) }
 {
-    assert!(rt; lock.take_place(caller, place), "the place is free");
+    assert!(rt; lock.take_place(caller, place, TAKEN), "the place is free");
     lock.write_link(caller, place, word / 2);
     assert!(rt;
         lock.enqueue(caller, place, word),
@@ -239,11 +240,47 @@ fn four_callers_have_places(rt: HostRuntime) -> Result<(), Fail> {
     let mut caller = lock.arrive();
     let mut other = lock.arrive();
     assert_eq!(rt; lock.free_place(), Some(8));
-    assert!(rt; lock.take_place(&mut caller, 8), "the place is free");
-    assert!(rt; !lock.take_place(&mut other, 8), "the place is taken");
+    assert!(rt; lock.take_place(&mut caller, 8, TAKEN), "the place is free");
+    assert!(rt;
+        !lock.take_place(&mut other, 8, TAKEN),
+        "the place is taken"
+    );
     assert_eq!(rt; lock.free_place(), Some(9));
     lock.give_back(&mut caller, 8);
     assert_eq!(rt; lock.free_place(), Some(8));
+    assert!(rt; lock.acquire(&mut caller, 0), "the lock is free");
+    lock.let_go(caller);
+    assert!(rt; lock.acquire(&mut other, 0), "the lock is free");
+    lock.let_go(other);
+    Ok(())
+}
+
+// The mark of a place, as it was at one moment.
+fn mark(lock: &WordLock<Pair>, place: usize) -> u64
+    requires { IsPlace place }
+{
+    lock.table.shared.peek(place + WORD_SLOTS)
+}
+
+// With a place that is taken as if nobody else slept for it, a third caller would sleep for ever.
+#[test]
+fn a_place_that_somebody_sleeps_for_is_marked_so(rt: HostRuntime) -> Result<(), Fail> {
+    let lock = new_lock(rt.alloc())?;
+    let mut caller = lock.arrive();
+    let mut other = lock.arrive();
+    assert!(rt; !lock.ask_for_place(&mut other, 9), "the place is free");
+    assert_eq!(rt; mark(&lock, 9), 0);
+    assert!(rt; lock.take_place(&mut caller, 9, TAKEN), "the place is free");
+    assert_eq!(rt; mark(&lock, 9), 1);
+    assert!(rt; lock.ask_for_place(&mut other, 9), "the place is taken");
+    assert!(rt; lock.ask_for_place(&mut other, 9), "the place is wanted");
+    assert_eq!(rt; mark(&lock, 9), 2);
+    lock.give_back(&mut caller, 9);
+    assert_eq!(rt; mark(&lock, 9), 0);
+    assert!(rt; lock.take_place(&mut other, 9, WANTED), "the place is free");
+    assert_eq!(rt; mark(&lock, 9), 2);
+    lock.give_back(&mut other, 9);
+    assert_eq!(rt; mark(&lock, 9), 0);
     assert!(rt; lock.acquire(&mut caller, 0), "the lock is free");
     lock.let_go(caller);
     assert!(rt; lock.acquire(&mut other, 0), "the lock is free");
@@ -356,5 +393,43 @@ fn a_caller_waits_in_the_list(rt: HostRuntime) -> Result<(), Fail> {
         assert!(rt; [17, 19, 21, 23].contains(&word), "the word was {word}");
         assert_eq!(rt; lock.word(), 0);
     }
+    Ok(())
+}
+
+fn is_some_place_wanted(lock: &WordLock<Pair>) -> bool {
+    (8..12).any(|place| mark(lock, place) == WANTED)
+}
+
+// Holds the lock until somebody sleeps for a place. Answers whether somebody did.
+fn hold_until_wanted<R: Wait>(rt: &R, lock: &WordLock<Pair>, is_held: &AtomicBool) -> bool {
+    let held = lock.lock(rt);
+    is_held.store(true, Ordering::SeqCst);
+    let mut is_wanted = false;
+    for _ in 0..TURNS {
+        is_wanted = is_some_place_wanted(lock);
+        if is_wanted {
+            break;
+        }
+        thread_yield();
+    }
+    lock.unlock(held);
+    is_wanted
+}
+
+// No clause says that a caller without a place sleeps. With callers that yield meanwhile, no place
+// is ever wanted.
+#[test]
+fn a_fifth_caller_sleeps_for_a_place(rt: HostRuntime) -> Result<(), Fail> {
+    let lock = new_lock(rt.alloc())?;
+    let is_held = AtomicBool::new(false);
+    thread::scope(thread::scope_env(), &rt, |scope| {
+        for _ in 0..5 {
+            let started = scope.spawn(|| lock_once_held(&rt, &lock, &is_held));
+            assert!(rt; started.is_ok(), "a thread");
+        }
+        assert!(rt; hold_until_wanted(&rt, &lock, &is_held), "nobody did");
+    });
+    assert_eq!(rt; lock.word(), 0);
+    assert!(rt; !is_some_place_wanted(&lock), "nobody is left");
     Ok(())
 }

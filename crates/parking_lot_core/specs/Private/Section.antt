@@ -1,7 +1,7 @@
 -- The locks of a row of buckets, and the buckets that a section has locked.
 use Rattle.std.specs.Prelude.{◌≡◌, ◌≢◌, ◌<◌, ℕ, List, length, map, Some}
 use Rattle.std.specs.List.{range_with_len}
-use Rattle.lot_base.specs.BucketState.{BucketState, StandsAt}
+use Rattle.lot_base.specs.BucketState.{BucketState, IsBucketAt}
 use Rattle.lot_base.specs.Place.{place_of}
 use Rattle.lot_base.specs.WordLock.{key_of}
 use Rattle.lot_base.specs.declared.bucket.BucketPlace.{BucketPlace}
@@ -40,4 +40,4 @@ pub record AreLockedInOrder (source target : Locked) : Type 0 where
 
 -- the bucket that was locked is that of its lock, so it may go back there
 abbrev pub IsOfItsLock : Locked → Type 0
-IsOfItsLock locked = StandsAt (key_of locked.cell.now).place (key_of locked.cell.now).size locked.held.value
+IsOfItsLock locked = IsBucketAt (key_of locked.cell.now).place (key_of locked.cell.now).size locked.held.value

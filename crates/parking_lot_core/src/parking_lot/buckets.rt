@@ -2,7 +2,7 @@
 //! of its key.
 
 ghost use Rattle.std.specs.Prelude.{◌≡◌, ◌≢◌, ◌+◌, ◌*◌, ◌<◌, ◌≤◌, ◌↔◌, IsTrue, IsErrOf, IfOk, OnErr, IfSome, Err, MatchOption, None, Some, length, slice_set};
-ghost use Rattle.lot_base.specs.BucketState.{StandsAt};
+ghost use Rattle.lot_base.specs.BucketState.{IsBucketAt};
 ghost use Rattle.lot_base.specs.Node.{fields};
 ghost use Rattle.lot_base.specs.Place.{IsTableSize};
 ghost use Rattle.lot_base.specs.WordLock.{IsHeldOf};
@@ -110,7 +110,7 @@ impl Row {
         requires { place < self.now }
         ensures held { IsHeldOf result.cell.now result.held }
         ensures own { IsOfItsLock result }
-        ensures bucket { StandsAt place self.now result.held.value }
+        ensures bucket { IsBucketAt place self.now result.held.value }
         ensures place { (result.place ≡ place) × (result.behind ≡ None) }
     {
         let cell = &self.cells[place];
@@ -129,7 +129,7 @@ impl Row {
         requires order { first.now.place < place }
         ensures held { IsHeldOf result.cell.now result.held }
         ensures own { IsOfItsLock result }
-        ensures bucket { StandsAt place self.now result.held.value }
+        ensures bucket { IsBucketAt place self.now result.held.value }
         ensures place { (result.place ≡ place) × (result.behind ≡ Some first.now.place) }
     {
         let mut second = self.lock(rt, place);
@@ -146,8 +146,8 @@ impl Row {
         ensures second { MatchOption result.1 (from ≡ to)
             (λ target. (from ≢ to) × IsHeldOf target.cell.now target.held) }
         ensures own { IsOfItsLock result.0 × IfSome result.1 IsOfItsLock }
-        ensures source { StandsAt from self.now result.0.held.value }
-        ensures target { IfSome result.1 (λ target. StandsAt to self.now target.held.value) }
+        ensures source { IsBucketAt from self.now result.0.held.value }
+        ensures target { IfSome result.1 (λ target. IsBucketAt to self.now target.held.value) }
         ensures order { IfSome result.1 (AreLockedInOrder result.0) }
     {
         if from == to {

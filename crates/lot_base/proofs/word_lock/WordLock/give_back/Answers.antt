@@ -7,8 +7,8 @@ use Rattle.lot_base.proofs.WordTries.{gives_back}
 use Rattle.lot_base.proofs.WordKeyLemmas.{at_key}
 use Rattle.lot_base.proofs.word_lock.WordLock.give_back.Goals as goal
 
-pub store-requires : goal.store-requires
-store-requires g c =
+pub swap-mark-requires : goal.swap-mark-requires
+swap-mark-requires g c =
     let fits = g.T.Fits.fits in
     let key = c.args.self.now.table.shared.key in
     let place = c.args.place in
@@ -17,6 +17,6 @@ store-requires g c =
       c.requires.lock.table,
       search rules,
       at_key fits key _ _ id _ (Trying has.1.0 place has.0, []) (place + 4) (λ _. 0)
-          (λ _. 0) (λ _. GiveBackTells) (λ n. step n (place + 4) 0 0 none) refl c.requires.lock.carried has.1.1
+          (λ r. r) (λ _. GiveBackTells) (λ n. step n (place + 4) 0 0 none) refl c.requires.lock.carried has.1.1
           (gives_back (fits key) _ id has.1.0 place has.0 c.requires.place),
     )

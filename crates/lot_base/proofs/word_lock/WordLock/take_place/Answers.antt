@@ -20,8 +20,8 @@ compare_exchange-requires g c =
       c.requires.lock.table,
       search rules,
       at_key fits key _ _ id _ (Trying tries.0 0 0, []) (place + 4)
-          (λ x. either (x == 0) 1 x) (λ r. r) (λ _. TakePlaceTells) (λ n. step n (place + 4) 0 1 none) refl c.requires.lock.carried tries.1
-          (takes_place (fits key) _ id tries.0 place none c.requires.place),
+          (λ x. either (x == 0) c.args.mark x) (λ r. r) (λ _. TakePlaceTells) (λ n. step n (place + 4) 0 c.args.mark none) refl c.requires.lock.carried tries.1
+          (takes_place (fits key) _ id tries.0 place c.args.mark none c.requires.place c.requires.mark.0 c.requires.mark.1),
     )
 
 pub returns-clause-has : goal.returns-clause-has

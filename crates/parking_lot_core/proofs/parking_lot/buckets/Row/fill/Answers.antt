@@ -1,5 +1,5 @@
 use Rattle.std.proofs.Common.{◌≡◌, arith, length, subst, sym}
-use Rattle.lot_base.specs.BucketState.{BucketState, StandsAt}
+use Rattle.lot_base.specs.BucketState.{BucketState, IsBucketAt}
 use Rattle.lot_base.specs.WordLock.{key_of}
 use Rattle.parking_lot_core.proofs.RowLemmas.{IsFrontOfRow, last_stands, replaces}
 use Rattle.parking_lot_core.proofs.parking_lot.buckets.Row.fill.Goals as goal
@@ -13,5 +13,5 @@ unlock-requires-clause-own g c =
     let last = last_stands size c.pop.new.self.items c.in-Some.bucket front in
     replaces key.place key.size c.len.result size c.lock-locked.result.held.value c.replace.new.dest
     c.lock-locked.ensures.own c.lock-locked.ensures.bucket
-    (subst (λ (bucket : BucketState). StandsAt c.len.result size bucket) (sym c.replace.ensures.after)
-    (subst (λ i. StandsAt i size c.in-Some.bucket) (sym counted) last))
+    (subst (λ (bucket : BucketState). IsBucketAt c.len.result size bucket) (sym c.replace.ensures.after)
+    (subst (λ i. IsBucketAt i size c.in-Some.bucket) (sym counted) last))
