@@ -11,6 +11,8 @@ mod ends;
 #[cfg(test)]
 mod followed;
 #[cfg(test)]
+mod growths;
+#[cfg(test)]
 mod keys;
 #[cfg(test)]
 mod late;

@@ -245,7 +245,15 @@ fn a_deadline_far_away_has_not_passed(rt: HostRuntime) -> Result<(), Fail> {
     Ok(())
 }
 
-// Wakes the owner, which has its node, once it waits again.
+// In milliseconds, how long the owner waits again, how long after its beginning it is woken, and how
+// long after its deadline it has waited too long.
+const WAIT: u64 = 500;
+
+const WAKE_AFTER: u64 = 400;
+
+const TOO_LONG: u64 = 300;
+
+// Wakes the owner, which has its node, a while after it waits again.
 fn wake_late<P: ThreadParkerT, R: Clock>(
     rt: &R,
     parker: &P,
@@ -255,19 +263,21 @@ fn wake_late<P: ThreadParkerT, R: Clock>(
     requires { P.UnparkHandle.number handle ≡ P.owner parker.now }
 {
     raised_by_turns(&meeting.has_started);
-    thread::sleep(rt, Duration::from_millis(10));
+    thread::sleep(rt, Duration::from_millis(WAKE_AFTER));
     handle.unpark(parker);
 }
 
-// Waits until the deadline, and tells whether it ended before.
+// Waits until the deadline, and tells how long after it that ended, or `None` if it was before.
 fn wait_again<P: ThreadParkerT, R: Wait + Clock>(
     rt: &R,
     parker: &P,
     deadline: Instant,
     meeting: &Meeting,
-) -> bool {
-    let came = start_and_wait(rt, parker, deadline, meeting);
-    came || Instant::now(rt).is_ok_and(|now| now < deadline)
+) -> Option<Duration> {
+    if start_and_wait(rt, parker, deadline, meeting) {
+        return None;
+    }
+    Instant::now(rt).ok()?.checked_duration_since(deadline)
 }
 
 fn wait_and_be_woken_late<P: ThreadParkerT + Sync, R: Threads + Wait + Clock + Sync>(
@@ -275,11 +285,11 @@ fn wait_and_be_woken_late<P: ThreadParkerT + Sync, R: Threads + Wait + Clock + S
     parker: &P,
     handle: P::UnparkHandle,
     deadline: Instant,
-) -> bool
+) -> Option<Duration>
     requires { P.UnparkHandle.number handle ≡ P.owner parker.now }
 {
     let meeting = Meeting::new();
-    let (ended_early, ()) = thread::join(
+    let (past, ()) = thread::join(
         rt,
         || wait_again(rt, parker, deadline, &meeting),
         ||
@@ -288,7 +298,7 @@ fn wait_and_be_woken_late<P: ThreadParkerT + Sync, R: Threads + Wait + Clock + S
             wake_late(rt, parker, handle, &meeting);
         },
     );
-    ended_early
+    past
 }
 
 fn outlasts_a_late_wake<P: ThreadParkerT + Sync, R: Threads + Wait + Clock + Abort + Sync>(
@@ -298,14 +308,18 @@ fn outlasts_a_late_wake<P: ThreadParkerT + Sync, R: Threads + Wait + Clock + Abo
     let parker = P::new(alloc, OWNER)?;
     let handle = parker.unpark_lock(rt, owners_node(alloc)?);
     drop(parker.park(rt));
-    let deadline = from_now(rt, Duration::from_millis(50))?;
-    assert!(rt; !wait_and_be_woken_late(rt, &parker, handle, deadline));
+    let deadline = from_now(rt, Duration::from_millis(WAIT))?;
+    let past = wait_and_be_woken_late(rt, &parker, handle, deadline);
+    assert!(rt;
+        past.is_some_and(|past| past < Duration::from_millis(TOO_LONG)),
+        "{past:?}"
+    );
     Ok(())
 }
 
-// It refuses a `park_until` that ends at a wake without a node.
+// It refuses a `park_until` that ends at a wake without a node, or begins its whole wait anew.
 #[test]
-fn a_late_wake_does_not_end_the_next_wait(rt: HostRuntime) -> Result<(), Fail> {
+fn a_late_wake_does_not_change_when_the_next_wait_ends(rt: HostRuntime) -> Result<(), Fail> {
     outlasts_a_late_wake::<ThreadParker, _>(&rt, rt.alloc())?;
     outlasts_a_late_wake::<YieldParker, _>(&rt, rt.alloc())?;
     outlasts_a_late_wake::<WordParker, _>(&rt, rt.alloc())
