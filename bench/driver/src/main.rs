@@ -25,30 +25,40 @@ const TURNS: usize = 10_000_000;
 
 type Row = (&'static str, fn() -> Option<f64>);
 
-const ROWS: [Row; 24] = [
+const ROWS: [Row; 32] = [
     ("unpark_one_nobody", unpark_one_nobody),
-    ("unpark_one_four_keys", || unpark_one_of_four(KEYS)),
-    ("unpark_one_one_key", || unpark_one_of_four([KEYS[0]; 4])),
+    ("unpark_one_two_keys", || unpark_one_on_each(&KEYS[..2])),
+    ("unpark_one_four_keys", || unpark_one_on_each(&KEYS)),
+    ("unpark_one_one_key", || unpark_one_on_each(&[KEYS[0]; 4])),
+    ("unpark_one_one_key_sixteen", || {
+        unpark_one_on_each(&[KEYS[0]; 16])
+    }),
     ("park_invalid", park_invalid),
     ("park_past_deadline", park_past_deadline),
     ("turns_strict", || median_of(5, turns_strict)),
     ("turns_by_word", || median_of(5, turns_by_word)),
     ("unpark_all_call", || unpark_all_of_them(false)),
     ("unpark_all_awake", || unpark_all_of_them(true)),
-    ("requeue_all", requeue_all),
+    ("requeue_ten", || requeue_all_of(10)),
+    ("requeue_all", || requeue_all_of(WAITERS)),
+    ("requeue_thousand", || requeue_all_of(1_000)),
     ("mutex_alone", || mutex(1)),
     ("mutex_two", || mutex(2)),
     ("mutex_four", || mutex(4)),
+    ("mutex_sixteen", || mutex(16)),
     ("word_lock_alone", || word_lock(1, SHORT)),
     ("word_lock_two", || word_lock(2, SHORT)),
     ("word_lock_four", || word_lock(4, SHORT)),
+    ("word_lock_sixteen", || word_lock(16, SHORT)),
     ("word_lock_two_longer", || word_lock(2, LONGER)),
     ("word_lock_four_longer", || word_lock(4, LONGER)),
+    ("word_lock_sixteen_longer", || word_lock(16, LONGER)),
     ("std_mutex_alone", || std_mutex(1, SHORT)),
     ("std_mutex_two", || std_mutex(2, SHORT)),
     ("std_mutex_four", || std_mutex(4, SHORT)),
     ("std_mutex_two_longer", || std_mutex(2, LONGER)),
     ("std_mutex_four_longer", || std_mutex(4, LONGER)),
+    ("many_keys", many_keys),
     ("thousand_threads", thousand_threads),
 ];
 
@@ -211,10 +221,13 @@ fn together(threads: usize, work: impl Fn(usize) -> bool + Sync) -> Option<Durat
     spans.iter().all(|span| span.2).then(|| end - start)
 }
 
-fn unpark_one_of_four(keys: [usize; 4]) -> Option<f64> {
+/// A thread for each of the keys.
+fn unpark_one_on_each(keys: &[usize]) -> Option<f64> {
     const CALLS: u64 = 300_000;
     median_of(7, || {
-        let spent = together(4, |thread| unparked_in_vain(keys[thread], CALLS) == 0)?;
+        let spent = together(keys.len(), |thread| {
+            unparked_in_vain(keys[thread], CALLS) == 0
+        })?;
         Some(spent.as_nanos() as f64 / CALLS as f64)
     })
 }
@@ -292,25 +305,31 @@ fn awaits_turn(turn: &AtomicU64, side: u64) -> bool {
     false
 }
 
-// A hundred threads that wait on one key.
+// Threads that wait on one key.
 
 const WAITERS: u64 = 100;
 
 struct Board {
+    waiters: u64,
     parked: AtomicU64,
     awake: AtomicU64,
     is_over: AtomicBool,
 }
 
-/// Starts the waiters, each of which parks so often, and answers what `lead` measured.
-fn gather(parks: usize, lead: impl FnOnce(&Board) -> Option<f64> + Send) -> Option<f64> {
+/// Starts so many waiters, each of which parks so often, and answers what `lead` measured.
+fn gather(
+    waiters: u64,
+    parks: usize,
+    lead: impl FnOnce(&Board) -> Option<f64> + Send,
+) -> Option<f64> {
     let board = Board {
+        waiters,
         parked: AtomicU64::new(0),
         awake: AtomicU64::new(0),
         is_over: AtomicBool::new(false),
     };
     thread::scope(|scope| {
-        let waiters: Vec<_> = (0..WAITERS)
+        let waiters: Vec<_> = (0..waiters)
             .map(|_| scope.spawn(|| (0..parks).all(|_| waits_once(&board))))
             .collect();
         let cost = lead(&board);
@@ -337,7 +356,7 @@ fn waits_once(board: &Board) -> bool {
 
 fn unpark_all_of_them(until_awake: bool) -> Option<f64> {
     const WAKES: usize = 15;
-    gather(WAKES, |board| {
+    gather(WAITERS, WAKES, |board| {
         let mut costs = Vec::new();
         for _ in 0..WAKES {
             costs.push(cost_of_wake(board, until_awake)?);
@@ -353,7 +372,7 @@ fn cost_of_wake(board: &Board, until_awake: bool) -> Option<f64> {
     let start = Instant::now();
     let unparked = unsafe { unpark_all(KEYS[0], DEFAULT_UNPARK_TOKEN) };
     let answered = since(start, 1);
-    if unparked as u64 != WAITERS || !comes_to(&board.awake, WAITERS) {
+    if unparked as u64 != board.waiters || !comes_to(&board.awake, board.waiters) {
         return None;
     }
     Some(if until_awake {
@@ -365,16 +384,16 @@ fn cost_of_wake(board: &Board, until_awake: bool) -> Option<f64> {
 
 /// Waits until all have come, and then some time.
 fn await_sleepers(board: &Board) -> Option<()> {
-    if !comes_to(&board.parked, WAITERS) {
+    if !comes_to(&board.parked, board.waiters) {
         return None;
     }
     thread::sleep(Duration::from_millis(20));
     Some(())
 }
 
-fn requeue_all() -> Option<f64> {
+fn requeue_all_of(waiters: u64) -> Option<f64> {
     const MOVES: u64 = 1_000;
-    gather(1, |board| {
+    gather(waiters, 1, |board| {
         await_sleepers(board)?;
         let mut costs = Vec::new();
         for _ in 0..7 {
@@ -384,7 +403,7 @@ fn requeue_all() -> Option<f64> {
                 moved += moved_to(KEYS[0], KEYS[1]) + moved_to(KEYS[1], KEYS[0]);
             }
             costs.push(since(start, 2 * MOVES));
-            if moved as u64 != 2 * MOVES * WAITERS {
+            if moved as u64 != 2 * MOVES * waiters {
                 return None;
             }
         }
@@ -619,6 +638,53 @@ fn cost_of_lock(lock: &impl TallyLock, threads: usize, turns: u32) -> Option<f64
         Some(spent.as_nanos() as f64 / pairs as f64)
     });
     cost.filter(|_| lock.count() == pairs * (RUNS as u64 + 1))
+}
+
+// Many keys.
+
+/// So many threads that have parked make a table of 4,096 buckets.
+const REGISTERED: usize = 1_000;
+
+const MANY_KEYS: usize = 100_000;
+
+/// This thread and others that sleep meanwhile are registered.
+fn many_keys() -> Option<f64> {
+    let registered = Barrier::new(REGISTERED);
+    let measured = Barrier::new(REGISTERED);
+    thread::scope(|scope| {
+        for _ in 1..REGISTERED {
+            scope.spawn(|| {
+                park_with(KEYS[0], || false, || (), None);
+                registered.wait();
+                measured.wait();
+            });
+        }
+        registered.wait();
+        let cost = median_of(7, cost_of_many_keys);
+        measured.wait();
+        cost
+    })
+}
+
+fn cost_of_many_keys() -> Option<f64> {
+    let start = Instant::now();
+    let mut unparked = 0;
+    for key in 0..MANY_KEYS {
+        unparked += usize::from(unparks_itself(key));
+    }
+    let cost = since(start, MANY_KEYS as u64);
+    (unparked == MANY_KEYS).then_some(cost)
+}
+
+/// Parks, and unparks itself before it sleeps.
+fn unparks_itself(key: usize) -> bool {
+    let unparks = || {
+        unpark(key);
+    };
+    matches!(
+        park_with(key, || true, unparks, None),
+        ParkResult::Unparked(_)
+    )
 }
 
 // A thousand threads.

@@ -1,4 +1,4 @@
-//! The rows of a hundred threads that wait on one key.
+//! The rows of threads that wait on one key.
 
 use crate::cost::{Cost, median};
 use crate::waiting::{KEYS, Lot, comes_to};
@@ -13,7 +13,8 @@ use std::thread;
 use std::thread::Threads;
 use std::time::{Clock, Duration, Instant};
 
-const WAITERS: usize = 100;
+/// How many threads wait in the rows that do not say so.
+pub const WAITERS: usize = 100;
 
 // How often the waiters are all woken, and how often they are moved there and back in a run.
 const WAKES: usize = 15;
@@ -25,17 +26,20 @@ const RUNS: usize = 7;
 // How many milliseconds the last who come have to fall asleep.
 const MILLISECONDS_TO_SLEEP: u64 = 20;
 
-// How many waiters have come to park, and how many run again. After an end nobody parks.
+// How many waiters there are, how many have come to park, and how many run again. After an end
+// nobody parks.
 #[derive(Drop)]
 struct Board {
+    waiters: usize,
     parked: AtomicU64,
     awake: AtomicU64,
     is_over: AtomicBool,
 }
 
 impl Board {
-    fn new() -> Board {
+    fn new(waiters: usize) -> Board {
         Board {
+            waiters,
             parked: AtomicU64::new(0),
             awake: AtomicU64::new(0),
             is_over: AtomicBool::new(false),
@@ -66,29 +70,38 @@ pub fn unpark_all_of_them<R: Threads + Wait + Clock + Sync>(
     alloc: Global,
     until: Until,
 ) -> Option<Cost> {
-    gather(rt, alloc, Work::Wake(until))
+    gather(rt, alloc, WAITERS, Work::Wake(until))
 }
 
-/// A hundred threads wait, and one more requeues them all to another key and back. The cost is that
+/// So many threads wait, and one more requeues them all to another key and back. The cost is that
 /// of one call.
-pub fn requeue_all<R: Threads + Wait + Clock + Sync>(rt: &R, alloc: Global) -> Option<Cost> {
-    gather(rt, alloc, Work::Move)
+pub fn requeue_all_of<R: Threads + Wait + Clock + Sync>(
+    rt: &R,
+    alloc: Global,
+    waiters: usize,
+) -> Option<Cost> {
+    gather(rt, alloc, waiters, Work::Move)
 }
 
-// Starts the waiters and the one who leads, and answers what that one measured.
-fn gather<R: Threads + Wait + Clock + Sync>(rt: &R, alloc: Global, work: Work) -> Option<Cost> {
-    let lot = Lot::new(alloc, WAITERS).ok()?;
-    let board = Board::new();
+// Starts so many waiters and the one who leads, and answers what that one measured.
+fn gather<R: Threads + Wait + Clock + Sync>(
+    rt: &R,
+    alloc: Global,
+    waiters: usize,
+    work: Work,
+) -> Option<Cost> {
+    let lot = Lot::new(alloc, waiters).ok()?;
+    let board = Board::new(waiters);
     let (cost, waited) = thread::join(
         rt,
         || leads(rt, alloc, &lot, &board, work),
-        || waiters(rt, alloc, &lot, &board, work),
+        || wait_all(rt, alloc, &lot, &board, work),
     );
     if waited { cost } else { None }
 }
 
 // The waiters, each in a thread of its own. False says that one of them was refused.
-fn waiters<R: Threads + Wait + Clock + Sync>(
+fn wait_all<R: Threads + Wait + Clock + Sync>(
     rt: &R,
     alloc: Global,
     lot: &Lot,
@@ -99,7 +112,12 @@ fn waiters<R: Threads + Wait + Clock + Sync>(
         Work::Wake(_) => WAKES,
         Work::Move => 1,
     };
-    let waited = thread::map_indices(rt, alloc, WAITERS, &|_| waits(rt, alloc, lot, board, parks));
+    let waited = thread::map_indices(
+        rt,
+        alloc,
+        board.waiters,
+        &|_| waits(rt, alloc, lot, board, parks),
+    );
     match waited {
         Ok(waited) => all_true(waited.as_slice()),
         Err(_) => false,
@@ -191,7 +209,7 @@ fn cost_of_wake<R: Wait + Clock>(rt: &R, lot: &Lot, board: &Board, until: Until)
     let start = Instant::now(rt).ok()?;
     let unparked = unpark_all(rt, lot, KEYS[0], DEFAULT_UNPARK_TOKEN);
     let answered = Cost::since(rt, start, 1)?;
-    if unparked != WAITERS || !comes_to(&board.awake, WAITERS as u64) {
+    if unparked != board.waiters || !comes_to(&board.awake, board.waiters as u64) {
         return None;
     }
     match until {
@@ -202,7 +220,7 @@ fn cost_of_wake<R: Wait + Clock>(rt: &R, lot: &Lot, board: &Board, until: Until)
 
 // Waits until all have come, and then some time. `None` says that they did not come.
 fn await_sleepers<R: Clock>(rt: &R, board: &Board) -> Option<()> {
-    if !comes_to(&board.parked, WAITERS as u64) {
+    if !comes_to(&board.parked, board.waiters as u64) {
         return None;
     }
     thread::sleep(rt, Duration::from_millis(MILLISECONDS_TO_SLEEP));
@@ -218,24 +236,21 @@ fn costs_of_moves<R: Wait + Clock>(
     await_sleepers(rt, board)?;
     let mut costs = Vec::with_capacity(alloc, RUNS).ok()?;
     for _ in 0..RUNS {
-        costs.push(cost_of_moves(rt, lot)?).ok()?;
+        costs.push(cost_of_moves(rt, lot, board.waiters)?).ok()?;
     }
     median(costs)
 }
 
 // Moves all of them there and back so often.
-fn cost_of_moves<R: Wait + Clock>(rt: &R, lot: &Lot) -> Option<Cost> {
+fn cost_of_moves<R: Wait + Clock>(rt: &R, lot: &Lot, waiters: usize) -> Option<Cost> {
+    let all = waiters.checked_mul(2 * MOVES as usize)?;
     let start = Instant::now(rt).ok()?;
     let mut moved = 0usize;
     for _ in 0..MOVES {
         moved = moved.wrapping_add(moved_there_and_back(rt, lot));
     }
     let cost = Cost::since(rt, start, 2 * MOVES);
-    if moved == 2 * WAITERS * MOVES as usize {
-        cost
-    } else {
-        None
-    }
+    if moved == all { cost } else { None }
 }
 
 fn moved_there_and_back<R: Wait>(rt: &R, lot: &Lot) -> usize {

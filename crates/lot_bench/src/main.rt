@@ -6,6 +6,7 @@ mod cost;
 mod crowd;
 mod locked;
 mod locking;
+mod many_keys;
 mod program;
 mod row;
 mod thousand;

@@ -1,10 +1,8 @@
 //! The commands of the program.
 
 use crate::cost::Cost;
-use crate::crowd::Until;
-use crate::locked::Section;
-use crate::row::{ROWS, Row};
-use crate::{alone, crowd, locked, locking, thousand, together, turns};
+use crate::row::{ROWS, Row, row_named};
+use crate::{alone, crowd, locked, locking, many_keys, thousand, together, turns};
 use std::process::ExitCode;
 use std::rt::Env;
 use std::sync::Wait;
@@ -16,7 +14,7 @@ const USAGE_STATUS: u8 = 2;
 
 enum Command {
     List,
-    Measure(Row),
+    Measure(String, Row),
 }
 
 /// Measures the row that the argument names and prints its name and cost, or prints the names of
@@ -27,7 +25,7 @@ pub fn run<
 >(rt: &R) -> ExitCode {
     match chosen_command(rt) {
         Some(Command::List) => report(print_names(rt)),
-        Some(Command::Measure(row)) => print_cost(rt, row),
+        Some(Command::Measure(name, row)) => print_cost(rt, name.as_str(), row),
         None => {
             let _ = eprintln!(rt; "usage: lot_bench [ROW]");
             ExitCode::from(USAGE_STATUS)
@@ -44,23 +42,24 @@ fn chosen_command<R: Env + AllocGlobal>(rt: &R) -> Option<Command> {
     if words.next().is_some() {
         return None;
     }
-    Some(Command::Measure(Row::named(word.as_str())?))
+    let row = row_named(word.as_str())?;
+    Some(Command::Measure(word, row))
 }
 
 fn print_names<R: Print>(rt: &R) -> io::Result<()> {
-    for row in ROWS {
-        println!(rt; "{}", row.name())?;
+    for (name, _) in ROWS {
+        println!(rt; "{name}")?;
     }
     Ok(())
 }
 
 fn print_cost<
     R: Print + Eprint + AllocGlobal + Threads + Wait + Clock + Copy + Send + Sync + 'static,
->(rt: &R, row: Row) -> ExitCode {
+>(rt: &R, name: &str, row: Row) -> ExitCode {
     match measure(rt, row) {
-        Some(cost) => report(println!(rt; "{} {cost}", row.name())),
+        Some(cost) => report(println!(rt; "{name} {cost}")),
         None => {
-            let _ = eprintln!(rt; "{} failed", row.name());
+            let _ = eprintln!(rt; "{name} failed");
             ExitCode::FAILURE
         }
     }
@@ -82,28 +81,17 @@ fn measure<R: AllocGlobal + Threads + Wait + Clock + Copy + Send + Sync + 'stati
     let alloc = rt.alloc();
     match row {
         Row::UnparkOneNobody => alone::unpark_one_nobody(rt, alloc),
-        Row::UnparkOneFourKeys => together::unpark_one_four_keys(rt, alloc),
-        Row::UnparkOneOneKey => together::unpark_one_one_key(rt, alloc),
+        Row::UnparkOneOnEach(keys) => together::unpark_one_on_each(rt, alloc, keys),
         Row::ParkInvalid => alone::park_invalid(rt, alloc),
         Row::ParkPastDeadline => alone::park_past_deadline(rt, alloc),
         Row::TurnsStrict => turns::turns_strict(rt, alloc),
         Row::TurnsByWord => turns::turns_by_word(rt, alloc),
-        Row::UnparkAllCall => crowd::unpark_all_of_them(rt, alloc, Until::Answered),
-        Row::UnparkAllAwake => crowd::unpark_all_of_them(rt, alloc, Until::Awake),
-        Row::RequeueAll => crowd::requeue_all(rt, alloc),
-        Row::MutexAlone => locking::mutex(rt, alloc, 1),
-        Row::MutexTwo => locking::mutex(rt, alloc, 2),
-        Row::MutexFour => locking::mutex(rt, alloc, 4),
-        Row::WordLockAlone => locked::word_lock(rt, alloc, 1, Section::Short),
-        Row::WordLockTwo => locked::word_lock(rt, alloc, 2, Section::Short),
-        Row::WordLockFour => locked::word_lock(rt, alloc, 4, Section::Short),
-        Row::WordLockTwoLonger => locked::word_lock(rt, alloc, 2, Section::Longer),
-        Row::WordLockFourLonger => locked::word_lock(rt, alloc, 4, Section::Longer),
-        Row::StdMutexAlone => locked::std_mutex(rt, alloc, 1, Section::Short),
-        Row::StdMutexTwo => locked::std_mutex(rt, alloc, 2, Section::Short),
-        Row::StdMutexFour => locked::std_mutex(rt, alloc, 4, Section::Short),
-        Row::StdMutexTwoLonger => locked::std_mutex(rt, alloc, 2, Section::Longer),
-        Row::StdMutexFourLonger => locked::std_mutex(rt, alloc, 4, Section::Longer),
+        Row::UnparkAll(until) => crowd::unpark_all_of_them(rt, alloc, until),
+        Row::RequeueAllOf(waiters) => crowd::requeue_all_of(rt, alloc, waiters),
+        Row::Mutex(threads) => locking::mutex(rt, alloc, threads),
+        Row::WordLock(threads, section) => locked::word_lock(rt, alloc, threads, section),
+        Row::StdMutex(threads, section) => locked::std_mutex(rt, alloc, threads, section),
+        Row::ManyKeys => many_keys::many_keys(rt, alloc),
         Row::ThousandThreads => thousand::thousand_threads(rt, alloc),
     }
 }

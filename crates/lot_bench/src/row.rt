@@ -1,16 +1,17 @@
 //! The rows: what can be measured, and by which names.
 
+use crate::crowd::{Until, WAITERS};
+use crate::locked::Section;
+use crate::waiting::KEYS;
+
 /// What is measured.
-#[derive(Copy, Clone, Eq, PartialEq, Debug)]
+#[derive(Copy, Clone)]
 pub enum Row {
     /// One thread unparks one where nobody waits.
     UnparkOneNobody,
 
-    /// Four threads do so, each on a key of its own.
-    UnparkOneFourKeys,
-
-    /// Four threads do so on one key.
-    UnparkOneOneKey,
+    /// A thread for each of these keys does so.
+    UnparkOneOnEach(&'static [usize]),
 
     /// One thread parks, and its validation answers false.
     ParkInvalid,
@@ -24,124 +25,79 @@ pub enum Row {
     /// Two threads hand a turn to each other by a word at which the validation looks.
     TurnsByWord,
 
-    /// One thread unparks a hundred: the call.
-    UnparkAllCall,
+    /// One thread unparks a hundred.
+    UnparkAll(Until),
 
-    /// One thread unparks a hundred: until all of them run.
-    UnparkAllAwake,
+    /// So many threads are requeued to another key, or back.
+    RequeueAllOf(usize),
 
-    /// A hundred threads are requeued to another key, or back.
-    RequeueAll,
+    /// So many threads lock and unlock one mutex of one word.
+    Mutex(usize),
 
-    /// One thread locks and unlocks a mutex of one word.
-    MutexAlone,
+    /// So many threads lock and unlock one word lock, and each does this meanwhile.
+    WordLock(usize, Section),
 
-    /// Two threads lock and unlock one such mutex.
-    MutexTwo,
+    /// The same with std's `Mutex`.
+    StdMutex(usize, Section),
 
-    /// Four threads lock and unlock one such mutex.
-    MutexFour,
-
-    /// One thread locks and unlocks a word lock, and counts one meanwhile.
-    WordLockAlone,
-
-    /// Two threads do so with one lock.
-    WordLockTwo,
-
-    /// Four threads do so with one lock.
-    WordLockFour,
-
-    /// Two threads do so, and each mixes a number fifty times meanwhile.
-    WordLockTwoLonger,
-
-    /// Four threads do so, and each mixes a number fifty times meanwhile.
-    WordLockFourLonger,
-
-    /// As `WordLockAlone`, with std's `Mutex`.
-    StdMutexAlone,
-
-    /// As `WordLockTwo`, with std's `Mutex`.
-    StdMutexTwo,
-
-    /// As `WordLockFour`, with std's `Mutex`.
-    StdMutexFour,
-
-    /// As `WordLockTwoLonger`, with std's `Mutex`.
-    StdMutexTwoLonger,
-
-    /// As `WordLockFourLonger`, with std's `Mutex`.
-    StdMutexFourLonger,
+    /// One thread parks on many keys in turn, and is unparked on each.
+    ManyKeys,
 
     /// A thousand threads start, register, park, are woken and end.
     ThousandThreads,
 }
 
-/// All rows, in the order in which they are printed.
-pub const ROWS: [Row; 24] = [
-    Row::UnparkOneNobody,
-    Row::UnparkOneFourKeys,
-    Row::UnparkOneOneKey,
-    Row::ParkInvalid,
-    Row::ParkPastDeadline,
-    Row::TurnsStrict,
-    Row::TurnsByWord,
-    Row::UnparkAllCall,
-    Row::UnparkAllAwake,
-    Row::RequeueAll,
-    Row::MutexAlone,
-    Row::MutexTwo,
-    Row::MutexFour,
-    Row::WordLockAlone,
-    Row::WordLockTwo,
-    Row::WordLockFour,
-    Row::WordLockTwoLonger,
-    Row::WordLockFourLonger,
-    Row::StdMutexAlone,
-    Row::StdMutexTwo,
-    Row::StdMutexFour,
-    Row::StdMutexTwoLonger,
-    Row::StdMutexFourLonger,
-    Row::ThousandThreads,
+/// The rows by their names, in the order in which they are printed.
+pub const ROWS: [(&str, Row); 32] = [
+    ("unpark_one_nobody", Row::UnparkOneNobody),
+    (
+        "unpark_one_two_keys",
+        Row::UnparkOneOnEach(&[KEYS[0], KEYS[1]]),
+    ),
+    ("unpark_one_four_keys", Row::UnparkOneOnEach(&KEYS)),
+    ("unpark_one_one_key", Row::UnparkOneOnEach(&[KEYS[0]; 4])),
+    (
+        "unpark_one_one_key_sixteen",
+        Row::UnparkOneOnEach(&[KEYS[0]; 16]),
+    ),
+    ("park_invalid", Row::ParkInvalid),
+    ("park_past_deadline", Row::ParkPastDeadline),
+    ("turns_strict", Row::TurnsStrict),
+    ("turns_by_word", Row::TurnsByWord),
+    ("unpark_all_call", Row::UnparkAll(Until::Answered)),
+    ("unpark_all_awake", Row::UnparkAll(Until::Awake)),
+    ("requeue_ten", Row::RequeueAllOf(10)),
+    ("requeue_all", Row::RequeueAllOf(WAITERS)),
+    ("requeue_thousand", Row::RequeueAllOf(1_000)),
+    ("mutex_alone", Row::Mutex(1)),
+    ("mutex_two", Row::Mutex(2)),
+    ("mutex_four", Row::Mutex(4)),
+    ("mutex_sixteen", Row::Mutex(16)),
+    ("word_lock_alone", Row::WordLock(1, Section::Short)),
+    ("word_lock_two", Row::WordLock(2, Section::Short)),
+    ("word_lock_four", Row::WordLock(4, Section::Short)),
+    ("word_lock_sixteen", Row::WordLock(16, Section::Short)),
+    ("word_lock_two_longer", Row::WordLock(2, Section::Longer)),
+    ("word_lock_four_longer", Row::WordLock(4, Section::Longer)),
+    (
+        "word_lock_sixteen_longer",
+        Row::WordLock(16, Section::Longer),
+    ),
+    ("std_mutex_alone", Row::StdMutex(1, Section::Short)),
+    ("std_mutex_two", Row::StdMutex(2, Section::Short)),
+    ("std_mutex_four", Row::StdMutex(4, Section::Short)),
+    ("std_mutex_two_longer", Row::StdMutex(2, Section::Longer)),
+    ("std_mutex_four_longer", Row::StdMutex(4, Section::Longer)),
+    ("many_keys", Row::ManyKeys),
+    ("thousand_threads", Row::ThousandThreads),
 ];
 
-impl Row {
-    /// The row's name, by which the program is asked for it.
-    pub fn name(self) -> &'static str {
-        match self {
-            Row::UnparkOneNobody => "unpark_one_nobody",
-            Row::UnparkOneFourKeys => "unpark_one_four_keys",
-            Row::UnparkOneOneKey => "unpark_one_one_key",
-            Row::ParkInvalid => "park_invalid",
-            Row::ParkPastDeadline => "park_past_deadline",
-            Row::TurnsStrict => "turns_strict",
-            Row::TurnsByWord => "turns_by_word",
-            Row::UnparkAllCall => "unpark_all_call",
-            Row::UnparkAllAwake => "unpark_all_awake",
-            Row::RequeueAll => "requeue_all",
-            Row::MutexAlone => "mutex_alone",
-            Row::MutexTwo => "mutex_two",
-            Row::MutexFour => "mutex_four",
-            Row::WordLockAlone => "word_lock_alone",
-            Row::WordLockTwo => "word_lock_two",
-            Row::WordLockFour => "word_lock_four",
-            Row::WordLockTwoLonger => "word_lock_two_longer",
-            Row::WordLockFourLonger => "word_lock_four_longer",
-            Row::StdMutexAlone => "std_mutex_alone",
-            Row::StdMutexTwo => "std_mutex_two",
-            Row::StdMutexFour => "std_mutex_four",
-            Row::StdMutexTwoLonger => "std_mutex_two_longer",
-            Row::StdMutexFourLonger => "std_mutex_four_longer",
-            Row::ThousandThreads => "thousand_threads",
+/// The row of this name.
+pub fn row_named(name: &str) -> Option<Row> {
+    for (known, row) in ROWS {
+        if known == name {
+            return Some(row);
         }
     }
-
-    /// The row of this name.
-    pub fn named(name: &str) -> Option<Row> {
-        for row in ROWS {
-            if row.name() == name {
-                return Some(row);
-            }
-        }
-        None
-    }
+    None
 }

@@ -2,14 +2,12 @@
 
 use crate::alone::unparked_in_vain;
 use crate::cost::{Cost, median_of};
-use crate::waiting::{KEYS, Lot};
+use crate::waiting::Lot;
 use std::alloc::Global;
 use std::sync::{Barrier, Wait};
 use std::thread;
 use std::thread::Threads;
 use std::time::{Clock, Duration, Instant};
-
-const THREADS: usize = 4;
 
 const CALLS: u64 = 300_000;
 
@@ -33,21 +31,14 @@ pub fn whole_time(spans: &[Option<Span>]) -> Option<Duration> {
     end.checked_duration_since(start)
 }
 
-/// Four threads unpark one where nobody waits, each on a key of its own.
-pub fn unpark_one_four_keys<R: Threads + Wait + Clock + Sync>(
+/// A thread for each of these keys unparks one where nobody waits.
+pub fn unpark_one_on_each<R: Threads + Wait + Clock + Sync>(
     rt: &R,
     alloc: Global,
+    keys: &[usize],
 ) -> Option<Cost> {
-    let lot = Lot::new(alloc, THREADS).ok()?;
-    median_of(alloc, RUNS, || cost_of_unparks(rt, alloc, &lot, &KEYS))
-}
-
-/// Four threads unpark one where nobody waits, on one key.
-pub fn unpark_one_one_key<R: Threads + Wait + Clock + Sync>(rt: &R, alloc: Global) -> Option<Cost> {
-    let lot = Lot::new(alloc, THREADS).ok()?;
-    median_of(alloc, RUNS, || {
-        cost_of_unparks(rt, alloc, &lot, &[KEYS[0]; 4])
-    })
+    let lot = Lot::new(alloc, keys.len()).ok()?;
+    median_of(alloc, RUNS, || cost_of_unparks(rt, alloc, &lot, keys))
 }
 
 // The cost of one call as one of the threads sees it.
@@ -55,13 +46,13 @@ fn cost_of_unparks<R: Threads + Wait + Clock + Sync>(
     rt: &R,
     alloc: Global,
     lot: &Lot,
-    keys: &[usize; 4],
+    keys: &[usize],
 ) -> Option<Cost> {
-    let barrier = Barrier::new(THREADS);
+    let barrier = Barrier::new(keys.len());
     let spans = thread::map_indices(
         rt,
         alloc,
-        THREADS,
+        keys.len(),
         &|thread| time_of_unparks(rt, lot, &barrier, keys[thread]),
     )
     .ok()?;

@@ -1,0 +1,74 @@
+//! The row of many keys in a table of 4,096 buckets.
+
+use crate::cost::{Cost, median_of};
+use crate::waiting::Lot;
+use parking_lot_core::{DEFAULT_PARK_TOKEN, DEFAULT_UNPARK_TOKEN, ThreadData, park, unpark_one};
+use std::alloc::Global;
+use std::sync::Wait;
+use std::time::{Clock, Instant};
+
+// So many registered threads make a table of 4,096 buckets.
+const REGISTERED: usize = 1_000;
+
+const MANY_KEYS: usize = 100_000;
+
+const RUNS: usize = 7;
+
+/// One thread parks on each key in turn, and unparks itself before it sleeps, while others are
+/// registered. The cost is that of one park with its unpark.
+pub fn many_keys<R: Wait + Clock>(rt: &R, alloc: Global) -> Option<Cost> {
+    let lot = Lot::new(alloc, REGISTERED).ok()?;
+    let others = register_others(rt, alloc, &lot)?;
+    let cost = median_of(alloc, RUNS, || cost_of_keys(rt, alloc, &lot));
+    for data in others {
+        lot.retire(rt, data);
+    }
+    cost
+}
+
+fn register_others<R: Wait>(rt: &R, alloc: Global, lot: &Lot) -> Option<Vec<ThreadData>> {
+    let mut others = Vec::with_capacity(alloc, REGISTERED).ok()?;
+    for _ in 1..REGISTERED {
+        others.push(lot.thread_data(rt, alloc).ok()?).ok()?;
+    }
+    Some(others)
+}
+
+fn cost_of_keys<R: Wait + Clock>(rt: &R, alloc: Global, lot: &Lot) -> Option<Cost> {
+    let mut data = lot.thread_data(rt, alloc).ok()?;
+    let start = Instant::now(rt).ok()?;
+    let unparked = count_unparked(rt, lot, &mut data);
+    let cost = Cost::since(rt, start, MANY_KEYS as u64);
+    lot.retire(rt, data);
+    if unparked == MANY_KEYS { cost } else { None }
+}
+
+// On how many of the keys the thread was unparked.
+fn count_unparked<R: Wait + Clock>(rt: &R, lot: &Lot, data: &mut ThreadData) -> usize {
+    let mut unparked = 0usize;
+    for key in 0..MANY_KEYS {
+        unparked = unparked.wrapping_add(usize::from(unparks_itself(rt, lot, data, key)));
+    }
+    unparked
+}
+
+// Parks, and unparks itself before it sleeps. False says that it was not unparked.
+fn unparks_itself<R: Wait + Clock>(rt: &R, lot: &Lot, data: &mut ThreadData, key: usize) -> bool {
+    if !lot.accepts(data) {
+        return false;
+    }
+    let result = park(
+        rt,
+        lot,
+        data,
+        key,
+        || true,
+        || {
+            unpark_one(rt, lot, key, |_| DEFAULT_UNPARK_TOKEN);
+        },
+        |_, _| (),
+        DEFAULT_PARK_TOKEN,
+        None,
+    );
+    result.is_unparked()
+}
