@@ -2,7 +2,7 @@
 
 use crate::fault::Fault;
 use crate::memory::{self, SCENARIOS, Scenario};
-use crate::race;
+use crate::{parks, race};
 use parking_lot_core::{ThreadParker, WordParker, YieldParker};
 use std::process::ExitCode;
 use std::rt::Env;
@@ -24,6 +24,7 @@ enum Parker {
 enum Command {
     List,
     Memory(Scenario, Parker),
+    Parks { count: usize },
     Race { seconds: u64, seed: u64 },
 }
 
@@ -34,6 +35,7 @@ pub fn run<
 >(rt: &R) -> ExitCode {
     let Some(command) = chosen_command(rt) else {
         let _ = eprintln!(rt; "usage: lot_stress memory [SCENARIO word|thread|yield]");
+        let _ = eprintln!(rt; "       lot_stress parks COUNT");
         let _ = eprintln!(rt; "       lot_stress race SECONDS SEED");
         return ExitCode::from(USAGE_STATUS);
     };
@@ -53,14 +55,25 @@ fn chosen_command<R: Env + AllocGlobal>(rt: &R) -> Option<Command> {
     let Some(first) = words.next() else {
         return (command.as_str() == "memory").then_some(Command::List);
     };
-    let second = words.next()?;
+    let Some(second) = words.next() else {
+        return command_with_one(command.as_str(), first.as_str());
+    };
     if words.next().is_some() {
         return None;
     }
-    command_of(command.as_str(), first.as_str(), second.as_str())
+    command_with_two(command.as_str(), first.as_str(), second.as_str())
 }
 
-fn command_of(command: &str, first: &str, second: &str) -> Option<Command> {
+fn command_with_one(command: &str, word: &str) -> Option<Command> {
+    match command {
+        "parks" => Some(Command::Parks {
+            count: word.parse().ok()?,
+        }),
+        _ => None,
+    }
+}
+
+fn command_with_two(command: &str, first: &str, second: &str) -> Option<Command> {
     match command {
         "memory" => Some(Command::Memory(Scenario::named(first)?, parker_named(second)?)),
         "race" => Some(Command::Race {
@@ -95,6 +108,7 @@ fn follow<R: Print + Eprint + AllocGlobal + Threads + Wait + Clock + Copy + Send
         Command::Memory(scenario, Parker::Yielding) => {
             memory::play::<YieldParker, _>(rt, rt.alloc(), scenario)
         }
+        Command::Parks { count } => parks::run(rt, rt.alloc(), count),
         Command::Race { seconds, seed } => race::run(rt, rt.alloc(), seconds, seed),
     }
 }
