@@ -1,10 +1,10 @@
 //! Sections that meet the growth of the table.
 
-use crate::common::{TOKEN, TURNS, raised_by_turns};
+use crate::common::{TOKEN, raised_by_turns};
 use crate::expect_equal;
 use parking_lot_core::{
-    DEFAULT_PARK_TOKEN, FilterOp, ParkResult, ParkingLot, ThreadParker, ThreadParkerT, WordParker,
-    park, unpark_all, unpark_filter,
+    DEFAULT_PARK_TOKEN, FilterOp, ParkResult, ParkingLot, ThreadParkerT, WordParker, park,
+    unpark_all, unpark_filter,
 };
 use std::alloc::Global;
 use std::process::Abort;
@@ -13,80 +13,63 @@ use std::sync::atomic::{AtomicBool, Ordering};
 use std::test::Fail;
 use std::thread;
 use std::thread::Threads;
-use std::time::Clock;
+use std::time::{Clock, Duration, Instant};
 
-// The table grows from 2,048 buckets to 4,096 at the registration of the last of these.
-const THREADS: usize = 683;
+// The table grows from 512 buckets to 1,024 at the registration of the last of these.
+const THREADS: usize = 171;
 
-// The first place in a table of any size, and the last one of 2,048 and of 4,096.
-const KEYS: [usize; 2] = [0, 2_584];
+// The key has the first place in a table of any size, which is emptied first and filled last.
+const KEY: usize = 0;
 
-// What the thread that registers and the one that looks tell each other.
-#[derive(Drop)]
-struct Growth {
-    is_watched: AtomicBool,
-    is_over: AtomicBool,
-}
+const MOMENTS: u64 = 60;
 
-fn sees_a_waiter<P: ThreadParkerT, R: Wait>(rt: &R, lot: &ParkingLot<P>, key: usize) -> bool {
-    unpark_filter(rt, lot, key, |_| FilterOp::Skip, |_| TOKEN).have_more_threads
-}
-
-// How often nobody was seen to wait on the key, until the growth was over.
-fn looks_in_vain<P: ThreadParkerT, R: Wait>(
+// Waits until the growth has begun and then so long, and tells whether somebody is seen to wait.
+fn sees_a_waiter_after<P: ThreadParkerT, R: Wait + Clock>(
     rt: &R,
     lot: &ParkingLot<P>,
-    key: usize,
-    growth: &Growth,
-) -> usize {
-    let mut in_vain = 0usize;
-    for _ in 0..TURNS {
-        let is_over = growth.is_over.load(Ordering::SeqCst);
-        if !sees_a_waiter(rt, lot, key) {
-            in_vain = in_vain.wrapping_add(1);
-        }
-        growth.is_watched.store(true, Ordering::SeqCst);
-        if is_over {
-            break;
-        }
-    }
-    in_vain
-}
-
-// Registers one thread more, once somebody looks. It tells whether it could.
-fn grow<P: ThreadParkerT, R: Wait>(
-    rt: &R,
-    alloc: Global,
-    lot: &ParkingLot<P>,
-    growth: &Growth,
+    has_begun: &AtomicBool,
+    delay: Duration,
 ) -> bool {
-    raised_by_turns(&growth.is_watched);
-    let is_registered = lot.thread_data(rt, alloc).is_ok();
-    growth.is_over.store(true, Ordering::SeqCst);
-    is_registered
+    raised_by_turns(has_begun);
+    if let Ok(start) = Instant::now(rt) {
+        while Instant::now(rt).is_ok_and(|now| now.duration_since(start) < delay) {}
+    }
+    unpark_filter(rt, lot, KEY, |_| FilterOp::Skip, |_| TOKEN).have_more_threads
 }
 
-// Looks for the waiter of the key while the table grows, and unparks it.
-fn watch_a_growth<P: ThreadParkerT + Send + Sync, R: Threads + Wait + Sync>(
+// Registers one thread more, and tells how long that took, or `None` if it was refused.
+fn grow<P: ThreadParkerT, R: Wait + Clock>(
     rt: &R,
     alloc: Global,
     lot: &ParkingLot<P>,
-    key: usize,
-) -> (usize, bool) {
-    let growth = Growth {
-        is_watched: AtomicBool::new(false),
-        is_over: AtomicBool::new(false),
-    };
-    let seen = thread::join(
-        rt,
-        || looks_in_vain(rt, lot, key, &growth),
-        || grow(rt, alloc, lot, &growth),
-    );
-    unpark_all(rt, lot, key, TOKEN);
-    seen
+    has_begun: &AtomicBool,
+) -> Option<Duration> {
+    let start = Instant::now(rt).ok()?;
+    has_begun.store(true, Ordering::SeqCst);
+    drop(lot.thread_data(rt, alloc).ok()?);
+    Instant::now(rt).ok()?.checked_duration_since(start)
 }
 
-fn is_seen_throughout<P, R>(rt: &R, alloc: Global, key: usize) -> Result<(), Fail>
+// Looks for the waiter while the table grows, and unparks it.
+fn watch_a_growth<P: ThreadParkerT + Send + Sync, R: Threads + Wait + Clock + Sync>(
+    rt: &R,
+    alloc: Global,
+    lot: &ParkingLot<P>,
+    delay: Duration,
+) -> (bool, Option<Duration>) {
+    let has_begun = AtomicBool::new(false);
+    let watched = thread::join(
+        rt,
+        || sees_a_waiter_after(rt, lot, &has_begun, delay),
+        || grow(rt, alloc, lot, &has_begun),
+    );
+    unpark_all(rt, lot, KEY, TOKEN);
+    watched
+}
+
+// One thread waits while the table grows, and is seen so long after the beginning. It tells how long
+// the growth took.
+fn is_seen_after<P, R>(rt: &R, alloc: Global, delay: Duration) -> Result<Option<Duration>, Fail>
 where
     P: ThreadParkerT + Send + Sync,
     R: Threads + Wait + Clock + Abort + Sync,
@@ -96,31 +79,34 @@ where
     for _ in 2..THREADS {
         drop(lot.thread_data(rt, alloc)?);
     }
-    let mut seen = (0, false);
+    let mut watched = (false, None);
     let result = park(
         rt,
         &lot,
         &mut data,
-        key,
+        KEY,
         || true,
-        || seen = watch_a_growth(rt, alloc, &lot, key),
+        || watched = watch_a_growth(rt, alloc, &lot, delay),
         |_, _| (),
         DEFAULT_PARK_TOKEN,
         None,
     );
-    expect_equal(rt, (key, seen), (key, (0, true)));
     expect_equal(rt, result, ParkResult::Unparked(TOKEN));
-    Ok(())
+    let (is_seen, took) = watched;
+    assert!(rt; is_seen, "nobody was seen after {delay:?}");
+    Ok(took)
 }
 
-// It refuses a growth that empties the old buckets before it says that it has begun, or says that it
-// is over before the new ones are filled, and a section that goes on in a row that is no longer in
-// use.
+// It refuses a growth that empties the old buckets before it says that it has begun, and one that
+// says that it is over before the new ones are filled.
 #[test]
-fn a_waiter_is_seen_throughout_a_growth(rt: HostRuntime) -> Result<(), Fail> {
-    for key in KEYS {
-        is_seen_throughout::<WordParker, _>(&rt, rt.alloc(), key)?;
-        is_seen_throughout::<ThreadParker, _>(&rt, rt.alloc(), key)?;
+fn a_waiter_is_seen_at_each_moment_of_a_growth(rt: HostRuntime) -> Result<(), Fail> {
+    let took = is_seen_after::<WordParker, _>(&rt, rt.alloc(), Duration::from_micros(0))?;
+    let took = took.expect(&rt, "a registration and its time");
+    let whole = u64::try_from(took.as_micros()).unwrap_or(0);
+    for moment in 0..MOMENTS {
+        let delay = Duration::from_micros(whole / MOMENTS * moment);
+        is_seen_after::<WordParker, _>(&rt, rt.alloc(), delay)?;
     }
     Ok(())
 }
