@@ -34,7 +34,7 @@ pub(super) fn play<P: ThreadParkerT, R: Print + Wait + Clock>(
         Scenario::BucketList => perform(rt, alloc, List(alloc, waiting_bucket(alloc)?)),
         Scenario::Queue => perform(rt, alloc, Queues(nodes(alloc)?, Seen::new(alloc)?)),
         Scenario::Bucket => perform(rt, alloc, Buckets(nodes(alloc)?, Seen::new(alloc)?)),
-        Scenario::Parker => Parkers::<P>::new(alloc)?.perform(rt, alloc),
+        Scenario::Parker => Parkers::new(alloc)?.perform::<P, _>(rt, alloc),
         _ => perform(rt, alloc, Spins(Seen::new(alloc)?)),
     }
 }
@@ -300,23 +300,43 @@ impl Scene for Buckets {
 
 // All of a parker and its handles.
 #[derive(Drop)]
-struct Parkers<P> {
+struct Parkers {
     nodes: Vec<Box<Node>>,
     seen: Seen,
-    parker: Option<P>,
 }
 
-impl<P: ThreadParkerT> Parkers<P> {
-    fn new(alloc: Global) -> Result<Parkers<P>, Fault> {
+impl Parkers {
+    fn new(alloc: Global) -> Result<Parkers, Fault> {
         Ok(Parkers {
             nodes: nodes(alloc)?,
             seen: Seen::new(alloc)?,
-            parker: None,
         })
     }
 
+    // Makes a parker, and does all that can be done with it while requests are counted.
+    fn perform<P: ThreadParkerT, R: Print + Wait + Clock>(
+        mut self,
+        rt: &R,
+        alloc: Global,
+    ) -> Result<(), Fault> {
+        let past = Instant::now(rt)?;
+        let parker = P::new(alloc, OWNER)?;
+        self.seen.show(rt, Moment::Before)?;
+        marks::begin(alloc);
+        self.commit_and_take(rt, &parker, past);
+        marks::end(alloc);
+        tell_answer(rt, &())?;
+        self.seen.show(rt, Moment::After)?;
+        tell_refused(rt, 0)
+    }
+
     // Commits two nodes, takes them, and waits in vain for a third.
-    fn commit_and_take<R: Wait + Clock>(&mut self, rt: &R, parker: &P, past: Instant)
+    fn commit_and_take<P: ThreadParkerT, R: Wait + Clock>(
+        &mut self,
+        rt: &R,
+        parker: &P,
+        past: Instant,
+    )
         requires { P.owner parker.now ≡ OWNER }
     {
         self.seen.note(usize::from(parker.timed_out(rt)));
@@ -328,7 +348,7 @@ impl<P: ThreadParkerT> Parkers<P> {
         self.seen.note_node(parker.park_until(rt, past));
     }
 
-    fn commit<R: Wait>(&mut self, rt: &R, parker: &P)
+    fn commit<P: ThreadParkerT, R: Wait>(&mut self, rt: &R, parker: &P)
         requires { P.owner parker.now ≡ OWNER }
     {
         if let Some(mut node) = self.nodes.pop() {
@@ -338,34 +358,5 @@ impl<P: ThreadParkerT> Parkers<P> {
             self.seen.note(handle.number());
             handle.unpark(parker);
         }
-    }
-}
-
-impl<P: ThreadParkerT> Parkers<P> {
-    fn perform<R: Print + Wait + Clock>(mut self, rt: &R, alloc: Global) -> Result<(), Fault> {
-        self.show(rt, Moment::Before)?;
-        marks::begin(alloc);
-        let answer = self.act(rt, alloc);
-        marks::end(alloc);
-        tell_answer(rt, &answer)?;
-        self.show(rt, Moment::After)?;
-        let refused = self.refused(rt)?;
-        tell_refused(rt, refused)
-    }
-
-    fn act<R: Wait + Clock>(&mut self, rt: &R, alloc: Global) {
-        let Ok(past) = Instant::now(rt) else { return };
-        if let Ok(parker) = P::new(alloc, OWNER) {
-            self.commit_and_take(rt, &parker, past);
-            self.parker = Some(parker);
-        }
-    }
-
-    fn show<R: Print + Wait>(&self, rt: &R, moment: Moment) -> Result<(), Fault> {
-        self.seen.show(rt, moment)
-    }
-
-    fn refused<R: Wait + Clock>(&mut self, _rt: &R) -> Result<usize, Fault> {
-        Ok(0)
     }
 }
