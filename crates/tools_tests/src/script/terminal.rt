@@ -68,13 +68,23 @@ impl Write for Output<'_> {
     }
 }
 
-// Gives one line at a time, or all at once. It fails where an answer to a line that it gave is not
-// shown yet.
+// How much a read gives.
+#[derive(Copy, Clone)]
+enum Typing {
+    ByLine,
+
+    // With the first two bytes of the next line.
+    BeyondALine,
+
+    AtOnce,
+}
+
+// It fails where an answer to a line that it gave is not shown yet.
 #[derive(Drop)]
 struct Keyboard<'a> {
     rest: &'a [u8],
     given: usize,
-    at_once: bool,
+    typing: Typing,
     screen: &'a RefCell<Screen>,
     reads: &'a RefCell<usize>,
 }
@@ -90,11 +100,13 @@ impl Keyboard<'_> {
 
     // How many bytes the next read gives.
     fn next_len(&self) -> usize {
-        if self.at_once {
-            return self.rest.len();
-        }
+        let beyond = match self.typing {
+            Typing::ByLine => 1,
+            Typing::BeyondALine => 3,
+            Typing::AtOnce => return self.rest.len(),
+        };
         match self.rest.iter().position(|byte| *byte == b'\n') {
-            Some(end) => end.wrapping_add(1),
+            Some(end) => end.wrapping_add(beyond),
             None => self.rest.len(),
         }
     }
@@ -125,13 +137,13 @@ struct Session {
     reads: usize,
 }
 
-fn run(alloc: Global, lines: &str, at_once: bool, screen: Screen) -> Session {
+fn run(alloc: Global, lines: &str, typing: Typing, screen: Screen) -> Session {
     let screen = RefCell::new(screen);
     let reads = RefCell::new(0);
     let keyboard = Keyboard {
         rest: lines.as_bytes(),
         given: 0,
-        at_once,
+        typing,
         screen: &screen,
         reads: &reads,
     };
@@ -145,11 +157,13 @@ fn run(alloc: Global, lines: &str, at_once: bool, screen: Screen) -> Session {
 
 #[test]
 fn each_line_is_answered_before_the_next_is_read(rt: HostRuntime) {
-    let screen = Screen::new(rt.alloc(), 100, 100);
-    let session = run(rt.alloc(), LINES, false, screen);
-    assert!(rt; session.ended == Ok(()));
-    assert!(rt; session.shown.as_slice() == ANSWERS.as_bytes());
-    assert!(rt; session.reads == 4);
+    for typing in [Typing::ByLine, Typing::BeyondALine] {
+        let screen = Screen::new(rt.alloc(), 100, 100);
+        let session = run(rt.alloc(), LINES, typing, screen);
+        assert!(rt; session.ended == Ok(()));
+        assert!(rt; session.shown.as_slice() == ANSWERS.as_bytes());
+        assert!(rt; session.reads == 4);
+    }
 }
 
 // A flush stands before each read but the first, and at the end.
@@ -157,7 +171,7 @@ fn each_line_is_answered_before_the_next_is_read(rt: HostRuntime) {
 fn a_flush_that_fails_is_told_of_the_line_before_it_and_nothing_is_read_behind_it(rt: HostRuntime) {
     for (flushes, line, reads) in [(0, 1, 1), (1, 2, 2), (2, 3, 3), (3, 3, 4)] {
         let screen = Screen::new(rt.alloc(), 100, flushes);
-        let session = run(rt.alloc(), LINES, false, screen);
+        let session = run(rt.alloc(), LINES, Typing::ByLine, screen);
         assert!(rt;
             session.ended == stopped(line, Cause::WriteFailed),
             "{flushes}"
@@ -177,9 +191,9 @@ fn a_lost_answer_is_told_of_the_first_line_that_lacks_it(rt: HostRuntime) {
     for room in 0..ANSWERS.len() {
         let shown = &ANSWERS.as_bytes()[..room];
         let line = lines_in(shown).wrapping_add(1);
-        for (at_once, reads) in [(false, line), (true, 1)] {
+        for (typing, reads) in [(Typing::ByLine, line), (Typing::AtOnce, 1)] {
             let screen = Screen::new(rt.alloc(), room, 100);
-            let session = run(rt.alloc(), LINES, at_once, screen);
+            let session = run(rt.alloc(), LINES, typing, screen);
             assert!(rt;
                 session.ended == stopped(line, Cause::WriteFailed),
                 "{room}"
@@ -194,15 +208,16 @@ fn a_lost_answer_is_told_of_the_first_line_that_lacks_it(rt: HostRuntime) {
 #[test]
 fn a_refused_line_comes_behind_the_answers_before_it(rt: HostRuntime) {
     let rows = [
-        (100, stopped(3, Cause::BadStep), "ok\nnumber 0\n"),
-        (12, stopped(3, Cause::BadStep), "ok\nnumber 0\n"),
-        (11, stopped(2, Cause::WriteFailed), "ok\nnumber 0"),
-        (0, stopped(1, Cause::WriteFailed), ""),
+        (100, 100, stopped(3, Cause::BadStep), "ok\nnumber 0\n"),
+        (12, 100, stopped(3, Cause::BadStep), "ok\nnumber 0\n"),
+        (11, 100, stopped(2, Cause::WriteFailed), "ok\nnumber 0"),
+        (0, 100, stopped(1, Cause::WriteFailed), ""),
+        (100, 0, stopped(2, Cause::WriteFailed), "ok\nnumber 0\n"),
     ];
-    for (room, ended, shown) in rows {
-        let screen = Screen::new(rt.alloc(), room, 100);
+    for (room, flushes, ended, shown) in rows {
+        let screen = Screen::new(rt.alloc(), room, flushes);
         let lines = "lot 1\nregister\nretire\nsize\n";
-        let session = run(rt.alloc(), lines, true, screen);
+        let session = run(rt.alloc(), lines, Typing::AtOnce, screen);
         assert!(rt; session.ended == ended, "{room}");
         assert!(rt; session.shown.as_slice() == shown.as_bytes(), "{room}");
     }
