@@ -1,10 +1,9 @@
 //! Sections that meet the growth of the table.
 
-use crate::common::{TOKEN, raised_by_turns};
+use crate::common::{TOKEN, TURNS, raised_by_turns};
 use crate::expect_equal;
 use parking_lot_core::{
-    DEFAULT_PARK_TOKEN, FilterOp, ParkResult, ParkingLot, ThreadParkerT, WordParker, park,
-    unpark_all, unpark_filter,
+    DEFAULT_PARK_TOKEN, ParkResult, ParkingLot, ThreadParkerT, WordParker, park, unpark_all,
 };
 use std::alloc::Global;
 use std::process::Abort;
@@ -23,18 +22,34 @@ const KEY: usize = 0;
 
 const MOMENTS: u64 = 60;
 
+// Spins so long. It ends at once if the clock cannot be read.
+fn spin_for<R: Clock>(rt: &R, delay: Duration) {
+    let Ok(start) = Instant::now(rt) else { return };
+    for _ in 0..TURNS {
+        if !Instant::now(rt).is_ok_and(|now| now.duration_since(start) < delay) {
+            return;
+        }
+    }
+}
+
+fn sees_a_waiter<P: ThreadParkerT, R: Wait>(rt: &R, alloc: Global, lot: &ParkingLot<P>) -> bool {
+    match lot.list(rt, alloc, KEY) {
+        Ok(waiting) => !waiting.is_empty(),
+        Err(_) => false,
+    }
+}
+
 // Waits until the growth has begun and then so long, and tells whether somebody is seen to wait.
 fn sees_a_waiter_after<P: ThreadParkerT, R: Wait + Clock>(
     rt: &R,
+    alloc: Global,
     lot: &ParkingLot<P>,
     has_begun: &AtomicBool,
     delay: Duration,
 ) -> bool {
     raised_by_turns(has_begun);
-    if let Ok(start) = Instant::now(rt) {
-        while Instant::now(rt).is_ok_and(|now| now.duration_since(start) < delay) {}
-    }
-    unpark_filter(rt, lot, KEY, |_| FilterOp::Skip, |_| TOKEN).have_more_threads
+    spin_for(rt, delay);
+    sees_a_waiter(rt, alloc, lot)
 }
 
 // Registers one thread more, and tells how long that took, or `None` if it was refused.
@@ -60,7 +75,7 @@ fn watch_a_growth<P: ThreadParkerT + Send + Sync, R: Threads + Wait + Clock + Sy
     let has_begun = AtomicBool::new(false);
     let watched = thread::join(
         rt,
-        || sees_a_waiter_after(rt, lot, &has_begun, delay),
+        || sees_a_waiter_after(rt, alloc, lot, &has_begun, delay),
         || grow(rt, alloc, lot, &has_begun),
     );
     unpark_all(rt, lot, KEY, TOKEN);
