@@ -8,7 +8,7 @@ use Rattle.std.proofs.lemmas.Fn.{chained_keeps}
 use Rattle.std.specs.Fn.{Called, Mut}
 use Rattle.std.specs.declared.alloc.Global.{Global}
 use Rattle.lot_base.specs.declared.queue.Node.{Node}
-use Rattle.lot_base.specs.declared.token.NoMemory.{NoMemory}
+use Rattle.lot_word_lock.specs.declared.no_memory.NoMemory.{NoMemory}
 use Rattle.lot_base.specs.Fold.{CanFold, Folds, CalledAtNode}
 use Rattle.lot_base.specs.Node.{fields}
 use Rattle.lot_base.specs.NodeFields.{NodeFields}

@@ -12,13 +12,4 @@ pub mod RemoveLemmas
 pub mod SpreadLemmas
 pub mod LawLemmas
 pub mod TestLemmas
-pub mod WordCounts
-pub mod WordSeats
-pub mod WordBoard
-pub mod WordTries
-pub mod WordWaits
-pub mod WordHolds
-pub mod WordKeeps
-pub mod WordKeyLemmas
-pub mod WordLockHolds
 pub mod WordParkerLemmas

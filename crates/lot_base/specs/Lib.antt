@@ -18,16 +18,9 @@ pub mod Filter
 pub mod Requeue
 pub mod Fold
 pub mod Chain
--- Last a word lock, after `View` of src/word_lock/view.rt and `State`, `Me` and `Step` of the crate atomic_table: the
--- places of its list, what its callers know, the key that they carry, what holds between any two steps, and what
--- `lock` gives.
-pub mod WordPlaces
-pub mod WordView
-pub mod WordKey
-pub mod WordLockInvariant
-pub mod WordLock
--- Then a rule from which that follows, as the lock's table keeps it, and what each step tells its caller.
-pub mod WordRule
-pub mod WordSteps
--- Beside it the rule of a parker of one word.
+-- Last the rule of a parker of one word, after `State`, `Me` and `Step` of the crate atomic_table.
 pub mod WordParkerRule
+-- The definitions of the word lock, of the crate below.
+pub use Rattle.lot_word_lock.specs.WordKey
+pub use Rattle.lot_word_lock.specs.WordLock
+pub use Rattle.lot_word_lock.specs.WordLockInvariant

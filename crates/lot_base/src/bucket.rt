@@ -16,7 +16,7 @@ mod requeue;
 
 use crate::queue::{Node, Queue};
 use crate::token::{FilterOp, NoMemory, ParkToken, RequeueOp, UnparkResult, UnparkToken};
-use crate::word_lock::Fits;
+use lot_word_lock::word_lock::Fits;
 use passing::{
     queue_of, take_chosen, take_every, take_first, take_numbered, with_unpark_token, write_token,
 };

@@ -6,6 +6,7 @@ ghost use Rattle.std.specs.Prelude.{◌≡◌, ◌↔◌, IsTrue};
 ghost use Rattle.lot_base.specs.declared.token.LotError.{LotError};
 ghost use Rattle.lot_base.specs.declared.token.UnparkToken.{UnparkToken};
 
+pub use lot_word_lock::no_memory::NoMemory;
 use std::alloc::{AllocError, AllocFailed};
 use thiserror::Error;
 
@@ -108,7 +109,7 @@ pub enum LotError {
     #[error("no free thread number")]
     Full,
 
-    /// A request for memory was refused. Nothing changed.
+    /// A request for memory was refused. Nothing changed, unless the call says otherwise.
     #[error("no memory")]
     NoMemory,
 }
@@ -142,23 +143,6 @@ impl From<NoMemory> for LotError {
 #[error("step does not fit")]
 pub struct Misfit;
 
-/// A request for memory was refused. Nothing changed.
-#[derive(Eq, PartialEq, Debug, Drop, Error)]
-#[error("no memory")]
-pub struct NoMemory;
-
-impl From<AllocError> for NoMemory {
-    fn from(_error: AllocError) -> NoMemory {
-        NoMemory
-    }
-}
-
-impl<T: Drop> From<AllocFailed<T>> for NoMemory {
-    fn from(_error: AllocFailed<T>) -> NoMemory {
-        NoMemory
-    }
-}
-
 /// Why a step that may ask for memory was refused.
 #[derive(Eq, PartialEq, Debug, Drop, Error)]
 pub enum StepError {
@@ -166,7 +150,7 @@ pub enum StepError {
     #[error("step does not fit")]
     Misfit,
 
-    /// A request for memory was refused. Nothing changed.
+    /// A request for memory was refused. Nothing changed, unless the call says otherwise.
     #[error("no memory")]
     NoMemory,
 }

@@ -54,7 +54,7 @@ use_of _ = Registered
 abbrev pub uses : List ThreadState → List Use
 uses threads = map (λ thread. use_of thread.status) threads
 
--- what every lot keeps
+-- what every lot keeps. Its lists are read off the row, so `represents` says that each node is in the bucket of its key
 pub record IsLot (lot : LotState) : Type 0 where
   pub represents : Represents lot.buckets (machine lot).lists
   pub numbers : (number : ℕ) → (thread_at lot.threads number).number ≡ number

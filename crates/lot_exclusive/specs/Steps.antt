@@ -50,8 +50,8 @@ IsReturn m thread (status.Taken token) given new =
     Gives (with_status m thread status.Running) (answer.Unparked token) given new
 IsReturn m thread _ given new = Gives m answer.Misfit given new
 
--- Resolve, where the thread has this status: a late one leaves its list, and one that was taken does as in Return; it
--- ends the park of a thread whose deadline has passed, and which may have been unparked before
+-- Resolve, where the thread has this status: a late one leaves its list, and one that was taken does as in Return,
+-- whether its deadline has passed or not, and also if it had none
 abbrev pub IsResolve : Machine → ℕ → Status → Answer → Machine → Type 0
 IsResolve m thread status.Late given new =
     (key : ℕ) × StandsAt m thread key × Gives (after_timeout m thread key)

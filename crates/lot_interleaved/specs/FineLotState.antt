@@ -5,8 +5,8 @@ use Rattle.lot_base.specs.declared.token.UnparkToken.{UnparkToken}
 use Rattle.lot_interleaved.specs.InterleavedState.{Caller}
 use Rattle.lot_exclusive.specs.LotState.{ThreadState}
 
--- a thread: what any lot keeps of it, where its key is its key word, which a thread that is not let in leaves; the key that it has read since it is late; and the
--- token of the node in its slot
+-- a thread: what any lot keeps of it, where its key is its key word, which an Enter that is not valid leaves as it was;
+-- the key that it has read since it is late; and the token of the node in its slot
 pub record FineThreadState : Type 0 where
   pub thread : ThreadState
   pub key_read : Option ℕ

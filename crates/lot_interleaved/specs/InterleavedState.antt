@@ -15,7 +15,8 @@ pub record Section : Type 0 where
   pub held : List ℕ
   pub taken : List TakenThread
 
--- a caller: its section, if one is open, and how many threads it is still to wake
+-- a caller: its section, if one is open, and how many threads it is still to wake. Of these only the number is kept: a
+-- thread may return once its slot is full, woken or not, so no rule says that the right one is woken
 pub record Caller : Type 0 where
   pub section : Option Section
   pub wakes : ℕ

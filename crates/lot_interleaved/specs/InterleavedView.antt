@@ -1,5 +1,7 @@
 -- What the interleaved machine amounts to: the state of the machine with one list for each key that an interleaved
--- state stands for, and the steps of that machine that a run stands for, with their answers.
+-- state stands for, and the steps of that machine that a run stands for, with their answers. The first is an abstraction
+-- function, and a sequential step stands in the run at its linearization point. `Fine` in a name means: of the
+-- interleaved machine.
 use Rattle.std.specs.Prelude.{◌≡◌, ℕ, ◌+◌, ◌≤◌, ◌==◌, Bool, false, IsTrue, is_some, Option, Some, None, List, ◌∷◌, ◌++◌}
 use Rattle.std.specs.Prelude.{[]}
 use Rattle.std.specs.Prelude.{All, count_by, flat_map, map, if◌then◌else◌}

@@ -42,7 +42,8 @@ fits m (Acquire thread _) = is_running (m.status thread)
 fits m (Release thread _) = is_running (m.status thread)
 
 -- of which thread a step changes what is set aside, and to how many entries: a thread that entered has one for the end
--- of its park, and if it entered timed one more for its deadline
+-- of its park, and if it entered timed one more for its deadline. Both stay aside until the deadline or the end of the
+-- park, also once the thread was unparked
 abbrev pub set_aside_by : Step → Answer → Option (ℕ × ℕ)
 set_aside_by (Enter thread _ _ _ timed) answer.Entered = Some (thread, if timed then 2 else 1)
 set_aside_by (Deadline thread) answer.Late = Some (thread, 1)

@@ -3,7 +3,7 @@ use Rattle.std.specs.Prelude.{◌≡◌, ℕ, ◌<◌, ◌≤◌, ◌^◌, Bool,
 use Rattle.std.specs.List.{join_with_byte, AllByRecursion}
 use Rattle.lot_tools.specs.declared.script.input.TheConstants.{MAX_LINE}
 
--- a word is a name, or a number
+-- a word is a name, or a number. A name may be any bytes: which names there are say the words of each form
 pub data Word : Type 0 where
   name : List ℕ → Word
   number : ℕ → Word

@@ -9,7 +9,7 @@ use Rattle.lot_base.specs.BucketState.{BucketState, KeepsPlace, IsBucketAt}
 use Rattle.lot_exclusive.specs.Represents.{bucket_at}
 use Rattle.parking_lot_core.specs.Private.Section.{BucketLock, place_in, IsLockAt, AreLocksOfRow}
 use Rattle.parking_lot_core.proofs.ParkingLotLemmas.{range-push}
-use Rattle.lot_base.specs.WordLock.{key_of}
+use Rattle.lot_word_lock.specs.WordLock.{key_of}
 
 -- one more lock, of the next place
 pub locks-push : (n : ℕ) (cells : List BucketLock) (cell : BucketLock) → IsLockAt (length cells) n cell

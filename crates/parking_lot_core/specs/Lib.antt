@@ -1,9 +1,9 @@
 -- The threaded lot as contracts see it. What the lots without threads mean stands in lot_exclusive and lot_interleaved,
 -- and what a word lock keeps in lot_base; both are handed on.
 pub use Rattle.lot_base.specs.Waiting
-pub use Rattle.lot_base.specs.WordKey
-pub use Rattle.lot_base.specs.WordLock
-pub use Rattle.lot_base.specs.WordLockInvariant
+pub use Rattle.lot_word_lock.specs.WordKey
+pub use Rattle.lot_word_lock.specs.WordLock
+pub use Rattle.lot_word_lock.specs.WordLockInvariant
 pub use Rattle.lot_exclusive.specs.Status
 pub use Rattle.lot_exclusive.specs.Records
 pub use Rattle.lot_exclusive.specs.Machine

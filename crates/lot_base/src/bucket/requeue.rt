@@ -44,18 +44,15 @@ pub(super) fn requeue_from<
     ensures lists { IfSome result (λ _.
         ChangesOnly queue.old queue.new from (split_by op (lists_of queue.old from)).left) }
 {
-    // Pick: what the operation asks for leaves the queue, with the new key where it moves. An abort
-    // ends here.
+    // An abort ends here.
     let picked = pick(queue, from, to, op, moved)?;
 
-    // Count: what was taken, what was moved, and whether any waiter is left.
     let result = UnparkResult {
         unparked_threads: if picked.taken.is_some() { 1 } else { 0 },
         requeued_threads: picked.requeued_threads,
         have_more_threads: picked.have_more_threads,
     };
 
-    // Call back: the token is for the node that was taken, if any.
     let token = callback(op, result);
     Some(Requeued {
         result,

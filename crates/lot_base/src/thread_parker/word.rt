@@ -14,9 +14,9 @@ ghost use Rattle.lot_base.specs.WordParkerRule.{ParkerOrderly, OpenTells, Untold
 
 use super::{Slot, ThreadParkerT, UnparkHandleT, thread_yield, time_left};
 use crate::queue::Node;
-use crate::spinwait::SpinWait;
 use crate::token::NoMemory;
 use atomic_table::{Play, Refused, Seat, Table, TableRule};
+use lot_word_lock::spinwait::SpinWait;
 use std::alloc::Global;
 use std::sync::Wait;
 use std::time::{Clock, Instant};
@@ -86,6 +86,11 @@ struct OpenSlot {
 pub struct WordParker {
     table: Table<Slot, usize, usize, Order, Global>,
     ghost sized: { (table.shared.table_id.words ≡ 15) × (table.shared.table_id.slots ≡ 1) },
+}
+
+// Whether a word that is not busy says that the slot is empty.
+fn says_empty(word: u64) -> bool {
+    word < FULL
 }
 
 // What the word says of a slot that a node was put into. The mark that the owner sleeps stays.
@@ -230,7 +235,7 @@ impl WordParker {
     fn take<R: Wait>(&self, rt: &R) -> Option<Box<Node>>
         ensures { IfSome result (λ node. (fields node.value).number ≡ self.now.table.shared.key) }
     {
-        if self.word(rt) < FULL {
+        if says_empty(self.word(rt)) {
             return None;
         }
         let mut opened = self.open(rt);
@@ -337,7 +342,7 @@ impl ThreadParkerT for WordParker {
     /// Upstream reads its word.
     #[inline]
     fn timed_out<R: Wait>(&self, rt: &R) -> bool {
-        self.word(rt) < FULL
+        says_empty(self.word(rt))
     }
 
     /// A node that is there it takes by a swap and a store. Else it marks that the owner sleeps,

@@ -3,9 +3,9 @@ use Rattle.std.specs.Prelude.{◌≡◌, ◌≢◌, ◌<◌, ℕ, List, length, 
 use Rattle.std.specs.List.{range_with_len}
 use Rattle.lot_base.specs.BucketState.{BucketState, IsBucketAt}
 use Rattle.lot_base.specs.Place.{place_of}
-use Rattle.lot_base.specs.WordLock.{key_of}
+use Rattle.lot_word_lock.specs.WordLock.{key_of}
 use Rattle.lot_base.specs.declared.bucket.BucketPlace.{BucketPlace}
-use Rattle.lot_base.specs.declared.word_lock.WordLock.{WordLock}
+use Rattle.lot_word_lock.specs.declared.word_lock.WordLock.{WordLock}
 use Rattle.parking_lot_core.specs.declared.parking_lot.buckets.Locked.{Locked}
 
 -- a lock around a bucket, which says of which place

@@ -5,7 +5,7 @@ ghost use Rattle.std.specs.Prelude.{◌≡◌, ◌≢◌, ◌+◌, ◌*◌, ◌<
 ghost use Rattle.lot_base.specs.BucketState.{IsBucketAt};
 ghost use Rattle.lot_base.specs.Node.{fields};
 ghost use Rattle.lot_base.specs.Place.{IsTableSize};
-ghost use Rattle.lot_base.specs.WordLock.{IsHeldOf};
+ghost use Rattle.lot_word_lock.specs.WordLock.{IsHeldOf};
 ghost use Rattle.lot_exclusive.specs.Represents.{Represents, waiters_in};
 ghost use Rattle.lot_exclusive.specs.Size.{IsSizeFor};
 ghost use Rattle.lot_exclusive.specs.Table.{IsRowOf, count_registered, IsLeastUnregistered};

@@ -1,6 +1,6 @@
 use Rattle.std.proofs.Common.{◌≡◌, arith, length, subst, sym}
 use Rattle.lot_base.specs.BucketState.{BucketState, IsBucketAt}
-use Rattle.lot_base.specs.WordLock.{key_of}
+use Rattle.lot_word_lock.specs.WordLock.{key_of}
 use Rattle.parking_lot_core.proofs.RowLemmas.{IsFrontOfRow, last_stands, replaces}
 use Rattle.parking_lot_core.proofs.parking_lot.buckets.Row.fill.Goals as goal
 

@@ -1,0 +1,9 @@
+pub mod WordCounts
+pub mod WordSeats
+pub mod WordBoard
+pub mod WordTries
+pub mod WordWaits
+pub mod WordHolds
+pub mod WordKeeps
+pub mod WordKeyLemmas
+pub mod WordLockHolds

@@ -1,0 +1,107 @@
+-- A new lock keeps the rule of the table, and what the steps of a caller ask of its view.
+use Rattle.std.proofs.Common.{◌≡◌, ℕ, ◌+◌, ◌-◌, ◌*◌, ◌/◌, ◌%◌, ◌^◌, ◌<◌, ◌≤◌, ◌≢◌, Bool, true}
+use Rattle.std.proofs.Common.{eqb, List, [], ◌∷◌, ◌++◌, length, get_or, set, sym, refl, ap, ◌∙◌, subst, inl, inr}
+use Rattle.std.proofs.Common.{⊎_elim, arith, append-nil, length-set, get_or-set_other, get_or-set_same}
+use Rattle.std.proofs.Common.{replicate, append_assoc, Option, Some}
+use mathlib.Core.Logic.{dite}
+use mathlib.Core.Option.{some, none, some-injective, some-ne-none}
+use mathlib.Core.Option as maybe
+use native.Mathlib.Decide.{ℕ_discrete}
+use lib.ListN.{get_elem?}
+use lib.Seq.{set-get_or}
+use prog.Atomic.{either}
+use Rattle.atomic_table.specs.Table.{State, Me, step, Act, keeps, takes, gives, Valid, carried_after, stepped}
+use Rattle.atomic_table.specs.Table.{opening, Allows, Enters}
+use Rattle.atomic_table.proofs.Lists.{at_set, set_here, set_else, set_again, at_longer, at_snoc, exchanged}
+use Rattle.lot_word_lock.specs.declared.word_lock.view.View.{View}
+use Rattle.lot_word_lock.specs.declared.word_lock.view.View.TheVariants.{Trying, Enqueued, Holding, Leaving}
+use Rattle.lot_word_lock.specs.WordPlaces.{IsPlace, AllPlaces, total, one_at, times, head, FollowsLinks}
+use Rattle.lot_word_lock.specs.WordView.{resting, leaving}
+use Rattle.lot_word_lock.specs.WordLock.{SlotIsWithHolder, seat_of}
+use Rattle.lot_word_lock.specs.WordLockInvariant.{HasValue, IsHolder}
+use Rattle.lot_word_lock.specs.declared.word_lock.steps.Caller.{Caller}
+use Rattle.lot_word_lock.specs.WordRule.{holds_lock, has_place, waits_with, owes_place, SeatOk, PlaceOk}
+use Rattle.lot_word_lock.specs.WordRule.{Orderly}
+use Rattle.lot_word_lock.specs.WordSteps.{ArriveTells, AcquireTells, TakePlaceTells, GiveBackTells, LinkTells, EnqueueTells, LookTells}
+use Rattle.lot_word_lock.specs.WordSteps.{ReleaseToZeroTells, ReadFirstTells, ReadNextTells, CutTells, ReleaseAfterCutTells, TellTells}
+use Rattle.lot_word_lock.proofs.WordCounts.{total-append, total-set, one_term, two_terms, some_term, total_le}
+use Rattle.lot_word_lock.proofs.WordCounts.{one_at-same, one_at-other, times-append, member_place, AllPlaces-behind}
+use Rattle.lot_word_lock.proofs.WordCounts.{AllPlaces-cut, whole, chain_kept, chain_behind, head_cut, times_cut}
+use Rattle.lot_word_lock.proofs.WordCounts.{chain_cut}
+use Rattle.lot_word_lock.proofs.WordSeats.{waits_has, place_kept, not_waiting, one_owner, seat_kept, charge_here}
+use Rattle.lot_word_lock.proofs.WordSeats.{charge_same, charge_told, Charged, charged_kept, leaving_holds, leaving_has}
+use Rattle.lot_word_lock.proofs.WordSeats.{leaving_waits, leaving_owes, leaving_ok, longer, leads_to, zeros}
+
+module _ {T : Type 0} (fits : T → Type 0) where
+  -- a new lock
+  pub opens : (value : T) → fits value → Orderly fits (opening (replicate 24 0) (Some value ∷ []) resting)
+  opens value fit = record {
+    list = [];
+    long = refl;
+    word = refl;
+    single = omega arith;
+    home = λ _. (value, refl, fit);
+    away = λ e. absurd (omega arith);
+    chain = tt;
+    in_places = tt;
+    each_place = λ p is.
+        let pos = is.0 in
+        let mark = zeros 24 (p + 4) in
+        let no-place = one_at-other p 0 (λ e. omega arith) in
+        record {
+          wanted = 0;
+          marked = omega arith;
+          asked = omega arith;
+          once = omega arith;
+          removed = λ _. refl;
+          waiting = λ ne. absurd (ne (zeros 24 p));
+        };
+    charged = inl refl;
+    each_seat = λ j u e. ⊎_elim (λ t. absurd (some-ne-none u (sym t)))
+        (λ t. subst (SeatOk (replicate 24 0) []) t (λ pos. absurd (omega arith))) (at_snoc [] resting u j e);
+  }
+
+  -- a step of a seat, where the view and the number of slots are known by equations
+  pub at_view : (n n' id : ℕ) (m m' : Me (Option T) View) (i : ℕ) (f : ℕ → ℕ)
+      (then : ℕ → Me (Option T) View → ℕ → Me (Option T) View → Type 0) → n ≡ n' → m ≡ m'
+      → Allows (Orderly fits) n' id m' i f (then n' m') → Allows (Orderly fits) n id m i f (then n m)
+  at_view n n' id m m' i f then slots view allows =
+      subst (λ (k : ℕ). Allows (Orderly fits) k id m i f (then k m)) (sym slots)
+      (subst (λ (x : Me (Option T) View). Allows (Orderly fits) n' id x i f (then n' x)) (sym view) allows)
+
+pub seat_is : {T : Type 0} (m : Me (Option T) View) (v : View) (c : List (ℕ × Option T)) → m.0 ≡ v → m.1 ≡ c
+    → m ≡ (v, c)
+seat_is m v c knows carries = λ i. (knows i, carries i)
+
+-- a holder that has seen these places
+abbrev pub seeing : List ℕ → View
+seeing places = Holding places []
+
+-- what a holder has seen of the list, by the word that tells its newest place
+pub seen_from : (v : View) (newest : ℕ) (older : List ℕ) (word : ℕ) → v ≡ seeing (newest ∷ older)
+    → word ≡ 1 + 2 * newest → IsPlace newest
+    → (v ≡ seeing (word / 2 ∷ older)) × IsPlace (word / 2)
+seen_from v newest older word sees tells-it is =
+    let same : newest ≡ word / 2 = omega arith in
+    (sees ∙ ap (λ (x : ℕ). seeing (x ∷ older)) same, subst IsPlace same is)
+
+module _ {T K : Type 0} (caller : Caller T K) where
+  -- a holder that has the slot
+  pub slot-holder : (seen owed : List ℕ) (inside : Option T) → seat_of caller ≡ (Holding seen owed, (0, inside) ∷ [])
+      → SlotIsWithHolder caller
+  slot-holder seen owed inside is = record {
+    holder = λ _. (inside, λ i. (is i).1);
+    other = λ is_other. absurd (is_other (subst IsHolder (sym (λ i. (is i).0)) tt));
+  }
+
+  -- another caller, which has none
+  pub slot-other : (view : View) → seat_of caller ≡ (view, []) → ¬ IsHolder view → SlotIsWithHolder caller
+  slot-other view is is_other = record {
+    holder = λ holds. absurd (is_other (subst IsHolder (λ i. (is i).0) holds));
+    other = λ _. λ i. (is i).1;
+  }
+
+-- a caller that let the lock go does not hold it
+pub leaving_is-other : (places : List ℕ) → ¬ IsHolder (leaving places)
+leaving_is-other [] holds = holds
+leaving_is-other (_ ∷ _) holds = holds
