@@ -1,34 +1,21 @@
 -- The words of a lock and what its callers know, and the rule after a step of one of them, part by part.
-use Rattle.std.proofs.Common.{◌≡◌, ℕ, ◌+◌, ◌-◌, ◌*◌, ◌/◌, ◌%◌, ◌^◌, ◌<◌, ◌≤◌, ◌≢◌, Bool, true}
-use Rattle.std.proofs.Common.{eqb, List, [], ◌∷◌, ◌++◌, length, get_or, set, sym, refl, ap, ◌∙◌, subst, inl, inr}
-use Rattle.std.proofs.Common.{⊎_elim, arith, append-nil, length-set, get_or-set_other, get_or-set_same}
-use Rattle.std.proofs.Common.{replicate, append_assoc, Option, Some}
-use mathlib.Core.Logic.{dite}
+use Rattle.std.proofs.Common.{◌≡◌, ℕ, ◌+◌, ◌*◌, ◌≤◌, ◌≢◌}
+use Rattle.std.proofs.Common.{List, length, get_or, set, sym, ◌∙◌, subst, inl, inr}
+use Rattle.std.proofs.Common.{⊎_elim, arith, get_or-set_other}
+use Rattle.std.proofs.Common.{Option}
 use mathlib.Core.Option.{some, none, some-injective, some-ne-none}
 use mathlib.Core.Option as maybe
-use native.Mathlib.Decide.{ℕ_discrete}
 use lib.ListN.{get_elem?}
 use lib.Seq.{set-get_or}
-use prog.Atomic.{either}
-use Rattle.atomic_table.specs.Table.{State, Me, step, Act, keeps, takes, gives, Valid, carried_after, stepped}
-use Rattle.atomic_table.specs.Table.{opening, Allows, Enters}
-use Rattle.atomic_table.proofs.Lists.{at_set, set_here, set_else, set_again, at_longer, at_snoc, exchanged}
+use Rattle.atomic_table.specs.Table.{State, Me, Act, Valid, carried_after, stepped}
+use Rattle.atomic_table.proofs.Lists.{at_set, set_again}
 use Rattle.lot_word_lock.specs.declared.word_lock.view.View.{View}
-use Rattle.lot_word_lock.specs.declared.word_lock.view.View.TheVariants.{Trying, Enqueued, Holding, Leaving}
-use Rattle.lot_word_lock.specs.WordPlaces.{IsPlace, AllPlaces, total, one_at, times, head, FollowsLinks}
-use Rattle.lot_word_lock.specs.WordView.{resting, leaving}
+use Rattle.lot_word_lock.specs.WordPlaces.{IsPlace, AllPlaces, total, head, FollowsLinks}
 use Rattle.lot_word_lock.specs.WordLockInvariant.{HasValue}
-use Rattle.lot_word_lock.specs.WordRule.{holds_lock, has_place, waits_with, owes_place, SeatOk, PlaceOk}
+use Rattle.lot_word_lock.specs.WordRule.{holds_lock, SeatOk, PlaceOk}
 use Rattle.lot_word_lock.specs.WordRule.{Orderly}
-use Rattle.lot_word_lock.specs.WordSteps.{ArriveTells, AcquireTells, TakePlaceTells, GiveBackTells, LinkTells, EnqueueTells, LookTells}
-use Rattle.lot_word_lock.specs.WordSteps.{ReleaseToZeroTells, ReadFirstTells, ReadNextTells, CutTells, ReleaseAfterCutTells, TellTells}
-use Rattle.lot_word_lock.proofs.WordCounts.{total-append, total-set, one_term, two_terms, some_term, total_le}
-use Rattle.lot_word_lock.proofs.WordCounts.{one_at-same, one_at-other, times-append, member_place, AllPlaces-behind}
-use Rattle.lot_word_lock.proofs.WordCounts.{AllPlaces-cut, whole, chain_kept, chain_behind, head_cut, times_cut}
-use Rattle.lot_word_lock.proofs.WordCounts.{chain_cut}
-use Rattle.lot_word_lock.proofs.WordSeats.{waits_has, place_kept, not_waiting, one_owner, seat_kept, charge_here}
-use Rattle.lot_word_lock.proofs.WordSeats.{charge_same, charge_told, Charged, charged_kept, leaving_holds, leaving_has}
-use Rattle.lot_word_lock.proofs.WordSeats.{leaving_waits, leaving_owes, leaving_ok, longer, leads_to, zeros}
+use Rattle.lot_word_lock.proofs.WordCounts.{total-set}
+use Rattle.lot_word_lock.proofs.WordSeats.{Charged}
 
 abbrev pub St : Type 0 → Type 0
 St T = State (Option T) View

@@ -1,36 +1,23 @@
 -- A new lock keeps the rule of the table, and what the steps of a caller ask of its view.
-use Rattle.std.proofs.Common.{◌≡◌, ℕ, ◌+◌, ◌-◌, ◌*◌, ◌/◌, ◌%◌, ◌^◌, ◌<◌, ◌≤◌, ◌≢◌, Bool, true}
-use Rattle.std.proofs.Common.{eqb, List, [], ◌∷◌, ◌++◌, length, get_or, set, sym, refl, ap, ◌∙◌, subst, inl, inr}
-use Rattle.std.proofs.Common.{⊎_elim, arith, append-nil, length-set, get_or-set_other, get_or-set_same}
-use Rattle.std.proofs.Common.{replicate, append_assoc, Option, Some}
-use mathlib.Core.Logic.{dite}
-use mathlib.Core.Option.{some, none, some-injective, some-ne-none}
-use mathlib.Core.Option as maybe
-use native.Mathlib.Decide.{ℕ_discrete}
-use lib.ListN.{get_elem?}
-use lib.Seq.{set-get_or}
-use prog.Atomic.{either}
-use Rattle.atomic_table.specs.Table.{State, Me, step, Act, keeps, takes, gives, Valid, carried_after, stepped}
-use Rattle.atomic_table.specs.Table.{opening, Allows, Enters}
-use Rattle.atomic_table.proofs.Lists.{at_set, set_here, set_else, set_again, at_longer, at_snoc, exchanged}
+use Rattle.std.proofs.Common.{◌≡◌, ℕ, ◌+◌, ◌*◌, ◌/◌}
+use Rattle.std.proofs.Common.{List, [], ◌∷◌, sym, refl, ap, ◌∙◌, subst, inl}
+use Rattle.std.proofs.Common.{⊎_elim, arith}
+use Rattle.std.proofs.Common.{replicate, Option, Some}
+use mathlib.Core.Option.{some-ne-none}
+use Rattle.atomic_table.specs.Table.{Me}
+use Rattle.atomic_table.specs.Table.{opening, Allows}
+use Rattle.atomic_table.proofs.Lists.{at_snoc}
 use Rattle.lot_word_lock.specs.declared.word_lock.view.View.{View}
-use Rattle.lot_word_lock.specs.declared.word_lock.view.View.TheVariants.{Trying, Enqueued, Holding, Leaving}
-use Rattle.lot_word_lock.specs.WordPlaces.{IsPlace, AllPlaces, total, one_at, times, head, FollowsLinks}
+use Rattle.lot_word_lock.specs.declared.word_lock.view.View.TheVariants.{Holding}
+use Rattle.lot_word_lock.specs.WordPlaces.{IsPlace}
 use Rattle.lot_word_lock.specs.WordView.{resting, leaving}
 use Rattle.lot_word_lock.specs.WordLock.{SlotIsWithHolder, seat_of}
-use Rattle.lot_word_lock.specs.WordLockInvariant.{HasValue, IsHolder}
+use Rattle.lot_word_lock.specs.WordLockInvariant.{IsHolder}
 use Rattle.lot_word_lock.specs.declared.word_lock.steps.Caller.{Caller}
-use Rattle.lot_word_lock.specs.WordRule.{holds_lock, has_place, waits_with, owes_place, SeatOk, PlaceOk}
+use Rattle.lot_word_lock.specs.WordRule.{SeatOk}
 use Rattle.lot_word_lock.specs.WordRule.{Orderly}
-use Rattle.lot_word_lock.specs.WordSteps.{ArriveTells, AcquireTells, TakePlaceTells, GiveBackTells, LinkTells, EnqueueTells, LookTells}
-use Rattle.lot_word_lock.specs.WordSteps.{ReleaseToZeroTells, ReadFirstTells, ReadNextTells, CutTells, ReleaseAfterCutTells, TellTells}
-use Rattle.lot_word_lock.proofs.WordCounts.{total-append, total-set, one_term, two_terms, some_term, total_le}
-use Rattle.lot_word_lock.proofs.WordCounts.{one_at-same, one_at-other, times-append, member_place, AllPlaces-behind}
-use Rattle.lot_word_lock.proofs.WordCounts.{AllPlaces-cut, whole, chain_kept, chain_behind, head_cut, times_cut}
-use Rattle.lot_word_lock.proofs.WordCounts.{chain_cut}
-use Rattle.lot_word_lock.proofs.WordSeats.{waits_has, place_kept, not_waiting, one_owner, seat_kept, charge_here}
-use Rattle.lot_word_lock.proofs.WordSeats.{charge_same, charge_told, Charged, charged_kept, leaving_holds, leaving_has}
-use Rattle.lot_word_lock.proofs.WordSeats.{leaving_waits, leaving_owes, leaving_ok, longer, leads_to, zeros}
+use Rattle.lot_word_lock.proofs.WordCounts.{one_at-other}
+use Rattle.lot_word_lock.proofs.WordSeats.{zeros}
 
 module _ {T : Type 0} (fits : T → Type 0) where
   -- a new lock
