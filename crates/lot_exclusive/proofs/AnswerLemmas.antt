@@ -17,13 +17,13 @@ use Rattle.lot_exclusive.specs.declared.schedule.Op.{Op}
 use Rattle.lot_exclusive.specs.declared.schedule.Op.TheVariants.{One, All, Filter, Requeue}
 use Rattle.lot_exclusive.specs.declared.schedule.Step.{Step}
 use Rattle.lot_exclusive.specs.declared.schedule.Step.TheVariants.{Register, Retire, Enter, Unpark, Deadline}
-use Rattle.lot_exclusive.specs.declared.schedule.Step.TheVariants.{Resolve, Return, Acquire, Release}
+use Rattle.lot_exclusive.specs.declared.schedule.Step.TheVariants.{Resolve, Return, Acquire, Release, Trim}
 use Rattle.lot_exclusive.specs.Status.{is_running, is_queued, awaits_deadline}
 use Rattle.lot_exclusive.specs.Machine.{Machine, Waiter, IsConsistent, IsFull, IsLeastFree}
 use Rattle.lot_exclusive.specs.Machine.{StandsAt, with_status}
 use Rattle.lot_exclusive.specs.Machine.{after_acquire, after_requeue}
 use Rattle.lot_exclusive.specs.Machine.{after_timeout, is_last}
-use Rattle.lot_exclusive.specs.Steps.{Gives, IsRegister, IsUnpark, IsReturn, IsResolve, IsAcquire, IsStep}
+use Rattle.lot_exclusive.specs.Steps.{Gives, IsRegister, IsUnpark, IsReturn, IsResolve, IsAcquire, IsTrim, IsStep}
 use Rattle.lot_exclusive.specs.Laws.{EachStepHasAnAnswer, NoOtherAnswer, OnlyMemoryIsOpen, AbortChangesNothing}
 use Rattle.lot_exclusive.specs.Laws.{MayWantMemory, ListsAreShort}
 use Rattle.lot_exclusive.proofs.LawLemmas.{MatchBool-both}
@@ -166,6 +166,7 @@ HasAnswer-step m (Acquire thread key) consistent =
 HasAnswer-step m (Release thread key) consistent =
     HasAnswer-either m (Release thread key) (is_running (m.status thread)) _ _ _ _ (λ same. cc) (λ same. cc)
     (λ g new does. does)
+HasAnswer-step m Trim consistent = (answer.Trimmed, (λ same. cc), m, refl)
 
 -- two answers to one step
 Gives-same_answer : {after after' new left : Machine} {expected given other : Answer} → Gives after expected given new
@@ -235,6 +236,14 @@ IsAcquire-same_answer m thread key _ answer.NoMemory new left _ _ _ memory = abs
 IsAcquire-same_answer m thread key answer.Recorded _ new left _ none _ _ = absurd none
 IsAcquire-same_answer m thread key _ _ new left none _ _ _ = absurd none
 
+IsTrim-same_answer : (m : Machine) (given other : Answer) (new left : Machine) → IsTrim m given new
+    → IsTrim m other left → given ≢ answer.NoMemory → other ≢ answer.NoMemory → given ≡ other
+IsTrim-same_answer m answer.Trimmed answer.Trimmed new left _ _ _ _ = refl
+IsTrim-same_answer m answer.NoMemory _ new left _ _ memory _ = absurd (memory refl)
+IsTrim-same_answer m _ answer.NoMemory new left _ _ _ memory = absurd (memory refl)
+IsTrim-same_answer m answer.Trimmed _ new left _ none _ _ = absurd none
+IsTrim-same_answer m _ _ new left none _ _ _ = absurd none
+
 pub IsStep-same_answer : NoOtherAnswer
 IsStep-same_answer m Register given other new left consistent does also memory more =
     IsRegister-same_answer m given other new left does also memory more
@@ -258,8 +267,10 @@ IsStep-same_answer m (Acquire thread key) given other new left consistent does a
     Gives-same_answer does also
 IsStep-same_answer m (Release thread key) given other new left consistent does also _ _ =
     Gives-either (is_running (m.status thread)) _ _ new left _ _ given other does also
+IsStep-same_answer m Trim given other new left consistent does also memory more =
+    IsTrim-same_answer m given other new left does also memory more
 
--- memory is wanting at a registration and at an acquire alone
+-- memory is wanting at a registration, at an acquire and at a trim alone
 Gives-not_memory : {after new : Machine} {expected : Answer} → expected ≢ answer.NoMemory
     → Gives after expected answer.NoMemory new → ⊥
 Gives-not_memory other (is, _) = other (sym is)
@@ -307,12 +318,14 @@ IsOpen-from m (Acquire thread key) new does =
     (λ _ gives. absurd (Gives-not_memory (λ same. cc) gives)) does
 IsOpen-from m (Release thread key) new does =
     absurd (Gives-neither (is_running (m.status thread)) _ _ new _ _ (λ same. cc) (λ same. cc) does)
+IsOpen-from m Trim new same = (tt, same)
 
 IsStep-open : (m : Machine) (step : Step) (new : Machine) → IsOpen m step new → IsStep m step answer.NoMemory new
 IsStep-open m Register new opens = opens
 IsStep-open m (Acquire thread key) new (runs, same) =
     MatchBool-from (is_running (m.status thread)) _ _ (λ _. same)
     (λ stands. absurd (false≢true (sym stands ∙ ap is_running runs)))
+IsStep-open m Trim new (_, same) = same
 IsStep-open m _ new (none, _) = absurd none
 
 pub memory-open : OnlyMemoryIsOpen

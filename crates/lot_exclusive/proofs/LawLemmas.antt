@@ -12,7 +12,7 @@ use Rattle.lot_exclusive.specs.declared.schedule.Op.{Op}
 use Rattle.lot_exclusive.specs.declared.schedule.Op.TheVariants.{One, All, Filter, Requeue}
 use Rattle.lot_exclusive.specs.declared.schedule.Step.{Step}
 use Rattle.lot_exclusive.specs.declared.schedule.Step.TheVariants.{Register, Retire, Enter, Unpark, Deadline}
-use Rattle.lot_exclusive.specs.declared.schedule.Step.TheVariants.{Resolve, Return, Acquire, Release}
+use Rattle.lot_exclusive.specs.declared.schedule.Step.TheVariants.{Resolve, Return, Acquire, Release, Trim}
 use Rattle.lot_exclusive.specs.Status.{is_queued}
 use Rattle.lot_exclusive.specs.Machine.{Machine, Waiter, IsConsistent, times_in, statuses_with_taken, after_timeout}
 use Rattle.lot_exclusive.specs.Machine.{after_acquire, after_release}
@@ -28,6 +28,7 @@ use Rattle.lot_exclusive.proofs.StandingLemmas.{same_machine, is_queued-standing
 use Rattle.lot_exclusive.proofs.WaiterLemmas.{statuses_with_taken-other, statuses_with_taken-among}
 use Rattle.lot_exclusive.proofs.SplitLemmas.{AreParts, AreParts-first, AreParts-all, AreParts-filter, AreParts-by}
 use Rattle.lot_exclusive.proofs.StepLemmas.{MatchBool-either, Running-from, Waiting-from, IsConsistent-step}
+use Rattle.lot_exclusive.proofs.StepLemmas.{IsTrim-unchanged}
 
 -- of two facts that one test chooses, both are of one case
 pub MatchBool-both : (b : Bool) {P Q P' Q' R : Type 0} → (P → P' → R) → (Q → Q' → R) → MatchBool b P Q
@@ -90,6 +91,7 @@ module _ (m : Machine) (given : Answer) (new other : Machine) where
   IsStep-fix (Acquire thread key) =
       MatchBool-both (is_running (m.status thread)) (IsAcquire-fixes m thread key given new other) Gives-fixes
   IsStep-fix (Release thread key) = MatchBool-both (is_running (m.status thread)) Gives-fixes Gives-fixes
+  IsStep-fix Trim = λ is other_is. IsTrim-unchanged m given new is ∙ sym (IsTrim-unchanged m given other other_is)
 
 pub IsStep-fixes : StepAndAnswerFixTheState
 IsStep-fixes m step given new other = IsStep-fix m given new other step
@@ -281,6 +283,8 @@ module _ (m : Machine) (number : ℕ) (given : Answer) (new : Machine) where
   IsStep-turn (Release thread key) consistent =
       MatchBool-either (is_running (m.status thread)) (λ _. Turns-gives (Release thread key) refl)
       (λ _. Turns-gives (Release thread key) refl)
+  IsStep-turn Trim consistent =
+      λ trimmed. ap (λ (left : Machine). is_parked (left.status number)) (IsTrim-unchanged m given new trimmed)
 
 -- what holds from the state after a step, told from the one before
 from_before : (parks ends before after : Bool) (Next : Bool → Type 0)

@@ -1,6 +1,7 @@
 -- Thread numbers, and the sizes of tables.
-use Rattle.std.proofs.Common.{◌≡◌, ℕ, ◌+◌, ◌/◌, ◌^◌, ◌<◌, ◌≤◌, List, [], ◌∷◌, length, get_or, max, slice_get, slice_set}
+use Rattle.std.proofs.Common.{◌≡◌, ℕ, ◌+◌, ◌/◌, ◌^◌, ◌<◌, ◌≤◌, List, [], ◌∷◌, length, get_or, max, min, slice_get, slice_set}
 use Rattle.std.proofs.Common.{Some, refl, ap, ◌∙◌, ⊎_elim, arith, suc, zero, cond}
+use Rattle.std.proofs.Math.Nat.{pow-le-pow_right}
 use Rattle.std.proofs.lemmas.Bool.{cases_lt}
 use Rattle.std.proofs.lemmas.Nat.{pow_below}
 use Rattle.std.proofs.lemmas.List.Sums.{count_by-le-length, sum_by-cons, sum_by-set}
@@ -47,12 +48,12 @@ count_registered-set numbers k free =
     let was : weight (get_or numbers k Free) ≡ 0 = ap weight (get_or_from_slice_get numbers k Free Free free) in
     omega (arith, was, sum_by-set weight numbers k Registered Free (slice_get_within numbers k Free free))
 
--- a power of two of this range is the size of a table
-pub IsTableSize-power : (size : ℕ) → IsPowerOfTwo size → 16 ≤ size → size ≤ 65536 → IsTableSize size
+-- a power of two of this range is the size of a table; the first from 9 on is 16
+pub IsTableSize-power : (size : ℕ) → IsPowerOfTwo size → 9 ≤ size → size ≤ 65536 → IsTableSize size
 IsTableSize-power size power low high = record {
   bits = power.0;
-  at_least_4 = ⊎_elim (λ (h : power.0 < 4). absurd (let p = pow_below power.0 4 h in omega (arith, power.1)))
-      (λ (h : 4 ≤ power.0). h) (cases_lt power.0 4);
+  at_least_4 = ⊎_elim (λ (h : power.0 < 4). absurd (let p = pow-le-pow_right {n = 2} (omega arith) {i = power.0} {j = 3} (omega arith)
+      in omega (arith, power.1))) (λ (h : 4 ≤ power.0). h) (cases_lt power.0 4);
   at_most_16 = ⊎_elim (λ (h : 16 < power.0). absurd (let p = pow_below 16 power.0 h in omega (arith, power.1)))
       (λ (h : power.0 ≤ 16). h) (cases_lt 16 power.0);
   is_power = power.1;
@@ -65,8 +66,21 @@ IsTableSize-least size table =
     omega (arith, table.is_power ∙ ap (λ n. 2 ^ n) e))
     (cases_lt 4 table.bits)
 
+pub IsTableSize-greatest : (size : ℕ) → IsTableSize size → size ≤ 65536
+IsTableSize-greatest size table =
+    let p = pow-le-pow_right {n = 2} (omega arith) {i = table.bits} {j = 16} table.at_most_16 in omega (arith, table.is_power)
+
 -- the next power of two after so many buckets is the size of a table
 pub IsTableSize-grown : (old wanted size : ℕ) → IsTableSize old → old < wanted → wanted ≤ 3072 → IsPowerOfTwo size
     → wanted ≤ size → size / 2 < max 1 wanted → IsTableSize size
 IsTableSize-grown old wanted size table more few power not_below least =
     let low = IsTableSize-least old table in IsTableSize-power size power (omega arith) (omega arith)
+
+-- and so is the smaller of the size of a table and a power of two from 9 on
+pub IsTableSize-trimmed : (size least : ℕ) → IsTableSize size → IsPowerOfTwo least → 9 ≤ least
+    → IsTableSize (min least size)
+IsTableSize-trimmed size least table power above =
+    ⊎_elim (λ (h : size < least). let e : min least size ≡ size = omega arith in rw e table)
+    (λ (h : least ≤ size). let e : min least size ≡ least = omega arith in
+    rw e (IsTableSize-power least power above (omega (arith, h, IsTableSize-greatest size table))))
+    (cases_lt size least)

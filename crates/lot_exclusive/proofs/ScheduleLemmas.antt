@@ -77,31 +77,33 @@ threads_after_all-push threads (first ∷ answers) given =
     threads_after_all-push (threads_after threads first) answers given
 
 -- the size after a run, and one step more
-IsSizeAfterRun-push : (threads : ℕ) (answers : List Answer) (old now new : ℕ) (given : Answer)
-    → IsSizeAfterRun threads answers old now
-    → IsSizeAfter given (threads_after (threads_after_all threads answers) given) now new
-    → IsSizeAfterRun threads (answers ++ given ∷ []) old new
-IsSizeAfterRun-push threads [] old now new given same next =
-    (new, subst (λ size. IsSizeAfter given (threads_after threads given) size new) same next, refl)
-IsSizeAfterRun-push threads (first ∷ answers) old now new given (size, changes, rest) next =
-    (size, changes, IsSizeAfterRun-push (threads_after threads first) answers size now new given rest next)
+IsSizeAfterRun-push : (threads : ℕ) (steps : List Step) (answers : List Answer) (old now new : ℕ) (step : Step)
+    (given : Answer) → IsSizeAfterRun threads steps answers old now
+    → IsSizeAfter step given (threads_after (threads_after_all threads answers) given) now new
+    → IsSizeAfterRun threads (steps ++ step ∷ []) (answers ++ given ∷ []) old new
+IsSizeAfterRun-push threads [] [] old now new step given same next =
+    (new, subst (λ size. IsSizeAfter step given (threads_after threads given) size new) same next, refl)
+IsSizeAfterRun-push threads [] (_ ∷ _) old now new step given none next = absurd none
+IsSizeAfterRun-push threads (_ ∷ _) [] old now new step given none next = absurd none
+IsSizeAfterRun-push threads (_ ∷ steps) (first ∷ answers) old now new step given (size, changes, rest) next =
+    (size, changes, IsSizeAfterRun-push (threads_after threads first) steps answers size now new step given rest next)
 
 -- what a list of steps did to a lot
 pub record HasRun (before : LotState) (steps : List Step) (answers : List Answer) (now : LotState) : Type 0 where
   pub run : IsRun IsStep (machine before) steps answers (machine now)
-  pub size : IsSizeAfterRun (threads_of (machine before)) answers (length before.buckets) (length now.buckets)
+  pub size : IsSizeAfterRun (threads_of (machine before)) steps answers (length before.buckets) (length now.buckets)
   pub threads : threads_of (machine now) ≡ threads_after_all (threads_of (machine before)) answers
   pub consistent : IsConsistent (machine now)
 
 pub HasRun-push : (before : LotState) (steps : List Step) (answers : List Answer) (now next : LotState) (step : Step)
     (given : Answer) → HasRun before steps answers now → IsStep (machine now) step given (machine next)
-    → IsSizeAfter given (threads_of (machine next)) (length now.buckets) (length next.buckets)
+    → IsSizeAfter step given (threads_of (machine next)) (length now.buckets) (length next.buckets)
     → HasRun before (steps ++ step ∷ []) (answers ++ given ∷ []) next
 HasRun-push before steps answers now next step given ran does changes = record {
   run = IsRun-push IsStep (machine before) steps answers (machine now) (machine next) step given ran.run does;
-  size = IsSizeAfterRun-push (threads_of (machine before)) answers (length before.buckets) (length now.buckets)
-      (length next.buckets) given ran.size
-      (subst (λ threads. IsSizeAfter given threads (length now.buckets) (length next.buckets)) counted changes);
+  size = IsSizeAfterRun-push (threads_of (machine before)) steps answers (length before.buckets) (length now.buckets)
+      (length next.buckets) step given ran.size
+      (subst (λ threads. IsSizeAfter step given threads (length now.buckets) (length next.buckets)) counted changes);
   threads = counted ∙ sym (threads_after_all-push (threads_of (machine before)) answers given);
   consistent = IsConsistent-step (machine now) step given (machine next) ran.consistent does;
 }

@@ -16,13 +16,13 @@ use Rattle.lot_exclusive.specs.declared.schedule.Op.{Op}
 use Rattle.lot_exclusive.specs.declared.schedule.Op.TheVariants.{One, All, Filter, Requeue}
 use Rattle.lot_exclusive.specs.declared.schedule.Step.{Step}
 use Rattle.lot_exclusive.specs.declared.schedule.Step.TheVariants.{Register, Retire, Enter, Unpark, Deadline}
-use Rattle.lot_exclusive.specs.declared.schedule.Step.TheVariants.{Resolve, Return, Acquire, Release}
+use Rattle.lot_exclusive.specs.declared.schedule.Step.TheVariants.{Resolve, Return, Acquire, Release, Trim}
 use Rattle.lot_exclusive.specs.Records.{one_more, one_less}
 use Rattle.lot_exclusive.specs.Status.{is_registered, is_running, is_queued, is_timed, is_taken, awaits_deadline}
 use Rattle.lot_exclusive.specs.Machine.{Machine, Waiter, StandsAt, MatchesStatus, IsConsistent, times_in}
 use Rattle.lot_exclusive.specs.Machine.{with_status, with_records, after_retire, after_enter, after_unpark}
 use Rattle.lot_exclusive.specs.Machine.{after_requeue, after_timeout}
-use Rattle.lot_exclusive.specs.Steps.{IsRegister, IsUnpark, IsReturn, IsResolve, IsAcquire, IsStep}
+use Rattle.lot_exclusive.specs.Steps.{IsRegister, IsUnpark, IsReturn, IsResolve, IsAcquire, IsTrim, IsStep}
 use Rattle.lot_exclusive.specs.Laws.{NewMachinesAreConsistent, StepsKeepConsistency}
 use Rattle.lot_exclusive.proofs.SplitLemmas.{AreParts, AreParts-first, AreParts-all, AreParts-filter, AreParts-by}
 use Rattle.lot_exclusive.proofs.MachineLemmas.{MatchesStatus-with_status, MatchesStatus-with_records}
@@ -49,6 +49,12 @@ Waiting-from status.Free is = absurd (false≢true is)
 Waiting-from status.Running is = absurd (false≢true is)
 Waiting-from status.Late is = absurd (false≢true is)
 Waiting-from (status.Taken token) is = absurd (false≢true is)
+
+-- a trim leaves the machine
+pub IsTrim-unchanged : (m : Machine) (given : Answer) (new : Machine) → IsTrim m given new → new ≡ m
+IsTrim-unchanged m answer.Trimmed new same = same
+IsTrim-unchanged m answer.NoMemory new same = same
+IsTrim-unchanged m _ new none = absurd none
 
 -- who was taken stands in no list
 pub is_queued-taken : (st : Status) → is_taken st ≡ true → is_queued st ≡ false
@@ -195,6 +201,7 @@ module _ (m : Machine) (keys : ℕ → ℕ) (right : MatchesStatus keys m) where
         (λ runs (_, new_is). becomes
         (with_records-keeps thread (one_less (m.records thread) key) (Running-from (m.status thread) runs)) new_is)
         (λ _ (_, new_is). unchanged new_is)
+    IsStep-keep Trim = λ trimmed. unchanged (IsTrim-unchanged m given new trimmed)
 
 pub IsConsistent-new : NewMachinesAreConsistent
 IsConsistent-new max_threads = (

@@ -14,14 +14,14 @@ use Rattle.lot_exclusive.specs.declared.schedule.Op.{Op}
 use Rattle.lot_exclusive.specs.declared.schedule.Op.TheVariants.{One, All, Filter, Requeue}
 use Rattle.lot_exclusive.specs.declared.schedule.Step.{Step}
 use Rattle.lot_exclusive.specs.declared.schedule.Step.TheVariants.{Register, Retire, Enter, Unpark, Deadline}
-use Rattle.lot_exclusive.specs.declared.schedule.Step.TheVariants.{Resolve, Return, Acquire, Release}
+use Rattle.lot_exclusive.specs.declared.schedule.Step.TheVariants.{Resolve, Return, Acquire, Release, Trim}
 use Rattle.lot_exclusive.specs.Status.{is_registered, is_running, is_queued, awaits_deadline}
 use Rattle.lot_exclusive.specs.Machine.{Machine, Waiter, IsConsistent}
 use Rattle.lot_exclusive.specs.Machine.{times_in, threads_of, statuses_with_taken, with_status}
 use Rattle.lot_exclusive.specs.Machine.{after_retire, after_enter, after_unpark, after_requeue}
 use Rattle.lot_exclusive.specs.Machine.{after_timeout}
 use Rattle.lot_exclusive.specs.Size.{threads_after}
-use Rattle.lot_exclusive.specs.Steps.{Gives, IsRegister, IsUnpark, IsReturn, IsResolve, IsAcquire, IsStep}
+use Rattle.lot_exclusive.specs.Steps.{Gives, IsRegister, IsUnpark, IsReturn, IsResolve, IsAcquire, IsTrim, IsStep}
 use Rattle.lot_exclusive.specs.Laws.{AnswersCountThreads}
 use Rattle.lot_exclusive.proofs.CountLemmas.{count_by-alike, count_by-one_more}
 use Rattle.lot_exclusive.proofs.StandingLemmas.{is_queued-standing}
@@ -149,6 +149,11 @@ module _ (m : Machine) (consistent : IsConsistent m) (given : Answer) (new : Mac
   IsAcquire-counts thread key answer.NoMemory new_is = ap threads_of new_is
   IsAcquire-counts thread key _ none = absurd none
 
+  IsTrim-counts : (given : Answer) → IsTrim m given new → Counts new given
+  IsTrim-counts answer.Trimmed new_is = ap threads_of new_is
+  IsTrim-counts answer.NoMemory new_is = ap threads_of new_is
+  IsTrim-counts _ none = absurd none
+
   pub IsStep-counts : (step : Step) → IsStep m step given new → Counts new given
   IsStep-counts Register = IsRegister-counts given
   IsStep-counts (Retire thread) =
@@ -174,6 +179,7 @@ module _ (m : Machine) (consistent : IsConsistent m) (given : Answer) (new : Mac
       MatchBool-either (is_running (m.status thread)) (λ _. IsAcquire-counts thread key given) (λ _. Counts-gives refl)
   IsStep-counts (Release thread key) =
       MatchBool-either (is_running (m.status thread)) (λ _. Counts-gives refl) (λ _. Counts-gives refl)
+  IsStep-counts Trim = IsTrim-counts given
 
 pub threads_of-step : AnswersCountThreads
 threads_of-step m step given new consistent does = IsStep-counts m consistent given new step does

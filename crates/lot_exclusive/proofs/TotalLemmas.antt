@@ -18,10 +18,10 @@ use Rattle.lot_exclusive.specs.declared.schedule.Op.{Op}
 use Rattle.lot_exclusive.specs.declared.schedule.Op.TheVariants.{One, All, Filter, Requeue}
 use Rattle.lot_exclusive.specs.declared.schedule.Step.{Step}
 use Rattle.lot_exclusive.specs.declared.schedule.Step.TheVariants.{Register, Retire, Enter, Unpark, Deadline}
-use Rattle.lot_exclusive.specs.declared.schedule.Step.TheVariants.{Resolve, Return, Acquire, Release}
+use Rattle.lot_exclusive.specs.declared.schedule.Step.TheVariants.{Resolve, Return, Acquire, Release, Trim}
 use Rattle.lot_exclusive.specs.Machine.{Machine, Waiter, MatchesStatus, times_in, statuses_with_taken}
 use Rattle.lot_exclusive.specs.Status.{is_queued, is_taken, is_running, awaits_deadline}
-use Rattle.lot_exclusive.specs.Steps.{Gives, IsRegister, IsUnpark, IsReturn, IsResolve, IsAcquire, IsStep}
+use Rattle.lot_exclusive.specs.Steps.{Gives, IsRegister, IsUnpark, IsReturn, IsResolve, IsAcquire, IsTrim, IsStep}
 use Rattle.lot_exclusive.specs.Totals.{unparked_by, returned_by, taken_threads_of, UnparkedThreadsComeBack}
 use Rattle.lot_exclusive.proofs.CountLemmas.{count_by-alike, count_by-one_more}
 use Rattle.lot_exclusive.proofs.StandingLemmas.{is_queued-standing, StandsAt-standing}
@@ -190,6 +190,11 @@ module _ (m : Machine) (given : Answer) (new : Machine) where
     by_acquire thread key answer.NoMemory new_is = let left = ap taken_threads_of new_is in omega (arith, left)
     by_acquire thread key _ none = absurd none
 
+    by_trim : (given : Answer) → IsTrim m given new → Balances new given
+    by_trim answer.Trimmed new_is = let left = ap taken_threads_of new_is in omega (arith, left)
+    by_trim answer.NoMemory new_is = let left = ap taken_threads_of new_is in omega (arith, left)
+    by_trim _ none = absurd none
+
     IsStep-balances : (step : Step) → IsStep m step given new → Balances new given
     IsStep-balances Register = by_register given
     IsStep-balances (Retire thread) =
@@ -218,6 +223,7 @@ module _ (m : Machine) (given : Answer) (new : Machine) where
     IsStep-balances (Release thread key) =
         MatchBool-either (is_running (m.status thread)) (λ _. Balances-quiet refl refl refl)
         (λ _. Balances-quiet refl refl refl)
+    IsStep-balances Trim = by_trim given
 
 pub IsRun-balances : UnparkedThreadsComeBack
 IsRun-balances m [] [] last consistent ran = let same = ap taken_threads_of ran in omega (arith, same)

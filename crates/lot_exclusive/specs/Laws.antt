@@ -1,5 +1,5 @@
 -- What the definitions of `Steps` give for every machine and every run.
-use Rattle.std.specs.Prelude.{◌≡◌, ◌≢◌, ◌↔◌, ℕ, ◌≤◌, List, length}
+use Rattle.std.specs.Prelude.{◌≡◌, ◌≢◌, ◌↔◌, ℕ, ◌≤◌, ⊤, List, length}
 use Rattle.lot_base.specs.declared.token.UnparkToken.{UnparkToken}
 use Rattle.lot_base.specs.declared.token.RequeueOp.TheVariants.{Abort}
 use Rattle.lot_base.specs.Waiting.{split_by}
@@ -7,7 +7,7 @@ use Rattle.lot_exclusive.specs.declared.lot.Status.TheVariants.{Running}
 use Rattle.lot_exclusive.specs.declared.schedule.Answer.{Answer}
 use Rattle.lot_exclusive.specs.declared.schedule.Answer.TheVariants.{NoMemory, Recorded, Released}
 use Rattle.lot_exclusive.specs.declared.schedule.Step.{Step}
-use Rattle.lot_exclusive.specs.declared.schedule.Step.TheVariants.{Register, Acquire, Release}
+use Rattle.lot_exclusive.specs.declared.schedule.Step.TheVariants.{Register, Acquire, Release, Trim}
 use Rattle.lot_exclusive.specs.Status.{is_parked}
 use Rattle.lot_exclusive.specs.Machine.{Machine, IsConsistent, IsFull, new_machine, threads_of, after_requeue}
 use Rattle.lot_exclusive.specs.Size.{threads_after}
@@ -34,10 +34,11 @@ abbrev pub NoOtherAnswer : Type 0
 NoOtherAnswer = (m : Machine) (step : Step) (given other : Answer) (new left : Machine) → IsConsistent m
     → IsStep m step given new → IsStep m step other left → given ≢ NoMemory → other ≢ NoMemory → given ≡ other
 
--- where memory may be wanting: at a registration if a number is free, and at an acquire of a running thread
+-- where memory may be wanting: at a registration if a number is free, at an acquire of a running thread, and at a trim
 abbrev pub MayWantMemory : Machine → Step → Type 0
 MayWantMemory m Register = IsFull m → ⊥
 MayWantMemory m (Acquire thread _) = m.status thread ≡ Running
+MayWantMemory m Trim = ⊤
 MayWantMemory m _ = ⊥
 
 -- there, and nowhere else, a step may be answered by `NoMemory`, and then it changes nothing

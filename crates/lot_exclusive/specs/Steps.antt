@@ -10,7 +10,7 @@ use Rattle.lot_exclusive.specs.declared.schedule.Op.{Op}
 use Rattle.lot_exclusive.specs.declared.schedule.Op.TheVariants.{One, All, Filter, Requeue}
 use Rattle.lot_exclusive.specs.declared.schedule.Step.{Step}
 use Rattle.lot_exclusive.specs.declared.schedule.Step.TheVariants.{Register, Retire, Enter, Unpark, Deadline}
-use Rattle.lot_exclusive.specs.declared.schedule.Step.TheVariants.{Resolve, Return, Acquire, Release}
+use Rattle.lot_exclusive.specs.declared.schedule.Step.TheVariants.{Resolve, Return, Acquire, Release, Trim}
 use Rattle.lot_exclusive.specs.Status.{is_running, awaits_deadline}
 use Rattle.lot_exclusive.specs.Machine.{Machine, Waiter, IsLeastFree, IsFull, StandsAt, is_last, with_status}
 use Rattle.lot_exclusive.specs.Machine.{after_retire, after_acquire, after_release, after_enter, after_unpark}
@@ -64,6 +64,12 @@ IsAcquire m thread key answer.Recorded new = new ≡ after_acquire m thread key
 IsAcquire m thread key answer.NoMemory new = new ≡ m
 IsAcquire m thread key _ new = ⊥
 
+-- Trim: lists, statuses and records stay, whether the table is smaller then or memory is wanting
+abbrev pub IsTrim : Machine → Answer → Machine → Type 0
+IsTrim m answer.Trimmed new = new ≡ m
+IsTrim m answer.NoMemory new = new ≡ m
+IsTrim m _ new = ⊥
+
 -- one step: the state before, the step, its answer and the state after; one that does not fit the status of its
 -- thread is answered by `Misfit`, and changes nothing
 abbrev pub IsStep : Machine → Step → Answer → Machine → Type 0
@@ -87,6 +93,7 @@ IsStep m (Acquire thread key) given new =
 IsStep m (Release thread key) given new =
     MatchBool (is_running (m.status thread)) (Gives (after_release m thread key) answer.Released given new)
     (Gives m answer.Misfit given new)
+IsStep m Trim given new = IsTrim m given new
 
 -- an answer that is the outcome of a park
 abbrev pub is_outcome : Answer → Bool

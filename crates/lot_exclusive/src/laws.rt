@@ -24,8 +24,8 @@ pub fn answers_fix_the_run()
 {}
 
 /// In a consistent machine, such as that of every lot, each step has an answer, and just one: but
-/// that a registration, where a number is free, and an acquire of a running thread may be answered
-/// by `NoMemory` too.
+/// that a registration, where a number is free, an acquire of a running thread, and a trim may be
+/// answered by `NoMemory` too.
 pub fn each_step_has_one_answer()
     ensures some { EachStepHasAnAnswer }
     ensures one { NoOtherAnswer }

@@ -8,7 +8,7 @@ ghost use Rattle.lot_base.specs.Waiting.{split_first, split_all, split_filter, s
 ghost use Rattle.lot_exclusive.specs.Status.{is_taken, can_resolve};
 ghost use Rattle.lot_exclusive.specs.Machine.{new_machine, threads_of, with_status, IsLeastFree, IsFull, after_retire, after_acquire, after_release, after_enter, after_unpark, after_requeue, is_last, after_timeout, StandsAt, IsConsistent};
 ghost use Rattle.lot_exclusive.specs.Lot.{waiter_park_tokens};
-ghost use Rattle.lot_exclusive.specs.Size.{IsSizeFor};
+ghost use Rattle.lot_exclusive.specs.Size.{IsSizeFor, IsTrimmedSize, IsTooLarge};
 ghost use Rattle.lot_exclusive.specs.LotState.{KeepsSize};
 ghost use Rattle.lot_exclusive.specs.Lot.{machine};
 
@@ -53,8 +53,8 @@ pub enum Status {
 ///
 /// Threads go by their numbers. What each step does is told by the machine that the lot means,
 /// which has one list of waiters for each key. A step that does not fit the status of its thread
-/// answers `Misfit`, changes nothing and calls no closure. Only `new`, `register`, `acquire` and
-/// `list` ask for memory. No call takes a lock.
+/// answers `Misfit`, changes nothing and calls no closure. Only `new`, `register`, `trim`, `acquire`
+/// and `list` ask for memory. No call takes a lock.
 ///
 /// Upstream has no such type. Its `park` is `enter`, and after the sleep `resolve`.
 #[derive(Drop)]
@@ -147,6 +147,31 @@ impl Lot {
         self.threads.get_mut(number).ok_or(Misfit)?.retire()?;
         self.table.release(number);
         Ok(())
+    }
+
+    /// Makes the table smaller, if it has more buckets than the threads that are registered need:
+    /// than the next power of two of three for each, counted as three threads where there are
+    /// fewer. It fits always, and every list, status and record stays as it was.
+    ///
+    /// It is one `Table::trim`: where the table is not too large it costs nothing and asks for no
+    /// memory. Else it asks for the smaller row of buckets, visits each bucket of the larger one
+    /// and each waiting node, and gives all the memory of the larger row back. Upstream's table
+    /// never becomes smaller.
+    ///
+    /// # Errors
+    ///
+    /// `NoMemory` if memory for the smaller row cannot be had, and never where the table is not too
+    /// large. Nothing changed then.
+    pub fn trim(&mut self) -> Result<(), NoMemory>
+        ensures unchanged { machine self.new ≡ machine self.old }
+        ensures size { OnOk result
+            (IsTrimmedSize (threads_of (machine self.new))
+            (length self.old.buckets) (length self.new.buckets)) }
+        ensures refused { OnErr result
+            (IsTooLarge (threads_of (machine self.new)) (length self.old.buckets)) }
+        ensures err { OnErr result (self.new ≡ self.old) }
+    {
+        self.table.trim()
     }
 
     /// Puts a running thread last in the list of the key, if `validate` answers true: the first

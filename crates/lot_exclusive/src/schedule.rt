@@ -118,6 +118,9 @@ pub enum Step {
         /// The key that it records once less.
         key: usize,
     },
+
+    /// `Lot::trim`.
+    Trim,
 }
 
 /// What a step answers.
@@ -167,6 +170,9 @@ pub enum Answer {
     /// The thread has recorded the key once less, if it had recorded it.
     Released,
 
+    /// The table has no more buckets than its threads need.
+    Trimmed,
+
     /// The step does not fit the status of its thread.
     Misfit,
 }
@@ -176,15 +182,16 @@ pub enum Answer {
 /// The answers are those of a run of the machine with one list of waiters for each key: from what
 /// the lot meant before, by these steps, to what it means after. `Lot::new` says what a new lot
 /// means. A step that does not fit, as every step of a number that is free, is answered by
-/// `Misfit`. A registration or a recording that finds no memory is answered by `NoMemory`.
+/// `Misfit`. A registration, a recording or a trim that finds no memory is answered by `NoMemory`.
 ///
 /// Each thread's parks and outcomes take turns in these answers, so no park has two outcomes; an
 /// outcome comes first only for a thread that was parked before. This follows from the run, by
 /// `laws::parks_and_outcomes_alternate`. Steps and answers leave nothing open about what the lot
 /// means after, by `laws::answers_fix_the_run`.
 ///
-/// The number of buckets follows the answers: it changes at registrations alone, and keeps three
-/// buckets for each registered thread.
+/// The number of buckets follows steps and answers: it changes at registrations and trims alone,
+/// and keeps three buckets for each registered thread. A trim is refused only where it would make
+/// the table smaller.
 ///
 /// It asks for room for all answers first, and costs what the steps cost.
 ///
@@ -199,8 +206,8 @@ pub fn run(lot: &mut Lot, steps: &[Step], answers: &mut Vec<Answer>) -> Result<(
       run : IsRun IsStep (machine lot.old) steps.now given (machine lot.new);
       outcomes : (number : ℕ) → OutcomesAlternate (parks number)
           (ends_park number) (is_parked ((machine lot.old).status number)) steps.now given;
-      size : IsSizeAfterRun (threads_of (machine lot.old)) given (length lot.old.buckets)
-          (length lot.new.buckets);
+      size : IsSizeAfterRun (threads_of (machine lot.old)) steps.now given
+          (length lot.old.buckets) (length lot.new.buckets);
     }) }
     ensures refused { OnErr result
         (vec_capacity answers.old < vec_len answers.old + length steps.now) }

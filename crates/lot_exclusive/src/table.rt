@@ -1,19 +1,19 @@
 //! The hash table of an exclusive lot: the numbers that threads register under, and the buckets. It
-//! grows with the threads that are registered.
+//! grows with the threads that are registered, and a trim makes it smaller again.
 
 ghost use Rattle.std.specs.Prelude.{◌≡◌, ◌≢◌, ◌↔◌, ◌+◌, ◌*◌, ◌<◌, ◌≤◌, [], Some, IsErrOf, IfOk, OnOk, OnErr, length, nat_lt, replicate, slice_set, slice_get};
 ghost use Rattle.lot_base.specs.Place.{IsTableSize, place_of};
 ghost use Rattle.lot_exclusive.specs.Represents.{bucket_at};
-ghost use Rattle.lot_exclusive.specs.Size.{IsSizeFor};
+ghost use Rattle.lot_exclusive.specs.Size.{IsSizeFor, IsTrimmedSize, IsTooLarge};
 ghost use Rattle.lot_exclusive.specs.Table.{count_registered, IsLeastUnregistered, AreEmpty, KeepsLists};
 
 pub mod growth;
 pub mod numbers;
 mod steps;
 
-use growth::{BUCKETS_PER_THREAD, INITIAL_BUCKETS, empty_buckets, make_room};
+use growth::{BUCKETS_PER_THREAD, INITIAL_BUCKETS, empty_buckets, resize, size_for, trimmed_size};
 use lot_base::bucket::{Bucket, place};
-use lot_base::token::LotError;
+use lot_base::token::{LotError, NoMemory};
 use numbers::Numbers;
 use std::alloc::Global;
 use std::marker::Model;
@@ -151,9 +151,38 @@ impl Table {
             return Err(LotError::Full);
         };
         let threads = self.numbers.registered() + 1;
-        make_room(&mut self.cells, threads)?;
+        let size = size_for(threads, self.cells.len());
+        resize(&mut self.cells, size)?;
         self.numbers.register(number);
         Ok(number)
+    }
+
+    /// Makes the table smaller, if it has more buckets than it needs: than the next power of two of
+    /// 3 for each registered thread, counted as 3 threads where there are fewer. Then it has that
+    /// many; the list of every key stays as it was.
+    ///
+    /// One that is not too large is left, at no cost. Else it allocates the smaller row of buckets
+    /// before it changes anything, visits each bucket of the larger one, takes each waiting node
+    /// once from there and puts it last, by one `push_back`, into the bucket of its key, and then
+    /// gives all the memory of the larger row back.
+    ///
+    /// # Errors
+    ///
+    /// `NoMemory` if memory for the smaller row cannot be had, and never where the table is not too
+    /// large. Nothing changed.
+    ///
+    /// Upstream's table never becomes smaller.
+    pub fn trim(&mut self) -> Result<(), NoMemory>
+        ensures numbers { self.new.numbers ≡ self.old.numbers }
+        ensures size { OnOk result (IsTrimmedSize (count_registered self.old.numbers)
+            (length self.old.cells) (length self.new.cells)) }
+        ensures lists { KeepsLists self.old.cells self.new.cells }
+        ensures refused { OnErr result (IsTooLarge (count_registered self.old.numbers)
+            (length self.old.cells)) }
+        ensures err { OnErr result (self.new ≡ self.old) }
+    {
+        let size = trimmed_size(self.numbers.registered(), self.cells.len());
+        resize(&mut self.cells, size)
     }
 
     /// Frees the number. One that is not registered changes nothing. The table keeps its size.

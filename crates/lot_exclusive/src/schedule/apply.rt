@@ -7,12 +7,13 @@ ghost use Rattle.lot_exclusive.specs.LotState.{KeepsSize};
 ghost use Rattle.lot_exclusive.specs.Machine.{after_unpark, threads_of};
 ghost use Rattle.lot_exclusive.specs.Decisions.{AnswersNext};
 ghost use Rattle.lot_exclusive.specs.Size.{IsSizeAfter};
-ghost use Rattle.lot_exclusive.specs.Steps.{IsRegister, IsUnpark, IsStep};
+ghost use Rattle.lot_exclusive.specs.Steps.{IsRegister, IsUnpark, IsTrim, IsStep};
 
 use super::{Answer, Op, Step};
 use crate::lot::{Lot, Status};
 use lot_base::token::{
-    FilterOp, LotError, Misfit, ParkToken, RequeueOp, StepError, UnparkResult, UnparkToken,
+    FilterOp, LotError, Misfit, NoMemory, ParkToken, RequeueOp, StepError, UnparkResult,
+    UnparkToken,
 };
 
 impl Lot {
@@ -21,8 +22,8 @@ impl Lot {
     /// It costs what the call costs that the step names.
     pub fn apply(&mut self, step: &Step) -> Answer
         ensures step { IsStep (machine self.old) step.now result (machine self.new) }
-        ensures size { IsSizeAfter result (threads_of (machine self.new)) (length self.old.buckets)
-            (length self.new.buckets) }
+        ensures size { IsSizeAfter step.now result (threads_of (machine self.new))
+            (length self.old.buckets) (length self.new.buckets) }
     {
         match step {
             Step::Register => apply_register(self),
@@ -40,14 +41,15 @@ impl Lot {
             Step::Return { thread } => apply_return(self, *thread),
             Step::Acquire { thread, key } => apply_acquire(self, *thread, *key),
             Step::Release { thread, key } => apply_release(self, *thread, *key),
+            Step::Trim => apply_trim(self),
         }
     }
 }
 
 fn apply_register(lot: &mut Lot) -> Answer
     ensures step { IsRegister (machine lot.old) result (machine lot.new) }
-    ensures size { IsSizeAfter result (threads_of (machine lot.new)) (length lot.old.buckets)
-        (length lot.new.buckets) }
+    ensures size { IsSizeAfter Step.Register result (threads_of (machine lot.new))
+        (length lot.old.buckets) (length lot.new.buckets) }
 {
     match lot.register() {
         Ok(number) => Answer::Registered(number),
@@ -134,6 +136,17 @@ fn apply_release(lot: &mut Lot, thread: usize, key: usize) -> Answer
     match lot.release(thread, key) {
         Ok(()) => Answer::Released,
         Err(Misfit) => Answer::Misfit,
+    }
+}
+
+fn apply_trim(lot: &mut Lot) -> Answer
+    ensures step { IsTrim (machine lot.old) result (machine lot.new) }
+    ensures size { IsSizeAfter Step.Trim result (threads_of (machine lot.new))
+        (length lot.old.buckets) (length lot.new.buckets) }
+{
+    match lot.trim() {
+        Ok(()) => Answer::Trimmed,
+        Err(NoMemory) => Answer::NoMemory,
     }
 }
 

@@ -1,12 +1,12 @@
-//! Growth: how many buckets a table has, and how nodes move into the buckets of a larger one.
+//! How many buckets a table has, and how nodes move into the buckets of a larger or smaller one.
 
-ghost use Rattle.std.specs.Prelude.{◌≡◌, ◌*◌, ◌≤◌, ◌++◌, ◌∷◌, [], ℕ, IfOk, OnOk, OnErr, All, length};
+ghost use Rattle.std.specs.Prelude.{◌≡◌, ◌≢◌, ◌*◌, ◌≤◌, ◌++◌, ◌∷◌, [], ℕ, IfOk, OnOk, OnErr, All, length};
 ghost use Rattle.lot_base.specs.BucketState.{KeepsPlace};
 ghost use Rattle.lot_base.specs.Node.{fields};
 ghost use Rattle.lot_base.specs.NodeLists.{lists_of};
 ghost use Rattle.lot_base.specs.Place.{IsTableSize, place_of};
 ghost use Rattle.lot_exclusive.specs.Represents.{nodes_in, waiters_in, Represents};
-ghost use Rattle.lot_exclusive.specs.Size.{IsSizeFor};
+ghost use Rattle.lot_exclusive.specs.Size.{IsSizeFor, IsTrimmedSize};
 ghost use Rattle.lot_exclusive.specs.Table.{IsRowOf, AreEmpty, KeepsLists};
 
 use super::MAX_THREADS;
@@ -19,6 +19,9 @@ use std::alloc::Global;
 pub const INITIAL_BUCKETS: usize = 16;
 
 pub(super) const BUCKETS_PER_THREAD: usize = 3;
+
+// For how many threads a table has buckets where fewer are registered, as at first.
+const LEAST_THREADS: usize = 3;
 
 /// The size that a table of this size takes for so many threads: its own if that has 3 buckets for
 /// each, and else the next power of two of 3 buckets for each.
@@ -34,6 +37,19 @@ pub fn size_for(threads: usize, size: usize) -> usize
         return size;
     }
     wanted.next_power_of_two()
+}
+
+/// The size that a trim gives a table of this size with so many threads: the next power of two of 3
+/// buckets for each, and for 3 threads where there are fewer; its own if that is not larger.
+pub fn trimmed_size(threads: usize, size: usize) -> usize
+    requires size { IsTableSize size }
+    requires room { 3 * threads ≤ size }
+    ensures size { IsTrimmedSize threads size result }
+    ensures table { IsTableSize result }
+    ensures room { 3 * threads ≤ result }
+{
+    let least = (BUCKETS_PER_THREAD * threads.max(LEAST_THREADS)).next_power_of_two();
+    least.min(size)
 }
 
 /// Empty buckets, one for each place of a table of this size. It allocates the row alone.
@@ -82,20 +98,18 @@ fn put_last(bucket: &mut Bucket, node: Box<Node>)
     let _ = bucket.enter(node, || true);
 }
 
-// Lets the table grow if it is too small for so many threads.
-pub(super) fn make_room(cells: &mut Vec<Bucket>, threads: usize) -> Result<(), NoMemory>
-    requires size { IsTableSize (length cells.old.items) }
-    requires threads { threads ≤ MAX_THREADS }
+// Gives the table so many buckets, more or fewer than it has, and keeps each key's list. It asks
+// for the new row alone, before it changes anything, and for none where the size is its own.
+pub(super) fn resize(cells: &mut Vec<Bucket>, size: usize) -> Result<(), NoMemory>
+    requires old_size { IsTableSize (length cells.old.items) }
+    requires size { IsTableSize size }
     requires row { IsRowOf (length cells.old.items) cells.old.items }
-    ensures size { OnOk result (IsSizeFor threads (length cells.old.items)
-        (length cells.new.items)) }
-    ensures table { OnOk result (IsTableSize (length cells.new.items)) }
-    ensures room { OnOk result (3 * threads ≤ length cells.new.items) }
-    ensures row { OnOk result (IsRowOf (length cells.new.items) cells.new.items) }
+    ensures size { OnOk result (length cells.new.items ≡ size) }
+    ensures row { OnOk result (IsRowOf size cells.new.items) }
     ensures lists { OnOk result (KeepsLists cells.old.items cells.new.items) }
+    ensures refused { OnErr result (size ≢ length cells.old.items) }
     ensures err { OnErr result (cells.new.items ≡ cells.old.items) }
 {
-    let size = size_for(threads, cells.len());
     if size == cells.len() {
         return Ok(());
     }
