@@ -11,7 +11,7 @@ use Rattle.lot_exclusive.specs.declared.schedule.Op.{Op}
 use Rattle.lot_exclusive.specs.declared.schedule.Op.TheVariants.{One, All, Filter, Requeue}
 use Rattle.lot_exclusive.specs.declared.schedule.Step.{Step}
 use Rattle.lot_exclusive.specs.declared.schedule.Step.TheVariants.{Register, Retire, Enter, Unpark, Deadline}
-use Rattle.lot_exclusive.specs.declared.schedule.Step.TheVariants.{Resolve, Return, Acquire, Release}
+use Rattle.lot_exclusive.specs.declared.schedule.Step.TheVariants.{Resolve, Return, Acquire, Release, Trim}
 use Rattle.lot_interleaved.specs.declared.interleaved.FineAnswer.{FineAnswer}
 use Rattle.lot_interleaved.specs.declared.interleaved.FineStep.{FineStep}
 use Rattle.lot_interleaved.specs.Copies.{IsCopyOfOp, IsCopyOf, AreCopies}
@@ -52,6 +52,7 @@ IsStep-copy m (Resolve thread) copy given new same does = subst (λ s. IsStep m 
 IsStep-copy m (Return thread) copy given new same does = subst (λ s. IsStep m s given new) (sym same) does
 IsStep-copy m (Acquire thread key) copy given new same does = subst (λ s. IsStep m s given new) (sym same) does
 IsStep-copy m (Release thread key) copy given new same does = subst (λ s. IsStep m s given new) (sym same) does
+IsStep-copy m Trim copy given new same does = subst (λ s. IsStep m s given new) (sym same) does
 
 pub IsRun-copies : (m : Machine) (steps copies : List Step) (answers : List Answer) (last : Machine)
     → AreCopies steps copies → IsRun IsStep m steps answers last → IsRun IsStep m copies answers last

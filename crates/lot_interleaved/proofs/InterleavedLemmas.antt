@@ -75,8 +75,8 @@ IsSizeFor-fixes threads old new other is is_other =
     (λ (stays : 3 * threads ≤ old). is.kept stays ∙ sym (is_other.kept stays))
     (cases_lt old (3 * threads))
 
-IsSizeAfter-fixes : (given : Answer) (threads old new other : ℕ) → IsSizeAfter given threads old new
-    → IsSizeAfter given threads old other → new ≡ other
+IsSizeAfter-fixes : (given : Answer) (threads old new other : ℕ) → IsSizeAfter machine.Register given threads old new
+    → IsSizeAfter machine.Register given threads old other → new ≡ other
 IsSizeAfter-fixes (answer.Registered number) threads old new other = IsSizeFor-fixes threads old new other
 IsSizeAfter-fixes _ threads old new other = λ is is_other. is ∙ sym is_other
 
@@ -128,9 +128,9 @@ module _ (s : FineState) (given : FineAnswer) (new other : FineState) where
       let same : by_rule ≡ by_other = ap machine_answer (sym answers ∙ others) in
       let fixes : view ≡ left = IsStep-fixes s.threads_view machine.Register by_other view left
       (subst (λ a. IsStep s.threads_view machine.Register a view) same does) does_other in
-      let sized_alike : IsSizeAfter by_other (threads_of left) s.size size =
-      subst (λ m. IsSizeAfter by_other (threads_of m) s.size size) fixes
-      (subst (λ a. IsSizeAfter a (threads_of view) s.size size) same sized) in
+      let sized_alike : IsSizeAfter machine.Register by_other (threads_of left) s.size size =
+      subst (λ m. IsSizeAfter machine.Register by_other (threads_of m) s.size size) fixes
+      (subst (λ a. IsSizeAfter machine.Register a (threads_of view) s.size size) same sized) in
       let sizes : size ≡ other_size =
       IsSizeAfter-fixes by_other (threads_of left) s.size size other_size sized_alike other_sized in
       new_is ∙ ap (λ m. record s { threads_view = m; size = size }) fixes

@@ -128,7 +128,7 @@ module _ (s : FineState) (c : IsFineConsistent s) where
 
     -- the table keeps its size, or no section is open
     keeps_or_closed : (not (is_full s) && is_growth_blocked s) ≡ false
-        → IsSizeAfter (answer.Registered number) (threads_of registered.threads_view) s.size size
+        → IsSizeAfter machine.Register (answer.Registered number) (threads_of registered.threads_view) s.size size
         → (size ≡ s.size) ⊎ (taken_of s ≡ [])
     keeps_or_closed free sized =
         ⊎_elim (λ (grows : s.size < 3 * threads_of registered.threads_view). inr (closed grows))
@@ -162,13 +162,13 @@ module _ (s : FineState) (c : IsFineConsistent s) where
 
   -- by the answer of the machine's rule
   by_rule-amounts : (by_rule : Answer) (view : Machine) (size : ℕ) → (not (is_full s) && is_growth_blocked s) ≡ false
-      → steps.IsRegister s.threads_view by_rule view → IsSizeAfter by_rule (threads_of view) s.size size
+      → steps.IsRegister s.threads_view by_rule view → IsSizeAfter machine.Register by_rule (threads_of view) s.size size
       → Amounts s (record s { threads_view = view; size = size }) (sequential_step s Register (fine.Answer by_rule))
   by_rule-amounts (answer.Registered number) view size free (least, left) sized =
       subst (λ m. Amounts s (record s { threads_view = m; size = size })
       (answered machine.Register (answer.Registered number))) (sym left)
       (Amounts-registered number size least (keeps_or_closed number size least free
-      (subst (λ m. IsSizeAfter (answer.Registered number) (threads_of m) s.size size) left sized)))
+      (subst (λ m. IsSizeAfter machine.Register (answer.Registered number) (threads_of m) s.size size) left sized)))
   by_rule-amounts answer.Full view size free (full, left) sized =
       subst (λ m. Amounts s (record s { threads_view = m; size = size }) (answered machine.Register answer.Full))
       (sym left)

@@ -8,7 +8,7 @@ use Rattle.lot_exclusive.specs.declared.schedule.Op.{Op}
 use Rattle.lot_exclusive.specs.declared.schedule.Op.TheVariants.{One, All, Filter, Requeue}
 use Rattle.lot_exclusive.specs.declared.schedule.Step.{Step}
 use Rattle.lot_exclusive.specs.declared.schedule.Step.TheVariants.{Register, Retire, Enter, Unpark, Deadline}
-use Rattle.lot_exclusive.specs.declared.schedule.Step.TheVariants.{Resolve, Return, Acquire, Release}
+use Rattle.lot_exclusive.specs.declared.schedule.Step.TheVariants.{Resolve, Return, Acquire, Release, Trim}
 
 -- a copy of an operation
 abbrev pub IsCopyOfOp : Op → Op → Type 0
@@ -29,6 +29,7 @@ IsCopyOf (Resolve thread) copy = copy ≡ Resolve thread
 IsCopyOf (Return thread) copy = copy ≡ Return thread
 IsCopyOf (Acquire thread key) copy = copy ≡ Acquire thread key
 IsCopyOf (Release thread key) copy = copy ≡ Release thread key
+IsCopyOf Trim copy = copy ≡ Trim
 
 abbrev pub AreCopies : List Step → List Step → Type 0
 AreCopies steps copies = AllZip IsCopyOf steps copies

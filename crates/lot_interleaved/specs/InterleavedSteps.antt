@@ -239,7 +239,7 @@ abbrev pub IsFineRegister : FineState → FineAnswer → FineState → Type 0
 IsFineRegister s given new =
     MatchBool (not (is_full s) && is_growth_blocked s) (FineGives s fine.Blocked given new)
     ((by_rule : Answer) × (view : Machine) × (size : ℕ) × IsStep s.threads_view machine.Register by_rule view
-    × IsSizeAfter by_rule (threads_of view) s.size size
+    × IsSizeAfter machine.Register by_rule (threads_of view) s.size size
     × FineGives (record s { threads_view = view; size = size }) (fine.Answer by_rule) given new)
 
 -- one step: the state before, the step, its answer and the state after
