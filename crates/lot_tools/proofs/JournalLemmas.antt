@@ -18,10 +18,10 @@ use Rattle.lot_exclusive.specs.declared.schedule.Op.{Op}
 use Rattle.lot_exclusive.specs.declared.schedule.Op.TheVariants.{One, All, Filter, Requeue}
 use Rattle.lot_exclusive.specs.declared.schedule.Step.{Step}
 use Rattle.lot_exclusive.specs.declared.schedule.Step.TheVariants.{Register, Retire, Enter, Unpark, Deadline}
-use Rattle.lot_exclusive.specs.declared.schedule.Step.TheVariants.{Resolve, Return, Acquire, Release}
+use Rattle.lot_exclusive.specs.declared.schedule.Step.TheVariants.{Resolve, Return, Acquire, Release, Trim}
 use Rattle.lot_exclusive.specs.Machine.{Machine, Waiter, MatchesStatus, IsConsistent, times_in, statuses_with_taken}
 use Rattle.lot_exclusive.specs.Status.{is_queued, is_running, is_taken, awaits_deadline, can_resolve}
-use Rattle.lot_exclusive.specs.Steps.{Gives, IsRegister, IsUnpark, IsReturn, IsResolve, IsAcquire, IsStep}
+use Rattle.lot_exclusive.specs.Steps.{Gives, IsRegister, IsUnpark, IsReturn, IsResolve, IsAcquire, IsTrim, IsStep}
 use Rattle.lot_exclusive.specs.Run.{IsRun}
 use Rattle.lot_exclusive.proofs.StandingLemmas.{is_queued-standing}
 use Rattle.lot_exclusive.proofs.MachineLemmas.{below_max_threads}
@@ -201,6 +201,15 @@ module _ (m : Machine) (given : Answer) (new : Machine) (asides : List ℕ) (key
       (Keeps-quiet (Acquire thread key) _ _ refl refl backed refl runs (λ same. cc))
   by_acquire thread key runs _ none = absurd none
 
+  by_trim : (told : Answer) → IsTrim m told new → Keeps m asides Trim new told
+  by_trim answer.Trimmed new_is =
+      subst (λ n. Keeps m asides Trim n answer.Trimmed) (sym new_is)
+      (Keeps-quiet Trim m _ refl refl backed refl refl (λ same. cc))
+  by_trim answer.NoMemory new_is =
+      subst (λ n. Keeps m asides Trim n answer.NoMemory) (sym new_is)
+      (Keeps-quiet Trim m _ refl refl backed refl refl (λ same. cc))
+  by_trim _ none = absurd none
+
   by_unpark : (op : Op) → IsUnpark m op given new → Keeps m asides (Unpark op) new given
   by_unpark (One key token) =
       Keeps-gives (Unpark (One key token)) (Keeps-quiet (Unpark (One key token)) _ _ refl refl
@@ -299,6 +308,7 @@ module _ (m : Machine) (given : Answer) (new : Machine) (asides : List ℕ) (key
       (λ runs. Keeps-gives (Release thread key)
       (Keeps-quiet (Release thread key) _ _ refl refl backed refl runs (λ same. cc)))
       (λ _. Keeps-gives (Release thread key) (Keeps-misfit (Release thread key) refl))
+  IsStep-keeps Trim = by_trim given
 
 length-with_aside : (asides : List ℕ) (change : _) → length (with_aside asides change) ≡ length asides
 length-with_aside asides None = refl

@@ -31,7 +31,7 @@ entries_for-fitting step _ fitting = refl
 pub IsRecorded-result_for : (old : RecordState) (step : Step) (given : Answer) (new : RecordState)
     → (LacksRoom old step → ⊥) → IsStep (machine old.lot) step given (machine new.lot)
     → new.journal ≡ old.journal ++ entries_for step given → new.capacity ≡ old.capacity
-    → IsSizeAfter given (threads_of (machine new.lot)) (length old.lot.buckets) (length new.lot.buckets)
+    → IsSizeAfter step given (threads_of (machine new.lot)) (length old.lot.buckets) (length new.lot.buckets)
     → IsRecorded old step (result_for given) new
 IsRecorded-result_for old step answer.NoMemory new roomy does journal capacity size =
     (roomy, answer.NoMemory, refl, does, journal, capacity, size)
@@ -130,7 +130,7 @@ module _ (old : RecordState) (is : IsRecord old) (step : Step) (given : Answer) 
 
   pub IsRecorded-grown : (LacksRoom old step → ⊥) → given ≢ answer.Misfit → (journal : List Entry)
       → journal ≡ pushed.journal
-      → IsSizeAfter given (threads_of (machine lot)) (length old.lot.buckets) (length lot.buckets)
+      → IsSizeAfter step given (threads_of (machine lot)) (length old.lot.buckets) (length lot.buckets)
       → IsRecorded old step (result_for given) (record_of lot journal old.capacity)
   IsRecorded-grown roomy fitting journal same size =
       IsRecorded-result_for old step given (record_of lot journal old.capacity) roomy does
@@ -150,7 +150,7 @@ module _ (old : RecordState) (is : IsRecord old) (step : Step) (given : Answer) 
   asides_of-misfit misfit = ap (λ m. asides_of m.max_threads old.journal) (sym (keeps.same misfit))
 
   pub IsRecorded-misfit : (LacksRoom old step → ⊥) → given ≡ answer.Misfit
-      → IsSizeAfter given (threads_of (machine lot)) (length old.lot.buckets) (length lot.buckets)
+      → IsSizeAfter step given (threads_of (machine lot)) (length old.lot.buckets) (length lot.buckets)
       → IsRecorded old step (Ok answer.Misfit) (record_of lot old.journal old.capacity)
   IsRecorded-misfit roomy misfit size = (
     roomy,
@@ -159,6 +159,6 @@ module _ (old : RecordState) (is : IsRecord old) (step : Step) (given : Answer) 
     subst (λ told. IsStep (machine old.lot) step told (machine lot)) misfit does,
     sym (append-nil old.journal),
     refl,
-    subst (λ told. IsSizeAfter told (threads_of (machine lot)) (length old.lot.buckets) (length lot.buckets)) misfit
+    subst (λ told. IsSizeAfter step told (threads_of (machine lot)) (length old.lot.buckets) (length lot.buckets)) misfit
         size,
   )

@@ -7,10 +7,10 @@ use Rattle.lot_exclusive.specs.declared.schedule.Answer.{Answer}
 use Rattle.lot_exclusive.specs.declared.schedule.Answer.TheVariants as answer
 use Rattle.lot_exclusive.specs.declared.schedule.Op.TheVariants.{One, All, Filter, Requeue}
 use Rattle.lot_exclusive.specs.declared.schedule.Step.TheVariants.{Register, Retire, Enter, Unpark, Deadline}
-use Rattle.lot_exclusive.specs.declared.schedule.Step.TheVariants.{Resolve, Return, Acquire, Release}
+use Rattle.lot_exclusive.specs.declared.schedule.Step.TheVariants.{Resolve, Return, Acquire, Release, Trim}
 use Rattle.lot_exclusive.specs.Machine.{Machine}
 use Rattle.lot_exclusive.specs.Status.{is_parked, is_taken, can_resolve, awaits_deadline}
-use Rattle.lot_exclusive.specs.Steps.{Gives, IsRegister, IsReturn, IsResolve, IsAcquire}
+use Rattle.lot_exclusive.specs.Steps.{Gives, IsRegister, IsReturn, IsResolve, IsAcquire, IsTrim}
 use Rattle.lot_tools.specs.JournalLaws.{MisfitsDoNotFit, ParksHaveEntries, EndsHaveRoom}
 use Rattle.lot_tools.proofs.JournalLemmas.{IsBacked}
 use Rattle.lot_tools.proofs.RecordLemmas.{Replays-backing}
@@ -34,6 +34,9 @@ module _ (m : Machine) (given : Answer) (new : Machine) where
 
   by_acquire : (thread key : ℕ) → IsAcquire m thread key given new → given ≢ answer.Misfit
   by_acquire thread key does misfit = subst (λ told. IsAcquire m thread key told new) misfit does
+
+  by_trim : IsTrim m given new → given ≢ answer.Misfit
+  by_trim does misfit = subst (λ told. IsTrim m told new) misfit does
 
   by_return : (thread : ℕ) (now : Status) → IsReturn m thread now given new
       → (is_taken now ≡ false) ↔ (given ≡ answer.Misfit)
@@ -71,6 +74,7 @@ misfits_do_not_fit m (Resolve thread) given new does = by_resolve m given new th
 misfits_do_not_fit m (Return thread) given new does = by_return m given new thread (m.status thread) does
 misfits_do_not_fit m (Acquire thread key) given new does = by_fit m given new _ (by_acquire m given new thread key) does
 misfits_do_not_fit m (Release thread key) given new does = by_fit m given new _ (answers m given new (λ same. cc)) does
+misfits_do_not_fit m Trim given new does = other m given new (by_trim m given new does)
 
 -- what is set aside for a thread of this status
 IsBacked-parked : (s : Status) (entries : ℕ) → IsBacked s entries → is_parked s ≡ true → 1 ≤ entries

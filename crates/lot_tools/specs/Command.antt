@@ -54,6 +54,7 @@ step_words (step.Resolve thread) = name (codes "resolve") ∷ number thread ∷ 
 step_words (step.Return thread) = name (codes "return") ∷ number thread ∷ []
 step_words (step.Acquire thread key) = name (codes "acquire") ∷ number thread ∷ number key ∷ []
 step_words (step.Release thread key) = name (codes "release") ∷ number thread ∷ number key ∷ []
+step_words step.Trim = name (codes "trim") ∷ []
 
 -- every line but the first: a step, or a question
 abbrev pub command_words : Command → List Word

@@ -7,7 +7,7 @@ use Rattle.lot_exclusive.specs.declared.schedule.Answer.{Answer}
 use Rattle.lot_exclusive.specs.declared.schedule.Answer.TheVariants as answer
 use Rattle.lot_exclusive.specs.declared.schedule.Step.{Step}
 use Rattle.lot_exclusive.specs.declared.schedule.Step.TheVariants.{Register, Retire, Enter, Unpark, Deadline}
-use Rattle.lot_exclusive.specs.declared.schedule.Step.TheVariants.{Resolve, Return, Acquire, Release}
+use Rattle.lot_exclusive.specs.declared.schedule.Step.TheVariants.{Resolve, Return, Acquire, Release, Trim}
 use Rattle.lot_exclusive.specs.Machine.{Machine, new_machine}
 use Rattle.lot_exclusive.specs.Status.{is_running, awaits_deadline, is_taken, can_resolve}
 use Rattle.lot_exclusive.specs.Run.{IsRun}
@@ -40,6 +40,7 @@ fits m (Resolve thread) = can_resolve (m.status thread)
 fits m (Return thread) = is_taken (m.status thread)
 fits m (Acquire thread _) = is_running (m.status thread)
 fits m (Release thread _) = is_running (m.status thread)
+fits m Trim = true
 
 -- of which thread a step changes what is set aside, and to how many entries: a thread that entered has one for the end
 -- of its park, and if it entered timed one more for its deadline. Both stay aside until the deadline or the end of the

@@ -47,4 +47,4 @@ IsRecorded old step result new =
     (LacksRoom old step → ⊥) × (given : Answer) × (result ≡ result_for given)
     × IsStep (machine old.lot) step given (machine new.lot)
     × (new.journal ≡ old.journal ++ entries_for step given) × (new.capacity ≡ old.capacity)
-    × IsSizeAfter given (threads_of (machine new.lot)) (length old.lot.buckets) (length new.lot.buckets)
+    × IsSizeAfter step given (threads_of (machine new.lot)) (length old.lot.buckets) (length new.lot.buckets)

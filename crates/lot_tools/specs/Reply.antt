@@ -32,7 +32,7 @@ state_of lot = record { machine = machine lot; buckets = length lot.buckets }
 -- question changes nothing
 abbrev pub IsReply : State → Command → Reply → State → Type 0
 IsReply old (command.Do step) (reply.Did given) new =
-    IsStep old.machine step given new.machine × IsSizeAfter given (threads_of new.machine) old.buckets new.buckets
+    IsStep old.machine step given new.machine × IsSizeAfter step given (threads_of new.machine) old.buckets new.buckets
 IsReply old (command.List key) (reply.Waiters numbers) new =
     (numbers.items ≡ map (λ waiter. waiter.number) (old.machine.lists key)) × (new ≡ old)
 IsReply old (command.List key) reply.NoMemory new = IsTrue (has_any (old.machine.lists key)) × (new ≡ old)
@@ -62,6 +62,7 @@ answer_words (answer.TimedOut key last) =
 answer_words (answer.Unparked token) = name (codes "unparked") ∷ number token.0 ∷ []
 answer_words answer.Recorded = name (codes "recorded") ∷ []
 answer_words answer.Released = name (codes "released") ∷ []
+answer_words answer.Trimmed = name (codes "trimmed") ∷ []
 answer_words answer.Misfit = name (codes "misfit") ∷ []
 
 abbrev pub reply_words : Reply → List Word

@@ -185,7 +185,7 @@ fn does_fit(lot: &Lot, step: &Step) -> bool
     ensures { result ≡ fits (machine lot.now) step.now }
 {
     match step {
-        Step::Register | Step::Unpark(_) => true,
+        Step::Register | Step::Unpark(_) | Step::Trim => true,
         Step::Retire { thread }
         | Step::Enter { thread, .. }
         | Step::Acquire { thread, .. }

@@ -19,12 +19,13 @@ pub(super) enum Keyword {
     Return,
     Acquire,
     Release,
+    Trim,
     List,
     Records,
     Size,
 }
 
-const KEYWORDS: [Keyword; 15] = [
+const KEYWORDS: [Keyword; 16] = [
     Keyword::Register,
     Keyword::Retire,
     Keyword::Enter,
@@ -37,6 +38,7 @@ const KEYWORDS: [Keyword; 15] = [
     Keyword::Return,
     Keyword::Acquire,
     Keyword::Release,
+    Keyword::Trim,
     Keyword::List,
     Keyword::Records,
     Keyword::Size,
@@ -59,6 +61,7 @@ impl Keyword {
             Keyword::Return => b"return",
             Keyword::Acquire => b"acquire",
             Keyword::Release => b"release",
+            Keyword::Trim => b"trim",
             Keyword::List => b"list",
             Keyword::Records => b"records",
             Keyword::Size => b"size",

@@ -88,6 +88,7 @@ fn parse_arguments(keyword: Keyword, left: Option<&[u8]>) -> Option<Command>
             thread,
             key,
         })),
+        Keyword::Trim => alone(left, Command::Do(Step::Trim)),
         Keyword::List => last_number(left).map(|key| Command::List { key }),
         Keyword::Records => {
             last_numbers(left).map(|(thread, key)| Command::Records { thread, key })

@@ -61,6 +61,7 @@ fn put_answer<W: Write>(output: &mut W, answer: Answer) -> Result<(), NotWritten
         Answer::Unparked(token) => put_named(output, b"unparked ", token.0),
         Answer::Recorded => put(output, b"recorded"),
         Answer::Released => put(output, b"released"),
+        Answer::Trimmed => put(output, b"trimmed"),
         Answer::Misfit => put(output, b"misfit"),
     }
 }
