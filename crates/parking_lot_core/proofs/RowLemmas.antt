@@ -1,12 +1,10 @@
--- The locks of a row, each with the key of its place, and the buckets that growth puts there.
-use Rattle.std.proofs.Common.{◌≡◌, ℕ, ◌+◌, ◌<◌, ◌≤◌, List, [], ◌∷◌, ◌++◌, length, map, zero, suc, get_or, refl, sym, ap, ◌∙◌, arith}
-use Rattle.std.proofs.Common.{length-append, subst}
-use Rattle.std.proofs.Math.Seq.{get_or-append_seam}
+-- The locks of a row, each with the key of its place, and the buckets that come back there.
+use Rattle.std.proofs.Common.{◌≡◌, ℕ, ◌+◌, ◌<◌, List, [], ◌∷◌, ◌++◌, length, map, suc, get_or, sym, ap, ◌∙◌, arith}
+use Rattle.std.proofs.Common.{length-append}
 use Rattle.std.specs.List.{range_with_len}
 use Rattle.std.proofs.lemmas.List.{map-append, get_or-map}
 use Rattle.std.proofs.lemmas.List.FromFn.{get_or-map-range_with_len}
 use Rattle.lot_base.specs.BucketState.{BucketState, KeepsPlace, IsBucketAt}
-use Rattle.lot_exclusive.specs.Represents.{bucket_at}
 use Rattle.parking_lot_core.specs.Private.Section.{BucketLock, place_in, IsLockAt, AreLocksOfRow}
 use Rattle.parking_lot_core.proofs.ParkingLotLemmas.{range-push}
 use Rattle.lot_word_lock.specs.WordLock.{key_of}
@@ -41,22 +39,3 @@ still_stands p n old new keeps stands = record {
   place = keeps.place ∙ stands.place;
   size = keeps.size ∙ stands.size;
 }
-
--- what is left of a row of n buckets once some of the last are taken off
-pub record IsFrontOfRow (n : ℕ) (row : List BucketState) : Type 0 where
-  pub short : length row ≤ n
-  pub stand : (i : ℕ) → i < length row → IsBucketAt i n (bucket_at row i)
-
--- the bucket that was last
-pub last_stands : (n : ℕ) (row : List BucketState) (bucket : BucketState) → IsFrontOfRow n (row ++ bucket ∷ [])
-    → IsBucketAt (length row) n bucket
-last_stands n row bucket front =
-    let blank : BucketState = record { place = length row; size = 0; nodes = [] } in
-    subst (IsBucketAt (length row) n) (get_or-append_seam row bucket [] blank)
-    (front.stand (length row) (omega (arith, length-append row (bucket ∷ []))))
-
--- it may go where a bucket of the same place was locked
-pub replaces : (p n i size : ℕ) (old new : BucketState) → IsBucketAt p n old → IsBucketAt i size old → IsBucketAt i size new
-    → IsBucketAt p n new
-replaces p n i size old new own stands other =
-    still_stands p n old new (record { place = other.place ∙ sym stands.place; size = other.size ∙ sym stands.size }) own

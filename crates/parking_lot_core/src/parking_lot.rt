@@ -68,9 +68,10 @@ impl ThreadData {
 /// bucket has a lock of its own, and a section is what a call does under the lock of its key's
 /// bucket, or of its two keys' buckets, the one at the lower place first. In it an unpark is
 /// committed, once the thread's node lies in the slot of its parker. A section takes no other lock
-/// but parkers' own, one at a time. Registering and retiring take the lock of the numbers, and a
-/// registration that lets the table grow also that of each bucket in turn; sections that meet it
-/// sleep until it is done.
+/// but parkers' own, one at a time. Registering, retiring and trimming take the lock of the numbers.
+/// A registration that lets the table grow, and a trim that makes it smaller, also take that of each
+/// bucket in turn, and with it, for each node there, that of the bucket to which the node moves;
+/// sections that meet it sleep until it is done.
 ///
 /// Whoever finds a bucket locked sleeps, once it has spun in vain. No order is kept among callers.
 ///
@@ -136,10 +137,13 @@ impl<P: ThreadParkerT> ParkingLot<P> {
 
     /// Registers a thread under the least free number. It has no records.
     ///
-    /// It takes the lock of the numbers, looks for a free one, and allocates what the table needs to
-    /// grow, if it has to, with that lock held. Growth waits for each section of the old buckets in
-    /// turn, and sections that come meanwhile sleep until it is done. The thread's node was made with
-    /// the lot, so it parks without asking for memory.
+    /// It takes the lock of the numbers, looks for a free one, and lets the table grow, if it has to,
+    /// with that lock held. Growth allocates the larger row of buckets, if the table never had so
+    /// many. It waits for each section of the old buckets in turn, and sections that come meanwhile
+    /// sleep until it is done. The thread's node was made with the lot, so it parks without asking
+    /// for memory.
+    ///
+    /// Upstream registers a thread with its first use, by `ThreadData::new`, which grows the table.
     ///
     /// # Errors
     ///
@@ -159,8 +163,28 @@ impl<P: ThreadParkerT> ParkingLot<P> {
         })
     }
 
+    /// Makes the table smaller, if it has more buckets than the threads that are registered need:
+    /// than the next power of two of three for each, counted as three threads where there are
+    /// fewer. Every waiting thread keeps its place in the queue of its key.
+    ///
+    /// Any thread may call it that is not in a section. It takes the lock of the numbers, and where
+    /// the table is too large does with that lock held what a growth does. It gives no memory back:
+    /// the rows of all sizes that were ever in use stay to the lot's end, since a section may still
+    /// look at one, and a growth finds its row there again. What becomes cheaper is the walk of the
+    /// next change. Upstream has no such call.
+    ///
+    /// # Errors
+    ///
+    /// `NoMemory` if the table never had so few buckets and memory for them cannot be had. Nothing
+    /// changed then. Where the table is not too large none is asked for.
+    pub fn trim<R: Wait>(&self, rt: &R, alloc: Global) -> Result<(), NoMemory> {
+        self.buckets.trim(rt, alloc)
+    }
+
     /// Frees the thread's number, and takes its node back. It takes the lock of the numbers, and
     /// allocates nothing. With another lot's data it frees whoever has that number here.
+    ///
+    /// Upstream counts one thread less as its data is dropped.
     pub fn retire<R: Wait>(&self, rt: &R, data: ThreadData) {
         // The data of a thread that does not wait has its node: its type keeps that.
         self.buckets.release(rt, data.node.unwrap());

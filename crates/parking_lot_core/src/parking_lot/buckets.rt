@@ -1,14 +1,13 @@
 //! The buckets of a threaded lot, each behind a lock of its own, and how a section reaches the one
 //! of its key.
 
-ghost use Rattle.std.specs.Prelude.{◌≡◌, ◌≢◌, ◌+◌, ◌*◌, ◌<◌, ◌≤◌, ◌↔◌, IsTrue, IsErrOf, IfOk, OnErr, IfSome, Err, MatchOption, None, Some, length, slice_set};
-ghost use Rattle.lot_base.specs.BucketState.{IsBucketAt};
+ghost use Rattle.std.specs.Prelude.{◌≡◌, ◌≢◌, ◌+◌, ◌*◌, ◌<◌, ◌≤◌, ◌↔◌, [], IsTrue, IsErrOf, IfOk, OnOk, OnErr, IfSome, Err, MatchOption, None, Some, length, slice_set};
+ghost use Rattle.lot_base.specs.BucketState.{IsBucketAt, KeepsPlace};
 ghost use Rattle.lot_base.specs.Node.{fields};
 ghost use Rattle.lot_base.specs.Place.{IsTableSize};
 ghost use Rattle.lot_word_lock.specs.WordLock.{IsHeldOf};
-ghost use Rattle.lot_exclusive.specs.Represents.{Represents, waiters_in};
-ghost use Rattle.lot_exclusive.specs.Size.{IsSizeFor};
-ghost use Rattle.lot_exclusive.specs.Table.{IsRowOf, count_registered, IsLeastUnregistered};
+ghost use Rattle.lot_exclusive.specs.Size.{IsSizeFor, IsTooLarge, IsTrimmedSize};
+ghost use Rattle.lot_exclusive.specs.Table.{count_registered, IsLeastUnregistered};
 ghost use Rattle.parking_lot_core.specs.Private.Section.{HasPlaceOf, AreApart, AreLockedInOrder, IsLockAt, IsOfItsLock};
 
 mod current;
@@ -20,13 +19,13 @@ use lot_base::bucket::{Bucket, BucketPlace, place};
 use lot_base::queue::Node;
 use lot_base::token::{LotError, NoMemory};
 use lot_base::word_lock::{Held, WordLock};
-use lot_exclusive::table::growth::{INITIAL_BUCKETS, empty_buckets, rehash_bucket};
+use lot_exclusive::table::growth::INITIAL_BUCKETS;
 use lot_exclusive::table::{MAX_THREADS, Use};
 use registry::Registry;
 use std::alloc::Global;
+use std::array;
 use std::marker::Model;
 use std::sync::{Mutex, OnceLock, Wait};
-use std::{array, mem};
 
 // A bucket that a section has locked, with its place in the row, and the place of the bucket that
 // the section had locked before, if there is one. It has no `Drop`: it ends in `unlock`.
@@ -163,28 +162,23 @@ impl Row {
         (source, Some(target))
     }
 
-    // Moves the nodes of all buckets into the buckets of their keys, one bucket after another.
-    fn rehash<R: Wait>(&self, rt: &R, buckets: &mut Vec<Bucket>)
-        requires size { IsTableSize (length buckets.old.items) }
-        requires row { IsRowOf (length buckets.old.items) buckets.old.items }
-        requires represents { Represents buckets.old.items (waiters_in buckets.old.items) }
-        ensures { IsRowOf (length buckets.old.items) buckets.new.items }
-    {
+    // Moves the nodes of all buckets into those of the other row, one bucket after another.
+    fn move_into<R: Wait>(&self, rt: &R, target: &Row) {
         for cell in &self.cells {
             let mut held = cell.lock(rt);
-            rehash_bucket(&mut held.value, buckets);
+            target.take_in(rt, &mut held.value);
             cell.unlock(held);
         }
     }
 
-    // Puts the buckets into their places, where empty ones stand.
-    fn fill<R: Wait>(&self, rt: &R, buckets: Vec<Bucket>)
-        requires { IsRowOf self.now buckets.items }
+    // Moves the nodes of a bucket of another row into the buckets of their keys, in order.
+    fn take_in<R: Wait>(&self, rt: &R, bucket: &mut Bucket)
+        ensures place { KeepsPlace bucket.old bucket.new }
+        ensures empty { bucket.new.nodes ≡ [] }
     {
-        let mut buckets = buckets;
-        while let Some(bucket) = buckets.pop() {
-            let mut locked = self.lock(rt, buckets.len());
-            let _ = mem::replace(&mut locked.held.value, bucket);
+        while let Some(node) = bucket.pop() {
+            let mut locked = self.lock(rt, place(node.key, self.size()));
+            let _ = locked.held.value.enter(node, || true);
             locked.unlock();
         }
     }
@@ -194,8 +188,8 @@ impl Row {
 // threads.
 //
 // A row is made when it is first needed, and stays to the end. `current` tells the row in use.
-// Numbers are registered and released under the lock of the registry, which a growing thread holds
-// until `current` tells the larger row.
+// Numbers are registered and released under the lock of the registry, which a thread that changes
+// the row holds until `current` tells the new one.
 #[derive(Drop)]
 pub(super) struct Buckets {
     rows: [OnceLock<Row>; ROWS],
@@ -221,7 +215,7 @@ impl Buckets {
         })
     }
 
-    // The row in use, or none while the table grows.
+    // The row in use, or none while the table changes it.
     fn row(&self, current: usize) -> Option<&Row> {
         self.rows.get(current)?.get()
     }
@@ -242,7 +236,7 @@ impl Buckets {
                 }
                 bucket.unlock();
             }
-            self.wait_for_growth(rt);
+            self.wait_for_change(rt);
         }
         unreachable!()
     }
@@ -275,7 +269,7 @@ impl Buckets {
                 source.unlock();
                 unlock_if_any(target);
             }
-            self.wait_for_growth(rt);
+            self.wait_for_change(rt);
         }
         unreachable!()
     }
@@ -285,10 +279,10 @@ impl Buckets {
         self.current.load() == current
     }
 
-    // Waits until the thread that lets the table grow is done: it has the registry meanwhile.
+    // Waits until the thread that changes the row is done: it has the registry meanwhile.
     #[cold]
     #[inline(never)]
-    fn wait_for_growth<R: Wait>(&self, rt: &R) {
+    fn wait_for_change<R: Wait>(&self, rt: &R) {
         drop(self.registry.lock(rt));
     }
 
@@ -357,9 +351,40 @@ impl Buckets {
     {
         let size = registry.size_for_one_more();
         if registry.size() < size {
-            return self.grow(rt, alloc, registry.size(), size);
+            return self.change_row(rt, alloc, registry.size(), size);
         }
         Ok(registry.row())
+    }
+
+    // Makes the table smaller if it has more buckets than its threads need, under the lock of the
+    // registry.
+    pub(super) fn trim<R: Wait>(&self, rt: &R, alloc: Global) -> Result<(), NoMemory> {
+        let mut registry = self.registry.lock(rt);
+        let trimmed = self.trim_in(rt, alloc, &mut registry);
+        drop(registry);
+        trimmed
+    }
+
+    // The same, of the registry, which is locked.
+    fn trim_in<R: Wait>(
+        &self,
+        rt: &R,
+        alloc: Global,
+        registry: &mut Registry,
+    ) -> Result<(), NoMemory>
+        ensures numbers { registry.new.numbers ≡ registry.old.numbers }
+        ensures size { OnOk result (IsTrimmedSize (count_registered registry.old.numbers)
+            registry.old.size registry.new.size) }
+        ensures refused { OnErr result
+            (IsTooLarge (count_registered registry.old.numbers) registry.old.size) }
+        ensures err { OnErr result (registry.new ≡ registry.old) }
+    {
+        let size = registry.trimmed_size();
+        if size < registry.size() {
+            let row = self.change_row(rt, alloc, registry.size(), size)?;
+            registry.set_row(row);
+        }
+        Ok(())
     }
 
     // Frees the number of the node, and keeps the node. The row in use stays.
@@ -367,11 +392,12 @@ impl Buckets {
         self.registry.lock(rt).release(node);
     }
 
-    // Puts the row of the new size in the place of the one in use. The registry is locked.
+    // Puts the row of the new size, larger or smaller, in the place of the one in use. The registry
+    // is locked. It asks for memory only where the new row was never needed before.
     //
     // A section that has compared `current` has its bucket, and this waits for it there. One that
-    // begins later sees that the table grows, or that another row is in use.
-    fn grow<R: Wait>(
+    // begins later sees that the table changes its row, or that another row is in use.
+    fn change_row<R: Wait>(
         &self,
         rt: &R,
         alloc: Global,
@@ -380,19 +406,15 @@ impl Buckets {
     ) -> Result<RowInUse, NoMemory>
         requires old { IsTableSize old_size }
         requires new { IsTableSize new_size }
-        requires grows { old_size < new_size }
+        requires other { old_size ≢ new_size }
         ensures { IfOk result (λ row. row.size ≡ new_size) }
     {
-        let row = self.row_of_size(rt, alloc, new_size)?;
-        // Nodes move into buckets that no lock hides, of which a proof knows the lists. They are
-        // for the row's own size, since no contract tells what size of row its place holds.
-        let mut buckets = empty_buckets(alloc, row.size())?;
+        let new = self.row_of_size(rt, alloc, new_size)?;
         // The row in use was made before, so this asks for no memory.
         let old = self.row_of_size(rt, alloc, old_size)?;
-        let growth = self.current.begin_growth();
-        old.rehash(rt, &mut buckets);
-        row.fill(rt, buckets);
-        Ok(self.current.put_in_use(growth, new_size))
+        let change = self.current.begin_change();
+        old.move_into(rt, new);
+        Ok(self.current.put_in_use(change, new_size))
     }
 
     // The row of this size, which is made if it was not needed before.

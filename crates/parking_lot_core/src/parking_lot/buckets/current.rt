@@ -1,4 +1,4 @@
-//! Which row of buckets is in use, or that the table is growing.
+//! Which row of buckets is in use, or that the table changes its row.
 
 ghost use Rattle.std.specs.Prelude.{◌≡◌, ◌+◌, ◌^◌, ◌<◌};
 ghost use Rattle.lot_base.specs.Place.{IsTableSize};
@@ -9,13 +9,15 @@ use std::sync::atomic::{AtomicUsize, Ordering};
 /// A table has from 16 to 65,536 buckets, and there is a place for a row of each such size.
 pub(super) const ROWS: usize = 13;
 
-// What `current` is while the table grows: the index of no row.
-const GROWING: usize = ROWS;
+// What `current` is while the table changes its row: the index of none.
+const CHANGING: usize = ROWS;
 
-/// The index of the row in use, or of none while the table grows.
+/// The index of the row in use, or of none while the table changes its row.
 ///
-/// Sizes only grow, so an index that was left never comes back: two equal loads, of which the
-/// second comes after a bucket was locked, mean that no growth came between. All orderings are
+/// A row is put in use once its buckets have their nodes, and left before the first of these is
+/// taken out, each move under the locks of the buckets. So whoever has locked a bucket, and after
+/// that finds its row in use, has its nodes, and no change of rows passes that bucket until it is
+/// let go. It does no harm if the row was left and put in use again before that. All orderings are
 /// `SeqCst`, of which the proofs know most.
 #[derive(Drop)]
 pub(super) struct Current {
@@ -29,9 +31,9 @@ pub(super) struct RowInUse {
     size: usize,
 }
 
-/// A growth that has begun. It has no `Drop`: it ends where a row is put in use, so nothing that
-/// can be refused comes between.
-pub(super) struct Growth {
+/// A change of rows that has begun. It has no `Drop`: it ends where a row is put in use, so nothing
+/// that can be refused comes between.
+pub(super) struct Change {
     begun: (),
 }
 
@@ -49,24 +51,24 @@ impl Current {
         (current, row)
     }
 
-    /// The index of the row in use, or that of no row while the table grows.
+    /// The index of the row in use, or that of none while the table changes its row.
     #[inline]
     pub(super) fn load(&self) -> usize {
         self.index.load(Ordering::SeqCst)
     }
 
-    /// Says that the table grows.
-    pub(super) fn begin_growth(&self) -> Growth {
-        self.index.store(GROWING, Ordering::SeqCst);
-        Growth { begun: () }
+    /// Says that the table changes its row.
+    pub(super) fn begin_change(&self) -> Change {
+        self.index.store(CHANGING, Ordering::SeqCst);
+        Change { begun: () }
     }
 
-    /// Says that the row of this size is in use, which ends the growth.
-    pub(super) fn put_in_use(&self, growth: Growth, size: usize) -> RowInUse
+    /// Says that the row of this size is in use, which ends the change.
+    pub(super) fn put_in_use(&self, change: Change, size: usize) -> RowInUse
         requires { IsTableSize size }
         ensures { result.size ≡ size }
     {
-        let Growth { begun: () } = growth;
+        let Change { begun: () } = change;
         self.index.store(index_of(size), Ordering::SeqCst);
         RowInUse { size }
     }

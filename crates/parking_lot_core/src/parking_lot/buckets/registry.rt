@@ -3,14 +3,14 @@
 ghost use Rattle.std.specs.Prelude.{◌≡◌, ◌≢◌, ◌↔◌, ◌+◌, ◌*◌, ◌<◌, ◌≤◌, IfOk, OnOk, IsErrOf, Err, Some, length, slice_get, slice_set, replicate};
 ghost use Rattle.lot_base.specs.Node.{fields};
 ghost use Rattle.lot_base.specs.Place.{IsTableSize};
-ghost use Rattle.lot_exclusive.specs.Size.{IsSizeFor};
+ghost use Rattle.lot_exclusive.specs.Size.{IsSizeFor, IsTrimmedSize};
 ghost use Rattle.lot_exclusive.specs.Table.{count_registered, IsLeastUnregistered};
 
 use super::current::RowInUse;
 use super::nodes::Nodes;
 use lot_base::queue::Node;
 use lot_base::token::LotError;
-use lot_exclusive::table::growth::size_for;
+use lot_exclusive::table::growth::{size_for, trimmed_size};
 use lot_exclusive::table::numbers::Numbers;
 use lot_exclusive::table::{MAX_THREADS, Use};
 use std::alloc::Global;
@@ -103,6 +103,24 @@ impl Registry {
         ensures room { 3 * (count_registered self.now.numbers + 1) ≤ result }
     {
         size_for(self.numbers.registered() + 1, self.row.size())
+    }
+
+    // The size that a trim gives the table.
+    pub(super) fn trimmed_size(&self) -> usize
+        ensures size { IsTrimmedSize (count_registered self.now.numbers) self.now.size result }
+        ensures table { IsTableSize result }
+        ensures room { 3 * count_registered self.now.numbers ≤ result }
+    {
+        trimmed_size(self.numbers.registered(), self.row.size())
+    }
+
+    // Notes that this row is in use.
+    pub(super) fn set_row(&mut self, row: RowInUse)
+        requires table { IsTableSize row.size }
+        requires room { 3 * count_registered self.old.numbers ≤ row.size }
+        ensures { self.new ≡ record self.old { size = row.size } }
+    {
+        self.row = row;
     }
 
     // Registers a free number, where this row is in use, and answers its node.

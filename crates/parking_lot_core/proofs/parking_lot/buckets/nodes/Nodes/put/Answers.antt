@@ -1,4 +1,4 @@
-use Rattle.std.proofs.Common.{Some, rules, sym, ◌∙◌}
+use Rattle.std.proofs.Common.{rules}
 use Rattle.std.specs.Option.{is_some}
 use Rattle.std.proofs.lemmas.List.{map-set}
 use Rattle.parking_lot_core.proofs.parking_lot.buckets.nodes.Nodes.put.Goals as goal
