@@ -1,7 +1,7 @@
 //! Worked rows of each step. The threads a, b, c and d are 0, 1, 2 and 3, and each parks with its
 //! number for a park token. All buckets are those of a table of 16, where the keys 0 and 13 have
 //! place 0, key 1 has place 9, key 2 has place 3 and key 7 has place 5.
-#![tactic(auto, using(lot_base::proofs::TestLemmas::is_table_size_16, lot_base::proofs::TestLemmas::is_table_size_32))]
+#![tactic(auto, using(lot_base::proofs::TestLemmas::is_table_size_16, lot_base::proofs::TestLemmas::is_table_size_32, crate::proofs::TableSizes::is_table_size_65536))]
 
 mod steps;
 mod walk;
@@ -13,7 +13,8 @@ use std::alloc::Global;
 use std::process::Abort;
 use std::test::Fail;
 use steps::{
-    Done, Taken, answer, bucket_of, filter, list, refused, remove, requeue, take_all, take_one,
+    Done, Taken, answer, bucket_of, list, refused, remove, requeue_beyond, requeue_within,
+    take_all, take_chosen, take_one,
 };
 
 // Compares what a step took, and what it answered and handed to its callback.
@@ -54,25 +55,45 @@ fn expect_one(
     Ok(())
 }
 
-// A filter, with the token 42, of the waiters of key 1: compares what it takes and what it leaves.
-fn expect_filtered<F: FnMut(ParkToken) -> FilterOp>(
-    rt: &impl Abort,
-    alloc: Global,
-    waiters: &[(usize, usize)],
-    decide: F,
-    expected: UnparkResult,
-    threads: &[(usize, usize)],
-    left: &[usize],
-) -> Result<(), NoMemory>
-    requires { (state : F) (park_token : _) → F.pre state park_token }
-{
-    let mut bucket = bucket_of(rt, alloc, 9, waiters)?;
-    let taken = filter(alloc, &mut bucket, 1, decide, 42)?;
-    expect_taken(rt, &taken, expected, threads);
-    expect_list(rt, alloc, &bucket, 1, left)
+// A filter, with the token 42, of the waiters of key 1 with these decisions: whom it is asked about,
+// what it answers and takes, and whom it leaves.
+#[derive(Drop)]
+struct Filtered<'a> {
+    waiters: &'a [(usize, usize)],
+    decisions: &'a [FilterOp],
+    asked: &'a [usize],
+    result: UnparkResult,
+    threads: &'a [(usize, usize)],
+    left: &'a [usize],
+}
+
+fn expect_filtered(rt: &impl Abort, alloc: Global, row: &Filtered<'_>) -> Result<(), Fail> {
+    let mut bucket = bucket_of(rt, alloc, 9, row.waiters)?;
+    let (taken, asked) = take_chosen(alloc, &mut bucket, 1, row.decisions, 42)?;
+    expect_taken(rt, &taken, row.result, row.threads);
+    expect_equal(rt, asked.as_slice(), row.asked);
+    Ok(expect_list(rt, alloc, &bucket, 1, row.left)?)
 }
 
 const THREE: [(usize, usize); 3] = [(0, 1), (1, 1), (2, 1)];
+
+// A place is the first bits of the key's product with the multiplier.
+#[test]
+fn keys_have_the_places_of_the_table(rt: HostRuntime) {
+    for (key, product, of_16, of_32) in [
+        (0, 0x0000_0000_0000_0000usize, 0, 0),
+        (1, 0x9e37_79b9_7f4a_7c15, 9, 19),
+        (2, 0x3c6e_f372_fe94_f82a, 3, 7),
+        (4, 0x78dd_e6e5_fd29_f054, 7, 15),
+        (5, 0x1715_609f_7c74_6c69, 1, 2),
+        (7, 0x5384_5412_7b09_6493, 5, 10),
+        (8, 0xf1bb_cdcb_fa53_e0a8, 15, 30),
+        (13, 0x08d1_2e6b_76c8_4d11, 0, 1),
+    ] {
+        let places = [place(key, 16), place(key, 32), place(key, 65_536)];
+        expect_equal(&rt, (key, places), (key, [of_16, of_32, product >> 48]));
+    }
+}
 
 #[test]
 fn a_new_bucket_is_empty_and_knows_its_place_and_size(rt: HostRuntime) -> Result<(), Fail> {
@@ -134,75 +155,78 @@ fn take_all_takes_every_waiter_of_a_key(rt: HostRuntime) -> Result<(), Fail> {
 
 #[test]
 fn a_filter_takes_what_it_unparks_and_leaves_the_rest(rt: HostRuntime) -> Result<(), Fail> {
-    let decide = |token: ParkToken| match token {
-        ParkToken(0) => FilterOp::Skip,
-        ParkToken(1) => FilterOp::Unpark,
-        ParkToken(_) => FilterOp::Stop,
+    let row = Filtered {
+        waiters: &THREE,
+        decisions: &[FilterOp::Skip, FilterOp::Unpark, FilterOp::Stop],
+        asked: &[0, 1, 2],
+        result: answer(1, 0, true),
+        threads: &[(1, 42)],
+        left: &[0, 2],
     };
-    let result = answer(1, 0, true);
-    Ok(expect_filtered(&rt, rt.alloc(), &THREE, decide, result, &[(1, 42)], &[0, 2])?)
+    expect_filtered(&rt, rt.alloc(), &row)
 }
 
 #[test]
 fn a_filter_is_not_asked_again_after_stop(rt: HostRuntime) -> Result<(), Fail> {
-    let mut next = FilterOp::Stop;
-    let decide = |_| std::mem::replace(&mut next, FilterOp::Unpark);
-    let two = [(0, 1), (1, 1)];
-    Ok(expect_filtered(
-        &rt,
-        rt.alloc(),
-        &two,
-        decide,
-        answer(0, 0, true),
-        &[],
-        &[0, 1],
-    )?)
+    let row = Filtered {
+        waiters: &[(0, 1), (1, 1)],
+        decisions: &[FilterOp::Stop, FilterOp::Unpark],
+        asked: &[0],
+        result: answer(0, 0, true),
+        threads: &[],
+        left: &[0, 1],
+    };
+    expect_filtered(&rt, rt.alloc(), &row)
 }
 
 #[test]
 fn a_filter_that_only_skips_from_its_second_call_on_takes_the_first(
     rt: HostRuntime,
 ) -> Result<(), Fail> {
-    let mut next = FilterOp::Unpark;
-    let decide = |_| std::mem::replace(&mut next, FilterOp::Skip);
-    let result = answer(1, 0, true);
-    Ok(expect_filtered(&rt, rt.alloc(), &THREE, decide, result, &[(0, 42)], &[1, 2])?)
+    let row = Filtered {
+        waiters: &THREE,
+        decisions: &[FilterOp::Unpark, FilterOp::Skip, FilterOp::Skip],
+        asked: &[0, 1, 2],
+        result: answer(1, 0, true),
+        threads: &[(0, 42)],
+        left: &[1, 2],
+    };
+    expect_filtered(&rt, rt.alloc(), &row)
 }
 
+// It is called twice.
 #[test]
 fn a_filter_may_count_its_calls(rt: HostRuntime) -> Result<(), Fail> {
-    let mut calls = 0usize;
-    let decide = |_| {
-        calls = calls.wrapping_add(1);
-        if calls == 1 {
-            FilterOp::Unpark
-        } else {
-            FilterOp::Stop
-        }
+    let row = Filtered {
+        waiters: &THREE,
+        decisions: &[FilterOp::Unpark, FilterOp::Stop],
+        asked: &[0, 1],
+        result: answer(1, 0, true),
+        threads: &[(0, 42)],
+        left: &[1, 2],
     };
-    let result = answer(1, 0, true);
-    expect_filtered(&rt, rt.alloc(), &THREE, decide, result, &[(0, 42)], &[1, 2])?;
-    expect_equal(&rt, calls, 2);
-    Ok(())
+    expect_filtered(&rt, rt.alloc(), &row)
 }
 
 #[test]
 fn a_filter_of_an_empty_key_is_not_called_and_its_callback_is(rt: HostRuntime) -> Result<(), Fail> {
-    let mut calls = 0usize;
-    let decide = |_| {
-        calls = calls.wrapping_add(1);
-        FilterOp::Unpark
+    let row = Filtered {
+        waiters: &[],
+        decisions: &[FilterOp::Unpark],
+        asked: &[],
+        result: answer(0, 0, false),
+        threads: &[],
+        left: &[],
     };
-    expect_filtered(&rt, rt.alloc(), &[], decide, answer(0, 0, false), &[], &[])?;
-    expect_equal(&rt, calls, 0);
-    Ok(())
+    expect_filtered(&rt, rt.alloc(), &row)
 }
 
-// A requeue from the first key to the second: the numbers and keys of the nodes in the bucket of
+// A requeue from the first key to the second: its name, the numbers and keys of the nodes in the bucket of
 // the first key, those in the bucket of the second where it is another one, what the requeue
 // answers and takes, whom it moves, and the lists of both keys afterwards.
 #[derive(Drop)]
 struct Row<'a> {
+    name: &'a str,
     op: RequeueOp,
     keys: (usize, usize),
     nodes: &'a [(usize, usize)],
@@ -215,7 +239,8 @@ struct Row<'a> {
 }
 
 // Compares what the requeue answered, handed to its callback, took and moved.
-fn expect_done(rt: &impl Abort, done: &Done, row: &Row<'_>, name: &str) {
+fn expect_done(rt: &impl Abort, done: &Done, row: &Row<'_>) {
+    let name = row.name;
     let told = match row.op {
         RequeueOp::Abort => None,
         op => Some((op, row.result)),
@@ -227,127 +252,128 @@ fn expect_done(rt: &impl Abort, done: &Done, row: &Row<'_>, name: &str) {
     expect_equal(rt, (name, done.told_otherwise), (name, 0));
 }
 
-fn check_row(rt: &impl Abort, alloc: Global, row: &Row<'_>, name: &str) -> Result<(), NoMemory> {
+fn check_in_one(rt: &impl Abort, alloc: Global, row: &Row<'_>) -> Result<(), NoMemory> {
+    let (from, to) = row.keys;
+    let mut bucket = bucket_of(rt, alloc, place(from, 16), row.nodes)?;
+    let done = requeue_within(rt, alloc, &mut bucket, row.keys, row.op, 9)?;
+    expect_done(rt, &done, row);
+    expect_list(rt, alloc, &bucket, from, row.on_first)?;
+    expect_list(rt, alloc, &bucket, to, row.on_second)
+}
+
+fn check_in_two(rt: &impl Abort, alloc: Global, row: &Row<'_>) -> Result<(), NoMemory> {
     let (from, to) = row.keys;
     let mut bucket = bucket_of(rt, alloc, place(from, 16), row.nodes)?;
     let mut target = bucket_of(rt, alloc, place(to, 16), row.beyond)?;
-    let is_one = bucket.place() == target.place();
-    let other = if is_one { None } else { Some(&mut target) };
-    let done = requeue(rt, alloc, &mut bucket, other, row.keys, row.op, 9)?;
-    expect_done(rt, &done, row, name);
+    let done = requeue_beyond(rt, alloc, &mut bucket, &mut target, row.keys, row.op, 9)?;
+    expect_done(rt, &done, row);
     expect_list(rt, alloc, &bucket, from, row.on_first)?;
-    expect_list(
-        rt,
-        alloc,
-        if is_one { &bucket } else { &target },
-        to,
-        row.on_second,
-    )
+    expect_list(rt, alloc, &target, to, row.on_second)
+}
+
+// The buckets are one where both keys have the same place.
+fn check_row(rt: &impl Abort, alloc: Global, row: &Row<'_>) -> Result<(), NoMemory> {
+    let (from, to) = row.keys;
+    if place(from, 16) == place(to, 16) {
+        check_in_one(rt, alloc, row)
+    } else {
+        check_in_two(rt, alloc, row)
+    }
+}
+
+fn rows() -> [Row<'static>; 7] {
+    [
+        Row {
+            name: "all, behind the other key",
+            op: RequeueOp::RequeueAll,
+            keys: (0, 13),
+            nodes: &[(0, 0), (1, 13), (2, 0)],
+            beyond: &[],
+            result: answer(0, 2, false),
+            threads: &[],
+            moved: &[0, 2],
+            on_first: &[],
+            on_second: &[1, 0, 2],
+        },
+        Row {
+            name: "one unparked and the rest to another bucket",
+            op: RequeueOp::UnparkOneRequeueRest,
+            keys: (1, 2),
+            nodes: &THREE,
+            beyond: &[(3, 2)],
+            result: answer(1, 2, false),
+            threads: &[(0, 9)],
+            moved: &[1, 2],
+            on_first: &[],
+            on_second: &[3, 1, 2],
+        },
+        Row {
+            name: "one to its own key, where it stands last",
+            op: RequeueOp::RequeueOne,
+            keys: (1, 1),
+            nodes: &THREE,
+            beyond: &[],
+            result: answer(0, 1, true),
+            threads: &[],
+            moved: &[0],
+            on_first: &[1, 2, 0],
+            on_second: &[1, 2, 0],
+        },
+        Row {
+            name: "the only waiter to its own key, which has no other",
+            op: RequeueOp::RequeueOne,
+            keys: (1, 1),
+            nodes: &[(0, 1)],
+            beyond: &[],
+            result: answer(0, 1, false),
+            threads: &[],
+            moved: &[0],
+            on_first: &[0],
+            on_second: &[0],
+        },
+        Row {
+            name: "all to their own key, in the same order",
+            op: RequeueOp::RequeueAll,
+            keys: (1, 1),
+            nodes: &THREE,
+            beyond: &[],
+            result: answer(0, 3, false),
+            threads: &[],
+            moved: &[0, 1, 2],
+            on_first: &[0, 1, 2],
+            on_second: &[0, 1, 2],
+        },
+        Row {
+            name: "an abort, which changes and calls nothing",
+            op: RequeueOp::Abort,
+            keys: (1, 2),
+            nodes: &[(0, 1), (1, 1)],
+            beyond: &[(3, 2)],
+            result: answer(0, 0, false),
+            threads: &[],
+            moved: &[],
+            on_first: &[0, 1],
+            on_second: &[3],
+        },
+        Row {
+            name: "nobody, which calls back",
+            op: RequeueOp::RequeueAll,
+            keys: (1, 2),
+            nodes: &[],
+            beyond: &[(3, 2)],
+            result: answer(0, 0, false),
+            threads: &[],
+            moved: &[],
+            on_first: &[],
+            on_second: &[3],
+        },
+    ]
 }
 
 #[test]
 fn requeues_are_those_of_the_table(rt: HostRuntime) -> Result<(), Fail> {
-    for (name, row) in [
-        (
-            "all, behind the other key",
-            Row {
-                op: RequeueOp::RequeueAll,
-                keys: (0, 13),
-                nodes: &[(0, 0), (1, 13), (2, 0)],
-                beyond: &[],
-                result: answer(0, 2, false),
-                threads: &[],
-                moved: &[0, 2],
-                on_first: &[],
-                on_second: &[1, 0, 2],
-            },
-        ),
-        (
-            "one unparked and the rest to another bucket",
-            Row {
-                op: RequeueOp::UnparkOneRequeueRest,
-                keys: (1, 2),
-                nodes: &THREE,
-                beyond: &[(3, 2)],
-                result: answer(1, 2, false),
-                threads: &[(0, 9)],
-                moved: &[1, 2],
-                on_first: &[],
-                on_second: &[3, 1, 2],
-            },
-        ),
-        (
-            "one to its own key, where it stands last",
-            Row {
-                op: RequeueOp::RequeueOne,
-                keys: (1, 1),
-                nodes: &THREE,
-                beyond: &[],
-                result: answer(0, 1, true),
-                threads: &[],
-                moved: &[0],
-                on_first: &[1, 2, 0],
-                on_second: &[1, 2, 0],
-            },
-        ),
-        (
-            "the only waiter to its own key, which has no other",
-            Row {
-                op: RequeueOp::RequeueOne,
-                keys: (1, 1),
-                nodes: &[(0, 1)],
-                beyond: &[],
-                result: answer(0, 1, false),
-                threads: &[],
-                moved: &[0],
-                on_first: &[0],
-                on_second: &[0],
-            },
-        ),
-        (
-            "all to their own key, in the same order",
-            Row {
-                op: RequeueOp::RequeueAll,
-                keys: (1, 1),
-                nodes: &THREE,
-                beyond: &[],
-                result: answer(0, 3, false),
-                threads: &[],
-                moved: &[0, 1, 2],
-                on_first: &[0, 1, 2],
-                on_second: &[0, 1, 2],
-            },
-        ),
-        (
-            "an abort, which changes and calls nothing",
-            Row {
-                op: RequeueOp::Abort,
-                keys: (1, 2),
-                nodes: &[(0, 1), (1, 1)],
-                beyond: &[(3, 2)],
-                result: answer(0, 0, false),
-                threads: &[],
-                moved: &[],
-                on_first: &[0, 1],
-                on_second: &[3],
-            },
-        ),
-        (
-            "nobody, which calls back",
-            Row {
-                op: RequeueOp::RequeueAll,
-                keys: (1, 2),
-                nodes: &[],
-                beyond: &[(3, 2)],
-                result: answer(0, 0, false),
-                threads: &[],
-                moved: &[],
-                on_first: &[],
-                on_second: &[3],
-            },
-        ),
-    ] {
-        check_row(&rt, rt.alloc(), &row, name)?;
+    for row in rows() {
+        check_row(&rt, rt.alloc(), &row)?;
     }
     Ok(())
 }

@@ -4,6 +4,7 @@ use crate::expect_equal;
 use lot_base::queue::{Node, Queue};
 use lot_base::token::{NoMemory, ParkToken, UnparkToken};
 use std::alloc::Global;
+use std::process::Abort;
 use std::test::Fail;
 
 // A queue of nodes with these numbers, first to last. No clause refuses a `Node::new` that always
@@ -86,14 +87,15 @@ fn left(queue: &Queue) -> Left {
     (digits(queue), first(queue))
 }
 
-// Does the steps on two queues of nodes with these numbers, and tells what was taken and what is
+// Does the steps on two queues of nodes with these numbers, and compares what was taken and what is
 // left in both.
-fn after(
+fn expect_after(
+    rt: &impl Abort,
     alloc: Global,
-    numbers: &[usize],
-    others: &[usize],
+    (numbers, others): (&[usize], &[usize]),
     steps: &[Step],
-) -> Result<(usize, Left, Left), NoMemory> {
+    expected: (usize, Left, Left),
+) -> Result<(), Fail> {
     let mut queues = Queues {
         queue: queue_of(alloc, numbers)?,
         other: queue_of(alloc, others)?,
@@ -102,7 +104,9 @@ fn after(
     for step in steps {
         queues.step(alloc, *step)?;
     }
-    Ok((queues.taken, left(&queues.queue), left(&queues.other)))
+    let found = (queues.taken, left(&queues.queue), left(&queues.other));
+    expect_equal(rt, found, expected);
+    Ok(())
 }
 
 const NOTHING: Left = (0, None);
@@ -117,9 +121,8 @@ fn nodes_leave_in_the_order_in_which_they_came(rt: HostRuntime) -> Result<(), Fa
         Step::Take,
         Step::Take,
     ];
-    let told = after(rt.alloc(), &[3, 1, 2], &[], &steps)?;
-    expect_equal(&rt, told, (31240, NOTHING, NOTHING));
-    Ok(())
+    let numbers = (&[3, 1, 2][..], &[][..]);
+    expect_after(&rt, rt.alloc(), numbers, &steps, (31240, NOTHING, NOTHING))
 }
 
 #[test]
@@ -135,34 +138,31 @@ fn a_fold_visits_the_nodes_in_order(rt: HostRuntime) -> Result<(), Fail> {
 
 #[test]
 fn an_append_puts_the_others_nodes_behind(rt: HostRuntime) -> Result<(), Fail> {
-    let told = after(rt.alloc(), &[1, 2], &[3, 4], &[Step::Append])?;
-    expect_equal(&rt, told, (0, (1234, Some(1)), NOTHING));
-    Ok(())
+    let numbers = (&[1, 2][..], &[3, 4][..]);
+    let left = (0, (1234, Some(1)), NOTHING);
+    expect_after(&rt, rt.alloc(), numbers, &[Step::Append], left)
 }
 
 #[test]
 fn an_append_of_no_nodes_changes_nothing(rt: HostRuntime) -> Result<(), Fail> {
-    let told = after(rt.alloc(), &[1, 2, 3], &[], &[Step::Append])?;
-    expect_equal(&rt, told, (0, (123, Some(1)), NOTHING));
-    Ok(())
+    let numbers = (&[1, 2, 3][..], &[][..]);
+    let left = (0, (123, Some(1)), NOTHING);
+    expect_after(&rt, rt.alloc(), numbers, &[Step::Append], left)
 }
 
 #[test]
 fn an_append_to_no_nodes_moves_them_all(rt: HostRuntime) -> Result<(), Fail> {
-    let told = after(rt.alloc(), &[], &[1, 2, 3], &[Step::Append])?;
-    expect_equal(&rt, told, (0, (123, Some(1)), NOTHING));
-    Ok(())
+    let numbers = (&[][..], &[1, 2, 3][..]);
+    let left = (0, (123, Some(1)), NOTHING);
+    expect_after(&rt, rt.alloc(), numbers, &[Step::Append], left)
 }
 
 #[test]
 fn a_queue_goes_on_after_its_only_node_left(rt: HostRuntime) -> Result<(), Fail> {
-    for (steps, expected) in [
-        (&[Step::Take][..], (1, NOTHING, NOTHING)),
-        (&[Step::Take, Step::Push(2)][..], (1, (2, Some(2)), NOTHING)),
-    ] {
-        expect_equal(&rt, after(rt.alloc(), &[1], &[], steps)?, expected);
-    }
-    Ok(())
+    let one = (&[1][..], &[][..]);
+    expect_after(&rt, rt.alloc(), one, &[Step::Take], (1, NOTHING, NOTHING))?;
+    let left = (1, (2, Some(2)), NOTHING);
+    expect_after(&rt, rt.alloc(), one, &[Step::Take, Step::Push(2)], left)
 }
 
 // How many nodes there are.
@@ -172,28 +172,35 @@ fn count(queue: &Queue) -> usize {
 
 #[test]
 fn a_node_is_last_behind_nodes_that_were_appended(rt: HostRuntime) -> Result<(), Fail> {
-    let told = after(rt.alloc(), &[1, 2], &[3, 4], &[Step::Append, Step::Push(5)])?;
-    expect_equal(&rt, told, (0, (12345, Some(1)), NOTHING));
-    Ok(())
+    let numbers = (&[1, 2][..], &[3, 4][..]);
+    let left = (0, (12345, Some(1)), NOTHING);
+    expect_after(
+        &rt,
+        rt.alloc(),
+        numbers,
+        &[Step::Append, Step::Push(5)],
+        left,
+    )
 }
 
 #[test]
 fn a_queue_that_gave_its_nodes_away_goes_on(rt: HostRuntime) -> Result<(), Fail> {
-    let told = after(
+    let numbers = (&[1][..], &[2, 3][..]);
+    let left = (0, (123, Some(1)), (4, Some(4)));
+    expect_after(
+        &rt,
         rt.alloc(),
-        &[1],
-        &[2, 3],
+        numbers,
         &[Step::Append, Step::PushToOther(4)],
-    )?;
-    expect_equal(&rt, told, (0, (123, Some(1)), (4, Some(4))));
-    Ok(())
+        left,
+    )
 }
 
 #[test]
 fn a_node_that_leaves_a_queue_can_enter_another(rt: HostRuntime) -> Result<(), Fail> {
-    let told = after(rt.alloc(), &[1, 2, 3], &[4], &[Step::Move])?;
-    expect_equal(&rt, told, (0, (23, Some(2)), (41, Some(4))));
-    Ok(())
+    let numbers = (&[1, 2, 3][..], &[4][..]);
+    let left = (0, (23, Some(2)), (41, Some(4)));
+    expect_after(&rt, rt.alloc(), numbers, &[Step::Move], left)
 }
 
 // A node with a value of its own in each field.
@@ -202,6 +209,13 @@ fn prepared_node(alloc: Global) -> Result<Box<Node>, NoMemory> {
     node.prepare(7, ParkToken(8), true);
     node.unpark_token = UnparkToken(9);
     Ok(node)
+}
+
+// Compares each of its fields.
+fn expect_prepared(rt: &impl Abort, node: &Node) {
+    expect_equal(rt, (node.number, node.key, node.timed), (1, 7, true));
+    let tokens = (node.park_token, node.unpark_token);
+    expect_equal(rt, tokens, (ParkToken(8), UnparkToken(9)));
 }
 
 // Puts that node between two others, and takes the first of the three, whose number it tells, and
@@ -218,13 +232,7 @@ fn second_of_three(alloc: Global) -> Result<(Option<usize>, Option<Box<Node>>), 
 fn a_node_leaves_with_what_it_entered_with(rt: HostRuntime) -> Result<(), Fail> {
     let (first, node) = second_of_three(rt.alloc())?;
     expect_equal(&rt, first, Some(2));
-    let node = node.expect(&rt, "a node");
-    expect_equal(&rt, (node.number, node.key, node.timed), (1, 7, true));
-    expect_equal(
-        &rt,
-        (node.park_token, node.unpark_token),
-        (ParkToken(8), UnparkToken(9)),
-    );
+    expect_prepared(&rt, &*node.expect(&rt, "a node"));
     Ok(())
 }
 

@@ -3,6 +3,7 @@
 ghost use Rattle.std.specs.Prelude.{◌≡◌, IfOk};
 ghost use Rattle.lot_base.specs.Node.{fields};
 
+use crate::expect_equal;
 use lot_base::queue::Node;
 use lot_base::thread_parker::{
     Slot, ThreadParker, ThreadParkerT, UnparkHandleT, WordParker, YieldParker, thread_yield,
@@ -50,17 +51,27 @@ fn owners_node(alloc: Global, token: UnparkToken) -> Result<Box<Node>, NoMemory>
     Ok(node)
 }
 
+// No node is in the slot, for this cause.
+fn expect_empty<P: ThreadParkerT, R: Wait + Abort>(rt: &R, parker: &P, cause: &str) {
+    assert!(rt; parker.timed_out(rt), "{cause}");
+}
+
+// The first node that comes has this token.
+fn expect_token<P: ThreadParkerT, R: Wait + Abort>(rt: &R, parker: &P, token: UnparkToken) {
+    expect_equal(rt, parker.park(rt).unpark_token, token);
+}
+
 // A commit fills the slot until its node is taken, and its unpark may come after that.
 fn take_a_commit<P: ThreadParkerT, R: Wait + Abort>(rt: &R, parker: &P, node: Box<Node>)
     requires { (fields node.value).number ≡ P.owner parker.now }
 {
     let late = parker.unpark_lock(rt, node);
-    assert_eq!(rt; late.number(), OWNER);
+    expect_equal(rt, late.number(), OWNER);
     assert!(rt; !parker.timed_out(rt), "the commit fills the slot");
-    assert_eq!(rt; parker.park(rt).unpark_token, UnparkToken(42));
-    assert!(rt; parker.timed_out(rt), "the node was taken");
+    expect_token(rt, parker, UnparkToken(42));
+    expect_empty(rt, parker, "the node was taken");
     late.unpark(parker);
-    assert!(rt; parker.timed_out(rt), "a late unpark fills no slot");
+    expect_empty(rt, parker, "a late unpark fills no slot");
 }
 
 // Two nodes come back in the order in which they were put.
@@ -77,9 +88,8 @@ fn take_two_commits<P: ThreadParkerT, R: Wait + Abort>(
         parker.unpark_lock(rt, second),
         parker.unpark_lock(rt, third),
     );
-    for token in [UnparkToken(43), UnparkToken(44)] {
-        assert_eq!(rt; parker.park(rt).unpark_token, token);
-    }
+    expect_token(rt, parker, UnparkToken(43));
+    expect_token(rt, parker, UnparkToken(44));
     drop(handles);
 }
 
@@ -92,7 +102,7 @@ fn commits_take_turns<P: ThreadParkerT, R: Wait + Abort>(
 ) -> Result<(), NoMemory> {
     let parker = P::new(alloc, OWNER)?;
     parker.prepare_park();
-    assert!(rt; parker.timed_out(rt), "nobody has put a node");
+    expect_empty(rt, &parker, "nobody has put a node");
     take_a_commit(rt, &parker, owners_node(alloc, UnparkToken(42))?);
     let second = owners_node(alloc, UnparkToken(43))?;
     let third = owners_node(alloc, UnparkToken(44))?;
@@ -100,9 +110,26 @@ fn commits_take_turns<P: ThreadParkerT, R: Wait + Abort>(
     Ok(())
 }
 
-// Waits for a node until the deadline, and tells whether none came.
-fn waits_in_vain<P: ThreadParkerT, R: Wait + Clock>(rt: &R, parker: &P, deadline: Instant) -> bool {
-    parker.park_until(rt, deadline).is_none()
+// No node comes until the deadline, for this cause.
+fn expect_none<P: ThreadParkerT, R: Wait + Clock + Abort>(
+    rt: &R,
+    parker: &P,
+    deadline: Instant,
+    cause: &str,
+) {
+    assert!(rt; parker.park_until(rt, deadline).is_none(), "{cause}");
+}
+
+// A node with this token is there at a deadline that passes at once.
+fn expect_found<P: ThreadParkerT, R: Wait + Clock + Abort>(
+    rt: &R,
+    parker: &P,
+    token: UnparkToken,
+) -> Result<(), Fail> {
+    let node = parker.park_until(rt, Instant::now(rt)?);
+    let found = node.expect(rt, "the node was put before");
+    expect_equal(rt, found.unpark_token, token);
+    Ok(())
 }
 
 // No clause says when a timed wait ends. With a `park_until` that looks at no clock, this does not
@@ -113,13 +140,10 @@ fn waits_to_the_deadline<P: ThreadParkerT, R: Wait + Clock + Abort>(
 ) -> Result<(), Fail> {
     let parker = P::new(alloc, OWNER)?;
     let soon = from_now(rt, Duration::from_millis(20))?;
-    assert!(rt; waits_in_vain(rt, &parker, soon), "nobody puts a node");
+    expect_none(rt, &parker, soon, "nobody puts a node");
     assert!(rt; soon <= Instant::now(rt)?, "the deadline has passed");
-    assert!(rt;
-        waits_in_vain(rt, &parker, soon),
-        "the deadline passed before"
-    );
-    assert!(rt; parker.timed_out(rt), "nobody has put a node");
+    expect_none(rt, &parker, soon, "the deadline passed before");
+    expect_empty(rt, &parker, "nobody has put a node");
     Ok(())
 }
 
@@ -130,7 +154,8 @@ fn waits_for_no_clock<P: ThreadParkerT, R: Wait + Clock + Abort>(
 ) -> Result<(), Fail> {
     let parker = P::new(alloc, OWNER)?;
     let in_an_hour = from_now(rt, Duration::from_hours(1))?;
-    assert!(rt; waits_in_vain(&Clockless(rt), &parker, in_an_hour));
+    let clockless = Clockless(rt);
+    assert!(rt; parker.park_until(&clockless, in_an_hour).is_none());
     Ok(())
 }
 
@@ -143,13 +168,10 @@ fn looks_after_the_deadline<P: ThreadParkerT, R: Wait + Clock + Abort>(
     let parker = P::new(alloc, OWNER)?;
     let late = parker.unpark_lock(rt, owners_node(alloc, UnparkToken(42))?);
     drop(parker.unpark_lock(rt, owners_node(alloc, UnparkToken(43))?));
-    for token in [UnparkToken(42), UnparkToken(43)] {
-        let node = parker.park_until(rt, Instant::now(rt)?);
-        let found = node.expect(rt, "the node was put before").unpark_token;
-        assert_eq!(rt; found, token);
-    }
+    expect_found(rt, &parker, UnparkToken(42))?;
+    expect_found(rt, &parker, UnparkToken(43))?;
     late.unpark(&parker);
-    assert!(rt; parker.timed_out(rt), "a late unpark fills no slot");
+    expect_empty(rt, &parker, "a late unpark fills no slot");
     Ok(())
 }
 
@@ -162,13 +184,13 @@ fn takes_a_commit_after_a_timeout<P: ThreadParkerT, R: Wait + Clock + Abort>(
 ) -> Result<(), Fail> {
     let parker = P::new(alloc, OWNER)?;
     let soon = from_now(rt, Duration::from_millis(5))?;
-    assert!(rt; waits_in_vain(rt, &parker, soon), "nobody puts a node");
+    expect_none(rt, &parker, soon, "nobody puts a node");
     if prepares {
         parker.prepare_park();
-        assert!(rt; parker.timed_out(rt), "nobody has put a node");
+        expect_empty(rt, &parker, "nobody has put a node");
     }
     take_a_commit(rt, &parker, owners_node(alloc, UnparkToken(42))?);
-    assert!(rt; waits_in_vain(rt, &parker, soon), "the node was taken");
+    expect_none(rt, &parker, soon, "the node was taken");
     Ok(())
 }
 
@@ -205,16 +227,20 @@ fn start_and_park<P: ThreadParkerT, R: Wait + Clock>(
     }
 }
 
-// What the other thread does, once the owner starts.
-fn commit_and_wake<P: ThreadParkerT, R: Wait>(
+// What the other thread does, once the owner starts, and this much later.
+fn commit_and_wake<P: ThreadParkerT, R: Wait + Clock>(
     rt: &R,
     parker: &P,
     starts: &AtomicBool,
     node: Box<Node>,
+    pause: Option<Duration>,
 )
     requires { (fields node.value).number ≡ P.owner parker.now }
 {
     wait_until(starts);
+    if let Some(pause) = pause {
+        thread::sleep(rt, pause);
+    }
     parker.unpark_lock(rt, node).unpark(parker);
 }
 
@@ -224,6 +250,7 @@ fn node_between_threads<P: ThreadParkerT + Sync, R: Threads + Wait + Clock + Syn
     parker: &P,
     node: Box<Node>,
     deadline: Option<Instant>,
+    pause: Option<Duration>,
 ) -> Option<Box<Node>>
     requires { (fields node.value).number ≡ P.owner parker.now }
 {
@@ -234,7 +261,7 @@ fn node_between_threads<P: ThreadParkerT + Sync, R: Threads + Wait + Clock + Syn
         ||
             requires { (fields node.value).number ≡ P.owner parker.now }
         {
-            commit_and_wake(rt, parker, &starts, node);
+            commit_and_wake(rt, parker, &starts, node, pause);
         },
     );
     node
@@ -250,7 +277,7 @@ fn token_between_threads<P: ThreadParkerT + Sync, R: Threads + Wait + Clock + Sy
 ) -> Result<Option<UnparkToken>, NoMemory> {
     let parker = P::new(alloc, OWNER)?;
     let node = owners_node(alloc, token)?;
-    let node = node_between_threads(rt, &parker, node, deadline);
+    let node = node_between_threads(rt, &parker, node, deadline, None);
     Ok(node.map(|node| node.unpark_token))
 }
 
@@ -262,7 +289,7 @@ fn wakes_its_thread<P: ThreadParkerT + Sync, R: Threads + Wait + Clock + Sync + 
     for round in 0..100 {
         let token = UnparkToken(round);
         let came = token_between_threads::<P, _>(rt, alloc, token, deadline)?;
-        assert_eq!(rt; came, Some(token));
+        expect_equal(rt, came, Some(token));
     }
     Ok(())
 }
@@ -280,42 +307,6 @@ fn wakes_its_thread_in_time<P: ThreadParkerT + Sync, R: Threads + Wait + Clock +
     Ok(())
 }
 
-// What the other thread does, once the owner sleeps.
-fn commit_to_a_sleeper<P: ThreadParkerT, R: Wait + Clock>(
-    rt: &R,
-    parker: &P,
-    starts: &AtomicBool,
-    node: Box<Node>,
-)
-    requires { (fields node.value).number ≡ P.owner parker.now }
-{
-    wait_until(starts);
-    thread::sleep(rt, Duration::from_millis(5));
-    parker.unpark_lock(rt, node).unpark(parker);
-}
-
-// The node that comes back to the owner, which sleeps before it is put.
-fn node_to_a_sleeper<P: ThreadParkerT + Sync, R: Threads + Wait + Clock + Sync>(
-    rt: &R,
-    parker: &P,
-    node: Box<Node>,
-    deadline: Option<Instant>,
-) -> Option<Box<Node>>
-    requires { (fields node.value).number ≡ P.owner parker.now }
-{
-    let starts = AtomicBool::new(false);
-    let (node, ()) = thread::join(
-        rt,
-        || start_and_park(rt, parker, &starts, deadline),
-        ||
-            requires { (fields node.value).number ≡ P.owner parker.now }
-        {
-            commit_to_a_sleeper(rt, parker, &starts, node);
-        },
-    );
-    node
-}
-
 // The owner sleeps in vain first, and again until its node is put.
 fn token_to_a_sleeper<P: ThreadParkerT + Sync, R: Threads + Wait + Clock + Sync + Abort>(
     rt: &R,
@@ -324,9 +315,10 @@ fn token_to_a_sleeper<P: ThreadParkerT + Sync, R: Threads + Wait + Clock + Sync 
 ) -> Result<Option<UnparkToken>, Fail> {
     let parker = P::new(alloc, OWNER)?;
     let soon = from_now(rt, Duration::from_millis(2))?;
-    assert!(rt; waits_in_vain(rt, &parker, soon), "nobody puts a node");
+    expect_none(rt, &parker, soon, "nobody puts a node");
     let node = owners_node(alloc, UnparkToken(42))?;
-    let node = node_to_a_sleeper(rt, &parker, node, deadline);
+    let pause = Some(Duration::from_millis(5));
+    let node = node_between_threads(rt, &parker, node, deadline, pause);
     Ok(node.map(|node| node.unpark_token))
 }
 
@@ -339,7 +331,7 @@ fn wakes_a_sleeper<P: ThreadParkerT + Sync, R: Threads + Wait + Clock + Sync + A
     let late = from_now(rt, Duration::from_secs(30))?;
     for deadline in [None, Some(late)] {
         let came = token_to_a_sleeper::<P, _>(rt, alloc, deadline)?;
-        assert_eq!(rt; came, Some(UnparkToken(42)));
+        expect_equal(rt, came, Some(UnparkToken(42)));
     }
     assert!(rt; Instant::now(rt)? < late, "no sleep lasted to the deadline");
     Ok(())
@@ -474,9 +466,8 @@ fn a_slot_gives_its_nodes_in_the_order_of_the_puts(rt: HostRuntime) -> Result<()
     let mut slot = Slot::new(OWNER);
     put(rt.alloc(), &mut slot, 1)?;
     put(rt.alloc(), &mut slot, 2)?;
-    for expected in [Some(1), Some(2), None] {
-        assert_eq!(rt; take(&mut slot), expected);
-    }
+    let taken = [take(&mut slot), take(&mut slot), take(&mut slot)];
+    expect_equal(&rt, taken, [Some(1), Some(2), None]);
     Ok(())
 }
 
@@ -484,5 +475,6 @@ fn a_slot_gives_its_nodes_in_the_order_of_the_puts(rt: HostRuntime) -> Result<()
 fn an_empty_slot_gives_no_node_and_has_its_owner(rt: HostRuntime) {
     let mut slot = Slot::new(7);
     let before = slot.owner();
-    assert_eq!(rt; (before, take(&mut slot), slot.owner()), (7, None, 7));
+    expect_equal(&rt, take(&mut slot), None);
+    expect_equal(&rt, (before, slot.owner()), (7, 7));
 }

@@ -5,31 +5,36 @@ use lot_base::token::{
     DEFAULT_PARK_TOKEN, DEFAULT_UNPARK_TOKEN, LotError, Misfit, NoMemory, ParkResult, ParkToken,
     StepError, UnparkResult, UnparkToken,
 };
+use std::alloc::Global;
+use std::fmt::Display;
+use std::process::Abort;
 use std::test::Fail;
+
+fn expect_text(
+    rt: &impl Abort,
+    alloc: Global,
+    refusal: impl Display + Drop,
+    expected: &str,
+) -> Result<(), Fail> {
+    expect_equal(rt, refusal.to_string(alloc)?.as_str(), expected);
+    Ok(())
+}
 
 // No clause says what a refusal prints: an empty text, or that of another one, would be proved.
 #[test]
 fn each_refusal_has_its_text(rt: HostRuntime) -> Result<(), Fail> {
-    let too_many = LotError::TooManyThreads.to_string(rt.alloc())?;
-    expect_equal(&rt, too_many.as_str(), "too many threads");
-    let full = LotError::Full.to_string(rt.alloc())?;
-    expect_equal(&rt, full.as_str(), "no free thread number");
-    let no_memory = LotError::NoMemory.to_string(rt.alloc())?;
-    expect_equal(&rt, no_memory.as_str(), "no memory");
-    let no_memory = NoMemory.to_string(rt.alloc())?;
-    expect_equal(&rt, no_memory.as_str(), "no memory");
-    let misfit = Misfit.to_string(rt.alloc())?;
-    expect_equal(&rt, misfit.as_str(), "step does not fit");
-    Ok(())
+    let alloc = rt.alloc();
+    expect_text(&rt, alloc, LotError::TooManyThreads, "too many threads")?;
+    expect_text(&rt, alloc, LotError::Full, "no free thread number")?;
+    expect_text(&rt, alloc, LotError::NoMemory, "no memory")?;
+    expect_text(&rt, alloc, NoMemory, "no memory")?;
+    expect_text(&rt, alloc, Misfit, "step does not fit")
 }
 
 #[test]
 fn a_step_is_refused_with_the_texts_of_its_causes(rt: HostRuntime) -> Result<(), Fail> {
-    let misfit = StepError::Misfit.to_string(rt.alloc())?;
-    expect_equal(&rt, misfit.as_str(), "step does not fit");
-    let no_memory = StepError::NoMemory.to_string(rt.alloc())?;
-    expect_equal(&rt, no_memory.as_str(), "no memory");
-    Ok(())
+    expect_text(&rt, rt.alloc(), StepError::Misfit, "step does not fit")?;
+    expect_text(&rt, rt.alloc(), StepError::NoMemory, "no memory")
 }
 
 #[test]

@@ -3,6 +3,7 @@
 
 ghost use Rattle.std.specs.Prelude.{◌≡◌, IfOk};
 ghost use Rattle.lot_base.specs.Node.{fields};
+ghost use Rattle.lot_base.specs.Place.{place_of};
 
 use lot_base::bucket::{Bucket, place};
 use lot_base::queue::{Node, Queue};
@@ -34,6 +35,13 @@ fn node(alloc: Global, number: usize, key: usize) -> Result<Box<Node>, NoMemory>
     Ok(node)
 }
 
+// The key has the bucket's place, as a step asks of a key that it puts nodes on.
+fn expect_place(rt: &impl Abort, bucket: &Bucket, key: usize)
+    ensures { place_of key bucket.now.size ≡ bucket.now.place }
+{
+    assert!(rt; place(key, bucket.size()) == bucket.place());
+}
+
 /// Enters the thread on the key.
 pub fn enter(
     rt: &impl Abort,
@@ -43,7 +51,7 @@ pub fn enter(
     key: usize,
 ) -> Result<(), NoMemory> {
     let node = node(alloc, number, key)?;
-    assert!(rt; bucket.size() == 16 && place(key, 16) == bucket.place());
+    expect_place(rt, bucket, key);
     assert!(rt; bucket.enter(node, || true).is_ok());
     Ok(())
 }
@@ -57,7 +65,7 @@ pub fn refused(
     key: usize,
 ) -> Result<Box<Node>, NoMemory> {
     let node = node(alloc, number, key)?;
-    assert!(rt; bucket.size() == 16 && place(key, 16) == bucket.place());
+    expect_place(rt, bucket, key);
     Ok(bucket.enter(node, || false).expect_err(rt, "the node"))
 }
 
@@ -127,7 +135,7 @@ pub fn take_all(
     Ok((count, threads(alloc, &taken)?))
 }
 
-pub fn filter<F: FnMut(ParkToken) -> FilterOp>(
+fn filter<F: FnMut(ParkToken) -> FilterOp>(
     alloc: Global,
     bucket: &mut Bucket,
     key: usize,
@@ -148,6 +156,41 @@ pub fn filter<F: FnMut(ParkToken) -> FilterOp>(
     })
 }
 
+// A filter: the decisions that are still to come, and the park tokens that it was asked about.
+#[derive(Drop)]
+struct Chosen<'a> {
+    decisions: &'a [FilterOp],
+    asked: Result<Vec<usize>, NoMemory>,
+}
+
+impl Chosen<'_> {
+    fn decide(&mut self, token: ParkToken) -> FilterOp {
+        note(&mut self.asked, token.0);
+        let Some((decision, rest)) = self.decisions.split_first() else {
+            return FilterOp::Skip;
+        };
+        self.decisions = rest;
+        *decision
+    }
+}
+
+/// A filter with these decisions, which skips all others: what it took, and the park tokens that
+/// it was asked about.
+pub fn take_chosen(
+    alloc: Global,
+    bucket: &mut Bucket,
+    key: usize,
+    decisions: &[FilterOp],
+    token: usize,
+) -> Result<(Taken, Vec<usize>), NoMemory> {
+    let mut chosen = Chosen {
+        decisions,
+        asked: Ok(Vec::new(alloc)),
+    };
+    let taken = filter(alloc, bucket, key, |token| chosen.decide(token), token)?;
+    Ok((taken, chosen.asked?))
+}
+
 /// What a requeue answered, what its callback was handed, how many calls of `moved` came before it,
 /// the threads that it took, each with its token, and those that `moved` was called with, and of
 /// how many of these it was told otherwise whether they are timed.
@@ -161,57 +204,142 @@ pub struct Done {
     pub told_otherwise: usize,
 }
 
-/// A requeue from the first key to the second, within the bucket or to a target.
-pub fn requeue(
+// Notes the call of a requeue's callback, and how many calls of `moved` came before it.
+#[derive(Drop)]
+struct Callback<'a> {
+    moves: &'a Cell<usize>,
+    token: usize,
+    told: Option<(RequeueOp, UnparkResult)>,
+    moved_before: usize,
+}
+
+impl<'a> Callback<'a> {
+    fn new(moves: &'a Cell<usize>, token: usize) -> Callback<'a> {
+        Callback {
+            moves,
+            token,
+            told: None,
+            moved_before: 0,
+        }
+    }
+
+    fn call(&mut self, op: RequeueOp, handed: UnparkResult) -> UnparkToken {
+        self.told = Some((op, handed));
+        self.moved_before = self.moves.get();
+        UnparkToken(self.token)
+    }
+}
+
+// Notes the calls of `moved`.
+#[derive(Drop)]
+struct Moved<'a> {
+    moves: &'a Cell<usize>,
+    numbers: Result<Vec<usize>, NoMemory>,
+    told_otherwise: usize,
+}
+
+impl<'a> Moved<'a> {
+    fn new(alloc: Global, moves: &'a Cell<usize>) -> Moved<'a> {
+        Moved {
+            moves,
+            numbers: Ok(Vec::new(alloc)),
+            told_otherwise: 0,
+        }
+    }
+
+    fn call(&mut self, number: usize, timed: bool) {
+        self.moves.set(self.moves.get().wrapping_add(1));
+        if timed != is_timed(number) {
+            self.told_otherwise = self.told_otherwise.wrapping_add(1);
+        }
+        note(&mut self.numbers, number);
+    }
+}
+
+fn requeue_one(
     rt: &impl Abort,
-    alloc: Global,
     bucket: &mut Bucket,
-    target: Option<&mut Bucket>,
     (from, to): (usize, usize),
     op: RequeueOp,
-    token: usize,
+    callback: &mut Callback<'_>,
+    moved: &mut Moved<'_>,
+) -> (UnparkResult, Queue) {
+    expect_place(rt, bucket, from);
+    expect_place(rt, bucket, to);
+    let told = |op, handed| callback.call(op, handed);
+    let note_moved = &mut |number, timed| moved.call(number, timed);
+    bucket.requeue_one(from, to, || op, told, note_moved)
+}
+
+fn requeue_two(
+    rt: &impl Abort,
+    bucket: &mut Bucket,
+    target: &mut Bucket,
+    (from, to): (usize, usize),
+    op: RequeueOp,
+    callback: &mut Callback<'_>,
+    moved: &mut Moved<'_>,
+) -> (UnparkResult, Queue) {
+    expect_place(rt, bucket, from);
+    expect_place(rt, target, to);
+    assert!(rt; target.size() == bucket.size());
+    assert!(rt; target.place() != bucket.place());
+    let told = |op, handed| callback.call(op, handed);
+    let note_moved = &mut |number, timed| moved.call(number, timed);
+    bucket.requeue_two(target, from, to, || op, told, note_moved)
+}
+
+fn collect(
+    alloc: Global,
+    (answered, taken): (UnparkResult, Queue),
+    callback: Callback<'_>,
+    moved: Moved<'_>,
 ) -> Result<Done, NoMemory> {
-    let mut told = None;
-    let calls = Cell::new(0usize);
-    let mut moved_before = 0;
-    let mut moved = Ok(Vec::new(alloc));
-    let mut told_otherwise = 0usize;
-    let note_moved = &mut |number, timed| {
-        calls.set(calls.get().wrapping_add(1));
-        if timed != is_timed(number) {
-            told_otherwise = told_otherwise.wrapping_add(1);
-        }
-        note(&mut moved, number);
-    };
-    let note_told = |op, handed| {
-        told = Some((op, handed));
-        moved_before = calls.get();
-        UnparkToken(token)
-    };
-    assert!(rt; bucket.size() == 16 && place(from, 16) == bucket.place());
-    let (result, taken) = match target {
-        None => {
-            assert!(rt; place(to, 16) == bucket.place());
-            bucket.requeue_one(from, to, || op, note_told, note_moved)
-        }
-        Some(target) => {
-            assert!(rt; target.size() == 16 && place(to, 16) == target.place());
-            assert!(rt; target.place() != bucket.place());
-            bucket.requeue_two(target, from, to, || op, note_told, note_moved)
-        }
-    };
     Ok(Done {
-        result,
-        told,
-        moved_before,
+        result: answered,
+        told: callback.told,
+        moved_before: callback.moved_before,
         threads: threads(alloc, &taken)?,
-        moved: moved?,
-        told_otherwise,
+        moved: moved.numbers?,
+        told_otherwise: moved.told_otherwise,
     })
 }
 
-/// Puts the number behind the others.
-pub fn note(numbers: &mut Result<Vec<usize>, NoMemory>, number: usize) {
+/// A requeue from the first key to the second, within the bucket.
+pub fn requeue_within(
+    rt: &impl Abort,
+    alloc: Global,
+    bucket: &mut Bucket,
+    keys: (usize, usize),
+    op: RequeueOp,
+    token: usize,
+) -> Result<Done, NoMemory> {
+    let moves = Cell::new(0usize);
+    let mut callback = Callback::new(&moves, token);
+    let mut moved = Moved::new(alloc, &moves);
+    let answered = requeue_one(rt, bucket, keys, op, &mut callback, &mut moved);
+    collect(alloc, answered, callback, moved)
+}
+
+/// A requeue from the first key to the second, which stands in the target.
+pub fn requeue_beyond(
+    rt: &impl Abort,
+    alloc: Global,
+    bucket: &mut Bucket,
+    target: &mut Bucket,
+    keys: (usize, usize),
+    op: RequeueOp,
+    token: usize,
+) -> Result<Done, NoMemory> {
+    let moves = Cell::new(0usize);
+    let mut callback = Callback::new(&moves, token);
+    let mut moved = Moved::new(alloc, &moves);
+    let answered = requeue_two(rt, bucket, target, keys, op, &mut callback, &mut moved);
+    collect(alloc, answered, callback, moved)
+}
+
+// Puts the number behind the others.
+fn note(numbers: &mut Result<Vec<usize>, NoMemory>, number: usize) {
     let noted = match numbers {
         Ok(numbers) => numbers.push(number).is_ok(),
         Err(NoMemory) => false,

@@ -5,11 +5,12 @@
 ghost use Rattle.std.specs.Prelude.{◌<◌};
 
 use crate::bucket::steps::{
-    Done, Taken, answer, enter, filter, list, note, requeue, take_all, take_one,
+    Done, Taken, answer, enter, list, requeue_beyond, requeue_within, take_all, take_chosen,
+    take_one,
 };
 use crate::expect_equal;
 use lot_base::bucket::Bucket;
-use lot_base::token::{FilterOp, NoMemory, ParkToken, RequeueOp, UnparkResult};
+use lot_base::token::{FilterOp, NoMemory, RequeueOp, UnparkResult};
 use std::alloc::Global;
 use std::process::Abort;
 use std::test::Fail;
@@ -52,13 +53,17 @@ impl Code {
         kind
     }
 
-    // The first decision. The rest follows; past the end it is to skip.
-    fn decide(&mut self) -> FilterOp {
-        match self.next() {
-            0 => FilterOp::Unpark,
-            1 => FilterOp::Stop,
-            _ => FilterOp::Skip,
+    // The kinds as decisions.
+    fn decisions(mut self, alloc: Global) -> Result<Vec<FilterOp>, NoMemory> {
+        let mut decisions = Vec::new(alloc);
+        for _ in 0..self.length {
+            decisions.push(match self.next() {
+                0 => FilterOp::Unpark,
+                1 => FilterOp::Stop,
+                _ => FilterOp::Skip,
+            })?;
         }
+        Ok(decisions)
     }
 }
 
@@ -206,11 +211,18 @@ fn requeue_in(
     let low = &mut table.of_place_0;
     let high = &mut table.of_place_5;
     match keys {
-        (7, 7) => requeue(rt, alloc, high, None, keys, op, TOKEN),
-        (7, _) => requeue(rt, alloc, high, Some(low), keys, op, TOKEN),
-        (_, 7) => requeue(rt, alloc, low, Some(high), keys, op, TOKEN),
-        (_, _) => requeue(rt, alloc, low, None, keys, op, TOKEN),
+        (7, 7) => requeue_within(rt, alloc, high, keys, op, TOKEN),
+        (7, _) => requeue_beyond(rt, alloc, high, low, keys, op, TOKEN),
+        (_, 7) => requeue_beyond(rt, alloc, low, high, keys, op, TOKEN),
+        (_, _) => requeue_within(rt, alloc, low, keys, op, TOKEN),
     }
+}
+
+// Compares what a requeue answered, took and moved with the parts.
+fn compare_done(rt: &impl Abort, done: &Done, op: RequeueOp, parts: &Parts) {
+    expect_equal(rt, (done.result, done.told), answers_of_requeue(op, parts));
+    expect_equal(rt, done.moved.as_slice(), parts.moved.as_slice());
+    compare_taken(rt, done.threads.as_slice(), parts.taken.as_slice());
 }
 
 fn check_requeue(
@@ -223,9 +235,7 @@ fn check_requeue(
     let mut table = fill(rt, alloc, filling)?;
     let done = requeue_in(rt, alloc, &mut table, keys, op)?;
     let parts = parts_of_requeue(alloc, op, table.waiting.on(keys.0).as_slice())?;
-    expect_equal(rt, (done.result, done.told), answers_of_requeue(op, &parts));
-    expect_equal(rt, done.moved.as_slice(), parts.moved.as_slice());
-    compare_taken(rt, done.threads.as_slice(), parts.taken.as_slice());
+    compare_done(rt, &done, op, &parts);
     move_parts(&mut table.waiting, keys, parts)?;
     compare_lists(rt, alloc, &mut table)
 }
@@ -260,16 +270,16 @@ fn requeues_are_those_of_plain_lists(rt: HostRuntime) -> Result<(), Fail> {
 // A filter decides on the waiters in order. From its first stop on, all are left.
 fn parts_of_filter(
     alloc: Global,
-    mut decisions: Code,
+    decisions: &[FilterOp],
     waiters: &[usize],
 ) -> Result<(Parts, Vec<usize>), NoMemory> {
     let mut parts = Parts::new(alloc);
     let mut asked = Vec::new(alloc);
     let mut last = FilterOp::Skip;
-    for number in waiters {
+    for (index, number) in waiters.iter().enumerate() {
         if last != FilterOp::Stop {
             asked.push(*number)?;
-            last = decisions.decide();
+            last = decisions.get(index).copied().unwrap_or(FilterOp::Skip);
         }
         match last {
             FilterOp::Unpark => parts.taken.push(*number)?,
@@ -303,18 +313,12 @@ fn check_filter(
     alloc: Global,
     filling: Code,
     key: usize,
-    decisions: Code,
+    decisions: &[FilterOp],
 ) -> Result<(), NoMemory> {
     let mut table = fill(rt, alloc, filling)?;
-    let mut rest = decisions;
-    let mut asked = Ok(Vec::new(alloc));
-    let decide = |token: ParkToken| {
-        note(&mut asked, token.0);
-        rest.decide()
-    };
-    let taken = filter(alloc, table.bucket(key), key, decide, TOKEN)?;
+    let (taken, asked) = take_chosen(alloc, table.bucket(key), key, decisions, TOKEN)?;
     let (parts, expected) = parts_of_filter(alloc, decisions, table.waiting.on(key).as_slice())?;
-    expect_equal(rt, asked?.as_slice(), expected.as_slice());
+    expect_equal(rt, asked.as_slice(), expected.as_slice());
     compare(rt, alloc, &mut table, key, taken, parts)
 }
 
@@ -324,7 +328,8 @@ fn check_filters(rt: &impl Abort, alloc: Global, filling: Code) -> Result<usize,
     for key in KEYS {
         for (length, count) in [(0, 1), (1, 3), (2, 9), (3, 27)] {
             for digits in 0..count {
-                check_filter(rt, alloc, filling, key, Code { length, digits })?;
+                let decisions = Code { length, digits }.decisions(alloc)?;
+                check_filter(rt, alloc, filling, key, decisions.as_slice())?;
                 cases = cases.wrapping_add(1);
             }
         }

@@ -1,0 +1,5 @@
+use Rattle.std.proofs.Common.{refl, arith}
+use Rattle.lot_base.specs.Place.{IsTableSize}
+
+pub is_table_size_65536 : IsTableSize 65536
+is_table_size_65536 = record { bits = 16; at_least_4 = omega arith; at_most_16 = omega arith; is_power = refl }
