@@ -1,15 +1,15 @@
-//! What several of the tests use: the ways to unpark, and waits for what other threads do.
+//! What several of the tests use: the ways to park and to unpark, and waits for what other threads
+//! do. What a test cannot do without, as memory, is expected and not handed on.
 
 use crate::expect_equal;
 use parking_lot_core::{
-    FilterOp, NoMemory, ParkResult, ParkToken, ParkingLot, RequeueOp, ThreadData, ThreadParkerT,
+    FilterOp, LotError, ParkResult, ParkToken, ParkingLot, RequeueOp, ThreadData, ThreadParkerT,
     UnparkResult, UnparkToken, park, unpark_all, unpark_filter, unpark_one, unpark_requeue,
 };
 use std::alloc::Global;
 use std::process::Abort;
 use std::sync::Wait;
 use std::sync::atomic::{AtomicBool, AtomicUsize, Ordering};
-use std::test::Fail;
 use std::thread;
 use std::time::{Clock, Duration, Instant};
 
@@ -30,10 +30,26 @@ pub enum Way {
 
 pub const WAYS: [Way; 4] = [Way::One, Way::All, Way::Filter, Way::Requeue];
 
+// How a park ended, and the key and whether it was the last, as a thread that was late was told.
+pub type Left = (ParkResult, Option<(usize, bool)>);
+
+pub const UNPARKED: Left = (ParkResult::Unparked(TOKEN), None);
+
+// How a late thread leaves a key on which nobody else waits.
+pub fn late_on(key: usize) -> Left {
+    (ParkResult::TimedOut, Some((key, true)))
+}
+
+// As a deadline it has passed.
+pub fn now<R: Clock + Abort>(rt: &R) -> Instant {
+    Instant::now(rt).expect(rt, "a clock")
+}
+
 // The instant that comes so long from now.
-pub fn from_now<R: Clock + Abort>(rt: &R, duration: Duration) -> Result<Instant, Fail> {
-    let now = Instant::now(rt)?;
-    Ok(now.checked_add(duration).expect(rt, "a time of the clock"))
+pub fn from_now<R: Clock + Abort>(rt: &R, duration: Duration) -> Instant {
+    now(rt)
+        .checked_add(duration)
+        .expect(rt, "a time of the clock")
 }
 
 // Waits until the flag is raised, and tells whether it was.
@@ -58,8 +74,36 @@ pub fn comes_to(count: &AtomicUsize, least: usize) -> bool {
     false
 }
 
+pub fn new_lot<P: ThreadParkerT, R: Abort>(rt: &R, alloc: Global, threads: usize) -> ParkingLot<P> {
+    ParkingLot::new(alloc, threads).expect(rt, "a lot")
+}
+
+pub fn register<P: ThreadParkerT, R: Wait + Abort>(
+    rt: &R,
+    alloc: Global,
+    lot: &ParkingLot<P>,
+) -> ThreadData {
+    lot.thread_data(rt, alloc).expect(rt, "a number")
+}
+
+// No number is free.
+pub fn expect_full<P: ThreadParkerT, R: Wait + Abort>(rt: &R, alloc: Global, lot: &ParkingLot<P>) {
+    let refused = lot.thread_data(rt, alloc);
+    assert!(rt; matches!(&refused, Err(LotError::Full)));
+}
+
+// The numbers of those who wait on the key.
+pub fn waiting<P: ThreadParkerT, R: Wait + Abort>(
+    rt: &R,
+    alloc: Global,
+    lot: &ParkingLot<P>,
+    key: usize,
+) -> Vec<usize> {
+    lot.list(rt, alloc, key).expect(rt, "memory")
+}
+
 // Waits until so many threads wait on the key, and tells whether they did.
-pub fn come_by_turns<P: ThreadParkerT, R: Wait>(
+pub fn come_by_turns<P: ThreadParkerT, R: Wait + Abort>(
     rt: &R,
     alloc: Global,
     lot: &ParkingLot<P>,
@@ -67,10 +111,7 @@ pub fn come_by_turns<P: ThreadParkerT, R: Wait>(
     threads: usize,
 ) -> bool {
     for _ in 0..TURNS {
-        let Ok(waiting) = lot.list(rt, alloc, key) else {
-            return false;
-        };
-        if waiting.len() == threads {
+        if waiting(rt, alloc, lot, key).len() == threads {
             return true;
         }
         thread::yield_now();
@@ -85,36 +126,47 @@ pub fn expect_list<P: ThreadParkerT, R: Wait + Abort>(
     lot: &ParkingLot<P>,
     key: usize,
     numbers: &[usize],
-) -> Result<(), NoMemory> {
-    let waiting = lot.list(rt, alloc, key)?;
+) {
+    let waiting = waiting(rt, alloc, lot, key);
     expect_equal(rt, (key, waiting.as_slice()), (key, numbers));
-    Ok(())
 }
 
-// Parks on the key until another thread unparks this one, or until the deadline, and shows filters
-// the thread's number. `None` says that the data is of another lot.
-pub fn wait<P: ThreadParkerT, R: Wait + Clock>(
+// Parks on the key, with it as the token for filters, and does this before it sleeps.
+pub fn park_and<P: ThreadParkerT, R: Wait + Clock + Abort, B: FnOnce()>(
     rt: &R,
     lot: &ParkingLot<P>,
     data: &mut ThreadData,
     key: usize,
+    before_sleep: B,
     deadline: Option<Instant>,
-) -> Option<ParkResult> {
-    if !lot.accepts(data) {
-        return None;
-    }
-    let park_token = ParkToken(data.number());
-    Some(park(
+) -> Left
+    requires { B.pre before_sleep }
+{
+    assert!(rt; lot.accepts(data), "data of this lot");
+    let mut told = None;
+    let result = park(
         rt,
         lot,
         data,
         key,
         || true,
-        || (),
-        |_, _| (),
-        park_token,
+        before_sleep,
+        |key, last| told = Some((key, last)),
+        ParkToken(key),
         deadline,
-    ))
+    );
+    (result, told)
+}
+
+// Parks on the key until another thread unparks this one, or until the deadline.
+pub fn wait<P: ThreadParkerT, R: Wait + Clock + Abort>(
+    rt: &R,
+    lot: &ParkingLot<P>,
+    data: &mut ThreadData,
+    key: usize,
+    deadline: Option<Instant>,
+) -> ParkResult {
+    park_and(rt, lot, data, key, || (), deadline).0
 }
 
 // Unparks all waiters of the key, by a filter.
@@ -127,6 +179,18 @@ fn unpark_by_filter<P: ThreadParkerT, R: Wait>(
     unpark_filter(rt, lot, key, |_| FilterOp::Unpark, |_| token).unparked_threads
 }
 
+// Requeues by this operation.
+fn requeue<P: ThreadParkerT, R: Wait>(
+    rt: &R,
+    lot: &ParkingLot<P>,
+    from: usize,
+    to: usize,
+    op: RequeueOp,
+    token: UnparkToken,
+) -> UnparkResult {
+    unpark_requeue(rt, lot, from, to, || op, |_, _| token)
+}
+
 // Moves all waiters to the other key, and tells how many there were.
 pub fn move_all<P: ThreadParkerT, R: Wait>(
     rt: &R,
@@ -134,8 +198,7 @@ pub fn move_all<P: ThreadParkerT, R: Wait>(
     from: usize,
     to: usize,
 ) -> usize {
-    let op = || RequeueOp::RequeueAll;
-    unpark_requeue(rt, lot, from, to, op, |_, _| TOKEN).requeued_threads
+    requeue(rt, lot, from, to, RequeueOp::RequeueAll, TOKEN).requeued_threads
 }
 
 // Unparks the thread that waits first on the key, this way, and tells how many were unparked.
@@ -151,8 +214,8 @@ pub fn unpark<P: ThreadParkerT, R: Wait>(
         Way::All => unpark_all(rt, lot, key, token),
         Way::Filter => unpark_by_filter(rt, lot, key, token),
         Way::Requeue => {
-            let op = || RequeueOp::UnparkOneRequeueRest;
-            unpark_requeue(rt, lot, key, KEY, op, |_, _| token).unparked_threads
+            let op = RequeueOp::UnparkOneRequeueRest;
+            requeue(rt, lot, key, KEY, op, token).unparked_threads
         }
     }
 }

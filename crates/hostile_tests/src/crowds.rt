@@ -1,6 +1,8 @@
 //! Several threads that sleep on one key, and are all woken by one call.
 
-use crate::common::{KEY, TOKEN, Way, come_by_turns, from_now, move_all, unpark, wait};
+use crate::common::{
+    KEY, TOKEN, Way, come_by_turns, from_now, move_all, new_lot, now, register, unpark, wait,
+};
 use crate::expect_equal;
 use parking_lot_core::{
     ParkResult, ParkingLot, ThreadData, ThreadParker, ThreadParkerT, YieldParker, unpark_all,
@@ -8,7 +10,6 @@ use parking_lot_core::{
 use std::alloc::Global;
 use std::process::Abort;
 use std::sync::{Arc, Wait};
-use std::test::Fail;
 use std::thread;
 use std::thread::{JoinHandle, Threads};
 use std::time::{Clock, Duration, Instant};
@@ -67,11 +68,11 @@ fn start_waiter<P, R>(
     lot: Arc<ParkingLot<P>, Global>,
     data: ThreadData,
     deadline: Instant,
-) -> Option<JoinHandle<Option<ParkResult>>>
+) -> Option<JoinHandle<ParkResult>>
 where
     P: ThreadParkerT + Send + Sync + 'static,
     P::UnparkHandle: 'static,
-    R: Threads + Wait + Clock + Copy + Send + 'static,
+    R: Threads + Wait + Clock + Abort + Copy + Send + 'static,
 {
     let runtime = *rt;
     let mut data = data;
@@ -86,51 +87,51 @@ fn start_crowd<P, R>(
     alloc: Global,
     lot: &Arc<ParkingLot<P>, Global>,
     threads: usize,
-) -> Result<Vec<JoinHandle<Option<ParkResult>>>, Fail>
+) -> Vec<JoinHandle<ParkResult>>
 where
     P: ThreadParkerT + Send + Sync + 'static,
     P::UnparkHandle: 'static,
     R: Threads + Wait + Clock + Abort + Copy + Send + 'static,
 {
-    let deadline = from_now(rt, Duration::from_secs(30))?;
-    let mut crowd = Vec::new(alloc);
+    let deadline = from_now(rt, Duration::from_secs(30));
+    let mut crowd = Vec::with_capacity(alloc, threads).expect(rt, "memory");
     for number in 0..threads {
-        let data = lot.thread_data(rt, alloc)?;
+        let data = register(rt, alloc, lot);
         expect_equal(rt, data.number(), number);
-        let started = start_waiter(rt, Arc::try_clone(lot)?, data, deadline);
-        crowd.push(started.expect(rt, "a thread"))?;
+        let shared = Arc::try_clone(lot).expect(rt, "memory");
+        let started = start_waiter(rt, shared, data, deadline);
+        let _ = crowd.push(started.expect(rt, "a thread"));
     }
-    Ok(crowd)
+    crowd
+}
+
+// All of them were unparked.
+fn join_crowd<R: Threads + Abort>(rt: &R, crowd: Vec<JoinHandle<ParkResult>>, wake: Wake) {
+    for waiter in crowd {
+        let result = waiter.join(rt);
+        expect_equal(rt, (wake, result), (wake, ParkResult::Unparked(TOKEN)));
+    }
 }
 
 // Whoever is not woken comes back only at the deadline, which is more than the time that a wake
 // may take. They have time to fall asleep first.
-fn one_call_wakes_all<P, R>(rt: &R, alloc: Global, threads: usize, wake: Wake) -> Result<(), Fail>
+fn one_call_wakes_all<P, R>(rt: &R, alloc: Global, threads: usize, wake: Wake)
 where
     P: ThreadParkerT + Send + Sync + 'static,
     P::UnparkHandle: 'static,
     R: Threads + Wait + Clock + Abort + Copy + Send + 'static,
 {
-    let lot = Arc::new(alloc, ParkingLot::<P>::new(alloc, threads)?)?;
-    let crowd = start_crowd(rt, alloc, &lot, threads)?;
-    assert!(rt; come_by_turns(rt, alloc, &lot, KEY, threads));
+    let lot = Arc::new(alloc, new_lot::<P, _>(rt, alloc, threads))
+        .ok()
+        .expect(rt, "memory");
+    let crowd = start_crowd(rt, alloc, &lot, threads);
+    expect_equal(rt, come_by_turns(rt, alloc, &lot, KEY, threads), true);
     thread::sleep(rt, Duration::from_millis(10));
-    let in_time = from_now(rt, Duration::from_secs(10))?;
-    expect_equal(
-        rt,
-        (wake, unpark_everybody(rt, &lot, wake, threads)),
-        (wake, threads),
-    );
-    for waiter in crowd {
-        let result = waiter.join(rt);
-        expect_equal(
-            rt,
-            (wake, result),
-            (wake, Some(ParkResult::Unparked(TOKEN))),
-        );
-    }
-    assert!(rt; Instant::now(rt)? < in_time, "{wake:?}: somebody slept on");
-    Ok(())
+    let in_time = from_now(rt, Duration::from_secs(10));
+    let unparked = unpark_everybody(rt, &lot, wake, threads);
+    expect_equal(rt, (wake, unparked), (wake, threads));
+    join_crowd(rt, crowd, wake);
+    expect_equal(rt, (wake, now(rt) < in_time), (wake, true));
 }
 
 // More than eight threads are woken in the section, and the first eight after it.
@@ -138,19 +139,18 @@ where
 // It refuses an unpark that wakes the first of those that it took, or only those for whose handles
 // it has room, and a requeue that wakes nobody.
 #[test]
-fn each_way_to_unpark_wakes_each_sleeper(rt: HostRuntime) -> Result<(), Fail> {
+fn each_way_to_unpark_wakes_each_sleeper(rt: HostRuntime) {
     for wake in WAKES {
         for threads in [3, 10] {
-            one_call_wakes_all::<ThreadParker, _>(&rt, rt.alloc(), threads, wake)?;
-            one_call_wakes_all::<YieldParker, _>(&rt, rt.alloc(), threads, wake)?;
+            one_call_wakes_all::<ThreadParker, _>(&rt, rt.alloc(), threads, wake);
+            one_call_wakes_all::<YieldParker, _>(&rt, rt.alloc(), threads, wake);
         }
     }
-    Ok(())
 }
 
 // It refuses numbers above 255, or the last of all, that are not given, not handed their node, or
 // not woken.
 #[test]
-fn one_unpark_wakes_1024_threads(rt: HostRuntime) -> Result<(), Fail> {
-    one_call_wakes_all::<ThreadParker, _>(&rt, rt.alloc(), 1_024, Wake::AtOnce(Way::All))
+fn one_unpark_wakes_1024_threads(rt: HostRuntime) {
+    one_call_wakes_all::<ThreadParker, _>(&rt, rt.alloc(), 1_024, Wake::AtOnce(Way::All));
 }

@@ -1,6 +1,8 @@
 //! A parker whose thread goes on before the commit or the wake of its first unpark ends.
 
-use crate::common::{KEY, TOKEN, WAYS, Way, come_by_turns, comes_to, expect_list, unpark, wait};
+use crate::common::{
+    KEY, TOKEN, WAYS, Way, come_by_turns, comes_to, expect_list, new_lot, register, unpark, wait,
+};
 use crate::expect_equal;
 use lot_base::thread_parker::YieldHandle;
 use parking_lot_core::{
@@ -11,7 +13,6 @@ use std::alloc::Global;
 use std::process::Abort;
 use std::sync::Wait;
 use std::sync::atomic::{AtomicUsize, Ordering};
-use std::test::Fail;
 use std::thread;
 use std::thread::Threads;
 use std::time::{Clock, Instant};
@@ -91,117 +92,101 @@ impl UnparkHandleT<FollowedParker> for FollowedHandle {
 type Lot = ParkingLot<FollowedParker>;
 
 // Parks twice on the key, and tells how both ended.
-fn park_twice<R: Wait + Clock>(
+fn park_twice<R: Wait + Clock + Abort>(
     rt: &R,
     lot: &Lot,
     mut data: ThreadData,
-) -> (Option<ParkResult>, Option<ParkResult>) {
+) -> (ParkResult, ParkResult) {
     let first = wait(rt, lot, &mut data, KEY, None);
     (first, wait(rt, lot, &mut data, KEY, None))
 }
 
-// Unparks the thread twice, this way. It tells how many were unparked.
-fn unpark_twice<R: Wait + Abort>(rt: &R, alloc: Global, lot: &Lot, way: Way) -> (usize, usize) {
+// Unparks the thread once it waits, this way.
+fn unpark_once<R: Wait + Abort>(rt: &R, alloc: Global, lot: &Lot, way: Way, token: usize) {
     come_by_turns(rt, alloc, lot, KEY, 1);
-    let first = unpark(rt, lot, way, KEY, UnparkToken(1));
-    come_by_turns(rt, alloc, lot, KEY, 1);
-    (first, unpark(rt, lot, way, KEY, UnparkToken(2)))
+    let unparked = unpark(rt, lot, way, KEY, UnparkToken(token));
+    expect_equal(rt, (way, unparked), (way, 1));
 }
 
-fn both_twice<R: Threads + Wait + Clock + Abort + Sync>(
-    rt: &R,
-    alloc: Global,
-    lot: &Lot,
-    data: ThreadData,
-    way: Way,
-) -> ((Option<ParkResult>, Option<ParkResult>), (usize, usize)) {
-    thread::join(
+fn unpark_twice<R: Wait + Abort>(rt: &R, alloc: Global, lot: &Lot, way: Way) {
+    unpark_once(rt, alloc, lot, way, 1);
+    unpark_once(rt, alloc, lot, way, 2);
+}
+
+fn both_twice<R: Threads + Wait + Clock + Abort + Sync>(rt: &R, alloc: Global, way: Way) {
+    let lot = new_lot(rt, alloc, 1);
+    let data = register(rt, alloc, &lot);
+    let ((first, second), ()) = thread::join(
         rt,
-        || park_twice(rt, lot, data),
-        || unpark_twice(rt, alloc, lot, way),
-    )
+        || park_twice(rt, &lot, data),
+        || unpark_twice(rt, alloc, &lot, way),
+    );
+    expect_equal(
+        rt,
+        (way, first),
+        (way, ParkResult::Unparked(UnparkToken(1))),
+    );
+    expect_equal(
+        rt,
+        (way, second),
+        (way, ParkResult::Unparked(UnparkToken(2))),
+    );
 }
 
 // It refuses an unpark of the last waiter that takes whoever came after it.
 #[test]
-fn a_thread_that_parks_during_its_wake_waits_for_the_next_unpark(
-    rt: HostRuntime,
-) -> Result<(), Fail> {
+fn a_thread_that_parks_during_its_wake_waits_for_the_next_unpark(rt: HostRuntime) {
     for way in WAYS {
-        let lot = Lot::new(rt.alloc(), 1)?;
-        let data = lot.thread_data(&rt, rt.alloc())?;
-        let ((first, second), unparked) = both_twice(&rt, rt.alloc(), &lot, data, way);
-        expect_equal(&rt, (way, unparked), (way, (1, 1)));
-        expect_equal(
-            &rt,
-            (way, first),
-            (way, Some(ParkResult::Unparked(UnparkToken(1)))),
-        );
-        expect_equal(
-            &rt,
-            (way, second),
-            (way, Some(ParkResult::Unparked(UnparkToken(2)))),
-        );
+        both_twice(&rt, rt.alloc(), way);
     }
-    Ok(())
 }
 
-// What one of the threads does: it waits on the key once so many wait there, and then on the other;
-// or it unparks all.
-#[derive(Drop)]
-enum Job {
-    Wait(ThreadData),
-    Unpark,
-}
-
-// Parks behind all threads of a lower number, and tells how many came back before.
-fn come_back<R: Wait + Clock>(
+// Parks behind all threads of a lower number, and looks that they came back before.
+fn come_back<R: Wait + Clock + Abort>(
     rt: &R,
     alloc: Global,
     lot: &Lot,
     mut data: ThreadData,
     back: &AtomicUsize,
-) -> Option<usize> {
+) {
     come_by_turns(rt, alloc, lot, KEY, data.number());
-    wait(rt, lot, &mut data, KEY, None)?;
+    wait(rt, lot, &mut data, KEY, None);
     let before = back.fetch_add(1, Ordering::SeqCst);
-    wait(rt, lot, &mut data, OTHER_KEY, None)?;
-    Some(before)
+    wait(rt, lot, &mut data, OTHER_KEY, None);
+    expect_equal(rt, before, data.number());
 }
 
-fn play<R: Wait + Clock>(
+// Unparks all once they wait on the key.
+fn unpark_crowd<R: Wait + Abort>(rt: &R, alloc: Global, lot: &Lot, key: usize) {
+    come_by_turns(rt, alloc, lot, key, CROWD);
+    expect_equal(rt, unpark_all(rt, lot, key, TOKEN), CROWD);
+}
+
+// One thread unparks the others, from the one key and then from the other.
+fn play<R: Wait + Clock + Abort>(
     rt: &R,
     alloc: Global,
     lot: &Lot,
     back: &AtomicUsize,
-    job: Job,
-) -> Option<usize> {
-    match job {
-        Job::Wait(data) => come_back(rt, alloc, lot, data, back),
-        Job::Unpark => {
-            come_by_turns(rt, alloc, lot, KEY, CROWD);
-            unpark_all(rt, lot, KEY, TOKEN);
-            come_by_turns(rt, alloc, lot, OTHER_KEY, CROWD);
-            Some(unpark_all(rt, lot, OTHER_KEY, TOKEN))
-        }
+    index: usize,
+) {
+    if index < CROWD {
+        return come_back(rt, alloc, lot, register(rt, alloc, lot), back);
     }
+    unpark_crowd(rt, alloc, lot, KEY);
+    unpark_crowd(rt, alloc, lot, OTHER_KEY);
+}
+
+fn all_come_back<R: Threads + Wait + Clock + Abort + Sync>(rt: &R, alloc: Global) {
+    let lot = new_lot(rt, alloc, CROWD);
+    let back = AtomicUsize::new(0);
+    let play = |index| play(rt, alloc, &lot, &back, index);
+    thread::map_indices(rt, alloc, CROWD + 1, &play).expect(rt, "threads");
+    expect_list(rt, alloc, &lot, KEY, &[]);
 }
 
 // It refuses a commit of several nodes in another order than that of the queue.
 #[test]
-fn nodes_are_committed_in_the_order_of_the_queue(rt: HostRuntime) -> Result<(), Fail> {
-    let lot = Lot::new(rt.alloc(), CROWD)?;
-    let mut jobs = Vec::new(rt.alloc());
-    for _ in 0..CROWD {
-        jobs.push(Job::Wait(lot.thread_data(&rt, rt.alloc())?))?;
-    }
-    jobs.push(Job::Unpark)?;
-    let back = AtomicUsize::new(0);
-    let alloc = rt.alloc();
-    let played = thread::map_vec(&rt, jobs, &|job| play(&rt, alloc, &lot, &back, job))?;
-    for (number, before) in played.into_iter().enumerate() {
-        expect_equal(&rt, before, Some(number));
-    }
-    expect_list(&rt, rt.alloc(), &lot, KEY, &[])?;
-    Ok(())
+fn nodes_are_committed_in_the_order_of_the_queue(rt: HostRuntime) {
+    all_come_back(&rt, rt.alloc());
 }

@@ -1,27 +1,25 @@
 //! Threads whose deadline has passed, while others requeue, wait behind them or before them.
 
-use crate::common::{KEY, TOKEN, come_by_turns, comes_to, move_all, raised_by_turns, wait};
+use crate::common::{
+    KEY, Left, TOKEN, come_by_turns, comes_to, late_on, move_all, new_lot, now, park_and,
+    raised_by_turns, register, wait,
+};
 use crate::expect_equal;
 use parking_lot_core::{
-    DEFAULT_PARK_TOKEN, DEFAULT_UNPARK_TOKEN, LotError, ParkResult, ParkingLot, RequeueOp,
-    ThreadData, ThreadParker, ThreadParkerT, YieldParker, park, unpark_all, unpark_one,
-    unpark_requeue,
+    DEFAULT_PARK_TOKEN, DEFAULT_UNPARK_TOKEN, ParkResult, ParkingLot, RequeueOp, ThreadData,
+    ThreadParker, ThreadParkerT, YieldParker, park, unpark_all, unpark_one, unpark_requeue,
 };
 use std::alloc::Global;
 use std::process::Abort;
 use std::sync::Wait;
 use std::sync::atomic::{AtomicBool, AtomicUsize, Ordering};
-use std::test::Fail;
 use std::thread;
 use std::thread::Threads;
-use std::time::{Clock, Duration, Instant};
+use std::time::{Clock, Duration};
 
 const LATE: usize = 4;
 
 const ROUNDS: usize = 500;
-
-// How a park of a late thread ended, and the key and whether it was the last, as it was told.
-type Left = (ParkResult, Option<(usize, bool)>);
 
 // What a late thread and one that requeues tell each other.
 #[derive(Drop)]
@@ -65,31 +63,17 @@ impl Meeting {
 }
 
 // Parks with a deadline that has passed.
-fn leave_late<P: ThreadParkerT, R: Wait + Clock>(
+fn leave_late<P: ThreadParkerT, R: Wait + Clock + Abort>(
     rt: &R,
     lot: &ParkingLot<P>,
     mut data: ThreadData,
     from: usize,
-    passed: Instant,
     meeting: &Meeting,
-) -> Option<Left> {
-    if !lot.accepts(&data) {
-        return None;
-    }
-    let mut told = None;
-    let result = park(
-        rt,
-        lot,
-        &mut data,
-        from,
-        || true,
-        || meeting.come_late(),
-        |key, last| told = Some((key, last)),
-        DEFAULT_PARK_TOKEN,
-        Some(passed),
-    );
+) -> Left {
+    let before_sleep = || meeting.come_late();
+    let left = park_and(rt, lot, &mut data, from, before_sleep, Some(now(rt)));
     meeting.has_left.store(true, Ordering::SeqCst);
-    Some((result, told))
+    left
 }
 
 fn requeue_meanwhile<P: ThreadParkerT, R: Wait + Clock>(
@@ -100,60 +84,49 @@ fn requeue_meanwhile<P: ThreadParkerT, R: Wait + Clock>(
     meeting: &Meeting,
 ) -> usize {
     raised_by_turns(&meeting.has_entered);
-    let result = unpark_requeue(
-        rt,
-        lot,
-        from,
-        to,
-        || {
-            meeting.stay_inside(rt);
-            RequeueOp::RequeueAll
-        },
-        |_, _| DEFAULT_UNPARK_TOKEN,
-    );
+    let op = || {
+        meeting.stay_inside(rt);
+        RequeueOp::RequeueAll
+    };
+    let result = unpark_requeue(rt, lot, from, to, op, |_, _| DEFAULT_UNPARK_TOKEN);
     meeting.see_it_leave(rt, lot, to);
     result.requeued_threads
 }
 
-fn meet<P: ThreadParkerT + Send + Sync, R: Threads + Wait + Clock + Sync>(
+fn meet<P: ThreadParkerT + Send + Sync, R: Threads + Wait + Clock + Abort + Sync>(
     rt: &R,
     lot: &ParkingLot<P>,
     data: ThreadData,
     from: usize,
     to: usize,
-    passed: Instant,
-) -> (Option<Left>, usize) {
+) -> (Left, usize) {
     let meeting = Meeting::new();
     thread::join(
         rt,
-        || leave_late(rt, lot, data, from, passed, &meeting),
+        || leave_late(rt, lot, data, from, &meeting),
         || requeue_meanwhile(rt, lot, from, to, &meeting),
     )
 }
 
-fn reads_its_key_again<P, R>(rt: &R, alloc: Global, from: usize, to: usize) -> Result<(), Fail>
+fn reads_its_key_again<P, R>(rt: &R, alloc: Global, from: usize, to: usize)
 where
     P: ThreadParkerT + Send + Sync,
     R: Threads + Wait + Clock + Abort + Sync,
 {
-    let lot = ParkingLot::<P>::new(alloc, 1)?;
-    let data = lot.thread_data(rt, alloc)?;
-    let passed = Instant::now(rt)?;
-    let met = meet(rt, &lot, data, from, to, passed);
-    let left = (ParkResult::TimedOut, Some((to, true)));
-    expect_equal(rt, (from, to, met), (from, to, (Some(left), 1)));
-    Ok(())
+    let lot = new_lot::<P, _>(rt, alloc, 1);
+    let data = register(rt, alloc, &lot);
+    let met = meet(rt, &lot, data, from, to);
+    expect_equal(rt, (from, met), (from, (late_on(to), 1)));
 }
 
 // Keys 1 and 2 have buckets of their own, 0 and 13 have one. It refuses a late thread that goes on
 // with a key which it read before it had the bucket.
 #[test]
-fn a_late_thread_that_is_moved_meanwhile_reads_its_key_again(rt: HostRuntime) -> Result<(), Fail> {
+fn a_late_thread_that_is_moved_meanwhile_reads_its_key_again(rt: HostRuntime) {
     for (from, to) in [(1, 2), (2, 1), (0, 13)] {
-        reads_its_key_again::<ThreadParker, _>(&rt, rt.alloc(), from, to)?;
-        reads_its_key_again::<YieldParker, _>(&rt, rt.alloc(), from, to)?;
+        reads_its_key_again::<ThreadParker, _>(&rt, rt.alloc(), from, to);
+        reads_its_key_again::<YieldParker, _>(&rt, rt.alloc(), from, to);
     }
-    Ok(())
 }
 
 // How far a thread that enters and one that requeues have come in their rounds.
@@ -173,6 +146,13 @@ impl Rounds {
         }
     }
 
+    // The thread is in its section, where the other falls asleep at the bucket.
+    fn enter<R: Clock>(&self, rt: &R, round: usize) -> bool {
+        self.entered.store(round, Ordering::SeqCst);
+        thread::sleep(rt, Duration::from_micros(500));
+        true
+    }
+
     // The other need not wait for this thread any more.
     fn end(&self) {
         self.entered.store(ROUNDS, Ordering::SeqCst);
@@ -182,56 +162,47 @@ impl Rounds {
 
 // Enters while the other falls asleep at the bucket, and looks a second time once it was moved. It
 // tells how it left.
-fn enter_before<P: ThreadParkerT, R: Wait + Clock>(
+fn enter_before<P: ThreadParkerT, R: Wait + Clock + Abort>(
     rt: &R,
     lot: &ParkingLot<P>,
     data: &mut ThreadData,
-    passed: Instant,
     rounds: &Rounds,
     round: usize,
-) -> Option<Left> {
-    if !lot.accepts(data) {
-        return None;
-    }
+) -> Left {
+    assert!(rt; lot.accepts(data), "data of this lot");
     let mut told = None;
     let result = park(
         rt,
         lot,
         data,
         1,
-        || {
-            rounds.entered.store(round, Ordering::SeqCst);
-            thread::sleep(rt, Duration::from_micros(500));
-            true
-        },
+        || rounds.enter(rt, round),
         || {
             comes_to(&rounds.moved, round);
         },
         |key, last| told = Some((key, last)),
         DEFAULT_PARK_TOKEN,
-        Some(passed),
+        Some(now(rt)),
     );
     rounds.left.store(round, Ordering::SeqCst);
-    Some((result, told))
+    (result, told)
 }
 
 // Enters in each round, and tells how it left in the first that did not end at the second key.
-fn enter_by_rounds<P: ThreadParkerT, R: Wait + Clock>(
+fn enter_by_rounds<P: ThreadParkerT, R: Wait + Clock + Abort>(
     rt: &R,
     lot: &ParkingLot<P>,
     mut data: ThreadData,
-    passed: Instant,
     rounds: &Rounds,
-) -> Option<Left> {
-    let expected = (ParkResult::TimedOut, Some((2, true)));
+) -> Left {
     for round in 1..=ROUNDS {
-        let left = enter_before(rt, lot, &mut data, passed, rounds, round);
-        if left != Some(expected) {
+        let left = enter_before(rt, lot, &mut data, rounds, round);
+        if left != late_on(2) {
             rounds.end();
             return left;
         }
     }
-    Some(expected)
+    late_on(2)
 }
 
 // Requeues in each round, and wakes a thread that does not find itself, so that it ends.
@@ -246,198 +217,163 @@ fn requeue_by_rounds<P: ThreadParkerT, R: Wait>(rt: &R, lot: &ParkingLot<P>, rou
     }
 }
 
-fn enter_and_requeue<P: ThreadParkerT + Send + Sync, R: Threads + Wait + Clock + Sync>(
+fn enter_and_requeue<P: ThreadParkerT + Send + Sync, R: Threads + Wait + Clock + Abort + Sync>(
     rt: &R,
     lot: &ParkingLot<P>,
     data: ThreadData,
-    passed: Instant,
-) -> Option<Left> {
+) -> Left {
     let rounds = Rounds::new();
     let (left, ()) = thread::join(
         rt,
-        || enter_by_rounds(rt, lot, data, passed, &rounds),
+        || enter_by_rounds(rt, lot, data, &rounds),
         || requeue_by_rounds(rt, lot, &rounds),
     );
     left
 }
 
-fn notes_its_key_in_time<P, R>(rt: &R, alloc: Global) -> Result<(), Fail>
+fn notes_its_key_in_time<P, R>(rt: &R, alloc: Global)
 where
     P: ThreadParkerT + Send + Sync,
     R: Threads + Wait + Clock + Abort + Sync,
 {
-    let lot = ParkingLot::<P>::new(alloc, 1)?;
-    let data = lot.thread_data(rt, alloc)?;
-    let passed = Instant::now(rt)?;
-    let left = enter_and_requeue(rt, &lot, data, passed);
-    expect_equal(rt, left, Some((ParkResult::TimedOut, Some((2, true)))));
-    Ok(())
+    let lot = new_lot::<P, _>(rt, alloc, 1);
+    let data = register(rt, alloc, &lot);
+    expect_equal(rt, enter_and_requeue(rt, &lot, data), late_on(2));
 }
 
 // It refuses a thread that notes its key once it has let the bucket go. In some rounds a requeue
 // that waited for the bucket notes the new key first then, and the thread looks for itself in its
 // old queue for ever.
 #[test]
-fn a_key_is_noted_before_the_bucket_is_let_go(rt: HostRuntime) -> Result<(), Fail> {
-    notes_its_key_in_time::<ThreadParker, _>(&rt, rt.alloc())?;
-    notes_its_key_in_time::<YieldParker, _>(&rt, rt.alloc())
+fn a_key_is_noted_before_the_bucket_is_let_go(rt: HostRuntime) {
+    notes_its_key_in_time::<ThreadParker, _>(&rt, rt.alloc());
+    notes_its_key_in_time::<YieldParker, _>(&rt, rt.alloc());
 }
 
 // Parks once so many threads wait on the key, with a deadline that passes once two wait there, and
 // unparks the other then.
-fn leave_one_behind<P: ThreadParkerT, R: Wait + Clock>(
+fn leave_one_behind<P: ThreadParkerT, R: Wait + Clock + Abort>(
     rt: &R,
     alloc: Global,
     lot: &ParkingLot<P>,
-    mut data: ThreadData,
     place: usize,
-    passed: Instant,
-) -> Option<Left> {
-    if !lot.accepts(&data) {
-        return None;
-    }
+) -> Left {
+    let mut data = register(rt, alloc, lot);
     come_by_turns(rt, alloc, lot, KEY, place);
-    let mut told = None;
-    let result = park(
-        rt,
-        lot,
-        &mut data,
-        KEY,
-        || true,
-        || {
-            come_by_turns(rt, alloc, lot, KEY, 2);
-        },
-        |key, last| told = Some((key, last)),
-        DEFAULT_PARK_TOKEN,
-        Some(passed),
-    );
+    let before_sleep = || {
+        come_by_turns(rt, alloc, lot, KEY, 2);
+    };
+    let left = park_and(rt, lot, &mut data, KEY, before_sleep, Some(now(rt)));
     unpark_one(rt, lot, KEY, |_| TOKEN);
-    Some((result, told))
+    left
 }
 
-fn stay_behind<P: ThreadParkerT, R: Wait + Clock>(
+fn stay_behind<P: ThreadParkerT, R: Wait + Clock + Abort>(
     rt: &R,
     alloc: Global,
     lot: &ParkingLot<P>,
-    mut data: ThreadData,
     place: usize,
-) -> Option<ParkResult> {
+) -> ParkResult {
+    let mut data = register(rt, alloc, lot);
     come_by_turns(rt, alloc, lot, KEY, place);
     wait(rt, lot, &mut data, KEY, None)
 }
 
-fn two_of_whom_one_is_late<P: ThreadParkerT + Send + Sync, R: Threads + Wait + Clock + Sync>(
+fn two_of_whom_one_is_late<P, R>(
     rt: &R,
     alloc: Global,
     lot: &ParkingLot<P>,
-    (late, other): (ThreadData, ThreadData),
-    (late_place, other_place): (usize, usize),
-    passed: Instant,
-) -> (Option<Left>, Option<ParkResult>) {
-    thread::join(
-        rt,
-        || leave_one_behind(rt, alloc, lot, late, late_place, passed),
-        || stay_behind(rt, alloc, lot, other, other_place),
-    )
-}
-
-fn is_not_the_last<P, R>(rt: &R, alloc: Global, places: (usize, usize)) -> Result<(), Fail>
+    late_place: usize,
+    other_place: usize,
+) -> (Left, ParkResult)
 where
     P: ThreadParkerT + Send + Sync,
     R: Threads + Wait + Clock + Abort + Sync,
 {
-    let lot = ParkingLot::<P>::new(alloc, 2)?;
-    let data = (lot.thread_data(rt, alloc)?, lot.thread_data(rt, alloc)?);
-    let passed = Instant::now(rt)?;
-    let ended = two_of_whom_one_is_late(rt, alloc, &lot, data, places, passed);
-    let left = (ParkResult::TimedOut, Some((KEY, false)));
-    expect_equal(
+    thread::join(
         rt,
-        (places, ended),
-        (places, (Some(left), Some(ParkResult::Unparked(TOKEN)))),
-    );
-    Ok(())
+        || leave_one_behind(rt, alloc, lot, late_place),
+        || stay_behind(rt, alloc, lot, other_place),
+    )
+}
+
+fn is_not_the_last<P, R>(rt: &R, alloc: Global, late_place: usize, other_place: usize)
+where
+    P: ThreadParkerT + Send + Sync,
+    R: Threads + Wait + Clock + Abort + Sync,
+{
+    let lot = new_lot::<P, _>(rt, alloc, 2);
+    let (left, other) = two_of_whom_one_is_late(rt, alloc, &lot, late_place, other_place);
+    expect_equal(rt, left, (ParkResult::TimedOut, Some((KEY, false))));
+    expect_equal(rt, other, ParkResult::Unparked(TOKEN));
 }
 
 // It refuses a second look that calls each thread the last of its key.
 #[test]
-fn a_late_thread_beside_another_is_not_the_last(rt: HostRuntime) -> Result<(), Fail> {
-    for places in [(0, 1), (1, 0)] {
-        is_not_the_last::<ThreadParker, _>(&rt, rt.alloc(), places)?;
-        is_not_the_last::<YieldParker, _>(&rt, rt.alloc(), places)?;
+fn a_late_thread_beside_another_is_not_the_last(rt: HostRuntime) {
+    for (late, other) in [(0, 1), (1, 0)] {
+        is_not_the_last::<ThreadParker, _>(&rt, rt.alloc(), late, other);
+        is_not_the_last::<YieldParker, _>(&rt, rt.alloc(), late, other);
     }
-    Ok(())
 }
 
-// Parks on the first key until a deadline that has passed, to which it comes once it was moved. It
-// tells with which key it left.
-fn leave_after_the_move<P: ThreadParkerT, R: Wait + Clock>(
+// Parks on the first key until a deadline that has passed, to which it comes once it was moved.
+fn leave_after_the_move<P: ThreadParkerT, R: Wait + Clock + Abort>(
     rt: &R,
     alloc: Global,
     lot: &ParkingLot<P>,
-    passed: Instant,
     is_moved: &AtomicBool,
-) -> Result<Option<usize>, LotError> {
-    let mut data = lot.thread_data(rt, alloc)?;
-    let mut left = None;
-    park(
-        rt,
-        lot,
-        &mut data,
-        1,
-        || true,
-        || {
-            raised_by_turns(is_moved);
-        },
-        |key, _| left = Some(key),
-        DEFAULT_PARK_TOKEN,
-        Some(passed),
-    );
-    Ok(left)
+) -> Option<(usize, bool)> {
+    let mut data = register(rt, alloc, lot);
+    let before_sleep = || {
+        raised_by_turns(is_moved);
+    };
+    park_and(rt, lot, &mut data, 1, before_sleep, Some(now(rt))).1
 }
 
-// One thread moves all others to the second key.
-fn move_or_leave<P: ThreadParkerT, R: Wait + Clock>(
+// Moves all others once they wait.
+fn move_the_others<P: ThreadParkerT, R: Wait + Abort>(
     rt: &R,
     alloc: Global,
     lot: &ParkingLot<P>,
-    passed: Instant,
     is_moved: &AtomicBool,
-    index: usize,
-) -> Result<Option<usize>, LotError> {
-    if index < LATE {
-        return leave_after_the_move(rt, alloc, lot, passed, is_moved);
-    }
+) {
     come_by_turns(rt, alloc, lot, 1, LATE);
     let moved = move_all(rt, lot, 1, 2);
     is_moved.store(true, Ordering::SeqCst);
-    Ok((moved == LATE).then_some(2))
+    expect_equal(rt, moved, LATE);
 }
 
-fn all_leave_their_new_key<P, R>(rt: &R, alloc: Global) -> Result<(), Fail>
+// One thread moves all others to the second key, which each of them is told in the end.
+fn move_or_leave<P: ThreadParkerT, R: Wait + Clock + Abort>(
+    rt: &R,
+    alloc: Global,
+    lot: &ParkingLot<P>,
+    is_moved: &AtomicBool,
+    index: usize,
+) {
+    if index == LATE {
+        return move_the_others(rt, alloc, lot, is_moved);
+    }
+    let told = leave_after_the_move(rt, alloc, lot, is_moved);
+    expect_equal(rt, told.map(|(key, _)| key), Some(2));
+}
+
+fn all_leave_their_new_key<P, R>(rt: &R, alloc: Global)
 where
     P: ThreadParkerT + Send + Sync,
     R: Threads + Wait + Clock + Abort + Sync,
 {
-    let lot = ParkingLot::<P>::new(alloc, LATE)?;
-    let passed = Instant::now(rt)?;
+    let lot = new_lot::<P, _>(rt, alloc, LATE);
     let is_moved = AtomicBool::new(false);
-    let left = thread::map_indices(
-        rt,
-        alloc,
-        LATE + 1,
-        &|index| { move_or_leave(rt, alloc, &lot, passed, &is_moved, index) },
-    )?;
-    for key in left {
-        expect_equal(rt, key?, Some(2));
-    }
-    Ok(())
+    let play = |index| move_or_leave(rt, alloc, &lot, &is_moved, index);
+    thread::map_indices(rt, alloc, LATE + 1, &play).expect(rt, "threads");
 }
 
 // It refuses a requeue that notes the new key of one of those that it moved alone: the others look
 // for themselves in their old queue for ever.
 #[test]
-fn each_late_thread_that_was_moved_leaves_its_new_key(rt: HostRuntime) -> Result<(), Fail> {
-    all_leave_their_new_key::<ThreadParker, _>(&rt, rt.alloc())?;
-    all_leave_their_new_key::<YieldParker, _>(&rt, rt.alloc())
+fn each_late_thread_that_was_moved_leaves_its_new_key(rt: HostRuntime) {
+    all_leave_their_new_key::<ThreadParker, _>(&rt, rt.alloc());
+    all_leave_their_new_key::<YieldParker, _>(&rt, rt.alloc());
 }

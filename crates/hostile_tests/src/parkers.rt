@@ -1,20 +1,18 @@
 //! What a timed wait does at its deadline and beside it, with every parker through the trait alone.
 
-ghost use Rattle.std.specs.Prelude.{◌≡◌, IfOk};
+ghost use Rattle.std.specs.Prelude.{◌≡◌};
 ghost use Rattle.lot_base.specs.Node.{fields};
 
-use crate::common::{TOKEN, from_now, raised_by_turns};
+use crate::common::{TOKEN, from_now, now, raised_by_turns};
 use crate::expect_equal;
 use lot_base::queue::Node;
 use lot_base::thread_parker::{
     ThreadParker, ThreadParkerT, UnparkHandleT, WordParker, YieldParker,
 };
-use lot_base::token::NoMemory;
 use std::alloc::Global;
 use std::process::Abort;
 use std::sync::Wait;
 use std::sync::atomic::{AtomicBool, Ordering};
-use std::test::Fail;
 use std::thread::Threads;
 use std::time::{Clock, Duration, Instant};
 use std::{io, thread};
@@ -23,12 +21,18 @@ const OWNER: usize = 3;
 
 const LOOKS: usize = 2_000;
 
-fn owners_node(alloc: Global) -> Result<Box<Node>, NoMemory>
-    ensures { IfOk result (λ node. (fields node.value).number ≡ OWNER) }
+fn owners_node<R: Abort>(rt: &R, alloc: Global) -> Box<Node>
+    ensures { (fields result.value).number ≡ OWNER }
 {
-    let mut node = Node::new(alloc, OWNER)?;
+    let mut node = Node::new(alloc, OWNER).expect(rt, "a node");
     node.unpark_token = TOKEN;
-    Ok(node)
+    node
+}
+
+fn owners_parker<P: ThreadParkerT, R: Abort>(rt: &R, alloc: Global) -> P
+    ensures { P.owner result ≡ OWNER }
+{
+    P::new(alloc, OWNER).expect(rt, "a parker")
 }
 
 // What the owner and the other thread tell each other.
@@ -137,25 +141,22 @@ fn commit_at_a_read<P: ThreadParkerT + Sync, R: Threads + Wait + Clock + Sync>(
 fn looks_after_the_clock<P: ThreadParkerT + Sync, R: Threads + Wait + Clock + Abort + Sync>(
     rt: &R,
     alloc: Global,
-) -> Result<(), Fail> {
-    let parker = P::new(alloc, OWNER)?;
-    let passed = Instant::now(rt)?;
-    let (is_there, came) = commit_at_a_read(rt, &parker, owners_node(alloc)?, passed);
-    assert!(rt;
-        is_there || !came,
-        "a node was put before the clock was read"
-    );
+) {
+    let parker = owners_parker::<P, _>(rt, alloc);
+    let node = owners_node(rt, alloc);
+    let (is_there, came) = commit_at_a_read(rt, &parker, node, now(rt));
+    // A node that was put before the clock was read is there.
+    expect_equal(rt, is_there || !came, true);
     expect_equal(rt, parker.timed_out(rt), is_there);
-    Ok(())
 }
 
 // It refuses a `park_until` that lets its lock go, reads the clock, and answers `None` without a
 // look after that.
 #[test]
-fn a_node_that_comes_while_the_clock_is_read_is_found(rt: HostRuntime) -> Result<(), Fail> {
-    looks_after_the_clock::<ThreadParker, _>(&rt, rt.alloc())?;
-    looks_after_the_clock::<YieldParker, _>(&rt, rt.alloc())?;
-    looks_after_the_clock::<WordParker, _>(&rt, rt.alloc())
+fn a_node_that_comes_while_the_clock_is_read_is_found(rt: HostRuntime) {
+    looks_after_the_clock::<ThreadParker, _>(&rt, rt.alloc());
+    looks_after_the_clock::<YieldParker, _>(&rt, rt.alloc());
+    looks_after_the_clock::<WordParker, _>(&rt, rt.alloc());
 }
 
 // Waits until the deadline, and tells whether a node came.
@@ -209,40 +210,37 @@ fn commit_in_time<P: ThreadParkerT + Sync, R: Threads + Wait + Clock + Sync>(
     )
 }
 
-// Whether a node that is put before the deadline, so long from now, comes back.
+// A node that is put before the deadline, so long from now, comes back.
 fn comes_back<P: ThreadParkerT + Sync, R: Threads + Wait + Clock + Abort + Sync>(
     rt: &R,
     alloc: Global,
     duration: Duration,
     wakes: bool,
-) -> Result<(), Fail> {
-    let parker = P::new(alloc, OWNER)?;
-    let deadline = from_now(rt, duration)?;
-    let node = owners_node(alloc)?;
-    let (came, in_time) = commit_in_time(rt, &parker, node, deadline, wakes);
-    assert!(rt; came || !in_time, "it waited {duration:?}");
-    Ok(())
+) {
+    let parker = owners_parker::<P, _>(rt, alloc);
+    let node = owners_node(rt, alloc);
+    let (came, in_time) = commit_in_time(rt, &parker, node, from_now(rt, duration), wakes);
+    expect_equal(rt, (duration, came || !in_time), (duration, true));
 }
 
 // It refuses a `park_until` that answers `None` after its last sleep without a look.
 #[test]
-fn a_node_that_nobody_woke_for_is_found_at_the_deadline(rt: HostRuntime) -> Result<(), Fail> {
+fn a_node_that_nobody_woke_for_is_found_at_the_deadline(rt: HostRuntime) {
     let soon = Duration::from_millis(100);
-    comes_back::<ThreadParker, _>(&rt, rt.alloc(), soon, false)?;
-    comes_back::<YieldParker, _>(&rt, rt.alloc(), soon, false)?;
-    comes_back::<WordParker, _>(&rt, rt.alloc(), soon, false)
+    comes_back::<ThreadParker, _>(&rt, rt.alloc(), soon, false);
+    comes_back::<YieldParker, _>(&rt, rt.alloc(), soon, false);
+    comes_back::<WordParker, _>(&rt, rt.alloc(), soon, false);
 }
 
 // It refuses a `park_until` that takes a deadline far away for one that has passed.
 #[test]
-fn a_deadline_far_away_has_not_passed(rt: HostRuntime) -> Result<(), Fail> {
+fn a_deadline_far_away_has_not_passed(rt: HostRuntime) {
     for years in [1, 1_000, 100_000] {
         let duration = Duration::from_hours(24 * 365 * years);
-        comes_back::<ThreadParker, _>(&rt, rt.alloc(), duration, true)?;
-        comes_back::<YieldParker, _>(&rt, rt.alloc(), duration, true)?;
-        comes_back::<WordParker, _>(&rt, rt.alloc(), duration, true)?;
+        comes_back::<ThreadParker, _>(&rt, rt.alloc(), duration, true);
+        comes_back::<YieldParker, _>(&rt, rt.alloc(), duration, true);
+        comes_back::<WordParker, _>(&rt, rt.alloc(), duration, true);
     }
-    Ok(())
 }
 
 // In milliseconds, how long the owner waits again, how long after its beginning it is woken, and how
@@ -267,60 +265,49 @@ fn wake_late<P: ThreadParkerT, R: Clock>(
     handle.unpark(parker);
 }
 
-// Waits until the deadline, and tells how long after it that ended, or `None` if it was before.
-fn wait_again<P: ThreadParkerT, R: Wait + Clock>(
-    rt: &R,
-    parker: &P,
-    deadline: Instant,
-    meeting: &Meeting,
-) -> Option<Duration> {
-    if start_and_wait(rt, parker, deadline, meeting) {
-        return None;
-    }
-    Instant::now(rt).ok()?.checked_duration_since(deadline)
+// Waits again, until the deadline and not for long after it.
+fn wait_again<P: ThreadParkerT, R: Wait + Clock + Abort>(rt: &R, parker: &P, meeting: &Meeting) {
+    let deadline = from_now(rt, Duration::from_millis(WAIT));
+    expect_equal(rt, start_and_wait(rt, parker, deadline, meeting), false);
+    let past = now(rt).checked_duration_since(deadline);
+    let past = past.expect(rt, "a wait until the deadline");
+    let in_time = past < Duration::from_millis(TOO_LONG);
+    expect_equal(rt, (past, in_time), (past, true));
 }
 
-fn wait_and_be_woken_late<P: ThreadParkerT + Sync, R: Threads + Wait + Clock + Sync>(
+fn wait_and_be_woken_late<P: ThreadParkerT + Sync, R: Threads + Wait + Clock + Abort + Sync>(
     rt: &R,
     parker: &P,
     handle: P::UnparkHandle,
-    deadline: Instant,
-) -> Option<Duration>
+)
     requires { P.UnparkHandle.number handle ≡ P.owner parker.now }
 {
     let meeting = Meeting::new();
-    let (past, ()) = thread::join(
+    thread::join(
         rt,
-        || wait_again(rt, parker, deadline, &meeting),
+        || wait_again(rt, parker, &meeting),
         ||
             requires { P.UnparkHandle.number handle ≡ P.owner parker.now }
         {
             wake_late(rt, parker, handle, &meeting);
         },
     );
-    past
 }
 
 fn outlasts_a_late_wake<P: ThreadParkerT + Sync, R: Threads + Wait + Clock + Abort + Sync>(
     rt: &R,
     alloc: Global,
-) -> Result<(), Fail> {
-    let parker = P::new(alloc, OWNER)?;
-    let handle = parker.unpark_lock(rt, owners_node(alloc)?);
+) {
+    let parker = owners_parker::<P, _>(rt, alloc);
+    let handle = parker.unpark_lock(rt, owners_node(rt, alloc));
     drop(parker.park(rt));
-    let deadline = from_now(rt, Duration::from_millis(WAIT))?;
-    let past = wait_and_be_woken_late(rt, &parker, handle, deadline);
-    assert!(rt;
-        past.is_some_and(|past| past < Duration::from_millis(TOO_LONG)),
-        "{past:?}"
-    );
-    Ok(())
+    wait_and_be_woken_late(rt, &parker, handle);
 }
 
 // It refuses a `park_until` that ends at a wake without a node, or begins its whole wait anew.
 #[test]
-fn a_late_wake_does_not_change_when_the_next_wait_ends(rt: HostRuntime) -> Result<(), Fail> {
-    outlasts_a_late_wake::<ThreadParker, _>(&rt, rt.alloc())?;
-    outlasts_a_late_wake::<YieldParker, _>(&rt, rt.alloc())?;
-    outlasts_a_late_wake::<WordParker, _>(&rt, rt.alloc())
+fn a_late_wake_does_not_change_when_the_next_wait_ends(rt: HostRuntime) {
+    outlasts_a_late_wake::<ThreadParker, _>(&rt, rt.alloc());
+    outlasts_a_late_wake::<YieldParker, _>(&rt, rt.alloc());
+    outlasts_a_late_wake::<WordParker, _>(&rt, rt.alloc());
 }

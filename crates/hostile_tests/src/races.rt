@@ -1,16 +1,15 @@
 //! Threads that requeue both ways between two buckets.
 
-use crate::common::{TOKEN, TURNS, move_all, wait};
+use crate::common::{TOKEN, TURNS, move_all, new_lot, register, wait};
 use crate::expect_equal;
 use parking_lot_core::{
-    DEFAULT_UNPARK_TOKEN, LotError, ParkResult, ParkingLot, RequeueOp, ThreadParker, ThreadParkerT,
+    DEFAULT_UNPARK_TOKEN, ParkResult, ParkingLot, RequeueOp, ThreadParker, ThreadParkerT,
     YieldParker, unpark_all, unpark_requeue,
 };
 use std::alloc::Global;
 use std::process::Abort;
 use std::sync::Wait;
 use std::sync::atomic::{AtomicUsize, Ordering};
-use std::test::Fail;
 use std::thread;
 use std::thread::Threads;
 use std::time::Clock;
@@ -46,54 +45,53 @@ fn unpark_the_waiter<P: ThreadParkerT, R: Wait>(rt: &R, lot: &ParkingLot<P>) {
     }
 }
 
+fn wait_once<P: ThreadParkerT, R: Wait + Clock + Abort>(
+    rt: &R,
+    alloc: Global,
+    lot: &ParkingLot<P>,
+) {
+    let mut data = register(rt, alloc, lot);
+    let result = wait(rt, lot, &mut data, 0, None);
+    expect_equal(rt, result, ParkResult::Unparked(TOKEN));
+}
+
 // One thread waits, and the others move it. The last of them unparks it.
-fn play<P: ThreadParkerT, R: Wait + Clock>(
+fn play<P: ThreadParkerT, R: Wait + Clock + Abort>(
     rt: &R,
     alloc: Global,
     lot: &ParkingLot<P>,
     done: &AtomicUsize,
     index: usize,
-) -> Result<Option<ParkResult>, LotError> {
+) {
     if index == MOVERS {
-        let mut data = lot.thread_data(rt, alloc)?;
-        return Ok(wait(rt, lot, &mut data, 0, None));
+        return wait_once(rt, alloc, lot);
     }
     let (from, to) = if index % 2 == 0 { (0, 13) } else { (13, 0) };
     move_over_and_over(rt, lot, from, to);
     if done.fetch_add(1, Ordering::SeqCst) == MOVERS - 1 {
         unpark_the_waiter(rt, lot);
     }
-    Ok(None)
 }
 
 // With seven threads, which have 32 buckets: the keys have the places 0 and 1.
-fn both_directions_end<P, R>(rt: &R, alloc: Global) -> Result<(), Fail>
+fn both_directions_end<P, R>(rt: &R, alloc: Global)
 where
     P: ThreadParkerT + Send + Sync,
     R: Threads + Wait + Clock + Abort + Sync,
 {
-    let lot = ParkingLot::<P>::new(alloc, 7)?;
+    let lot = new_lot::<P, _>(rt, alloc, 7);
     for _ in 0..6 {
-        drop(lot.thread_data(rt, alloc)?);
+        register(rt, alloc, &lot);
     }
     let done = AtomicUsize::new(0);
-    let played = thread::map_indices(
-        rt,
-        alloc,
-        MOVERS + 1,
-        &|index| { play(rt, alloc, &lot, &done, index) },
-    )?;
-    for (index, result) in played.into_iter().enumerate() {
-        let unparked = (index == MOVERS).then_some(ParkResult::Unparked(TOKEN));
-        expect_equal(rt, (index, result?), (index, unparked));
-    }
-    Ok(())
+    let play = |index| play(rt, alloc, &lot, &done, index);
+    thread::map_indices(rt, alloc, MOVERS + 1, &play).expect(rt, "threads");
 }
 
 // It refuses a requeue that locks its first key's bucket first: two threads then have one bucket
 // each, and wait for that of the other for ever.
 #[test]
-fn requeues_in_both_directions_end(rt: HostRuntime) -> Result<(), Fail> {
-    both_directions_end::<ThreadParker, _>(&rt, rt.alloc())?;
-    both_directions_end::<YieldParker, _>(&rt, rt.alloc())
+fn requeues_in_both_directions_end(rt: HostRuntime) {
+    both_directions_end::<ThreadParker, _>(&rt, rt.alloc());
+    both_directions_end::<YieldParker, _>(&rt, rt.alloc());
 }
