@@ -1,19 +1,20 @@
 //! Tests of latches, on which threads park until they are let through.
 
-use crate::MAX_THREADS;
-use crate::turns::{by_turns, comes_to};
-use parking_lot_core::{
-    DEFAULT_PARK_TOKEN, DEFAULT_UNPARK_TOKEN, ParkingLot, ThreadData, ThreadParkerT, park,
-    unpark_all, unpark_one,
-};
+use crate::meeting::{Meeting, Stay};
+use crate::turns::{TURNS, comes_to, unpark_by_turns};
+use parking_lot_core::{DEFAULT_UNPARK_TOKEN, ParkingLot, ThreadData, ThreadParkerT, unpark_all};
 use std::alloc::Global;
-use std::sync::atomic::{AtomicIsize, AtomicUsize, Ordering};
+use std::sync::atomic::{AtomicUsize, Ordering};
 use std::sync::{Arc, Wait};
 use std::thread;
 use std::thread::{JoinHandle, Threads};
 use std::time::{Clock, Duration};
 
 const FIRST_KEY: usize = 100;
+
+// The permits of a latch, where none is free and no thread has come. Each thread that waits makes
+// them one less.
+const TAKEN: usize = 1_000;
 
 /// How many latches there are, how many threads each has, how many of these are let through one by
 /// one before all others are, and how long a round of single unparks waits first.
@@ -33,68 +34,62 @@ where
     P::UnparkHandle: 'static,
     R: Threads + Wait + Clock + Copy + Send + 'static,
 {
-    let groups = start_groups::<P, _>(rt, alloc, plan)?;
+    let gate = Arc::new(alloc, Gate::<P>::new(alloc, plan.latches)?).ok()?;
+    let threads = start_all(rt, alloc, &gate, plan)?;
     for _ in 0..plan.single_unparks {
         thread::sleep(rt, plan.delay);
-        let_one_through_each(rt, alloc, groups.as_slice())?;
+        gate.let_one_through_each(rt, alloc)?;
     }
-    for group in groups {
-        group
-            .latch
-            .let_all_through(rt, alloc, usize::from(plan.threads))?;
-        group.join(rt);
+    gate.let_all_through(rt, alloc, usize::from(plan.threads))?;
+    for thread in threads {
+        thread.join(rt);
     }
     Some(())
 }
 
 // A latch: a semaphore that is taken at first, and what its threads note.
 #[derive(Drop)]
-struct Latch<P: ThreadParkerT> {
-    lot: Arc<ParkingLot<P>, Global>,
+struct Latch {
     key: usize,
-    permits: AtomicIsize,
+    permits: AtomicUsize,
     awake: AtomicUsize,
     last_awake: AtomicUsize,
 }
 
-impl<P: ThreadParkerT> Latch<P> {
-    fn new(lot: Arc<ParkingLot<P>, Global>, key: usize) -> Latch<P> {
+impl Latch {
+    fn new(key: usize) -> Latch {
         Latch {
-            lot,
             key,
-            permits: AtomicIsize::new(0),
+            permits: AtomicUsize::new(TAKEN),
             awake: AtomicUsize::new(0),
             last_awake: AtomicUsize::new(0),
         }
     }
 
-    // Comes through, and notes the thread. It notes nothing if the data is of another lot.
-    fn come_through<R: Wait + Clock>(&self, rt: &R, mut data: ThreadData) {
-        if !self.lot.accepts(&data) {
-            return;
-        }
-        if self.permits.fetch_sub(1, Ordering::SeqCst) <= 0 {
-            let _ = park(
-                rt,
-                &self.lot,
-                &mut data,
-                self.key,
-                || true,
-                || (),
-                |_, _| (),
-                DEFAULT_PARK_TOKEN,
-                None,
-            );
+    // Comes through, and notes the thread.
+    fn come_through<P: ThreadParkerT, R: Wait + Clock>(
+        &self,
+        rt: &R,
+        meeting: &Meeting<P>,
+        data: &mut ThreadData,
+    ) {
+        if self.permits.fetch_sub(1, Ordering::SeqCst) <= TAKEN {
+            let _ = meeting.park(rt, data, Stay::on(self.key));
         }
         self.last_awake.store(data.number(), Ordering::SeqCst);
         self.awake.fetch_add(1, Ordering::SeqCst);
     }
 
     // Lets one thread through, the first that waits if any does.
-    fn let_one_through<R: Wait>(&self, rt: &R, alloc: Global) -> Option<()> {
-        let waiting = self.lot.list(rt, alloc, self.key).ok()?;
+    fn let_one_through<P: ThreadParkerT, R: Wait>(
+        &self,
+        rt: &R,
+        alloc: Global,
+        lot: &ParkingLot<P>,
+    ) -> Option<()> {
+        let waiting = lot.list(rt, alloc, self.key).ok()?;
         let awake = self.awake.load(Ordering::SeqCst);
-        self.add_permit(rt)?;
+        self.add_permit(rt, lot)?;
         comes_to(&self.awake, awake.checked_add(1)?)?;
         let woken = self.last_awake.load(Ordering::SeqCst);
         match waiting.first() {
@@ -104,31 +99,47 @@ impl<P: ThreadParkerT> Latch<P> {
     }
 
     // Adds a permit, and hands it to a thread if one has come. That thread may not yet have parked.
-    fn add_permit<R: Wait>(&self, rt: &R) -> Option<()> {
-        if self.permits.fetch_add(1, Ordering::SeqCst) >= 0 {
+    fn add_permit<P: ThreadParkerT, R: Wait>(&self, rt: &R, lot: &ParkingLot<P>) -> Option<()> {
+        if self.permits.fetch_add(1, Ordering::SeqCst) >= TAKEN {
             return Some(());
         }
-        by_turns(|| {
-            let result = unpark_one(rt, &self.lot, self.key, |_| DEFAULT_UNPARK_TOKEN);
-            (result.unparked_threads == 1).then_some(())
-        })
+        unpark_by_turns(rt, lot, self.key, DEFAULT_UNPARK_TOKEN)?;
+        Some(())
     }
 
     // Unparks all that wait until so many threads have come through and nobody waits.
-    fn let_all_through<R: Wait>(&self, rt: &R, alloc: Global, threads: usize) -> Option<()> {
-        by_turns(|| self.unpark_waiting(rt, alloc, threads))?.then_some(())
+    fn let_all_through<P: ThreadParkerT, R: Wait>(
+        &self,
+        rt: &R,
+        alloc: Global,
+        lot: &ParkingLot<P>,
+        threads: usize,
+    ) -> Option<()> {
+        for _ in 0..TURNS {
+            if let Some(ended_well) = self.unpark_waiting(rt, alloc, lot, threads) {
+                return ended_well.then_some(());
+            }
+            thread::yield_now();
+        }
+        None
     }
 
     // One turn of this: whether it ended well, or `None` where a thread is still to come through.
-    fn unpark_waiting<R: Wait>(&self, rt: &R, alloc: Global, threads: usize) -> Option<bool> {
+    fn unpark_waiting<P: ThreadParkerT, R: Wait>(
+        &self,
+        rt: &R,
+        alloc: Global,
+        lot: &ParkingLot<P>,
+        threads: usize,
+    ) -> Option<bool> {
         let are_all_awake = self.awake.load(Ordering::SeqCst) == threads;
-        let Ok(waiting) = self.lot.list(rt, alloc, self.key) else {
+        let Ok(waiting) = lot.list(rt, alloc, self.key) else {
             return Some(false);
         };
         if are_all_awake {
             return Some(waiting.is_empty());
         }
-        let unparked = unpark_all(rt, &self.lot, self.key, DEFAULT_UNPARK_TOKEN);
+        let unparked = unpark_all(rt, lot, self.key, DEFAULT_UNPARK_TOKEN);
         if unparked < waiting.len() {
             return Some(false);
         }
@@ -136,77 +147,83 @@ impl<P: ThreadParkerT> Latch<P> {
     }
 }
 
-// A latch with its threads.
+// The latches, on one lot, as their threads share them.
 #[derive(Drop)]
-struct Group<P: ThreadParkerT> {
-    latch: Arc<Latch<P>, Global>,
-    threads: Vec<JoinHandle<()>>,
+struct Gate<P: ThreadParkerT> {
+    meeting: Meeting<P>,
+    latches: Vec<Latch>,
 }
 
-impl<P: ThreadParkerT> Group<P> {
-    fn join<R: Threads>(self, rt: &R) {
-        for thread in self.threads {
-            thread.join(rt);
+impl<P: ThreadParkerT> Gate<P> {
+    fn new(alloc: Global, count: u8) -> Option<Gate<P>> {
+        let meeting = Meeting::new(alloc)?;
+        let mut latches = Vec::new(alloc);
+        for index in 0..count {
+            latches
+                .push(Latch::new(FIRST_KEY + usize::from(index)))
+                .ok()?;
+        }
+        Some(Gate { meeting, latches })
+    }
+
+    // Comes through the latch of this index.
+    fn come_through<R: Wait + Clock>(&self, rt: &R, data: &mut ThreadData, index: u8) {
+        if let Some(latch) = self.latches.get(usize::from(index)) {
+            latch.come_through(rt, &self.meeting, data);
         }
     }
-}
 
-// Starts all threads of all latches, on one lot.
-fn start_groups<P, R>(rt: &R, alloc: Global, plan: Plan) -> Option<Vec<Group<P>>>
-where
-    P: ThreadParkerT + Send + Sync + 'static,
-    P::UnparkHandle: 'static,
-    R: Threads + Wait + Clock + Copy + Send + 'static,
-{
-    let lot = Arc::new(alloc, ParkingLot::<P>::new(alloc, MAX_THREADS).ok()?).ok()?;
-    let mut groups = Vec::new(alloc);
-    for index in 0..plan.latches {
-        let latch = Latch::new(Arc::try_clone(&lot).ok()?, FIRST_KEY + usize::from(index));
-        let group = start_group(rt, alloc, latch, plan.threads)?;
-        groups.push(group).ok()?;
+    // One round of single unparks, one for each latch.
+    fn let_one_through_each<R: Wait>(&self, rt: &R, alloc: Global) -> Option<()> {
+        for latch in &self.latches {
+            latch.let_one_through(rt, alloc, &self.meeting.lot)?;
+        }
+        Some(())
     }
-    Some(groups)
+
+    // Lets all threads through, so many at each latch.
+    fn let_all_through<R: Wait>(&self, rt: &R, alloc: Global, threads: usize) -> Option<()> {
+        for latch in &self.latches {
+            latch.let_all_through(rt, alloc, &self.meeting.lot, threads)?;
+        }
+        Some(())
+    }
 }
 
-fn start_group<P, R>(rt: &R, alloc: Global, latch: Latch<P>, count: u8) -> Option<Group<P>>
+// Starts all threads of all latches.
+fn start_all<P, R>(
+    rt: &R,
+    alloc: Global,
+    gate: &Arc<Gate<P>, Global>,
+    plan: Plan,
+) -> Option<Vec<JoinHandle<()>>>
 where
     P: ThreadParkerT + Send + Sync + 'static,
     P::UnparkHandle: 'static,
     R: Threads + Wait + Clock + Copy + Send + 'static,
 {
-    let latch = Arc::new(alloc, latch).ok()?;
     let mut threads = Vec::new(alloc);
-    for _ in 0..count {
-        let thread = start_thread(rt, alloc, &latch)?;
-        threads.push(thread).ok()?;
+    for latch in 0..plan.latches {
+        for _ in 0..plan.threads {
+            threads.push(start_thread(rt, alloc, gate, latch)?).ok()?;
+        }
     }
-    Some(Group { latch, threads })
+    Some(threads)
 }
 
 fn start_thread<P, R>(
     rt: &R,
     alloc: Global,
-    latch: &Arc<Latch<P>, Global>,
+    gate: &Arc<Gate<P>, Global>,
+    latch: u8,
 ) -> Option<JoinHandle<()>>
 where
     P: ThreadParkerT + Send + Sync + 'static,
     P::UnparkHandle: 'static,
     R: Threads + Wait + Clock + Copy + Send + 'static,
 {
-    let data = latch.lot.thread_data(rt, alloc).ok()?;
-    let latch = Arc::try_clone(latch).ok()?;
+    let mut data = gate.meeting.lot.thread_data(rt, alloc).ok()?;
+    let gate = Arc::try_clone(gate).ok()?;
     let runtime = *rt;
-    thread::spawn(rt, move || latch.come_through(&runtime, data)).ok()
-}
-
-// One round of single unparks, one for each latch.
-fn let_one_through_each<P: ThreadParkerT, R: Wait>(
-    rt: &R,
-    alloc: Global,
-    groups: &[Group<P>],
-) -> Option<()> {
-    for group in groups {
-        group.latch.let_one_through(rt, alloc)?;
-    }
-    Some(())
+    thread::spawn(rt, move || gate.come_through(&runtime, &mut data, latch)).ok()
 }

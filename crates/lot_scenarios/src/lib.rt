@@ -4,6 +4,7 @@
 
 mod buckets;
 mod latch;
+mod meeting;
 pub mod pair;
 mod single;
 mod turns;
@@ -14,10 +15,7 @@ use parking_lot_core::{ThreadParkerT, UnparkToken};
 use std::alloc::Global;
 use std::sync::Wait;
 use std::thread::Threads;
-use std::time::{Clock, Duration};
-
-// How many threads the lot of a scenario is for.
-const MAX_THREADS: usize = 100;
+use std::time::{Clock, Duration, Instant};
 
 const KEY: usize = 7;
 
@@ -78,4 +76,9 @@ where
         Scenario::Latches(plan) => latch::run::<P, _>(rt, alloc, plan),
         Scenario::TwoBuckets => buckets::run::<P, _>(rt, alloc),
     }
+}
+
+// The instant that comes so long from now.
+fn from_now<R: Clock>(rt: &R, duration: Duration) -> Option<Instant> {
+    Instant::now(rt).ok()?.checked_add(duration)
 }

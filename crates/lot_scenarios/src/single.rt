@@ -1,42 +1,40 @@
 //! Tests of one thread alone, which times out or unparks itself.
 
-use crate::turns::{by_turns, comes_to};
-use crate::{KEY, MAX_THREADS, TOKEN};
-use parking_lot_core::{
-    DEFAULT_PARK_TOKEN, ParkResult, ParkingLot, ThreadData, ThreadParkerT, park, unpark_all,
-    unpark_one,
-};
+use crate::meeting::{Meeting, Parked, Part, Stay, start};
+use crate::turns::comes_to;
+use crate::{KEY, TOKEN, from_now};
+use parking_lot_core::{ThreadData, ThreadParkerT, unpark_all};
 use std::alloc::Global;
-use std::sync::atomic::{AtomicUsize, Ordering};
-use std::sync::{Arc, Wait};
-use std::thread;
+use std::sync::Wait;
 use std::thread::{JoinHandle, Threads};
 use std::time::{Clock, Duration, Instant};
 
 /// A park with a deadline that nobody unparks: it ends after the deadline, tells its callback of
 /// it, and leaves nobody on the key.
 pub fn time_out<P: ThreadParkerT, R: Wait + Clock>(rt: &R, alloc: Global) -> Option<()> {
-    let lot = ParkingLot::<P>::new(alloc, MAX_THREADS).ok()?;
-    let mut data = lot.thread_data(rt, alloc).ok()?;
-    let deadline = Instant::now(rt)
-        .ok()?
-        .checked_add(Duration::from_millis(20))?;
-    let mut told = None;
-    let result = park(
-        rt,
-        &lot,
-        &mut data,
-        KEY,
-        || true,
-        || (),
-        |key, last| told = Some((key, last)),
-        DEFAULT_PARK_TOKEN,
-        Some(deadline),
-    );
-    let end = Instant::now(rt).ok()?;
-    let is_as_told = result == ParkResult::TimedOut && told == Some((KEY, true));
-    let left = unpark_all(rt, &lot, KEY, TOKEN);
-    (is_as_told && end >= deadline && left == 0).then_some(())
+    let meeting = Meeting::<P>::new(alloc)?;
+    let mut data = meeting.lot.thread_data(rt, alloc).ok()?;
+    times_out(rt, &meeting, &mut data)
+}
+
+fn times_out<P: ThreadParkerT, R: Wait + Clock>(
+    rt: &R,
+    meeting: &Meeting<P>,
+    data: &mut ThreadData,
+) -> Option<()> {
+    let deadline = from_now(rt, Duration::from_millis(20))?;
+    let stay = Stay {
+        deadline: Some(deadline),
+        ..Stay::on(KEY)
+    };
+    let parked = meeting.park(rt, data, stay)?;
+    if Instant::now(rt).ok()? < deadline {
+        return None;
+    }
+    if unpark_all(rt, &meeting.lot, KEY, TOKEN) != 0 {
+        return None;
+    }
+    parked.timed_out_alone(KEY).then_some(())
 }
 
 /// A park whose thread unparks itself before it sleeps: it ends with the token, without a deadline
@@ -48,92 +46,35 @@ where
     R: Threads + Wait + Clock + Copy + Send + 'static,
 {
     unpark_oneself::<P, _>(rt, alloc, None)?;
-    let deadline = Instant::now(rt).ok()?.checked_add(Duration::from_secs(5))?;
+    let deadline = from_now(rt, Duration::from_secs(5))?;
     unpark_oneself::<P, _>(rt, alloc, Some(deadline))?;
     (Instant::now(rt).ok()? < deadline).then_some(())
 }
 
-// A thread that unparks itself, and how far it came.
-#[derive(Drop)]
-struct Sleeper<P: ThreadParkerT> {
-    lot: ParkingLot<P>,
-    // 0 before the unpark, and then 1 more than it answered.
-    told: AtomicUsize,
-    // 1 once it is back from the park.
-    is_back: AtomicUsize,
-}
-
-impl<P: ThreadParkerT> Sleeper<P> {
-    // Parks, and unparks itself before it sleeps. `None` says that the data is of another lot.
-    fn sleep<R: Wait + Clock>(
-        &self,
-        rt: &R,
-        mut data: ThreadData,
-        deadline: Option<Instant>,
-    ) -> Option<ParkResult> {
-        if !self.lot.accepts(&data) {
-            return None;
-        }
-        let result = park(
-            rt,
-            &self.lot,
-            &mut data,
-            KEY,
-            || true,
-            || self.unpark(rt),
-            |_, _| (),
-            DEFAULT_PARK_TOKEN,
-            deadline,
-        );
-        self.is_back.store(1, Ordering::SeqCst);
-        Some(result)
-    }
-
-    fn unpark<R: Wait>(&self, rt: &R) {
-        let unparked = unpark_one(rt, &self.lot, KEY, |_| TOKEN).unparked_threads;
-        self.told
-            .store(unparked.saturating_add(1), Ordering::SeqCst);
-    }
-
-    // How many threads the unpark answered. `None` says that it was not called.
-    fn unparked(&self) -> Option<usize> {
-        self.told.load(Ordering::SeqCst).checked_sub(1)
-    }
-}
-
-// Starts a thread that unparks itself, and waits for it by turns.
+// Starts a thread that unparks itself.
 fn unpark_oneself<P, R>(rt: &R, alloc: Global, deadline: Option<Instant>) -> Option<()>
 where
     P: ThreadParkerT + Send + Sync + 'static,
     P::UnparkHandle: 'static,
     R: Threads + Wait + Clock + Copy + Send + 'static,
 {
-    let sleeper = Sleeper {
-        lot: ParkingLot::<P>::new(alloc, MAX_THREADS).ok()?,
-        told: AtomicUsize::new(0),
-        is_back: AtomicUsize::new(0),
+    let meeting = Meeting::<P>::shared(alloc)?;
+    let stay = Stay {
+        part: Part::UnparkItself,
+        deadline,
+        ..Stay::on(KEY)
     };
-    let sleeper = Arc::new(alloc, sleeper).ok()?;
-    let data = sleeper.lot.thread_data(rt, alloc).ok()?;
-    let thread = start_sleep(rt, Arc::try_clone(&sleeper).ok()?, data, deadline)?;
-    if by_turns(|| sleeper.unparked())? != 1 {
-        return None;
-    }
-    comes_to(&sleeper.is_back, 1)?;
-    (thread.join(rt)? == ParkResult::Unparked(TOKEN)).then_some(())
+    let parked = start(rt, alloc, &meeting, stay)?;
+    is_unparked(rt, &meeting, parked)
 }
 
-fn start_sleep<P, R>(
+// Waits for it by turns, and then joins it.
+fn is_unparked<P: ThreadParkerT, R: Threads>(
     rt: &R,
-    sleeper: Arc<Sleeper<P>, Global>,
-    data: ThreadData,
-    deadline: Option<Instant>,
-) -> Option<JoinHandle<Option<ParkResult>>>
-where
-    P: ThreadParkerT + Send + Sync + 'static,
-    P::UnparkHandle: 'static,
-    R: Threads + Wait + Clock + Copy + Send + 'static,
-{
-    let runtime = *rt;
-    thread::spawn(rt, move || sleeper.sleep(&runtime, data, deadline)).ok()
+    meeting: &Meeting<P>,
+    parked: JoinHandle<Option<Parked>>,
+) -> Option<()> {
+    comes_to(&meeting.ready, 1)?;
+    comes_to(&meeting.back, 1)?;
+    parked.join(rt)?.was_unparked().then_some(())
 }

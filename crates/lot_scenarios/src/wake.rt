@@ -1,15 +1,11 @@
 //! Tests of two workers, which are woken one by one.
 
-use crate::turns::comes_to;
-use crate::{KEY, MAX_THREADS, TOKEN};
-use parking_lot_core::{
-    FilterOp, ParkResult, ParkToken, ParkingLot, ThreadData, ThreadParkerT, park, unpark_all,
-    unpark_filter, unpark_one,
-};
+use crate::meeting::{Meeting, Parked, Stay, start};
+use crate::turns::{comes_to, unpark_first};
+use crate::{KEY, TOKEN, from_now};
+use parking_lot_core::{FilterOp, ParkToken, ParkingLot, ThreadParkerT, unpark_all, unpark_filter};
 use std::alloc::Global;
-use std::sync::atomic::{AtomicUsize, Ordering};
 use std::sync::{Arc, Wait};
-use std::thread;
 use std::thread::{JoinHandle, Threads};
 use std::time::{Clock, Duration, Instant};
 
@@ -21,7 +17,7 @@ where
     R: Threads + Wait + Clock + Copy + Send + 'static,
 {
     let workers = start_two::<P, _>(rt, alloc)?;
-    if unpark_one(rt, &workers.place.lot, KEY, |_| TOKEN).unparked_threads != 1 {
+    if unpark_first(rt, &workers.meeting.lot, KEY, TOKEN) != 1 {
         return None;
     }
     workers.wake_other(rt)
@@ -35,7 +31,7 @@ where
     R: Threads + Wait + Clock + Copy + Send + 'static,
 {
     let workers = start_two::<P, _>(rt, alloc)?;
-    if unpark_chosen(rt, &workers.place.lot, ParkToken(0)) != 1 {
+    if unpark_chosen(rt, &workers.meeting.lot, ParkToken(0)) != 1 {
         return None;
     }
     workers.wake_other(rt)
@@ -57,101 +53,53 @@ fn unpark_chosen<P: ThreadParkerT, R: Wait>(
     unpark_filter(rt, lot, KEY, filter, |_| TOKEN).unparked_threads
 }
 
-// Where workers park, and how many of them are about to sleep.
-#[derive(Drop)]
-struct Place<P: ThreadParkerT> {
-    lot: ParkingLot<P>,
-    ready: AtomicUsize,
-}
-
-impl<P: ThreadParkerT> Place<P> {
-    // Parks for at most 5 seconds. `None` says that the data is of another lot, or that the thread
-    // was not back before the deadline.
-    fn work<R: Wait + Clock>(
-        &self,
-        rt: &R,
-        mut data: ThreadData,
-        token: ParkToken,
-    ) -> Option<ParkResult> {
-        let deadline = Instant::now(rt).ok()?.checked_add(Duration::from_secs(5))?;
-        if !self.lot.accepts(&data) {
-            return None;
-        }
-        let result = park(
-            rt,
-            &self.lot,
-            &mut data,
-            KEY,
-            || true,
-            || {
-                self.ready.fetch_add(1, Ordering::SeqCst);
-            },
-            |_, _| (),
-            token,
-            Some(deadline),
-        );
-        (Instant::now(rt).ok()? < deadline).then_some(result)
-    }
-}
-
-type Worker = JoinHandle<Option<ParkResult>>;
-
-// Two workers that have parked.
+// Two workers that have parked, and the time by which both are to be back.
 #[derive(Drop)]
 struct Workers<P: ThreadParkerT> {
-    place: Arc<Place<P>, Global>,
-    first: Worker,
-    second: Worker,
+    meeting: Arc<Meeting<P>, Global>,
+    first: JoinHandle<Option<Parked>>,
+    second: JoinHandle<Option<Parked>>,
+    deadline: Instant,
 }
 
 impl<P: ThreadParkerT> Workers<P> {
     // Wakes the one of them that is left, and joins both.
-    fn wake_other<R: Threads + Wait>(self, rt: &R) -> Option<()> {
-        if unpark_all(rt, &self.place.lot, KEY, TOKEN) != 1 {
+    fn wake_other<R: Threads + Wait + Clock>(self, rt: &R) -> Option<()> {
+        if unpark_all(rt, &self.meeting.lot, KEY, TOKEN) != 1 {
             return None;
         }
-        let first = self.first.join(rt)?;
-        let second = self.second.join(rt)?;
-        let woken = ParkResult::Unparked(TOKEN);
-        (first == woken && second == woken).then_some(())
+        let first = self.first.join(rt)?.was_unparked();
+        let second = self.second.join(rt)?.was_unparked();
+        let in_time = Instant::now(rt).ok()? < self.deadline;
+        (first && second && in_time).then_some(())
     }
 }
 
-// Starts two workers, and waits until both are about to sleep.
+// Starts two workers, which park for at most 5 seconds, and waits until both are about to sleep.
 fn start_two<P, R>(rt: &R, alloc: Global) -> Option<Workers<P>>
 where
     P: ThreadParkerT + Send + Sync + 'static,
     P::UnparkHandle: 'static,
     R: Threads + Wait + Clock + Copy + Send + 'static,
 {
-    let place = Place {
-        lot: ParkingLot::<P>::new(alloc, MAX_THREADS).ok()?,
-        ready: AtomicUsize::new(0),
+    let meeting = Meeting::<P>::shared(alloc)?;
+    let deadline = from_now(rt, Duration::from_secs(5))?;
+    let first = Stay {
+        token: ParkToken(0),
+        deadline: Some(deadline),
+        ..Stay::on(KEY)
     };
-    let place = Arc::new(alloc, place).ok()?;
-    let first = start(rt, alloc, &place, ParkToken(0))?;
-    let second = start(rt, alloc, &place, ParkToken(1))?;
-    comes_to(&place.ready, 2)?;
+    let second = Stay {
+        token: ParkToken(1),
+        ..first
+    };
+    let first = start(rt, alloc, &meeting, first)?;
+    let second = start(rt, alloc, &meeting, second)?;
+    comes_to(&meeting.ready, 2)?;
     Some(Workers {
-        place,
+        meeting,
         first,
         second,
+        deadline,
     })
-}
-
-fn start<P, R>(
-    rt: &R,
-    alloc: Global,
-    place: &Arc<Place<P>, Global>,
-    token: ParkToken,
-) -> Option<Worker>
-where
-    P: ThreadParkerT + Send + Sync + 'static,
-    P::UnparkHandle: 'static,
-    R: Threads + Wait + Clock + Copy + Send + 'static,
-{
-    let data = place.lot.thread_data(rt, alloc).ok()?;
-    let place = Arc::try_clone(place).ok()?;
-    let runtime = *rt;
-    thread::spawn(rt, move || place.work(&runtime, data, token)).ok()
 }
