@@ -1,21 +1,21 @@
 -- The lines of bytes, one after another.
 use Rattle.std.proofs.Common.{◌≡◌, ◌≢◌, ℕ, ◌==◌, ◌≤◌, ◌<◌, suc, zero, false, List, [], ◌∷◌, ◌++◌, length, refl, sym, ap}
-use Rattle.std.proofs.Common.{◌∙◌, arith, zero-lt-suc, append-nil, Option, Some, None}
-use Rattle.std.specs.Prelude.{IfSome}
+use Rattle.std.proofs.Common.{◌∙◌, arith, zero-lt-suc, append-nil, append_assoc, subst, Option, Some, None}
+use Rattle.std.specs.Prelude.{IfSome, Ok}
+use Rattle.lot_tools.specs.declared.script.input.Behind.{Behind}
+use Rattle.lot_tools.specs.declared.script.input.Behind.TheVariants as behind
+use Rattle.lot_tools.specs.Private.Turns.{IsPartRead}
 use Rattle.std.specs.Io.KnownBytes.{Consumes, IsAtEnd, Keeps}
 use Rattle.std.proofs.lemmas.List.{nil_from_length}
 use Rattle.lot_tools.specs.declared.script.input.TheConstants.{MAX_LINE}
 use Rattle.std.specs.List.{onto_first, AllByRecursion}
 use Rattle.std.proofs.lemmas.Bool.{cond-false, ne_eqb}
-use Rattle.lot_tools.specs.Lines.{lines_of}
+use Rattle.lot_tools.specs.Lines.{lines_of, HasNoFeed}
 
--- no byte is a line feed
-abbrev pub HasNoFeed : List ℕ → Type 0
-HasNoFeed bytes = AllByRecursion (λ byte. byte ≢ 10) bytes
-
-pub HasNoFeed-push : (bytes : List ℕ) (byte : ℕ) → HasNoFeed bytes → byte ≢ 10 → HasNoFeed (bytes ++ byte ∷ [])
-HasNoFeed-push [] byte none other = (other, tt)
-HasNoFeed-push (b ∷ bytes) byte none other = (none.0, HasNoFeed-push bytes byte none.1 other)
+-- nor is one of two such texts, one behind the other
+HasNoFeed-append : (front rest : List ℕ) → HasNoFeed front → HasNoFeed rest → HasNoFeed (front ++ rest)
+HasNoFeed-append [] rest none more = more
+HasNoFeed-append (byte ∷ front) rest none more = (none.0, HasNoFeed-append front rest none.1 more)
 
 other_first : (b : ℕ) (bytes : List ℕ) → b ≢ 10 → lines_of (b ∷ bytes) ≡ onto_first b (lines_of bytes)
 other_first b bytes other = cond-false (b == 10) _ _ (ne_eqb b 10 other)
@@ -52,46 +52,70 @@ lines_of-long (b ∷ front) rest none some =
     let found = longer_by_one b (length front) (lines_of (front ++ rest)) (lines_of-long front rest none.1) in
     (found.0, found.1, found.2, other_first b (front ++ rest) none.0 ∙ found.3)
 
+-- a line that was read in two parts
+HasNoFeed-whole : (old part line : List ℕ) → HasNoFeed old → HasNoFeed part → line ≡ old ++ part → HasNoFeed line
+HasNoFeed-whole old part line none more is = subst HasNoFeed (sym is) (HasNoFeed-append old part none more)
+
+cut_at : (old part line feed rest xs ys : List ℕ) → xs ≡ old ++ ys → line ≡ old ++ part → ys ≡ (part ++ feed) ++ rest
+    → xs ≡ line ++ (feed ++ rest)
+cut_at old part line feed rest xs ys first is second =
+    first ∙ ap (λ (t : List ℕ). old ++ t) (second ∙ append_assoc part feed rest) ∙ sym (append_assoc old part (feed ++ rest))
+    ∙ ap (λ (t : List ℕ). t ++ (feed ++ rest)) (sym is)
+
 -- a line feed ends the line that was read
-pub read_to_feed : (a b c : Option (List ℕ)) (line : List ℕ) → HasNoFeed line → Consumes a b line
-    → Consumes b c (10 ∷ [])
+pub read_to_feed : (a b c : Option (List ℕ)) (old line : List ℕ) → HasNoFeed old → Consumes a b old
+    → IsPartRead b c old (Ok behind.Feed) line
     → IfSome a (λ bytes. (rest : List ℕ) × (c ≡ Some rest) × (lines_of bytes ≡ line ∷ lines_of rest))
-read_to_feed None b c line none front feed = tt
-read_to_feed (Some xs) None c line none front feed = absurd front
-read_to_feed (Some xs) (Some ys) None line none front feed = absurd feed
-read_to_feed (Some xs) (Some ys) (Some zs) line none front feed =
-    (zs, refl, ap lines_of (front ∙ ap (λ (t : List ℕ). line ++ t) feed) ∙ lines_of-line line zs none)
+read_to_feed None b c old line none front part = tt
+read_to_feed (Some xs) None c old line none front part = absurd front
+read_to_feed (Some xs) (Some ys) None old line none front part = absurd part.3
+read_to_feed (Some xs) (Some ys) (Some zs) old line none front part = (
+  zs,
+  refl,
+  ap lines_of (cut_at old part.0 line (10 ∷ []) zs xs ys front part.1 part.3)
+      ∙ lines_of-line line zs (HasNoFeed-whole old part.0 line none part.2 part.1),
+)
 
 -- so does the end of the input
-pub read_to_end : (a b c : Option (List ℕ)) (line : List ℕ) → HasNoFeed line → 0 < length line → Consumes a b line
-    → IsAtEnd b → Keeps b c
+pub read_to_end : (a b c : Option (List ℕ)) (old line : List ℕ) → HasNoFeed old → Consumes a b old
+    → IsPartRead b c old (Ok behind.End) line → 0 < length line
     → IfSome a (λ bytes. (rest : List ℕ) × (c ≡ Some rest) × (lines_of bytes ≡ line ∷ lines_of rest))
-read_to_end None b c line none some front end kept = tt
-read_to_end (Some xs) None c line none some front end kept = absurd front
-read_to_end (Some xs) (Some ys) None line none some front end kept = absurd kept
-read_to_end (Some xs) (Some ys) (Some zs) line none some front end kept =
-    let all : xs ≡ line = front ∙ ap (λ (t : List ℕ). line ++ t) end ∙ append-nil line in
-    let nothing : zs ≡ [] = kept ∙ end in
-    (zs, refl, ap lines_of all ∙ lines_of-last line none some ∙ sym (ap (λ (t : List ℕ). line ∷ lines_of t) nothing))
-
--- and where nothing was read there is no line
-pub read_nothing : (a b : Option (List ℕ)) (line : List ℕ) → length line ≡ 0 → Consumes a b line → IsAtEnd b
-    → IfSome a (λ bytes. lines_of bytes ≡ [])
-read_nothing None b line empty front end = tt
-read_nothing (Some xs) None line empty front end = absurd front
-read_nothing (Some xs) (Some ys) line empty front end =
-    ap lines_of (front ∙ ap (λ (t : List ℕ). line ++ t) end ∙ append-nil line ∙ nil_from_length line empty)
+read_to_end None b c old line none front part some = tt
+read_to_end (Some xs) None c old line none front part some = absurd front
+read_to_end (Some xs) (Some ys) None old line none front part some = absurd part.2
+read_to_end (Some xs) (Some ys) (Some zs) old line none front part some =
+    let (same, end, kept) = part in
+    let all : xs ≡ line = front ∙ ap (λ (t : List ℕ). old ++ t) end ∙ append-nil old ∙ sym same in
+    let nothing : zs ≡ [] = kept ∙ end in (
+      zs,
+      refl,
+      ap lines_of all ∙ lines_of-last line (subst HasNoFeed (sym same) none) some
+          ∙ sym (ap (λ (t : List ℕ). line ∷ lines_of t) nothing),
+    )
 
 -- a line that is too long
-pub read_too_much : (a b : Option (List ℕ)) (line : List ℕ) → HasNoFeed line → MAX_LINE < length line
-    → Consumes a b line
+too_long : (xs line rest : List ℕ) → HasNoFeed line → MAX_LINE < length line → xs ≡ line ++ rest
+    → (long : List ℕ) × (MAX_LINE < length long) × (more : List (List ℕ)) × (lines_of xs ≡ long ∷ more)
+too_long xs line rest none over is =
+    let found = lines_of-long line rest none (omega arith) in
+    (found.0, omega (arith, found.1), found.2, ap lines_of is ∙ found.3)
+
+pub read_too_much : (a b c : Option (List ℕ)) (old line : List ℕ) (found : Behind) → HasNoFeed old
+    → length old ≤ MAX_LINE → Consumes a b old → IsPartRead b c old (Ok found) line → MAX_LINE < length line
     → IfSome a (λ bytes. (long : List ℕ) × (MAX_LINE < length long) × (rest : List (List ℕ)) ×
     (lines_of bytes ≡ long ∷ rest))
-read_too_much None b line none over front = tt
-read_too_much (Some xs) None line none over front = absurd front
-read_too_much (Some xs) (Some ys) line none over front =
-    let found = lines_of-long line ys none (omega arith) in
-    (found.0, omega (arith, found.1), found.2, ap lines_of front ∙ found.3)
+read_too_much None b c old line found none short front part over = tt
+read_too_much (Some xs) None c old line found none short front part over = absurd front
+read_too_much (Some xs) (Some ys) c old line behind.End none short front part over =
+    absurd (omega (arith, ap length part.0))
+read_too_much (Some xs) (Some ys) None old line behind.Feed none short front part over = absurd part.3
+read_too_much (Some xs) (Some ys) (Some zs) old line behind.Feed none short front part over =
+    too_long xs line (10 ∷ zs) (HasNoFeed-whole old part.0 line none part.2 part.1) over
+    (cut_at old part.0 line (10 ∷ []) zs xs ys front part.1 part.3)
+read_too_much (Some xs) (Some ys) None old line behind.Unknown none short front part over = absurd part.3
+read_too_much (Some xs) (Some ys) (Some zs) old line behind.Unknown none short front part over =
+    too_long xs line zs (HasNoFeed-whole old part.0 line none part.2 part.1) over
+    (cut_at old part.0 line [] zs xs ys front part.1 (part.3 ∙ ap (λ (t : List ℕ). t ++ zs) (sym (append-nil part.0))))
 
 pub some_unless_empty : (n : ℕ) → false ≡ (n == 0) → 0 < n
 some_unless_empty zero some = absurd (cc some)

@@ -1,14 +1,16 @@
 -- What a script reads and writes at one line.
 use Rattle.std.specs.Prelude.{◌≡◌, ◌≢◌, ℕ, ◌<◌, List, [], ◌∷◌, ◌++◌, length, ⊤, Option, Some, IsSome, Result, Ok, Err}
 use Rattle.std.specs.Prelude.{MatchResult}
-use Rattle.std.specs.Io.KnownBytes.{Appends}
+use Rattle.std.specs.Io.KnownBytes.{Appends, Consumes, IsAtEnd, Keeps}
 use Rattle.lot_tools.specs.declared.script.fault.Cause.{Cause}
 use Rattle.lot_tools.specs.declared.script.fault.Cause.TheVariants as cause
 use Rattle.lot_tools.specs.declared.script.fault.Fault.{Fault}
+use Rattle.lot_tools.specs.declared.script.input.Behind.{Behind}
+use Rattle.lot_tools.specs.declared.script.input.Behind.TheVariants as behind
 use Rattle.lot_tools.specs.declared.script.input.Next.{Next}
 use Rattle.lot_tools.specs.declared.script.input.Next.TheVariants as next
 use Rattle.lot_tools.specs.declared.script.input.TheConstants.{MAX_LINE}
-use Rattle.lot_tools.specs.Lines.{lines_of}
+use Rattle.lot_tools.specs.Lines.{lines_of, HasNoFeed}
 use Rattle.lot_tools.specs.Reply.{State}
 use Rattle.lot_tools.specs.Script.{IsAnswered, MayStop, IsStopped, IsDone}
 
@@ -23,6 +25,17 @@ pub record AppendsFront (old new : Option (List ℕ)) (text : List ℕ) : Type 0
 abbrev pub Writes : {E : Type 0} → Option (List ℕ) → Option (List ℕ) → Result (Unit {0}) E → List ℕ → Type 0
 Writes old new result text = MatchResult result (λ _. Appends old new text)
     (λ _. AppendsFront old new text)
+
+-- a line was read on, from known bytes, of which `left` are left
+abbrev pub IsPartRead : Option (List ℕ) → Option (List ℕ) → List ℕ → Result Behind Cause → List ℕ → Type 0
+IsPartRead known left old (Ok behind.Feed) line =
+    (part : List ℕ) × (line ≡ old ++ part) × HasNoFeed part × Consumes known left (part ++ 10 ∷ [])
+IsPartRead known left old (Ok behind.Unknown) line =
+    (part : List ℕ) × (line ≡ old ++ part) × HasNoFeed part × Consumes known left part
+IsPartRead known left old (Ok behind.End) line = (line ≡ old) × IsAtEnd known × Keeps known left
+IsPartRead known left old (Err cause.NoMemory) line = ⊤
+IsPartRead known left old (Err cause.ReadFailed) line = ⊤
+IsPartRead known left old (Err _) line = ⊥
 
 -- of these bytes a line was read, and `left` is left
 abbrev pub IsLineRead : List ℕ → Option (List ℕ) → Result Next Cause → List ℕ → Type 0
