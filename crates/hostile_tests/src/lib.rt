@@ -22,6 +22,8 @@ mod numbers;
 mod parkers;
 #[cfg(test)]
 mod races;
+#[cfg(test)]
+mod trims;
 
 #[cfg(test)]
 use std::fmt::Debug;
