@@ -70,30 +70,30 @@ impl Arbitrary {
     }
 
     fn op(&mut self, alloc: Global) -> Result<Op, NoMemory> {
-        Ok(match self.below(16) {
-            0..=3 => one(self.key(), self.below(1_000)),
-            4 => all(self.key(), self.below(1_000)),
-            5..=7 => self.filter(alloc)?,
-            _ => self.requeue(),
-        })
+        match self.below(16) {
+            0..=3 => Ok(one(self.key(), self.below(1_000))),
+            4 => Ok(all(self.key(), self.below(1_000))),
+            5..=7 => self.filter(alloc),
+            _ => Ok(self.requeue()),
+        }
     }
 
     /// A step of one of so many threads. Three of 80 are registrations, and one is a retirement.
     pub fn step(&mut self, alloc: Global, threads: usize) -> Result<Step, NoMemory> {
         let thread = self.below(threads);
-        Ok(match self.below(80) {
-            0..=2 => Step::Register,
-            3 => Step::Retire { thread },
-            4 => enter_invalid(thread, self.key()),
-            5..=12 => enter(thread, self.key(), false),
-            13..=23 => enter(thread, self.key(), true),
-            24..=39 => unpark(self.op(alloc)?),
-            40..=49 => Step::Deadline { thread },
-            50..=59 => Step::Resolve { thread },
-            60..=66 => acquire(thread, self.key()),
-            67..=72 => release(thread, self.key()),
-            _ => Step::Return { thread },
-        })
+        match self.below(80) {
+            0..=2 => Ok(Step::Register),
+            3 => Ok(Step::Retire { thread }),
+            4 => Ok(enter_invalid(thread, self.key())),
+            5..=12 => Ok(enter(thread, self.key(), false)),
+            13..=23 => Ok(enter(thread, self.key(), true)),
+            24..=39 => Ok(unpark(self.op(alloc)?)),
+            40..=49 => Ok(Step::Deadline { thread }),
+            50..=59 => Ok(Step::Resolve { thread }),
+            60..=66 => Ok(acquire(thread, self.key())),
+            67..=72 => Ok(release(thread, self.key())),
+            _ => Ok(Step::Return { thread }),
+        }
     }
 
     /// An interleaved step of one of so many threads, or of one of so many callers.
@@ -105,23 +105,23 @@ impl Arbitrary {
         let thread = self.below(threads);
         let caller = self.below(callers);
         let key = self.key();
-        Ok(match self.below(68) {
-            0..=1 => FineStep::Register,
-            2 => FineStep::Retire { thread },
-            3 => fine_steps::enter_invalid(thread, key),
-            4..=7 => fine_steps::enter(thread, key, false),
-            8..=15 => fine_steps::enter(thread, key, true),
-            16..=22 => begin(caller, self.op(alloc)?),
-            23..=28 => FineStep::Commit { caller },
-            29..=35 => FineStep::End { caller },
-            36..=41 => FineStep::Wake { caller },
-            42..=46 => FineStep::Deadline { thread },
-            47..=51 => FineStep::ReadKey { thread },
-            52..=56 => FineStep::Look { thread },
-            57..=63 => FineStep::Return { thread },
-            64..=65 => FineStep::Acquire { thread, key },
-            _ => FineStep::Release { thread, key },
-        })
+        match self.below(68) {
+            0..=1 => Ok(FineStep::Register),
+            2 => Ok(FineStep::Retire { thread }),
+            3 => Ok(fine_steps::enter_invalid(thread, key)),
+            4..=7 => Ok(fine_steps::enter(thread, key, false)),
+            8..=15 => Ok(fine_steps::enter(thread, key, true)),
+            16..=22 => Ok(begin(caller, self.op(alloc)?)),
+            23..=28 => Ok(FineStep::Commit { caller }),
+            29..=35 => Ok(FineStep::End { caller }),
+            36..=41 => Ok(FineStep::Wake { caller }),
+            42..=46 => Ok(FineStep::Deadline { thread }),
+            47..=51 => Ok(FineStep::ReadKey { thread }),
+            52..=56 => Ok(FineStep::Look { thread }),
+            57..=63 => Ok(FineStep::Return { thread }),
+            64..=65 => Ok(FineStep::Acquire { thread, key }),
+            _ => Ok(FineStep::Release { thread, key }),
+        }
     }
 
     /// So many steps of so many threads.

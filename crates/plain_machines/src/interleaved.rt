@@ -5,7 +5,8 @@
 
 use crate::exclusive::Plain;
 use crate::fine_steps::{MISFIT, answer};
-use crate::ops;
+use crate::ops::{self, parts};
+use crate::steps::{acquire, release};
 use lot_base::token::{NoMemory, ParkToken, UnparkToken};
 use lot_exclusive::lot::Status;
 use lot_exclusive::schedule::{Answer, Op, Step};
@@ -26,6 +27,19 @@ struct Caller {
     wakes: usize,
 }
 
+impl Caller {
+    // The first thread that the section has, which is to get its node now, with its token.
+    fn hand_over(&mut self) -> Option<(usize, UnparkToken)> {
+        let section = self.section.as_mut()?;
+        if section.taken.is_empty() {
+            return None;
+        }
+        let first = section.taken.remove(0);
+        self.wakes = self.wakes.wrapping_add(1);
+        Some((first, section.token))
+    }
+}
+
 #[derive(Copy, Clone)]
 struct Thread {
     key_word: usize,
@@ -41,25 +55,6 @@ pub struct FinePlain {
     threads: Vec<Thread>,
     callers: Vec<Caller>,
     size: usize,
-}
-
-// The first and the last key of an operation, and its token.
-fn parts(op: &Op) -> (usize, usize, UnparkToken) {
-    match op {
-        Op::One { key, token } => (*key, *key, *token),
-        Op::All { key, token } => (*key, *key, *token),
-        Op::Filter {
-            key,
-            decisions: _,
-            token,
-        } => (*key, *key, *token),
-        Op::Requeue {
-            from,
-            to,
-            op: _,
-            token,
-        } => (*from, *to, *token),
-    }
 }
 
 // The place of a key in a table of this many buckets.
@@ -114,7 +109,7 @@ impl FinePlain {
     pub fn step(&mut self, step: &FineStep) -> Result<FineAnswer, NoMemory> {
         match step {
             FineStep::Begin { caller, op } => self.begin(*caller, op),
-            FineStep::Commit { caller } => self.commit(*caller),
+            FineStep::Commit { caller } => Ok(self.commit(*caller)),
             FineStep::End { caller } => Ok(self.end(*caller)),
             FineStep::Wake { caller } => Ok(self.wake(*caller)),
             FineStep::Deadline { thread } => self.deadline(*thread),
@@ -130,14 +125,8 @@ impl FinePlain {
             FineStep::Return { thread } => Ok(self.give_back(*thread)),
             FineStep::Register => self.register(),
             FineStep::Retire { thread } => self.machine_step(&Step::Retire { thread: *thread }),
-            FineStep::Acquire { thread, key } => self.machine_step(&Step::Acquire {
-                thread: *thread,
-                key: *key,
-            }),
-            FineStep::Release { thread, key } => self.machine_step(&Step::Release {
-                thread: *thread,
-                key: *key,
-            }),
+            FineStep::Acquire { thread, key } => self.machine_step(&acquire(*thread, *key)),
+            FineStep::Release { thread, key } => self.machine_step(&release(*thread, *key)),
         }
     }
 
@@ -174,61 +163,66 @@ impl FinePlain {
         Ok(taken)
     }
 
+    // Whether the caller has neither a section nor a wake to come.
+    fn can_begin(&self, caller: usize) -> bool {
+        match self.callers.get(caller) {
+            Some(caller) => caller.section.is_none() && caller.wakes == 0,
+            None => false,
+        }
+    }
+
+    // The threads in the list of the key, each with its status.
+    fn statuses_on(&self, key: usize) -> Result<Vec<(usize, Status)>, NoMemory> {
+        let mut statuses = Vec::new(self.alloc);
+        for number in self.view.list(key) {
+            statuses.push((*number, self.view.status(*number)))?;
+        }
+        Ok(statuses)
+    }
+
+    // Each thread in the list of the key notes that it waits there.
+    fn note_key(&mut self, key: usize) {
+        for number in self.view.list(key) {
+            if let Some(thread) = self.threads.get_mut(*number) {
+                thread.key_word = key;
+            }
+        }
+    }
+
+    fn open(&mut self, caller: usize, section: Section) {
+        if let Some(caller) = self.callers.get_mut(caller) {
+            caller.section = Some(section);
+        }
+    }
+
     fn begin(&mut self, caller: usize, op: &Op) -> Result<FineAnswer, NoMemory> {
         let (from, to, token) = parts(op);
-        match self.callers.get(caller) {
-            Some(
-                Caller {
-                    section: None,
-                    wakes: 0,
-                },
-            ) => {}
-            _ => return Ok(MISFIT),
+        if !self.can_begin(caller) {
+            return Ok(MISFIT);
         }
         if self.is_held(from) || self.is_held(to) {
             return Ok(FineAnswer::Blocked);
         }
-        let mut before = Vec::new(self.alloc);
-        for number in self.view.list(from) {
-            before.push((*number, self.view.status(*number)))?;
-        }
-        let given = self.view.step(&Step::Unpark(ops::copy(self.alloc, op)?))?;
+        let before = self.statuses_on(from)?;
+        let given = self.machine_step(&Step::Unpark(ops::copy(self.alloc, op)?))?;
         let taken = self.taken_of(before.as_slice())?;
-        for number in self.view.list(to) {
-            if let Some(thread) = self.threads.get_mut(*number) {
-                thread.key_word = to;
-            }
-        }
-        if let Some(caller) = self.callers.get_mut(caller) {
-            caller.section = Some(Section {
-                held: [place(from, self.size), place(to, self.size)],
-                taken,
-                token,
-            });
-        }
-        Ok(answer(given))
+        self.note_key(to);
+        let held = [place(from, self.size), place(to, self.size)];
+        self.open(caller, Section { held, taken, token });
+        Ok(given)
     }
 
-    fn commit(&mut self, caller: usize) -> Result<FineAnswer, NoMemory> {
+    fn commit(&mut self, caller: usize) -> FineAnswer {
         let Some(caller) = self.callers.get_mut(caller) else {
-            return Ok(MISFIT);
+            return MISFIT;
         };
-        let Some(section) = &mut caller.section else {
-            return Ok(MISFIT);
+        let Some((number, token)) = caller.hand_over() else {
+            return MISFIT;
         };
-        let Some(first) = section.taken.first().copied() else {
-            return Ok(MISFIT);
-        };
-        let mut rest = Vec::new(self.alloc);
-        for number in section.taken.iter().skip(1) {
-            rest.push(*number)?;
+        if let Some(thread) = self.threads.get_mut(number) {
+            thread.slot = Some(token);
         }
-        section.taken = rest;
-        if let Some(thread) = self.threads.get_mut(first) {
-            thread.slot = Some(section.token);
-        }
-        caller.wakes = caller.wakes.wrapping_add(1);
-        Ok(FineAnswer::Committed(first))
+        FineAnswer::Committed(number)
     }
 
     fn end(&mut self, caller: usize) -> FineAnswer {
@@ -395,47 +389,61 @@ impl FinePlain {
         step: &FineStep,
         given: FineAnswer,
     ) -> Result<Option<(Step, Answer)>, NoMemory> {
-        let given = match given {
-            FineAnswer::Answer(Answer::Misfit) => return Ok(None),
-            FineAnswer::Answer(given) => given,
-            FineAnswer::Late => Answer::Late,
-            _ => return Ok(None),
+        let Some(given) = sequential_answer(given) else {
+            return Ok(None);
         };
-        let step = match step {
-            FineStep::Begin { caller: _, op } => Step::Unpark(ops::copy(self.alloc, op)?),
-            FineStep::Deadline { thread } if self.is_in_list(*thread) => {
-                Step::Deadline { thread: *thread }
+        match self.whole_step(step, given)? {
+            Some(step) => Ok(Some((step, given))),
+            None => Ok(None),
+        }
+    }
+
+    // The sequential step of a step that fits and was answered so.
+    fn whole_step(&self, step: &FineStep, given: Answer) -> Result<Option<Step>, NoMemory> {
+        match step {
+            FineStep::Begin { caller: _, op } => {
+                Ok(Some(Step::Unpark(ops::copy(self.alloc, op)?)))
             }
-            FineStep::Look { thread } => match given {
-                Answer::TimedOut { .. } => Step::Resolve { thread: *thread },
-                _ => Step::Return { thread: *thread },
-            },
+            FineStep::Deadline { thread } if self.is_in_list(*thread) => {
+                Ok(Some(Step::Deadline { thread: *thread }))
+            }
+            FineStep::Look { thread } => Ok(Some(step_of_look(*thread, given))),
             FineStep::Enter {
                 thread,
                 key,
                 valid,
                 park_token,
                 timed,
-            } => Step::Enter {
+            } => Ok(Some(Step::Enter {
                 thread: *thread,
                 key: *key,
                 valid: *valid,
                 park_token: *park_token,
                 timed: *timed,
-            },
-            FineStep::Return { thread } => Step::Return { thread: *thread },
-            FineStep::Register => Step::Register,
-            FineStep::Retire { thread } => Step::Retire { thread: *thread },
-            FineStep::Acquire { thread, key } => Step::Acquire {
-                thread: *thread,
-                key: *key,
-            },
-            FineStep::Release { thread, key } => Step::Release {
-                thread: *thread,
-                key: *key,
-            },
-            _ => return Ok(None),
-        };
-        Ok(Some((step, given)))
+            })),
+            FineStep::Return { thread } => Ok(Some(Step::Return { thread: *thread })),
+            FineStep::Register => Ok(Some(Step::Register)),
+            FineStep::Retire { thread } => Ok(Some(Step::Retire { thread: *thread })),
+            FineStep::Acquire { thread, key } => Ok(Some(acquire(*thread, *key))),
+            FineStep::Release { thread, key } => Ok(Some(release(*thread, *key))),
+            _ => Ok(None),
+        }
+    }
+}
+
+// The answer of the sequential step, where there may be one.
+fn sequential_answer(given: FineAnswer) -> Option<Answer> {
+    match given {
+        FineAnswer::Answer(Answer::Misfit) => None,
+        FineAnswer::Answer(given) => Some(given),
+        FineAnswer::Late => Some(Answer::Late),
+        _ => None,
+    }
+}
+
+fn step_of_look(thread: usize, given: Answer) -> Step {
+    match given {
+        Answer::TimedOut { .. } => Step::Resolve { thread },
+        _ => Step::Return { thread },
     }
 }

@@ -59,3 +59,22 @@ pub fn copy(alloc: Global, op: &Op) -> Result<Op, NoMemory> {
         } => Ok(requeue((*from, *to), *op, token.0)),
     }
 }
+
+/// The first and the last key of an unpark, and its token.
+pub fn parts(op: &Op) -> (usize, usize, UnparkToken) {
+    match op {
+        Op::One { key, token } => (*key, *key, *token),
+        Op::All { key, token } => (*key, *key, *token),
+        Op::Filter {
+            key,
+            decisions: _,
+            token,
+        } => (*key, *key, *token),
+        Op::Requeue {
+            from,
+            to,
+            op: _,
+            token,
+        } => (*from, *to, *token),
+    }
+}

@@ -1,54 +1,37 @@
 //! Whether two steps of a lot are the same.
 
+use crate::ops::parts;
+use lot_base::token::{FilterOp, RequeueOp};
 use lot_exclusive::schedule::{Op, Step};
 
-fn is_same_op(op: &Op, other: &Op) -> bool {
-    match (op, other) {
-        (
-            Op::One { key, token },
-            Op::One {
-                key: other_key,
-                token: other_token,
-            },
-        ) => (*key, *token) == (*other_key, *other_token),
-        (
-            Op::All { key, token },
-            Op::All {
-                key: other_key,
-                token: other_token,
-            },
-        ) => (*key, *token) == (*other_key, *other_token),
-        (
-            Op::Filter {
-                key,
-                decisions,
-                token,
-            },
-            Op::Filter {
-                key: other_key,
-                decisions: other_decisions,
-                token: other_token,
-            },
-        ) => {
-            (*key, *token) == (*other_key, *other_token)
-                && decisions.as_slice() == other_decisions.as_slice()
-        }
-        (
-            Op::Requeue {
-                from,
-                to,
-                op,
-                token,
-            },
-            Op::Requeue {
-                from: other_from,
-                to: other_to,
-                op: other_op,
-                token: other_token,
-            },
-        ) => (*from, *to, *op, *token) == (*other_from, *other_to, *other_op, *other_token),
-        _ => false,
+// The decisions of a filter.
+fn decisions(op: &Op) -> &[FilterOp] {
+    match op {
+        Op::Filter { decisions, .. } => decisions.as_slice(),
+        _ => &[],
     }
+}
+
+// What an unpark is beside its keys, its token and its decisions.
+#[derive(Copy, Clone, Eq, PartialEq)]
+enum Kind {
+    One,
+    All,
+    Filter,
+    Requeue(RequeueOp),
+}
+
+fn kind_of(op: &Op) -> Kind {
+    match op {
+        Op::One { .. } => Kind::One,
+        Op::All { .. } => Kind::All,
+        Op::Filter { .. } => Kind::Filter,
+        Op::Requeue { op, .. } => Kind::Requeue(*op),
+    }
+}
+
+fn is_same_op(op: &Op, other: &Op) -> bool {
+    kind_of(op) == kind_of(other) && parts(op) == parts(other) && decisions(op) == decisions(other)
 }
 
 /// Whether two steps are the same.

@@ -13,12 +13,28 @@ pub struct Split {
     pub left: Vec<usize>,
 }
 
+// Where a waiter goes.
+#[derive(Copy, Clone)]
+enum Part {
+    Taken,
+    Moved,
+    Left,
+}
+
 impl Split {
     fn new(alloc: Global) -> Split {
         Split {
             taken: Vec::new(alloc),
             moved: Vec::new(alloc),
             left: Vec::new(alloc),
+        }
+    }
+
+    fn push(&mut self, part: Part, number: usize) -> Result<(), NoMemory> {
+        match part {
+            Part::Taken => Ok(self.taken.push(number)?),
+            Part::Moved => Ok(self.moved.push(number)?),
+            Part::Left => Ok(self.left.push(number)?),
         }
     }
 
@@ -37,10 +53,10 @@ pub fn split_first(alloc: Global, waiters: &[usize]) -> Result<Split, NoMemory> 
     let mut split = Split::new(alloc);
     for (index, number) in waiters.iter().enumerate() {
         let part = match index {
-            0 => &mut split.taken,
-            _ => &mut split.left,
+            0 => Part::Taken,
+            _ => Part::Left,
         };
-        part.push(*number)?;
+        split.push(part, *number)?;
     }
     Ok(split)
 }
@@ -49,7 +65,7 @@ pub fn split_first(alloc: Global, waiters: &[usize]) -> Result<Split, NoMemory> 
 pub fn split_all(alloc: Global, waiters: &[usize]) -> Result<Split, NoMemory> {
     let mut split = Split::new(alloc);
     for number in waiters {
-        split.taken.push(*number)?;
+        split.push(Part::Taken, *number)?;
     }
     Ok(split)
 }
@@ -69,25 +85,29 @@ pub fn split_filter(
             stopped = true;
         }
         let part = match (decision, stopped) {
-            (FilterOp::Unpark, false) => &mut split.taken,
-            _ => &mut split.left,
+            (FilterOp::Unpark, false) => Part::Taken,
+            _ => Part::Left,
         };
-        part.push(*number)?;
+        split.push(part, *number)?;
     }
     Ok(split)
 }
 
-/// Which part of a requeue a waiter belongs to depends on whether it is the first.
+// Which part of a requeue a waiter belongs to depends on whether it is the first.
+fn part_of(op: RequeueOp, index: usize) -> Part {
+    match (op, index) {
+        (RequeueOp::UnparkOneRequeueRest | RequeueOp::UnparkOne, 0) => Part::Taken,
+        (RequeueOp::RequeueOne, 0) => Part::Moved,
+        (RequeueOp::UnparkOneRequeueRest | RequeueOp::RequeueAll, _) => Part::Moved,
+        (RequeueOp::UnparkOne | RequeueOp::RequeueOne | RequeueOp::Abort, _) => Part::Left,
+    }
+}
+
+/// The waiters by the part of the requeue that each belongs to.
 pub fn split_by(alloc: Global, op: RequeueOp, waiters: &[usize]) -> Result<Split, NoMemory> {
     let mut split = Split::new(alloc);
     for (index, number) in waiters.iter().enumerate() {
-        let part = match (op, index) {
-            (RequeueOp::UnparkOneRequeueRest | RequeueOp::UnparkOne, 0) => &mut split.taken,
-            (RequeueOp::RequeueOne, 0) => &mut split.moved,
-            (RequeueOp::UnparkOneRequeueRest | RequeueOp::RequeueAll, _) => &mut split.moved,
-            (RequeueOp::UnparkOne | RequeueOp::RequeueOne | RequeueOp::Abort, _) => &mut split.left,
-        };
-        part.push(*number)?;
+        split.push(part_of(op, index), *number)?;
     }
     Ok(split)
 }
