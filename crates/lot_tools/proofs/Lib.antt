@@ -1,5 +1,6 @@
 pub mod KnownLemmas
 pub mod LineLemmas
+pub mod NumberLemmas
 pub mod WordLemmas
 pub mod ParseLemmas
 pub mod ReplyLemmas

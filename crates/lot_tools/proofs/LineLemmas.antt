@@ -4,15 +4,14 @@ use Rattle.std.proofs.Common.{◌∙◌, arith, zero-lt-suc, append-nil, append_
 use Rattle.std.specs.Prelude.{IfSome, Ok}
 use Rattle.lot_tools.specs.declared.script.input.Behind.{Behind}
 use Rattle.lot_tools.specs.declared.script.input.Behind.TheVariants as behind
-use Rattle.lot_tools.specs.Private.Turns.{IsPartRead}
-use Rattle.std.specs.Io.KnownBytes.{Consumes, IsAtEnd, Keeps}
-use Rattle.std.proofs.lemmas.List.{nil_from_length}
+use Rattle.lot_tools.specs.Private.Turns.{IsPartRead, HasNoFeed}
+use Rattle.std.specs.Io.KnownBytes.{Consumes}
 use Rattle.lot_tools.specs.declared.script.input.TheConstants.{MAX_LINE}
-use Rattle.std.specs.List.{onto_first, AllByRecursion}
+use Rattle.std.specs.List.{onto_first}
 use Rattle.std.proofs.lemmas.Bool.{cond-false, ne_eqb}
-use Rattle.lot_tools.specs.Lines.{lines_of, HasNoFeed}
+use Rattle.lot_tools.specs.Lines.{lines_of}
 
--- nor is one of two such texts, one behind the other
+-- two texts without a line feed, one behind the other
 HasNoFeed-append : (front rest : List ℕ) → HasNoFeed front → HasNoFeed rest → HasNoFeed (front ++ rest)
 HasNoFeed-append [] rest none more = more
 HasNoFeed-append (byte ∷ front) rest none more = (none.0, HasNoFeed-append front rest none.1 more)

@@ -2,13 +2,12 @@
 use Rattle.std.proofs.Common.{◌≡◌, ℕ, ◌≤◌, Bool, true, false, List, [], ◌∷◌, length, map, if◌then◌else◌, Option, Some}
 use Rattle.std.proofs.Common.{None, refl, sym, ap, ◌∙◌, subst}
 use Rattle.std.specs.List.{AllByRecursion, find}
-use Rattle.std.specs.Prelude.{codes, decimal, All}
-use Rattle.std.proofs.Common.{lit<, get_or, ◌<◌, arith}
+use Rattle.std.specs.Prelude.{codes, decimal}
+use Rattle.std.proofs.Common.{get_or, ◌<◌, arith}
 use Rattle.std.proofs.lemmas.Option.{same_Some}
 use Rattle.std.proofs.lemmas.List.{get_or-map, length-map}
 use Rattle.std.specs.Str.{bytes_eq}
-use Rattle.std.specs.Prelude.{Result, Ok, Err, MatchResult, IfNone, IsUtf8}
-use Rattle.std.specs.Result.{result_ok}
+use Rattle.std.specs.Prelude.{IfNone}
 use Rattle.lot_base.specs.declared.token.FilterOp.{FilterOp}
 use Rattle.lot_base.specs.declared.token.FilterOp.TheVariants as filter
 use Rattle.lot_base.specs.declared.token.RequeueOp.{RequeueOp}
@@ -20,8 +19,6 @@ use Rattle.lot_tools.specs.declared.script.command.Command.{Command}
 use Rattle.lot_tools.specs.declared.script.command.Command.TheVariants as command
 use Rattle.lot_tools.specs.declared.script.keyword.Keyword.{Keyword}
 use Rattle.lot_tools.specs.declared.script.keyword.Keyword.TheVariants as keyword
-use Rattle.lot_tools.specs.declared.script.keyword.TheConstants.{KEYWORDS}
-use Rattle.lot_tools.specs.declared.script.parse.TheConstants.{REQUEUE_OPS}
 use Rattle.lot_tools.specs.declared.script.input.TheConstants.{MAX_LINE}
 use Rattle.lot_tools.specs.Words.{name, number, word_text, IsLine, yes_or_no, timed_or_untimed}
 use Rattle.lot_tools.specs.Command.{lot_words, command_words, decisions_text, letter_of, requeue_text}
@@ -137,8 +134,14 @@ command-IsLine line word left c cut is_line =
     let same : word ∷ left ≡ keyword_text (keyword_of c) ∷ map word_text (arguments_of c) = sym cut ∙ whole.texts in
     (cc same, record { numbers = whole.numbers.1; texts = cc same })
 
+abbrev keywords : List Keyword
+keywords =
+    keyword.Register ∷ keyword.Retire ∷ keyword.Enter ∷ keyword.One ∷ keyword.All ∷ keyword.Filter
+    ∷ keyword.Requeue ∷ keyword.Deadline ∷ keyword.Resolve ∷ keyword.Return ∷ keyword.Acquire
+    ∷ keyword.Release ∷ keyword.Trim ∷ keyword.Records ∷ keyword.List ∷ keyword.Size ∷ []
+
 -- a lookup by text finds each keyword
-pub each_keyword : (k : Keyword) → find (λ other. bytes_eq (keyword_text other) (keyword_text k)) KEYWORDS ≡ Some k
+pub each_keyword : (k : Keyword) → find (λ other. bytes_eq (keyword_text other) (keyword_text k)) keywords ≡ Some k
 each_keyword keyword.Register = refl
 each_keyword keyword.Retire = refl
 each_keyword keyword.Enter = refl
@@ -156,52 +159,11 @@ each_keyword keyword.Records = refl
 each_keyword keyword.List = refl
 each_keyword keyword.Size = refl
 
--- what a result that was made an option was
-pub not_none : {T E : Type 0} (r : Result T E) (P : T → Type 0) (Q : E → Type 0) → MatchResult r P Q
-    → ((e : E) → Q e → ⊥) → result_ok r ≡ None → ⊥
-not_none (Ok x) P Q m never none = cc none
-not_none (Err e) P Q m never none = never e m
-
-pub from_ok : {T E : Type 0} (r : Result T E) (P : T → Type 0) (Q : E → Type 0) (x : T) → MatchResult r P Q
-    → result_ok r ≡ Some x → P x
-from_ok (Ok y) P Q x m is = let same : y ≡ x = cc is in subst P same m
-from_ok (Err e) P Q x m is = absurd (cc is)
-
-pub IsUtf8-same : (xs ys : List ℕ) → xs ≡ ys → IsUtf8 ys → IsUtf8 xs
-IsUtf8-same xs ys same = subst IsUtf8 (sym same)
-
 -- no two keywords have one text
 pub keyword_text-injective : (j k : Keyword) → keyword_text j ≡ keyword_text k → j ≡ k
 keyword_text-injective j k same =
     same_Some j k (sym (each_keyword j) ∙ ap (λ text. find (λ other. bytes_eq
-    (keyword_text other) text) KEYWORDS) same ∙ each_keyword k)
-
--- what holds of each in the table of keywords holds of each keyword
-pub of_each_keyword : (P : Keyword → Type 0) → All P KEYWORDS → (k : Keyword) → P k
-of_each_keyword P all keyword.Register = all 0 keyword.Register (lit< tt)
-of_each_keyword P all keyword.Retire = all 1 keyword.Register (lit< tt)
-of_each_keyword P all keyword.Enter = all 2 keyword.Register (lit< tt)
-of_each_keyword P all keyword.One = all 3 keyword.Register (lit< tt)
-of_each_keyword P all keyword.All = all 4 keyword.Register (lit< tt)
-of_each_keyword P all keyword.Filter = all 5 keyword.Register (lit< tt)
-of_each_keyword P all keyword.Requeue = all 6 keyword.Register (lit< tt)
-of_each_keyword P all keyword.Deadline = all 7 keyword.Register (lit< tt)
-of_each_keyword P all keyword.Resolve = all 8 keyword.Register (lit< tt)
-of_each_keyword P all keyword.Return = all 9 keyword.Register (lit< tt)
-of_each_keyword P all keyword.Acquire = all 10 keyword.Register (lit< tt)
-of_each_keyword P all keyword.Release = all 11 keyword.Register (lit< tt)
-of_each_keyword P all keyword.Trim = all 12 keyword.Register (lit< tt)
-of_each_keyword P all keyword.List = all 13 keyword.Register (lit< tt)
-of_each_keyword P all keyword.Records = all 14 keyword.Register (lit< tt)
-of_each_keyword P all keyword.Size = all 15 keyword.Register (lit< tt)
-
--- and the same of the operations of a requeue
-pub of_each_requeue : (P : RequeueOp → Type 0) → All P REQUEUE_OPS → (which : RequeueOp) → P which
-of_each_requeue P all requeue.Abort = all 0 requeue.Abort (lit< tt)
-of_each_requeue P all requeue.UnparkOneRequeueRest = all 1 requeue.Abort (lit< tt)
-of_each_requeue P all requeue.RequeueAll = all 2 requeue.Abort (lit< tt)
-of_each_requeue P all requeue.UnparkOne = all 3 requeue.Abort (lit< tt)
-of_each_requeue P all requeue.RequeueOne = all 4 requeue.Abort (lit< tt)
+    (keyword_text other) text) keywords) same ∙ each_keyword k)
 
 -- whether lines with this keyword are unparks
 abbrev is_unpark : Keyword → Bool

@@ -1,6 +1,6 @@
 -- The words of a line, cut at its blanks.
-use Rattle.std.proofs.Common.{◌≡◌, ℕ, ◌==◌, ◌≤◌, ◌<◌, ◌^◌, ◌+◌, ◌-◌, ◌/◌, ◌%◌, Bool, true, false, cond, List, [], ◌∷◌}
-use Rattle.std.proofs.Common.{◌++◌, length, map, take, drop, get_or, length-append, if◌then◌else◌, not, Some, None}
+use Rattle.std.proofs.Common.{◌≡◌, ℕ, ◌==◌, ◌≤◌, ◌<◌, ◌^◌, ◌+◌, ◌-◌, Bool, true, false, cond, List, [], ◌∷◌}
+use Rattle.std.proofs.Common.{length, map, take, drop, get_or, if◌then◌else◌, not, Some, None}
 use Rattle.std.proofs.Common.{position, refl, sym, ap, ◌∙◌, arith}
 use Rattle.std.specs.Prelude.{decimal, All}
 use Rattle.std.specs.List.{onto_first, join_with_byte, position_or_len, AllByRecursion}
@@ -12,7 +12,7 @@ use Rattle.std.proofs.lemmas.List.Splits.{join_with_byte-slice_split}
 use Rattle.std.proofs.lemmas.Option.{cond_some}
 use Rattle.std.proofs.lemmas.List.{take_rest}
 use borrow.Author.Tests.{ltb-true, ltb-false}
-use Rattle.std.proofs.lemmas.Fmt.{digits_decimal, decimal_digit, decimal_step}
+use Rattle.std.proofs.lemmas.Fmt.{digits_decimal}
 use Rattle.std.proofs.lemmas.Str.Parse.{numerals_by_value, tells_by_index}
 use Rattle.std.proofs.lemmas.List.Elements.{All-from_get_or, All-from_recursion}
 use Rattle.lot_tools.specs.declared.script.input.TheConstants.{MAX_LINE}
@@ -137,27 +137,6 @@ texts-from_IsLine word words line uncut is_line = record {
       ∙ texts_in-join (word_text word) (map word_text words)
       (HasNoBlank-words (word ∷ words) is_line.numbers uncut);
 }
-
--- lists that end in one element each are equal only if both parts are
-pub same-ends : (xs ys : List ℕ) (a b : ℕ) → xs ++ a ∷ [] ≡ ys ++ b ∷ [] → (xs ≡ ys) × (a ≡ b)
-same-ends [] [] a b is = (refl, ap (λ l. get_or l 0 0) is)
-same-ends [] (y ∷ ys) a b is = absurd (omega (arith, ap length is, length-append ys (b ∷ [])))
-same-ends (x ∷ xs) [] a b is = absurd (omega (arith, ap length is, length-append xs (a ∷ [])))
-same-ends (x ∷ xs) (y ∷ ys) a b is =
-    let head : x ≡ y = ap (λ l. get_or l 0 0) is in
-    let (rest, last) = same-ends xs ys a b (ap (drop 1) is) in
-    ((λ i. head i ∷ rest i), last)
-
--- a number below 10 is one digit
-pub short-ends : (n : ℕ) (front : List ℕ) (last : ℕ) → n < 10 → front ++ last ∷ [] ≡ decimal n
-    → (front ≡ []) × (last ≡ 48 + n)
-short-ends n front last low is = same-ends front [] last (48 + n) (is ∙ decimal_digit n low)
-
--- any other ends in its last digit, behind the digits of the others
-pub long-ends : (n : ℕ) (front : List ℕ) (last : ℕ) → 10 ≤ n → n < 2 ^ 64 → front ++ last ∷ [] ≡ decimal n
-    → (front ≡ decimal (n / 10)) × (last ≡ 48 + n % 10)
-long-ends n front last high fits is =
-    same-ends front (decimal (n / 10)) last (48 + n % 10) (is ∙ decimal_step n high fits)
 
 -- texts that begin with neither of two words
 pub begins_with_neither : (word one two : List ℕ) (rest : List (List ℕ)) → bytes_eq word one ≡ false

@@ -40,10 +40,10 @@ use std::io::{BufRead, Write};
 /// Does the lines of the input one after another, and writes an answer for each.
 ///
 /// The lot lives as long as the call. Each line is read, done and answered before the next is
-/// read, so the memory for lines is that of the longest, at most 4,096 bytes. Answers are written
-/// by `write` alone, in pieces, without a request for memory; at the end of the input the writer is
-/// flushed. A read that was interrupted is tried again, a write is not. It takes no lock. It has no
-/// counterpart upstream.
+/// read, so the memory for lines is that of the longest, at most 4,096 bytes. Lines are read by
+/// `fill_buf` and `consume` alone. Answers are written by `write` alone, in pieces, without a
+/// request for memory; at the end of the input the writer is flushed. A read that was interrupted
+/// is tried again, a write is not. It takes no lock. It has no counterpart upstream.
 ///
 /// # Errors
 ///

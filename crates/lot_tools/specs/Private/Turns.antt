@@ -1,6 +1,7 @@
 -- What a script reads and writes at one line.
 use Rattle.std.specs.Prelude.{◌≡◌, ◌≢◌, ℕ, ◌<◌, List, [], ◌∷◌, ◌++◌, length, ⊤, Option, Some, IsSome, Result, Ok, Err}
 use Rattle.std.specs.Prelude.{MatchResult}
+use Rattle.std.specs.List.{AllByRecursion}
 use Rattle.std.specs.Io.KnownBytes.{Appends, Consumes, IsAtEnd, Keeps}
 use Rattle.lot_tools.specs.declared.script.fault.Cause.{Cause}
 use Rattle.lot_tools.specs.declared.script.fault.Cause.TheVariants as cause
@@ -10,7 +11,7 @@ use Rattle.lot_tools.specs.declared.script.input.Behind.TheVariants as behind
 use Rattle.lot_tools.specs.declared.script.input.Next.{Next}
 use Rattle.lot_tools.specs.declared.script.input.Next.TheVariants as next
 use Rattle.lot_tools.specs.declared.script.input.TheConstants.{MAX_LINE}
-use Rattle.lot_tools.specs.Lines.{lines_of, HasNoFeed}
+use Rattle.lot_tools.specs.Lines.{lines_of}
 use Rattle.lot_tools.specs.Reply.{State}
 use Rattle.lot_tools.specs.Script.{IsAnswered, MayStop, IsStopped, IsDone}
 
@@ -25,6 +26,10 @@ pub record AppendsFront (old new : Option (List ℕ)) (text : List ℕ) : Type 0
 abbrev pub Writes : {E : Type 0} → Option (List ℕ) → Option (List ℕ) → Result (Unit {0}) E → List ℕ → Type 0
 Writes old new result text = MatchResult result (λ _. Appends old new text)
     (λ _. AppendsFront old new text)
+
+-- no byte is a line feed
+abbrev pub HasNoFeed : List ℕ → Type 0
+HasNoFeed bytes = AllByRecursion (λ byte. byte ≢ 10) bytes
 
 -- a line was read on, from known bytes, of which `left` are left
 abbrev pub IsPartRead : Option (List ℕ) → Option (List ℕ) → List ℕ → Result Behind Cause → List ℕ → Type 0

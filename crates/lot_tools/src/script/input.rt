@@ -1,8 +1,7 @@
 //! Lines of an input.
 
 ghost use Rattle.std.specs.Prelude.{◌≡◌, ◌<◌, ◌≤◌, length, take, slice_index, IfSome, OnOk};
-ghost use Rattle.lot_tools.specs.Lines.{HasNoFeed};
-ghost use Rattle.lot_tools.specs.Private.Turns.{IsLineRead, IsPartRead};
+ghost use Rattle.lot_tools.specs.Private.Turns.{HasNoFeed, IsLineRead, IsPartRead};
 
 use super::fault::Cause;
 use std::io::{BufRead, ErrorKind};

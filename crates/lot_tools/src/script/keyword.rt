@@ -25,59 +25,30 @@ pub(super) enum Keyword {
     Size,
 }
 
-const KEYWORDS: [Keyword; 16] = [
-    Keyword::Register,
-    Keyword::Retire,
-    Keyword::Enter,
-    Keyword::One,
-    Keyword::All,
-    Keyword::Filter,
-    Keyword::Requeue,
-    Keyword::Deadline,
-    Keyword::Resolve,
-    Keyword::Return,
-    Keyword::Acquire,
-    Keyword::Release,
-    Keyword::Trim,
-    Keyword::List,
-    Keyword::Records,
-    Keyword::Size,
-];
-
 impl Keyword {
-    fn text(self) -> &'static [u8]
-        ensures { result.now ≡ keyword_text self }
-    {
-        match self {
-            Keyword::Register => b"register",
-            Keyword::Retire => b"retire",
-            Keyword::Enter => b"enter",
-            Keyword::One => b"one",
-            Keyword::All => b"all",
-            Keyword::Filter => b"filter",
-            Keyword::Requeue => b"requeue",
-            Keyword::Deadline => b"deadline",
-            Keyword::Resolve => b"resolve",
-            Keyword::Return => b"return",
-            Keyword::Acquire => b"acquire",
-            Keyword::Release => b"release",
-            Keyword::Trim => b"trim",
-            Keyword::List => b"list",
-            Keyword::Records => b"records",
-            Keyword::Size => b"size",
-        }
-    }
-
     // The keyword that this word is.
     pub(super) fn of(word: &[u8]) -> Option<Keyword>
         ensures found { IfSome result (λ keyword. word.now ≡ keyword_text keyword) }
         ensures none { IfNone result ((keyword : Keyword) → word.now ≢ keyword_text keyword) }
     {
-        for keyword in KEYWORDS {
-            if keyword.text() == word {
-                return Some(keyword);
-            }
+        match word {
+            b"register" => Some(Keyword::Register),
+            b"retire" => Some(Keyword::Retire),
+            b"enter" => Some(Keyword::Enter),
+            b"one" => Some(Keyword::One),
+            b"all" => Some(Keyword::All),
+            b"filter" => Some(Keyword::Filter),
+            b"requeue" => Some(Keyword::Requeue),
+            b"deadline" => Some(Keyword::Deadline),
+            b"resolve" => Some(Keyword::Resolve),
+            b"return" => Some(Keyword::Return),
+            b"acquire" => Some(Keyword::Acquire),
+            b"release" => Some(Keyword::Release),
+            b"trim" => Some(Keyword::Trim),
+            b"list" => Some(Keyword::List),
+            b"records" => Some(Keyword::Records),
+            b"size" => Some(Keyword::Size),
+            _ => None,
         }
-        None
     }
 }

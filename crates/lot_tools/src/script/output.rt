@@ -46,7 +46,7 @@ pub(super) fn put_number<W: Write>(output: &mut W, number: usize) -> Result<(), 
 }
 
 // The digit of a number below 10.
-pub(super) fn digit_of(number: usize) -> u8
+fn digit_of(number: usize) -> u8
     requires { number < 10 }
     ensures { result ≡ 48 + number }
 {

@@ -146,36 +146,18 @@ fn parse_requeue(left: Option<&[u8]>) -> Option<Command>
     })))
 }
 
-const REQUEUE_OPS: [RequeueOp; 5] = [
-    RequeueOp::Abort,
-    RequeueOp::UnparkOneRequeueRest,
-    RequeueOp::RequeueAll,
-    RequeueOp::UnparkOne,
-    RequeueOp::RequeueOne,
-];
-
 // The operation that this word is.
 fn requeue_op(word: &[u8]) -> Option<RequeueOp>
     ensures found { IfSome result (λ op. word.now ≡ requeue_text op) }
     ensures none { IfNone result ((op : RequeueOp) → word.now ≢ requeue_text op) }
 {
-    for op in REQUEUE_OPS {
-        if requeue_word(op) == word {
-            return Some(op);
-        }
-    }
-    None
-}
-
-fn requeue_word(op: RequeueOp) -> &'static [u8]
-    ensures { result.now ≡ requeue_text op }
-{
-    match op {
-        RequeueOp::Abort => b"abort",
-        RequeueOp::UnparkOneRequeueRest => b"one-rest",
-        RequeueOp::RequeueAll => b"all",
-        RequeueOp::UnparkOne => b"one",
-        RequeueOp::RequeueOne => b"requeue-one",
+    match word {
+        b"abort" => Some(RequeueOp::Abort),
+        b"one-rest" => Some(RequeueOp::UnparkOneRequeueRest),
+        b"all" => Some(RequeueOp::RequeueAll),
+        b"one" => Some(RequeueOp::UnparkOne),
+        b"requeue-one" => Some(RequeueOp::RequeueOne),
+        _ => None,
     }
 }
 

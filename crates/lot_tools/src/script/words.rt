@@ -1,10 +1,8 @@
 //! The words of a line, one after another.
 
-ghost use Rattle.std.specs.Prelude.{◌≡◌, ◌≢◌, ℕ, ◌<◌, ◌^◌, ◌∷◌, [], List, Bool, Some, None, IfSome, IfNone, MatchOption, decimal, if◌then◌else◌, ◌==◌, position, IsSome, IsTrue, ◌↔◌};
+ghost use Rattle.std.specs.Prelude.{◌≡◌, ◌≢◌, ℕ, ◌<◌, ◌+◌, ◌^◌, ◌∷◌, [], List, Bool, IfSome, IfNone, MatchOption, decimal, if◌then◌else◌, ◌==◌, position, IsSome, ◌⊎◌};
 ghost use Rattle.lot_tools.specs.Words.{number};
 ghost use Rattle.lot_tools.specs.Private.Parsing.{texts_in, texts_left, AreWords};
-
-use super::output::digit_of;
 
 // The first word of a line, and what stands behind the blank that ends it, if one does.
 pub(super) fn split_word(line: &[u8]) -> (&[u8], Option<&[u8]>)
@@ -36,26 +34,28 @@ fn number_of(word: &[u8]) -> Option<usize>
     ensures found { IfSome result (λ n. word.now ≡ decimal n) }
     ensures each { (n : ℕ) → n < 2 ^ 64 → word.now ≡ decimal n → IsSome result }
 {
-    let number = str::from_utf8(word).ok()?.parse::<usize>().ok()?;
-    // A leading zero or a plus is no part of the number's one spelling.
-    if is_decimal(word, number) {
-        Some(number)
-    } else {
-        None
+    let (first, rest) = word.split_first()?;
+    // A number but zero has no zero in front.
+    if *first == b'0' {
+        return if rest.is_empty() { Some(0) } else { None };
     }
+    let mut number: usize = 0;
+    for byte in word {
+        let digit = digit_in(*byte)?;
+        number = number.checked_mul(10)?.checked_add(digit)?;
+    }
+    Some(number)
 }
 
-// Whether the word is the number in decimal.
-fn is_decimal(word: &[u8], number: usize) -> bool
-    ensures { IsTrue result ↔ (word.now ≡ decimal number) }
+// The digit that this byte is.
+fn digit_in(byte: u8) -> Option<usize>
+    ensures { MatchOption result ((byte < 48) ⊎ (57 < byte))
+        (λ digit. (byte ≡ 48 + digit) × (digit < 10)) }
 {
-    let Some((last, front)) = word.split_last() else {
-        return false;
-    };
-    if number < 10 {
-        return front.is_empty() && *last == digit_of(number);
+    match byte {
+        b'0'..=b'9' => Some(usize::from(byte - b'0')),
+        _ => None,
     }
-    *last == digit_of(number % 10) && is_decimal(front, number / 10)
 }
 
 // The number that the next word is, and what is left behind it.

@@ -19,5 +19,6 @@ returns-in-End-2-clause-read g c =
     let (none, short, front) = c.loop.invariant in
     let some : 0 < length c.read_part.new.line.items =
     omega (arith, some_unless_empty _ c.if-is_empty.ensures, c.read_part.new.line.ok.0) in
-    read_to_end _ _ _ c.loop.line.items c.read_part.new.line.items none front
+    read_to_end (g.R.Read.remaining c.args.input.now) (g.R.Read.remaining c.loop.input)
+    (g.R.Read.remaining c.read_part.new.input) c.loop.line.items c.read_part.new.line.items none front
     (rw c.in-End-2.is at c.in_ok-behind.ensures) some

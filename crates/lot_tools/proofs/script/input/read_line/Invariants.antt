@@ -1,7 +1,7 @@
 use Rattle.std.proofs.Common.{◌≤◌, length}
 use Rattle.std.specs.Io.KnownBytes.{Consumes}
 use Rattle.lot_tools.specs.declared.script.input.TheConstants.{MAX_LINE}
-use Rattle.lot_tools.specs.Lines.{HasNoFeed}
+use Rattle.lot_tools.specs.Private.Turns.{HasNoFeed}
 use Rattle.lot_tools.proofs.script.input.read_line.Given as goal
 
 -- what was read is the line so far

@@ -1,32 +1,46 @@
-use Rattle.std.proofs.Common.{◌≡◌, Ok, sym, ap, ◌∙◌}
-use Rattle.std.specs.Prelude.{decimal}
-use Rattle.std.proofs.lemmas.Fmt.{parse-decimal, IsAscii-decimal}
-use Rattle.std.specs.Result.{result_ok}
-use Rattle.std.proofs.lemmas.Option.{none-some, same_Some}
-use Rattle.std.proofs.lemmas.Str.{IsUtf8-from_ascii}
-use Rattle.std.proofs.lemmas.Bool.{false≢true}
-use Rattle.lot_tools.proofs.ParseLemmas.{not_none, from_ok, IsUtf8-same}
+use Rattle.std.proofs.Common.{◌≡◌, ◌∷◌, [], length, sym, ap, ◌∙◌, arith}
+use Rattle.std.proofs.lemmas.Bool.{eq-eqb, eqb-true}
+use Rattle.std.proofs.lemmas.List.{nil_from_length}
+use Rattle.std.proofs.lemmas.Fmt.{decimal_digit, decimal_nonempty}
+use Rattle.lot_tools.proofs.NumberLemmas.{digit_at, front-le, zero_alone, decimal_of}
 use Rattle.lot_tools.proofs.script.words.number_of.Goals as goal
 
-pub returns-in_err-ok-clause-each : goal.returns-in_err-ok-clause-each
-returns-in_err-ok-clause-each c n fits is =
-    absurd (not_none c.from_utf8.result _ _ c.from_utf8.ensures.cases
-    (λ e refused. refused.0 (IsUtf8-same c.args.word.now (decimal n) is (IsUtf8-from_ascii (decimal n)
-    (IsAscii-decimal n fits))))
-    (sym c.in_err-ok.ensures.value))
+pub returns-in_err-first-clause-each : goal.returns-in_err-first-clause-each
+returns-in_err-first-clause-each c n fits is =
+    absurd (omega (arith, c.in_err-first.ensures.cases, ap length is, decimal_nonempty n fits))
+
+pub returns-then-is_empty-clause-found : goal.returns-then-is_empty-clause-found
+returns-then-is_empty-clause-found c =
+    let rest = c.in_ok-first.rest.now in
+    let none : rest ≡ [] = nil_from_length rest (eqb-true _ _ (sym c.if-is_empty.ensures)) in
+    c.in_ok-first.ensures.cases.0 ∙ ap (λ first. first ∷ rest) c.if-first-eq48.true ∙ ap (λ l. 48 ∷ l) none
+    ∙ sym (decimal_digit 0 (omega arith))
+
+pub returns-else-is_empty-clause-each : goal.returns-else-is_empty-clause-each
+returns-else-is_empty-clause-each c n fits is =
+    let rest = c.in_ok-first.rest.now in
+    let cut = c.in_ok-first.ensures.cases.0 ∙ ap (λ first. first ∷ rest) c.if-first-eq48.true in
+    c.if-is_empty.ensures ∙ eq-eqb _ _ (ap length (zero_alone n rest fits (sym cut ∙ is)))
+
+pub returns-in_err-digit-clause-each : goal.returns-in_err-digit-clause-each
+returns-in_err-digit-clause-each c n fits is =
+    let digit = digit_at n c.args.word.now c.loop-byte.byte-index fits is c.loop-byte-test.true in
+    absurd (omega (arith, c.in_err-digit.ensures, digit.0, digit.1))
+
+pub returns-in_err-checked_mul-clause-each : goal.returns-in_err-checked_mul-clause-each
+returns-in_err-checked_mul-clause-each c n fits is =
+    let most = front-le n c.args.word.now c.loop-byte.byte-index c.loop-byte.number c.in_ok-digit.digit fits is
+    c.loop-byte-test.true c.in_ok-digit.ensures.0 c.loop-byte.invariant.0 in
+    absurd (c.in_err-checked_mul.ensures (omega arith))
 
 pub returns-in_err-number-clause-each : goal.returns-in_err-number-clause-each
 returns-in_err-number-clause-each c n fits is =
-    let text =
-    from_ok c.from_utf8.result _ _ c.in_ok-ok.field-0 c.from_utf8.ensures.cases
-    (sym c.in_ok-ok.ensures.value) in
-    let read : c.parse.result ≡ Ok n = parse-decimal 64 n _ _ fits fits (text.0 ∙ is) c.parse.ensures.value.0 in
-    absurd (none-some n (c.in_err-number.ensures.value ∙ ap result_ok read))
+    let most = front-le n c.args.word.now c.loop-byte.byte-index c.loop-byte.number c.in_ok-digit.digit fits is
+    c.loop-byte-test.true c.in_ok-digit.ensures.0 c.loop-byte.invariant.0 in
+    absurd (c.in_err-number.ensures (omega (arith, c.in_ok-checked_mul.ensures.1)))
 
-pub returns-else-is_decimal-clause-each : goal.returns-else-is_decimal-clause-each
-returns-else-is_decimal-clause-each c n fits is =
-    let text =
-    from_ok c.from_utf8.result _ _ c.in_ok-ok.field-0 c.from_utf8.ensures.cases (sym c.in_ok-ok.ensures.value) in
-    let read : c.parse.result ≡ Ok n = parse-decimal 64 n _ _ fits fits (text.0 ∙ is) c.parse.ensures.value.0 in
-    let same : c.in_ok-number.number ≡ n = same_Some _ _ (c.in_ok-number.ensures.value ∙ ap result_ok read) in
-    absurd (false≢true (sym c.if-is_decimal.false ∙ c.is_decimal.ensures.1 (is ∙ ap decimal (sym same))))
+pub returns-clause-found : goal.returns-clause-found
+returns-clause-found c =
+    decimal_of c.args.word.now c.in_ok-first.rest.now c.in_ok-first.first.now c.loop-byte.byte-index c.loop-byte.number
+    c.in_ok-first.ensures.cases.0 c.if-first-eq48.false c.loop-byte-test.false c.loop-byte.invariant.0
+    c.loop-byte.invariant.1 (omega arith)
