@@ -2,7 +2,9 @@
 use Rattle.std.proofs.Common.{◌≡◌, ℕ, ◌+◌, ◌*◌, ◌/◌}
 use Rattle.std.proofs.Common.{List, [], ◌∷◌, sym, refl, ap, ◌∙◌, subst, inl}
 use Rattle.std.proofs.Common.{⊎_elim, arith}
-use Rattle.std.proofs.Common.{replicate, Option, Some}
+use Rattle.std.proofs.Common.{replicate, get_or, Option, Some, MutBor}
+use Rattle.std.proofs.lemmas.Option.{same_Some}
+use Rattle.std.specs.Option.{option_copied_mut}
 use mathlib.Core.Option.{some-ne-none}
 use Rattle.atomic_table.specs.Table.{Me}
 use Rattle.atomic_table.specs.Table.{opening, Allows}
@@ -92,3 +94,10 @@ module _ {T K : Type 0} (caller : Caller T K) where
 pub leaving_is-other : (places : List ℕ) → ¬ IsHolder (leaving places)
 leaving_is-other [] holds = holds
 leaving_is-other (_ ∷ _) holds = holds
+
+-- the reference that a full slot lends is to the value in it
+pub lent-value : {T : Type 0} {slot : Option T} {lent : Option (MutBor T)} {others : List (ℕ × Option T)} (value : T)
+    (p : MutBor T) (k : ℕ) → lent ≡ Some p → option_copied_mut lent ≡ slot
+    → (k, Some value) ∷ [] ≡ (k, slot) ∷ others → p.now ≡ value
+lent-value {T} value p k is shows here = same_Some _ _ (ap option_copied_mut (sym is) ∙ shows
+    ∙ ap (λ (slots : List (ℕ × Option T)). (get_or slots 0 (k, Some value)).1) (sym here))

@@ -4,6 +4,7 @@ use Rattle.atomic_table.specs.Table.{Me}
 use Rattle.lot_word_lock.specs.declared.word_lock.view.View.{View}
 use Rattle.lot_word_lock.specs.declared.word_lock.view.View.TheVariants.{Trying, Holding}
 use Rattle.lot_word_lock.specs.declared.word_lock.WordLock.{WordLock}
+use Rattle.lot_word_lock.specs.declared.word_lock.Claim.{Claim}
 use Rattle.lot_word_lock.specs.declared.word_lock.Held.{Held}
 use Rattle.lot_word_lock.specs.declared.word_lock.steps.Caller.{Caller}
 use Rattle.lot_word_lock.specs.WordLockInvariant.{IsHolder}
@@ -42,6 +43,12 @@ module _ {T K : Type 0} where
   -- the caller has the slot, and in it a value that fits
   abbrev pub HasFullSlot : (T → Type 0) → Caller T K → Type 0
   HasFullSlot fits caller = (value : T) × ((seat_of caller).1 ≡ (0, Some value) ∷ []) × fits value
+
+  -- it is what `claim` of this lock gave: a caller that holds the lock, and has the slot with a value that fits
+  pub record IsClaimOn (fits : T → Type 0) (lock : WordLock T K) (claim : Claim T K) : Type 0 where
+    pub of_lock : IsCallerOf lock claim.caller
+    pub holds : (seat_of claim.caller).0 ≡ Holding [] []
+    pub home : HasFullSlot fits claim.caller
 
   -- the slot is out with the caller exactly if it holds the lock
   pub record SlotIsWithHolder (caller : Caller T K) : Type 0 where

@@ -26,6 +26,7 @@
 //! That whoever sleeps is woken is shown by tests.
 
 ghost use Rattle.std.specs.Prelude.{◌≡◌, ◌-◌, ◌%◌, ◌/◌, ◌+◌, ℕ, List, [], ◌∷◌, IfOk, IfSome, IfNone, Option, IsTrue};
+ghost use Rattle.std.specs.Fn.{FnOnceReturnsAtMut, FnOnceTakesAtMut};
 ghost use Rattle.atomic_table.specs.Table.{State};
 ghost use Rattle.lot_word_lock.specs.WordPlaces.{IsPlace};
 ghost use Rattle.lot_word_lock.specs.WordKey.{without_keys};
@@ -92,8 +93,16 @@ pub struct Held<T: Fits> {
     caller: Caller<T>,
 }
 
+/// The right to the value of a lock, which stays in the lock. It has no `Drop`, so it ends in
+/// `release`, which takes it if this lock's `claim` gave it.
+///
+/// Upstream has no such type: there a caller keeps in mind that it holds the lock.
+pub struct Claim<T: Fits> {
+    caller: Caller<T>,
+}
+
 impl<T: Fits> WordLock<T> {
-    ghost use Rattle.lot_word_lock.specs.WordLock.{IsCallerOf, IsHeldOf, IsTrying, HasFullSlot, Sees, SeesMore, key_of, seat_of};
+    ghost use Rattle.lot_word_lock.specs.WordLock.{IsCallerOf, IsClaimOn, IsHeldOf, IsTrying, HasFullSlot, Sees, SeesMore, key_of, seat_of};
 
     /// A lock of this key that nobody holds, around a value that fits it. The key is for proofs
     /// alone: nothing reads or keeps it.
@@ -152,6 +161,49 @@ impl<T: Fits> WordLock<T> {
     {
         let Held { value, mut caller } = held;
         self.put_value(&mut caller, value);
+        self.let_go(caller);
+    }
+
+    /// Waits as `lock` does, takes the lock, and leaves the value in it, for `lend`: a value of
+    /// several words is cheaper changed where it lies than taken out and put back.
+    ///
+    /// Upstream's `lock` is this, without a value.
+    #[inline]
+    pub fn claim<R: Wait>(&self, rt: &R) -> Claim<T>
+        ensures { IsClaimOn (T.fits (key_of self.now)) self.now result }
+    {
+        Claim {
+            caller: self.hold(rt),
+        }
+    }
+
+    /// Calls the visitor once, with the value, which fits the lock's key. It has to leave a value
+    /// that does. The contract asks that this lock's `claim` gave what is passed.
+    ///
+    /// It does not wait, and touches the value alone. Upstream has no such call.
+    #[inline]
+    pub fn lend<A, F: FnOnce(&mut T) -> A>(&self, claim: &mut Claim<T>, visitor: F) -> A
+        requires claim { IsClaimOn (T.fits (key_of self.now)) self.now claim.old }
+        requires callable { (value : T) → T.fits (key_of self.now) value
+            → FnOnceTakesAtMut F.FnOnce visitor value }
+        requires keeps { (old new : T) (answer : A) → T.fits (key_of self.now) old
+            → FnOnceReturnsAtMut F.FnOnce visitor old answer new → T.fits (key_of self.now) new }
+        ensures claim { IsClaimOn (T.fits (key_of self.now)) self.now claim.new }
+        ensures lent { (old new : T) × T.fits (key_of self.now) old
+            × FnOnceReturnsAtMut F.FnOnce visitor old result new }
+    {
+        self.lend_value(&mut claim.caller, visitor)
+    }
+
+    /// Lets the lock go, as `unlock` does. The contract asks that this lock's `claim` gave what is
+    /// passed.
+    ///
+    /// Upstream's `unlock` is this, and unsafe.
+    #[inline]
+    pub fn release(&self, claim: Claim<T>)
+        requires { IsClaimOn (T.fits (key_of self.now)) self.now claim }
+    {
+        let Claim { caller } = claim;
         self.let_go(caller);
     }
 

@@ -1,6 +1,7 @@
 //! The steps of one caller on the words of a lock.
 
 ghost use Rattle.std.specs.Prelude.{◌≡◌, ◌≢◌, ℕ, List, ◌+◌, ◌-◌, ◌*◌, ◌/◌, ◌%◌, ◌^◌, ◌<◌, ◌≤◌, [], ◌∷◌, length, None, IfSome, IsTrue, IsFalse};
+ghost use Rattle.std.specs.Fn.{FnOnceReturnsAtMut, FnOnceTakesAtMut};
 ghost use Rattle.lot_word_lock.specs.WordLockInvariant.{IsAwake};
 ghost use Rattle.lot_word_lock.specs.WordPlaces.{head, behind, LinkLeadsTo, IsPlace};
 ghost use Rattle.lot_word_lock.specs.WordView.{resting, leaving, seen_by, owed_by};
@@ -128,6 +129,30 @@ impl<T: Fits> WordLock<T> {
             .shared
             .exchange(&mut caller.seat, VALUE, None)
             .unwrap()
+    }
+
+    /// Lends the value to the visitor, in its slot.
+    pub(super) fn lend_value<A, F: FnOnce(&mut T) -> A>(
+        &self,
+        caller: &mut Caller<T>,
+        visitor: F,
+    ) -> A
+        requires lock { IsCallerOf self.now caller.old }
+        requires holds { Sees caller.old [] }
+        requires home { HasFullSlot (T.fits (key_of self.now)) caller.old }
+        requires callable { (value : T) → T.fits (key_of self.now) value
+            → FnOnceTakesAtMut F.FnOnce visitor value }
+        requires keeps { (old new : T) (answer : A) → T.fits (key_of self.now) old
+            → FnOnceReturnsAtMut F.FnOnce visitor old answer new → T.fits (key_of self.now) new }
+        ensures lock { IsCallerOf self.now caller.new }
+        ensures holds { Sees caller.new [] }
+        ensures home { HasFullSlot (T.fits (key_of self.now)) caller.new }
+        ensures lent { (old new : T) × T.fits (key_of self.now) old
+            × FnOnceReturnsAtMut F.FnOnce visitor old result new }
+    {
+        // A caller that holds the lock and has not taken the value out has the slot full.
+        let lent = caller.seat.slot_mut(&self.table.shared, VALUE).as_mut();
+        visitor(lent.unwrap())
     }
 
     /// Puts a value into the slot, which is empty.

@@ -324,6 +324,27 @@ fn add_in_threads<R: Threads + Wait + Sync + Abort>(
     });
 }
 
+// Adds 1 to both halves, where they lie.
+fn add_in_place<R: Wait>(rt: &R, lock: &WordLock<Pair>) -> u64 {
+    let mut claim = lock.claim(rt);
+    let word = lock.lend(&mut claim, |pair| {
+        pair.first = pair.first.wrapping_add(1);
+        pair.second = pair.second.wrapping_add(1);
+        lock.word()
+    });
+    lock.release(claim);
+    word
+}
+
+#[test]
+fn a_claim_has_the_lock_and_lends_the_value(rt: HostRuntime) -> Result<(), Fail> {
+    let lock = new_lock(rt.alloc())?;
+    assert_eq!(rt; add_in_place(&rt, &lock), 1);
+    assert_eq!(rt; halves(&rt, &lock), (1, 1));
+    assert_eq!(rt; lock.word(), 0);
+    Ok(())
+}
+
 // No clause says that an addition is not lost. With two holders at once some are.
 #[test]
 fn eight_threads_add_together(rt: HostRuntime) -> Result<(), Fail> {
