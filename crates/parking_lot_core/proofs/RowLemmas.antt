@@ -5,7 +5,9 @@ use Rattle.std.specs.List.{range_with_len}
 use Rattle.std.proofs.lemmas.List.{map-append, get_or-map}
 use Rattle.std.proofs.lemmas.List.FromFn.{get_or-map-range_with_len}
 use Rattle.lot_base.specs.BucketState.{BucketState, KeepsPlace, IsBucketAt}
-use Rattle.parking_lot_core.specs.Private.Section.{BucketLock, place_in, IsLockAt, AreLocksOfRow}
+use Rattle.lot_base.specs.Place.{place_of}
+use Rattle.parking_lot_core.specs.Private.Section.{BucketLock, place_in, IsLockAt, AreLocksOfRow, HasPlaceOf, IsBucketOf, IsClaimedFor}
+use Rattle.parking_lot_core.specs.declared.parking_lot.buckets.claimed.Claimed.{Claimed}
 use Rattle.parking_lot_core.proofs.ParkingLotLemmas.{range-push}
 use Rattle.lot_word_lock.specs.WordLock.{key_of}
 
@@ -39,3 +41,8 @@ still_stands p n old new keeps stands = record {
   place = keeps.place ∙ stands.place;
   size = keeps.size ∙ stands.size;
 }
+
+-- the bucket behind the lock of a key has the key's place
+pub claimed_place : (key : ℕ) (claimed : Claimed) (bucket : BucketState) → IsClaimedFor key claimed
+    → IsBucketOf claimed bucket → HasPlaceOf key bucket
+claimed_place key claimed bucket is stands = ap (place_of key) stands.size ∙ is ∙ sym stands.place

@@ -1,3 +1,4 @@
 pub mod Handles
+pub mod Committed
 pub mod RegistryState
 pub mod Section

@@ -22,7 +22,7 @@ pub use lot_base::token::{
     ParkToken, RequeueOp, StepError, UnparkResult, UnparkToken,
 };
 pub use lot_base::word_lock::{
-    Fits, Held, WORD_SLOTS, WordLock, plays, view, word_locks_keep_their_invariant,
+    Claim, Fits, Held, WORD_SLOTS, WordLock, plays, view, word_locks_keep_their_invariant,
 };
 pub use lot_exclusive::{laws, lot, schedule};
 pub use lot_interleaved::interleaved;

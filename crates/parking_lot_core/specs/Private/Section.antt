@@ -3,9 +3,10 @@ use Rattle.std.specs.Prelude.{◌≡◌, ◌≢◌, ◌<◌, ℕ, List, length, 
 use Rattle.std.specs.List.{range_with_len}
 use Rattle.lot_base.specs.BucketState.{BucketState, IsBucketAt}
 use Rattle.lot_base.specs.Place.{place_of}
-use Rattle.lot_word_lock.specs.WordLock.{key_of}
+use Rattle.lot_word_lock.specs.WordLock.{IsClaimOn, key_of}
 use Rattle.lot_base.specs.declared.bucket.BucketPlace.{BucketPlace}
 use Rattle.lot_word_lock.specs.declared.word_lock.WordLock.{WordLock}
+use Rattle.parking_lot_core.specs.declared.parking_lot.buckets.claimed.Claimed.{Claimed}
 use Rattle.parking_lot_core.specs.declared.parking_lot.buckets.Locked.{Locked}
 
 -- a lock around a bucket, which says of which place
@@ -27,6 +28,18 @@ AreLocksOfRow n cells = map (λ cell. key_of cell) cells ≡ map (place_in n) (r
 -- the bucket is that of the key, in a table of the bucket's size
 abbrev pub HasPlaceOf : ℕ → BucketState → Type 0
 HasPlaceOf key bucket = place_of key bucket.size ≡ bucket.place
+
+-- the bucket is that of the lock which a section of one bucket has
+abbrev pub IsBucketOf : Claimed → BucketState → Type 0
+IsBucketOf claimed = IsBucketAt (key_of claimed.cell.now).place (key_of claimed.cell.now).size
+
+-- the section has the lock, and such a bucket behind it
+abbrev pub IsClaimed : Claimed → Type 0
+IsClaimed claimed = IsClaimOn (IsBucketOf claimed) claimed.cell.now claimed.claim
+
+-- the lock is that of the key's bucket
+abbrev pub IsClaimedFor : ℕ → Claimed → Type 0
+IsClaimedFor key claimed = place_of key (key_of claimed.cell.now).size ≡ (key_of claimed.cell.now).place
 
 -- two buckets of one table
 pub record AreApart (source target : BucketState) : Type 0 where

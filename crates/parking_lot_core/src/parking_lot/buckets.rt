@@ -8,12 +8,14 @@ ghost use Rattle.lot_base.specs.Place.{IsTableSize};
 ghost use Rattle.lot_word_lock.specs.WordLock.{IsHeldOf};
 ghost use Rattle.lot_exclusive.specs.Size.{IsSizeFor, IsTooLarge, IsTrimmedSize};
 ghost use Rattle.lot_exclusive.specs.Table.{count_registered, IsLeastUnregistered};
-ghost use Rattle.parking_lot_core.specs.Private.Section.{HasPlaceOf, AreApart, AreLockedInOrder, IsLockAt, IsOfItsLock};
+ghost use Rattle.parking_lot_core.specs.Private.Section.{HasPlaceOf, AreApart, AreLockedInOrder, IsClaimed, IsClaimedFor, IsLockAt, IsOfItsLock};
 
+mod claimed;
 mod current;
 mod nodes;
 mod registry;
 
+use claimed::Claimed;
 use current::{Current, ROWS, RowInUse, index_of};
 use lot_base::bucket::{Bucket, BucketPlace, place};
 use lot_base::queue::Node;
@@ -27,8 +29,8 @@ use std::array;
 use std::marker::Model;
 use std::sync::{Mutex, OnceLock, Wait};
 
-// A bucket that a section has locked, with its place in the row, and the place of the bucket that
-// the section had locked before, if there is one. It has no `Drop`: it ends in `unlock`.
+// A bucket that a section of two has locked, with its place in the row, and the place of the bucket
+// that the section had locked before, if there is one. It has no `Drop`: it ends in `unlock`.
 pub(super) struct Locked<'b> {
     cell: &'b WordLock<Bucket>,
     place: usize,
@@ -103,7 +105,18 @@ impl Row {
         self.cells.len()
     }
 
-    // Locks the bucket at this place, which is the section's only one or its first.
+    // Locks the bucket at this place, which is the section's only one.
+    #[inline]
+    fn claim<R: Wait>(&self, rt: &R, place: usize) -> Claimed<'_>
+        requires { place < self.now }
+        ensures claim { IsClaimed result }
+        ensures place { IsLockAt place self.now result.cell.now }
+    {
+        let cell = &self.cells[place];
+        Claimed::new(rt, cell)
+    }
+
+    // Locks the bucket at this place, and takes it out of its lock.
     #[inline]
     fn lock<R: Wait>(&self, rt: &R, place: usize) -> Locked<'_>
         requires { place < self.now }
@@ -222,15 +235,14 @@ impl Buckets {
 
     // Locks the bucket of the key, which begins a section.
     #[inline(always)]
-    pub(super) fn lock<R: Wait>(&self, rt: &R, key: usize) -> Locked<'_>
-        ensures held { IsHeldOf result.cell.now result.held }
-        ensures own { IsOfItsLock result }
-        ensures place { HasPlaceOf key result.held.value }
+    pub(super) fn lock<R: Wait>(&self, rt: &R, key: usize) -> Claimed<'_>
+        ensures claim { IsClaimed result }
+        ensures place { IsClaimedFor key result }
     {
         for _ in rt.forever() {
             let current = self.current.load();
             if let Some(row) = self.row(current) {
-                let bucket = row.lock(rt, place(key, row.size()));
+                let bucket = row.claim(rt, place(key, row.size()));
                 if self.is_in_use(current) {
                     return bucket;
                 }

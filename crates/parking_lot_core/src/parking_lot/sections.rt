@@ -12,6 +12,7 @@ ghost use Rattle.lot_base.specs.NodeFields.{NodeFields};
 ghost use Rattle.lot_base.specs.Requeue.{numbers};
 ghost use Rattle.lot_base.specs.NodeLists.{ChangesOnly, has_number, lists_of, saturated, split_to};
 ghost use Rattle.lot_base.specs.Waiting.{has_any, lists_after_requeue, split_first, split_filter, split_by, without_first};
+ghost use Rattle.parking_lot_core.specs.Private.Committed.{AreChosenCommitted, IsOneCommitted};
 ghost use Rattle.parking_lot_core.specs.Private.Handles.{handle_numbers, kept_handles, thread_numbers};
 ghost use Rattle.parking_lot_core.specs.Private.Section.{HasPlaceOf, AreApart};
 ghost use Rattle.parking_lot_core.specs.Threaded.{IsCallableForOne, IsUnparkOfOne, AreCallableForFilter, IsUnparkByFilter, AreCallableForRequeue, IsRequeueByChoice};
@@ -41,7 +42,12 @@ impl<P: ThreadParkerT> ParkingLot<P> {
         ensures returned { IfErr result (λ back. back.value ≡ node.value) }
     {
         let mut bucket = self.buckets.lock(rt, node.key);
-        let entered = self.enter_in(&mut bucket.held.value, node, validate);
+        let entered = bucket.with(
+            |bucket: &mut Bucket|
+                requires place { HasPlaceOf (fields node.value).key bucket.old }
+                requires validate { V.pre validate }
+            { self.enter_in(bucket, node, validate) },
+        );
         bucket.unlock();
         entered
     }
@@ -88,7 +94,7 @@ impl<P: ThreadParkerT> ParkingLot<P> {
                 let node = parker.park(rt);
                 return (ParkResult::Unparked(node.unpark_token), node);
             }
-            let removed = remove_from(&mut bucket.held.value, number, key, timed_out);
+            let removed = bucket.with(|bucket| remove_from(bucket, number, key, timed_out));
             bucket.unlock();
             match removed {
                 Ok(node) => return (ParkResult::TimedOut, node),
@@ -106,14 +112,16 @@ impl<P: ThreadParkerT> ParkingLot<P> {
         callback: C,
     ) -> (UnparkResult, Option<P::UnparkHandle>)
         requires { IsCallableForOne C.FnOnce callback }
-        ensures { record {
-          unparked : IsUnparkOfOne C.FnOnce callback result.0;
-          handle : handle_numbers P.UnparkHandle.number result.1
-              ≡ thread_numbers self.now.max_threads (split_first unparked.waiters).taken;
-        } }
+        ensures { IsOneCommitted C.FnOnce P.UnparkHandle.number self.now.max_threads callback
+            result }
     {
         let mut bucket = self.buckets.lock(rt, key);
-        let answer = self.take_one_of(rt, &mut bucket.held.value, key, callback);
+        let answer = bucket.with(
+            |bucket: &mut Bucket|
+                requires place { HasPlaceOf key bucket.old }
+                requires callback { IsCallableForOne C.FnOnce callback }
+            { self.take_one_of(rt, bucket, key, callback) },
+        );
         bucket.unlock();
         answer
     }
@@ -133,7 +141,11 @@ impl<P: ThreadParkerT> ParkingLot<P> {
         } }
     {
         let mut bucket = self.buckets.lock(rt, key);
-        let answer = self.take_all_of(rt, &mut bucket.held.value, key, token);
+        let answer = bucket.with(
+            |bucket: &mut Bucket|
+                requires { HasPlaceOf key bucket.old }
+            { self.take_all_of(rt, bucket, key, token) },
+        );
         bucket.unlock();
         answer
     }
@@ -145,14 +157,15 @@ impl<P: ThreadParkerT> ParkingLot<P> {
         C: FnOnce(UnparkResult) -> UnparkToken,
     >(&self, rt: &R, key: usize, filter: F, callback: C) -> (UnparkResult, Handles<P::UnparkHandle>)
         requires callable { AreCallableForFilter F.FnMut C.FnOnce filter callback }
-        ensures { record {
-          unparked : IsUnparkByFilter F.FnMut C.FnOnce filter callback result.0;
-          handles : min HANDLES (length (thread_numbers self.now.max_threads
-              (split_filter unparked.decisions unparked.waiters).taken)) ≤ kept_handles result.1;
-        } }
+        ensures { AreChosenCommitted F.FnMut C.FnOnce self.now.max_threads filter callback result }
     {
         let mut bucket = self.buckets.lock(rt, key);
-        let answer = self.take_filter_of(rt, &mut bucket.held.value, key, filter, callback);
+        let answer = bucket.with(
+            |bucket: &mut Bucket|
+                requires place { HasPlaceOf key bucket.old }
+                requires callable { AreCallableForFilter F.FnMut C.FnOnce filter callback }
+            { self.take_filter_of(rt, bucket, key, filter, callback) },
+        );
         bucket.unlock();
         answer
     }
@@ -198,8 +211,8 @@ impl<P: ThreadParkerT> ParkingLot<P> {
         alloc: Global,
         key: usize,
     ) -> Result<Vec<usize>, NoMemory> {
-        let bucket = self.buckets.lock(rt, key);
-        let numbers = list_of(&bucket.held.value, alloc, key);
+        let mut bucket = self.buckets.lock(rt, key);
+        let numbers = bucket.with(|bucket| list_of(bucket, alloc, key));
         bucket.unlock();
         numbers
     }
@@ -246,12 +259,11 @@ impl<P: ThreadParkerT> ParkingLot<P> {
         requires callback { IsCallableForOne C.FnOnce callback }
         ensures place { KeepsPlace bucket.old bucket.new }
         ensures taken { record {
-          unparked : IsUnparkOfOne C.FnOnce callback result.0;
-          waiters : unparked.waiters ≡ lists_of bucket.old.nodes key;
+          committed : IsOneCommitted C.FnOnce P.UnparkHandle.number self.now.max_threads
+              callback result;
+          waiters : committed.unparked.waiters ≡ lists_of bucket.old.nodes key;
           lists : ChangesOnly bucket.old.nodes bucket.new.nodes key
-              (split_first unparked.waiters).left;
-          handle : handle_numbers P.UnparkHandle.number result.1
-              ≡ thread_numbers self.now.max_threads (split_first unparked.waiters).taken;
+              (split_first committed.unparked.waiters).left;
         } }
     {
         let (result, taken) = bucket.take_one(key, callback);
@@ -296,12 +308,11 @@ impl<P: ThreadParkerT> ParkingLot<P> {
         requires callable { AreCallableForFilter F.FnMut C.FnOnce filter callback }
         ensures place { KeepsPlace bucket.old bucket.new }
         ensures taken { record {
-          unparked : IsUnparkByFilter F.FnMut C.FnOnce filter callback result.0;
-          waiters : unparked.waiters ≡ lists_of bucket.old.nodes key;
+          committed : AreChosenCommitted F.FnMut C.FnOnce self.now.max_threads filter callback
+              result;
+          waiters : committed.unparked.waiters ≡ lists_of bucket.old.nodes key;
           lists : ChangesOnly bucket.old.nodes bucket.new.nodes key
-              (split_filter unparked.decisions unparked.waiters).left;
-          handles : min HANDLES (length (thread_numbers self.now.max_threads
-              (split_filter unparked.decisions unparked.waiters).taken)) ≤ kept_handles result.1;
+              (split_filter committed.unparked.decisions committed.unparked.waiters).left;
         } }
     {
         let (result, taken) = bucket.take_filter(key, filter, callback);

@@ -52,8 +52,8 @@ fn the_table_grows_at_the_sixth_and_the_eleventh_thread(rt: HostRuntime) -> Resu
     let lot = Lot::new(rt.alloc(), 11)?;
     for size in [16, 16, 16, 16, 16, 32, 32, 32, 32, 32, 64] {
         drop(lot.thread_data(&rt, rt.alloc())?);
-        let bucket = lot.buckets.lock(&rt, KEY);
-        let buckets = bucket.held.value.size();
+        let mut bucket = lot.buckets.lock(&rt, KEY);
+        let buckets = bucket.with(|bucket| bucket.size());
         bucket.unlock();
         assert_eq!(rt; buckets, size);
     }

@@ -83,10 +83,15 @@ impl<P: ThreadParkerT> ParkingLot<P> {
     }
 
     // Commits the unpark of the node that was taken, if there is one.
+    #[inline]
     pub(super) fn commit_one<R: Wait>(&self, rt: &R, mut taken: Queue) -> Option<P::UnparkHandle>
         ensures { handle_numbers P.UnparkHandle.number result
             ≡ thread_numbers self.now.max_threads (take 1 taken) }
     {
+        // An unpark that finds nobody is the usual one.
+        if taken.front().is_none() {
+            return None;
+        }
         self.hand_over(rt, &mut taken)
     }
 

@@ -15,17 +15,19 @@ returns-clause-taken g c =
     let told = c.take_filter-taken.ensures.filtered in
     let (token, called, taken) = told.taken in
     record {
-      unparked = record {
-        waiters = waiters;
-        decisions = told.decisions;
-        decided = told.decided;
-        answer = told.answer;
-        token = token;
-        called = called;
+      committed = record {
+        unparked = record {
+          waiters = waiters;
+          decisions = told.decisions;
+          decided = told.decided;
+          answer = told.answer;
+          token = token;
+          called = called;
+        };
+        handles = subst (λ (numbers : List ℕ). min HANDLES (length numbers) ≤ kept_handles c.commit.result)
+            (thread_numbers-taken c.args.self.now.max_threads token c.take_filter-taken.result.1
+            (split_filter told.decisions waiters).taken taken) c.commit.ensures;
       };
       waiters = refl;
       lists = told.lists;
-      handles = subst (λ (numbers : List ℕ). min HANDLES (length numbers) ≤ kept_handles c.commit.result)
-          (thread_numbers-taken c.args.self.now.max_threads token c.take_filter-taken.result.1
-          (split_filter told.decisions waiters).taken taken) c.commit.ensures;
     }
