@@ -1,5 +1,9 @@
 //! `lot_stress memory`: scenarios in which requests for memory are counted, and refused from
 //! outside.
+//!
+//! Each is a function. It makes what it stands on and shows the state, does the calls between the
+//! marks, and then tells what they answered, the state after them, and how many of several calls
+//! were refused. Last it looks whether later calls do what they should.
 
 mod base;
 mod crowd;
@@ -10,15 +14,22 @@ mod scenario;
 mod table;
 mod threaded;
 mod tools;
+mod unparks;
 
 use crate::fault::Fault;
-use parking_lot_core::ThreadParkerT;
-pub use scenario::{SCENARIOS, Scenario};
+use parking_lot_core::{LotError, NoMemory, ThreadParkerT};
+pub use scenario::{ROWS, Scenario, named};
 use std::alloc::Global;
 use std::fmt;
 use std::sync::Wait;
 use std::thread::Threads;
 use std::time::Clock;
+
+// Keys of which the first two have one bucket of 16.
+const KEYS: [usize; 3] = [0, 13, 7];
+
+// As many threads as have three buckets each of 16.
+const FEW: usize = 5;
 
 /// When a state is shown.
 #[derive(Copy, Clone)]
@@ -39,37 +50,26 @@ impl fmt::Display for Moment {
     }
 }
 
-// What a scenario stands on, and what is done in it. Those with a parker do the same by methods of
-// their own, since a lot of any parker gets no proof in an impl of this trait.
-trait Scene: Drop {
-    // What the calls answer.
-    type Answer: fmt::Debug + Drop;
-
-    // Does the calls whose requests are counted.
-    fn act<R: Wait + Clock>(&mut self, rt: &R) -> Self::Answer;
-
-    // Shows all of the state that can be asked.
-    fn show<R: Print + Wait>(&self, rt: &R, moment: Moment) -> Result<(), Fault>;
-
-    // Looks whether the calls' answers fit the state, and whether later calls do what they should.
-    // Answers how many of several calls were refused.
-    fn refused<R: Wait + Clock>(&mut self, rt: &R) -> Result<usize, Fault>;
+fn show_size<R: Print>(
+    rt: &R,
+    moment: Moment,
+    registered: usize,
+    size: usize,
+) -> Result<(), Fault> {
+    println!(rt; "{moment} registered {registered} size {size}")?;
+    Ok(())
 }
 
-// Shows the state, does the calls, and shows what they answered and the state after them.
-fn perform<S: Scene, R: Print + Wait + Clock>(
+// Shows the numbers of those who wait on the key.
+fn show_waiting<R: Print>(
     rt: &R,
-    alloc: Global,
-    mut scene: S,
+    moment: Moment,
+    key: usize,
+    listed: Result<Vec<usize>, NoMemory>,
 ) -> Result<(), Fault> {
-    scene.show(rt, Moment::Before)?;
-    marks::begin(alloc);
-    let answer = scene.act(rt);
-    marks::end(alloc);
-    tell_answer(rt, &answer)?;
-    scene.show(rt, Moment::After)?;
-    let refused = scene.refused(rt)?;
-    tell_refused(rt, refused)
+    let waiting = listed?;
+    println!(rt; "{moment} key {key} waiting {waiting:?}")?;
+    Ok(())
 }
 
 fn tell_answer<T: fmt::Debug, R: Print>(rt: &R, answer: &T) -> Result<(), Fault> {
@@ -82,6 +82,12 @@ fn tell_refused<R: Print>(rt: &R, refused: usize) -> Result<(), Fault> {
     Ok(())
 }
 
+// Tells all of what could not be made.
+fn tell_unmade<R: Print>(rt: &R, error: LotError) -> Result<(), Fault> {
+    tell_answer(rt, &Some(error))?;
+    tell_refused(rt, 0)
+}
+
 /// Does the scenario, with parkers of this type where it has any, and prints what it saw.
 pub fn play<P, R>(rt: &R, alloc: Global, scenario: Scenario) -> Result<(), Fault>
 where
@@ -90,36 +96,39 @@ where
     R: Print + Threads + Wait + Clock + Copy + Send + Sync + 'static,
 {
     match scenario {
-        Scenario::NodeNew
-        | Scenario::WordLockNew
-        | Scenario::BucketList
-        | Scenario::SpinWait
-        | Scenario::Queue
-        | Scenario::Bucket
-        | Scenario::Parker => base::play::<P, _>(rt, alloc, scenario),
-        Scenario::TableNew | Scenario::TableRegister | Scenario::TableList | Scenario::TableSteps =>
-            table::play(rt, alloc, scenario),
-        Scenario::LotNew
-        | Scenario::LotRegister
-        | Scenario::LotAcquire
-        | Scenario::LotRecords
-        | Scenario::LotRegistrations
-        | Scenario::LotList
-        | Scenario::LotSteps
-        | Scenario::Run => exclusive::play(rt, alloc, scenario),
-        Scenario::FineLotNew | Scenario::FineLotList | Scenario::RunFine => {
-            interleaved::play(rt, alloc, scenario)
-        }
-        Scenario::RecordNew | Scenario::RecordingLotNew | Scenario::Script => {
-            tools::play(rt, alloc, scenario)
-        }
-        Scenario::ParkingLotNew
-        | Scenario::ThreadData
-        | Scenario::ThreadDataAgain
-        | Scenario::Registrations
-        | Scenario::ParkingLotList
-        | Scenario::AcquireResource
-        | Scenario::Park => threaded::play::<P, _>(rt, alloc, scenario),
-        Scenario::Threads | Scenario::WordLock => crowd::play::<P, _>(rt, alloc, scenario),
+        Scenario::NodeNew => base::new_node(rt, alloc),
+        Scenario::WordLockNew => base::new_word_lock(rt, alloc),
+        Scenario::BucketList => base::list(rt, alloc),
+        Scenario::TableNew => table::new(rt, alloc),
+        Scenario::TableRegister => table::register(rt, alloc),
+        Scenario::TableList => table::list(rt, alloc),
+        Scenario::LotNew => exclusive::new(rt, alloc),
+        Scenario::LotRegister => exclusive::register(rt, alloc),
+        Scenario::LotAcquire => exclusive::acquire(rt, alloc),
+        Scenario::LotRecords => exclusive::records(rt, alloc),
+        Scenario::LotRegistrations => exclusive::registrations(rt, alloc),
+        Scenario::LotList => exclusive::list(rt, alloc),
+        Scenario::Run => exclusive::run_all(rt, alloc),
+        Scenario::FineLotNew => interleaved::new(rt, alloc),
+        Scenario::FineLotList => interleaved::list(rt, alloc),
+        Scenario::RunFine => interleaved::run_all(rt, alloc),
+        Scenario::RecordNew => tools::new_record(rt, alloc),
+        Scenario::RecordingLotNew => tools::new_recording_lot(rt, alloc),
+        Scenario::Script => tools::run_script(rt, alloc),
+        Scenario::ParkingLotNew => threaded::new::<P, _>(rt, alloc),
+        Scenario::ThreadData => threaded::register::<P, _>(rt, alloc, FEW, 1),
+        Scenario::ThreadDataAgain => threaded::register::<P, _>(rt, alloc, 2 * FEW, 1),
+        Scenario::Registrations => threaded::register::<P, _>(rt, alloc, 0, threaded::MOST),
+        Scenario::ParkingLotList => threaded::list::<P, _>(rt, alloc),
+        Scenario::AcquireResource => threaded::acquire::<P, _>(rt, alloc),
+        Scenario::SpinWait => base::spin(rt, alloc),
+        Scenario::Queue => base::use_queues(rt, alloc),
+        Scenario::Bucket => base::use_bucket(rt, alloc),
+        Scenario::Parker => base::use_parker::<P, _>(rt, alloc),
+        Scenario::TableSteps => table::use_steps(rt, alloc),
+        Scenario::LotSteps => exclusive::use_steps(rt, alloc),
+        Scenario::Park => threaded::park_each_way::<P, _>(rt, alloc),
+        Scenario::Threads => crowd::use_threads::<P, _>(rt, alloc),
+        Scenario::WordLock => crowd::use_word_lock(rt, alloc),
     }
 }

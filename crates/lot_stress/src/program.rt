@@ -1,7 +1,7 @@
 //! The commands of the program.
 
 use crate::fault::Fault;
-use crate::memory::{self, SCENARIOS, Scenario};
+use crate::memory::{self, Scenario};
 use crate::{parks, race};
 use parking_lot_core::{ThreadParker, WordParker, YieldParker};
 use std::process::ExitCode;
@@ -75,7 +75,7 @@ fn command_with_one(command: &str, word: &str) -> Option<Command> {
 
 fn command_with_two(command: &str, first: &str, second: &str) -> Option<Command> {
     match command {
-        "memory" => Some(Command::Memory(Scenario::named(first)?, parker_named(second)?)),
+        "memory" => Some(Command::Memory(memory::named(first)?, parker_named(second)?)),
         "race" => Some(Command::Race {
             seconds: first.parse().ok()?,
             seed: second.parse().ok()?,
@@ -116,9 +116,8 @@ fn follow<R: Print + Eprint + AllocGlobal + Threads + Wait + Clock + Copy + Send
 // The scenarios by their names, each with how many of its requests are to be refused, and with which
 // parkers it is to be run.
 fn print_names<R: Print>(rt: &R) -> io::Result<()> {
-    for scenario in SCENARIOS {
-        let parkers = if scenario.has_parker() { "each" } else { "any" };
-        println!(rt; "{} {} {parkers}", scenario.kind(), scenario.name())?;
+    for (_, kind, name, parkers) in memory::ROWS {
+        println!(rt; "{kind} {name} {parkers}")?;
     }
     Ok(())
 }

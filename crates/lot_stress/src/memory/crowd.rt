@@ -2,14 +2,15 @@
 
 ghost use Rattle.std.specs.Prelude.{⊤};
 
-use super::{Scenario, marks};
+use super::unparks::{requeue, unpark_by_filter};
+use super::{marks, tell_answer, tell_refused};
 use crate::fault::Fault;
 use crate::turns::comes_to;
 use lot_base::word_lock::{Fits, WordLock};
 use parking_lot_core::deadlock::{acquire_resource, release_resource};
 use parking_lot_core::{
-    DEFAULT_PARK_TOKEN, FilterOp, ParkResult, ParkingLot, RequeueOp, ThreadData, ThreadParkerT,
-    UnparkToken, park, unpark_all, unpark_filter, unpark_one, unpark_requeue,
+    DEFAULT_PARK_TOKEN, ParkResult, ParkingLot, RequeueOp, ThreadData, ThreadParkerT, UnparkToken,
+    park, unpark_all, unpark_one,
 };
 use std::alloc::Global;
 use std::sync::Wait;
@@ -45,20 +46,6 @@ const FAR_SECONDS: u64 = 1_000;
 const OPEN: usize = 1;
 
 const OVER: usize = 2;
-
-/// Does one of these scenarios.
-pub(super) fn play<P, R>(rt: &R, alloc: Global, scenario: Scenario) -> Result<(), Fault>
-where
-    P: ThreadParkerT + Send + Sync + 'static,
-    P::UnparkHandle: 'static,
-    R: Print + Threads + Wait + Clock + Copy + Send + Sync + 'static,
-{
-    if let Scenario::Threads = scenario {
-        play_threads::<P, _>(rt, alloc)
-    } else {
-        play_lock(rt, alloc)
-    }
-}
 
 // A gate before the part that is counted, which threads pass together once all have been started.
 #[derive(Drop)]
@@ -134,20 +121,23 @@ impl<P: ThreadParkerT> Crowd<P> {
         let Ok(mut data) = self.lot.thread_data(rt, alloc) else {
             return false;
         };
-        let Ok(now) = Instant::now(rt) else {
-            return false
-        };
-        let far = now.checked_add(Duration::from_secs(FAR_SECONDS));
         if acquire_resource(&mut data, HELD).is_err() || !self.gate.pass() {
             return false;
         }
-        for (key, timeout) in PARK_KEYS.into_iter().zip([None, None, far, Some(now)]) {
-            self.parks(rt, &mut data, key, timeout);
-        }
+        self.parks_each_time(rt, &mut data);
         release_resource(&mut data, HELD);
         self.records.fetch_add(data.records(HELD), Ordering::SeqCst);
         self.lot.retire(rt, data);
         self.gate.leave()
+    }
+
+    fn parks_each_time<R: Wait + Clock>(&self, rt: &R, data: &mut ThreadData) {
+        let Ok(now) = Instant::now(rt) else { return };
+        let far = now.checked_add(Duration::from_secs(FAR_SECONDS));
+        self.parks(rt, data, PARK_KEYS[0], None);
+        self.parks(rt, data, PARK_KEYS[1], None);
+        self.parks(rt, data, PARK_KEYS[2], far);
+        self.parks(rt, data, PARK_KEYS[3], Some(now));
     }
 
     fn parks<R: Wait + Clock>(
@@ -173,13 +163,14 @@ impl<P: ThreadParkerT> Crowd<P> {
             DEFAULT_PARK_TOKEN,
             timeout,
         );
-        match result {
-            ParkResult::Unparked(token) => {
-                self.tokens.fetch_add(token.0, Ordering::SeqCst);
-            }
-            _ => {
-                self.timeouts.fetch_add(1, Ordering::SeqCst);
-            }
+        self.note(result);
+    }
+
+    fn note(&self, ended: ParkResult) {
+        if let ParkResult::Unparked(token) = ended {
+            self.tokens.fetch_add(token.0, Ordering::SeqCst);
+        } else {
+            self.timeouts.fetch_add(1, Ordering::SeqCst);
         }
     }
 
@@ -198,49 +189,42 @@ impl<P: ThreadParkerT> Crowd<P> {
 
     // Unparks all in each of three ways, each time once they wait.
     fn leads<R: Wait>(&self, rt: &R, alloc: Global) -> [usize; 6] {
-        let mut seen = [usize::MAX; 6];
         if !self.gate.open(alloc, WAITERS) {
-            return seen;
+            return [usize::MAX; 6];
         }
-        if comes_to(&self.ready, WAITERS) {
-            seen[0] = self.unparks_one(rt);
-            seen[1] = self.filters(rt);
-        }
-        if comes_to(&self.ready, 2 * WAITERS) {
-            seen[2] = self.requeues(rt, PARK_KEYS[1], SECOND, RequeueOp::UnparkOneRequeueRest);
-            seen[3] = unpark_all(rt, &self.lot, SECOND, UnparkToken(1_000));
-        }
-        if comes_to(&self.ready, 3 * WAITERS) {
-            seen[4] = self.requeues(rt, PARK_KEYS[2], THIRD, RequeueOp::RequeueAll);
-            seen[5] = unpark_all(rt, &self.lot, THIRD, UnparkToken(10_000));
-        }
+        let (one, filtered) = self.unparks_first(rt);
+        let (rest, second) = self.unparks_second(rt);
+        let (all, third) = self.unparks_third(rt);
         self.gate.close(alloc, WAITERS);
-        seen
+        [one, filtered, rest, second, all, third]
     }
 
-    fn unparks_one<R: Wait>(&self, rt: &R) -> usize {
-        let result = unpark_one(rt, &self.lot, PARK_KEYS[0], |_| UnparkToken(1));
-        result.unparked_threads
+    fn unparks_first<R: Wait>(&self, rt: &R) -> (usize, usize) {
+        comes_to(&self.ready, WAITERS);
+        let (lot, key) = (&self.lot, PARK_KEYS[0]);
+        let unparked = unpark_one(rt, lot, key, |_| UnparkToken(1)).unparked_threads;
+        (unparked, unpark_by_filter(rt, lot, key, UnparkToken(10)))
     }
 
-    fn filters<R: Wait>(&self, rt: &R) -> usize {
-        let result = unpark_filter(
-            rt,
-            &self.lot,
-            PARK_KEYS[0],
-            |_| FilterOp::Unpark,
-            |_| UnparkToken(10),
-        );
-        result.unparked_threads
+    fn unparks_second<R: Wait>(&self, rt: &R) -> (usize, usize) {
+        comes_to(&self.ready, 2 * WAITERS);
+        let (lot, op) = (&self.lot, RequeueOp::UnparkOneRequeueRest);
+        let result = requeue(rt, lot, PARK_KEYS[1], SECOND, op, UnparkToken(100));
+        let unparked = unpark_all(rt, lot, SECOND, UnparkToken(1_000));
+        (result.requeued_threads, unparked)
     }
 
-    fn requeues<R: Wait>(&self, rt: &R, from: usize, to: usize, op: RequeueOp) -> usize {
-        let result = unpark_requeue(rt, &self.lot, from, to, || op, |_, _| UnparkToken(100));
-        result.requeued_threads
+    fn unparks_third<R: Wait>(&self, rt: &R) -> (usize, usize) {
+        comes_to(&self.ready, 3 * WAITERS);
+        let (lot, op) = (&self.lot, RequeueOp::RequeueAll);
+        let result = requeue(rt, lot, PARK_KEYS[2], THIRD, op, UnparkToken(100));
+        let unparked = unpark_all(rt, lot, THIRD, UnparkToken(10_000));
+        (result.requeued_threads, unparked)
     }
 }
 
-fn play_threads<P, R>(rt: &R, alloc: Global) -> Result<(), Fault>
+/// `park` and the unparks with twelve threads, and `retire`.
+pub(super) fn use_threads<P, R>(rt: &R, alloc: Global) -> Result<(), Fault>
 where
     P: ThreadParkerT + Send + Sync + 'static,
     P::UnparkHandle: 'static,
@@ -248,8 +232,8 @@ where
 {
     let crowd = Crowd::<P>::new(alloc)?;
     let (seen, waited) = lead_and_wait(rt, alloc, &crowd);
-    println!(rt; "answer {seen:?}")?;
-    println!(rt; "refused 0")?;
+    tell_answer(rt, &seen)?;
+    tell_refused(rt, 0)?;
     if waited && seen == [1, 11, 11, 11, 12, 12] {
         crowd.show(rt)
     } else {
@@ -296,7 +280,8 @@ impl Fits for Count {
     ghost fits = { λ _ _. ⊤ };
 }
 
-fn play_lock<R: Print + Threads + Wait + Clock + Copy + Send + Sync + 'static>(
+/// `WordLock::lock` and `unlock`, with eight threads.
+pub(super) fn use_word_lock<R: Print + Threads + Wait + Clock + Copy + Send + Sync + 'static>(
     rt: &R,
     alloc: Global,
 ) -> Result<(), Fault> {
@@ -307,16 +292,21 @@ fn play_lock<R: Print + Threads + Wait + Clock + Copy + Send + Sync + 'static>(
         || gate.open(alloc, LOCKERS) && gate.close(alloc, LOCKERS),
         || all_lock(rt, alloc, &lock, &gate),
     );
-    let held = lock.lock(rt);
-    let count = held.value.0;
-    lock.unlock(held);
-    println!(rt; "answer {count}")?;
-    println!(rt; "refused 0")?;
+    let count = count_in(rt, &lock);
+    tell_answer(rt, &count)?;
+    tell_refused(rt, 0)?;
     if are_done && locked && count == LOCKERS * LOCKS {
         Ok(())
     } else {
         Err(Fault::Unlike("the count of the threads that locked"))
     }
+}
+
+fn count_in<R: Wait>(rt: &R, lock: &WordLock<Count>) -> usize {
+    let held = lock.lock(rt);
+    let count = held.value.0;
+    lock.unlock(held);
+    count
 }
 
 fn all_lock<R: Threads + Wait + Copy + Send + Sync + 'static>(
@@ -337,10 +327,14 @@ fn locks<R: Wait>(rt: &R, lock: &WordLock<Count>, gate: &Gate) -> bool {
         return false;
     }
     for _ in 0..LOCKS {
-        let mut held = lock.lock(rt);
-        held.value.0 = held.value.0.wrapping_add(1);
-        thread::yield_now();
-        lock.unlock(held);
+        count_once(rt, lock);
     }
     gate.leave()
+}
+
+fn count_once<R: Wait>(rt: &R, lock: &WordLock<Count>) {
+    let mut held = lock.lock(rt);
+    held.value.0 = held.value.0.wrapping_add(1);
+    thread::yield_now();
+    lock.unlock(held);
 }

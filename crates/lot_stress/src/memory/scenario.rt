@@ -1,7 +1,7 @@
 //! The scenarios: what is done in each, and by which names.
 
 /// What is done, and counted.
-#[derive(Copy, Clone, Eq, PartialEq)]
+#[derive(Copy, Clone)]
 pub enum Scenario {
     /// `Node::new`.
     NodeNew,
@@ -106,126 +106,74 @@ pub enum Scenario {
     WordLock,
 }
 
+/// A scenario. Then whether each request is refused in turn, or some of very many, or it is to ask
+/// for none; its name; and whether it is run with each parker, or has none and is run with any.
+pub type Row = (Scenario, &'static str, &'static str, &'static str);
+
 /// All scenarios: those that ask for memory, and then those that do not.
-pub const SCENARIOS: [Scenario; 34] = [
-    Scenario::NodeNew,
-    Scenario::WordLockNew,
-    Scenario::BucketList,
-    Scenario::TableNew,
-    Scenario::TableRegister,
-    Scenario::TableList,
-    Scenario::LotNew,
-    Scenario::LotRegister,
-    Scenario::LotAcquire,
-    Scenario::LotRecords,
-    Scenario::LotRegistrations,
-    Scenario::LotList,
-    Scenario::Run,
-    Scenario::FineLotNew,
-    Scenario::FineLotList,
-    Scenario::RunFine,
-    Scenario::RecordNew,
-    Scenario::RecordingLotNew,
-    Scenario::Script,
-    Scenario::ParkingLotNew,
-    Scenario::ThreadData,
-    Scenario::ThreadDataAgain,
-    Scenario::Registrations,
-    Scenario::ParkingLotList,
-    Scenario::AcquireResource,
-    Scenario::SpinWait,
-    Scenario::Queue,
-    Scenario::Bucket,
-    Scenario::Parker,
-    Scenario::TableSteps,
-    Scenario::LotSteps,
-    Scenario::Park,
-    Scenario::Threads,
-    Scenario::WordLock,
+pub const ROWS: &[Row] = &[
+    (Scenario::NodeNew, "each", "node_new", "any"),
+    (Scenario::WordLockNew, "each", "word_lock_new", "any"),
+    (Scenario::BucketList, "each", "bucket_list", "any"),
+    (Scenario::TableNew, "each", "table_new", "any"),
+    (Scenario::TableRegister, "each", "table_register", "any"),
+    (Scenario::TableList, "each", "table_list", "any"),
+    (Scenario::LotNew, "each", "lot_new", "any"),
+    (Scenario::LotRegister, "each", "lot_register", "any"),
+    (Scenario::LotAcquire, "each", "lot_acquire", "any"),
+    (Scenario::LotRecords, "each", "lot_records", "any"),
+    (
+        Scenario::LotRegistrations,
+        "some",
+        "lot_registrations",
+        "any",
+    ),
+    (Scenario::LotList, "each", "lot_list", "any"),
+    (Scenario::Run, "each", "run", "any"),
+    (Scenario::FineLotNew, "each", "fine_lot_new", "any"),
+    (Scenario::FineLotList, "each", "fine_lot_list", "any"),
+    (Scenario::RunFine, "each", "run_fine", "any"),
+    (Scenario::RecordNew, "each", "record_new", "any"),
+    (
+        Scenario::RecordingLotNew,
+        "each",
+        "recording_lot_new",
+        "any",
+    ),
+    (Scenario::Script, "each", "script", "any"),
+    (Scenario::ParkingLotNew, "each", "parking_lot_new", "each"),
+    (Scenario::ThreadData, "each", "thread_data", "each"),
+    (
+        Scenario::ThreadDataAgain,
+        "each",
+        "thread_data_again",
+        "each",
+    ),
+    (Scenario::Registrations, "some", "registrations", "each"),
+    (Scenario::ParkingLotList, "each", "parking_lot_list", "each"),
+    (
+        Scenario::AcquireResource,
+        "each",
+        "acquire_resource",
+        "each",
+    ),
+    (Scenario::SpinWait, "none", "spin_wait", "any"),
+    (Scenario::Queue, "none", "queue", "any"),
+    (Scenario::Bucket, "none", "bucket", "any"),
+    (Scenario::Parker, "none", "parker", "each"),
+    (Scenario::TableSteps, "none", "table_steps", "any"),
+    (Scenario::LotSteps, "none", "lot_steps", "any"),
+    (Scenario::Park, "none", "park", "each"),
+    (Scenario::Threads, "none", "threads", "each"),
+    (Scenario::WordLock, "none", "word_lock", "any"),
 ];
 
-impl Scenario {
-    /// The scenario's name, by which the program is asked for it.
-    pub fn name(self) -> &'static str {
-        match self {
-            Scenario::NodeNew => "node_new",
-            Scenario::WordLockNew => "word_lock_new",
-            Scenario::BucketList => "bucket_list",
-            Scenario::TableNew => "table_new",
-            Scenario::TableRegister => "table_register",
-            Scenario::TableList => "table_list",
-            Scenario::LotNew => "lot_new",
-            Scenario::LotRegister => "lot_register",
-            Scenario::LotAcquire => "lot_acquire",
-            Scenario::LotRecords => "lot_records",
-            Scenario::LotRegistrations => "lot_registrations",
-            Scenario::LotList => "lot_list",
-            Scenario::Run => "run",
-            Scenario::FineLotNew => "fine_lot_new",
-            Scenario::FineLotList => "fine_lot_list",
-            Scenario::RunFine => "run_fine",
-            Scenario::RecordNew => "record_new",
-            Scenario::RecordingLotNew => "recording_lot_new",
-            Scenario::Script => "script",
-            Scenario::ParkingLotNew => "parking_lot_new",
-            Scenario::ThreadData => "thread_data",
-            Scenario::ThreadDataAgain => "thread_data_again",
-            Scenario::Registrations => "registrations",
-            Scenario::ParkingLotList => "parking_lot_list",
-            Scenario::AcquireResource => "acquire_resource",
-            Scenario::SpinWait => "spin_wait",
-            Scenario::Queue => "queue",
-            Scenario::Bucket => "bucket",
-            Scenario::Parker => "parker",
-            Scenario::TableSteps => "table_steps",
-            Scenario::LotSteps => "lot_steps",
-            Scenario::Park => "park",
-            Scenario::Threads => "threads",
-            Scenario::WordLock => "word_lock",
+/// The scenario of this name.
+pub fn named(wanted: &str) -> Option<Scenario> {
+    for (scenario, _, name, _) in ROWS {
+        if *name == wanted {
+            return Some(*scenario);
         }
     }
-
-    /// Whether it asks for memory, or for so much that not each request is refused in turn, or for
-    /// none.
-    pub fn kind(self) -> &'static str {
-        match self {
-            Scenario::SpinWait
-            | Scenario::Queue
-            | Scenario::Bucket
-            | Scenario::Parker
-            | Scenario::TableSteps
-            | Scenario::LotSteps
-            | Scenario::Park
-            | Scenario::Threads
-            | Scenario::WordLock => "none",
-            Scenario::LotRegistrations | Scenario::Registrations => "some",
-            _ => "each",
-        }
-    }
-
-    /// Whether it has a parker.
-    pub fn has_parker(self) -> bool {
-        match self {
-            Scenario::ParkingLotNew
-            | Scenario::ThreadData
-            | Scenario::ThreadDataAgain
-            | Scenario::Registrations
-            | Scenario::ParkingLotList
-            | Scenario::AcquireResource
-            | Scenario::Parker
-            | Scenario::Park
-            | Scenario::Threads => true,
-            _ => false,
-        }
-    }
-
-    /// The scenario of this name.
-    pub fn named(name: &str) -> Option<Scenario> {
-        for scenario in SCENARIOS {
-            if scenario.name() == name {
-                return Some(scenario);
-            }
-        }
-        None
-    }
+    None
 }

@@ -1,54 +1,106 @@
 //! Scenarios on the threaded lot, with one thread.
 
-use super::exclusive::KEYS;
-use super::{Moment, Scenario, marks, tell_answer, tell_refused};
+use super::unparks::{requeue, unpark_by_filter};
+use super::{FEW, KEYS, Moment, marks, show_waiting, tell_answer, tell_refused, tell_unmade};
 use crate::fault::Fault;
 use parking_lot_core::deadlock::{acquire_resource, release_resource};
 use parking_lot_core::{
-    DEFAULT_PARK_TOKEN, FilterOp, LotError, NoMemory, ParkResult, ParkingLot, RequeueOp,
-    ThreadData, ThreadParkerT, UnparkToken, park, unpark_all, unpark_filter, unpark_one,
-    unpark_requeue,
+    DEFAULT_PARK_TOKEN, LotError, NoMemory, ParkResult, ParkingLot, RequeueOp, ThreadData,
+    ThreadParkerT, UnparkToken, park, unpark_all, unpark_one,
 };
 use std::alloc::Global;
+use std::fmt;
 use std::sync::Wait;
 use std::time::{Clock, Instant};
 
-const MOST: usize = 1_024;
+/// How many numbers the lot has.
+pub(super) const MOST: usize = 1_024;
 
 // A lot for so many is made with few enough requests to refuse each in turn.
 const SOME: usize = 40;
 
-// As many threads as have three buckets each of 16.
-const FEW: usize = 5;
-
 const RECORDINGS: usize = 130;
 
-/// Does one of these scenarios.
-pub(super) fn play<P: ThreadParkerT, R: Print + Wait + Clock>(
+/// `ParkingLot::new`.
+pub(super) fn new<P: ThreadParkerT, R: Print>(rt: &R, alloc: Global) -> Result<(), Fault> {
+    marks::begin(alloc);
+    let made = ParkingLot::<P>::new(alloc, SOME);
+    marks::end(alloc);
+    match made {
+        Ok(lot) => {
+            tell_answer(rt, &None::<LotError>)?;
+            println!(rt; "{} most {}", Moment::After, lot.max_threads())?;
+            tell_refused(rt, 0)
+        }
+        Err(error) => tell_unmade(rt, error),
+    }
+}
+
+/// `ParkingLot::thread_data`, so many times, where so many threads were registered before.
+pub(super) fn register<P: ThreadParkerT, R: Print + Wait + Clock>(
     rt: &R,
     alloc: Global,
-    scenario: Scenario,
+    registered: usize,
+    calls: usize,
 ) -> Result<(), Fault> {
-    let registered = match scenario {
-        Scenario::Registrations => 0,
-        Scenario::ThreadDataAgain => 2 * FEW,
-        _ => FEW,
-    };
-    if let Scenario::ParkingLotNew = scenario {
-        return New::<P> { alloc, lot: None }.perform(rt, alloc);
-    }
-    let threads = Registered::<P>::new(rt, alloc, registered)?;
-    match scenario {
-        Scenario::Registrations => Register {
-            threads,
-            calls: MOST,
-        }
-        .perform(rt, alloc),
-        Scenario::ParkingLotList => List(threads).perform(rt, alloc),
-        Scenario::AcquireResource => Acquire::new(threads).perform(rt, alloc),
-        Scenario::Park => Parks::new(threads)?.perform(rt, alloc),
-        _ => Register { threads, calls: 1 }.perform(rt, alloc),
-    }
+    let mut threads = Registered::<P>::new(rt, alloc, registered)?;
+    threads.show(rt, Moment::Before)?;
+    marks::begin(alloc);
+    let answer = threads.add_often(rt, calls);
+    marks::end(alloc);
+    threads.finish(rt, &answer)?;
+    // Of a single call the answer says whether it was refused.
+    let added = if calls == 1 { 1 } else { threads.data.len() };
+    threads.gives_the_least_number(rt)?;
+    tell_refused(rt, calls.wrapping_sub(added))
+}
+
+/// `ParkingLot::list`, in a park, which asks for nothing.
+pub(super) fn list<P: ThreadParkerT, R: Print + Wait + Clock>(
+    rt: &R,
+    alloc: Global,
+) -> Result<(), Fault> {
+    let mut threads = Registered::<P>::new(rt, alloc, FEW)?;
+    threads.show(rt, Moment::Before)?;
+    marks::begin(alloc);
+    let answer = threads.list_in_a_park(rt, KEYS[0]);
+    marks::end(alloc);
+    threads.finish(rt, &answer)?;
+    tell_refused(rt, 0)
+}
+
+/// `acquire_resource`, many times.
+pub(super) fn acquire<P: ThreadParkerT, R: Print + Wait + Clock>(
+    rt: &R,
+    alloc: Global,
+) -> Result<(), Fault> {
+    let mut threads = Registered::<P>::new(rt, alloc, FEW)?;
+    threads.show_records(rt, Moment::Before)?;
+    marks::begin(alloc);
+    let recorded = threads.record_often()?;
+    marks::end(alloc);
+    tell_answer(rt, &recorded)?;
+    threads.show_records(rt, Moment::After)?;
+    threads.can_wait(rt)?;
+    tell_refused(rt, RECORDINGS.wrapping_sub(recorded))
+}
+
+/// `park` with each way to end, each unpark, and `release_resource`.
+pub(super) fn park_each_way<P: ThreadParkerT, R: Print + Wait + Clock>(
+    rt: &R,
+    alloc: Global,
+) -> Result<(), Fault> {
+    let mut parks = Parks::<P>::new(rt, alloc)?;
+    let past = Instant::now(rt)?;
+    parks.show(rt, Moment::Before)?;
+    marks::begin(alloc);
+    parks.park_each_way(rt, past);
+    parks.release_twice();
+    marks::end(alloc);
+    tell_answer(rt, &())?;
+    parks.show(rt, Moment::After)?;
+    parks.threads.can_wait(rt)?;
+    tell_refused(rt, 0)
 }
 
 // A lot, and the data of its threads.
@@ -56,7 +108,7 @@ pub(super) fn play<P: ThreadParkerT, R: Print + Wait + Clock>(
 struct Registered<P: ThreadParkerT> {
     alloc: Global,
     lot: ParkingLot<P>,
-    threads: Vec<ThreadData>,
+    data: Vec<ThreadData>,
 }
 
 impl<P: ThreadParkerT> Registered<P> {
@@ -64,7 +116,7 @@ impl<P: ThreadParkerT> Registered<P> {
         let mut registered = Registered {
             alloc,
             lot: ParkingLot::new(alloc, MOST)?,
-            threads: Vec::with_capacity(alloc, MOST)?,
+            data: Vec::with_capacity(alloc, MOST)?,
         };
         for _ in 0..count {
             registered.add(rt)?;
@@ -76,44 +128,51 @@ impl<P: ThreadParkerT> Registered<P> {
     fn add<R: Wait>(&mut self, rt: &R) -> Result<usize, LotError> {
         let data = self.lot.thread_data(rt, self.alloc)?;
         let number = data.number();
-        self.threads.push(data)?;
+        self.data.push(data)?;
         Ok(number)
     }
 
-    fn show<R: Print + Wait>(&self, rt: &R, moment: Moment) -> Result<(), Fault> {
-        println!(rt;
-            "{moment} most {} registered {}",
-            self.lot.max_threads(),
-            self.threads.len()
-        )?;
-        for key in KEYS {
-            let waiting = self.lot.list(rt, self.alloc, key)?;
-            println!(rt; "{moment} key {key} waiting {waiting:?}")?;
+    // Registers so many more, and answers what the last registration did.
+    fn add_often<R: Wait>(&mut self, rt: &R, calls: usize) -> Result<usize, LotError> {
+        let mut last = self.add(rt);
+        for _ in 1..calls {
+            last = self.add(rt);
         }
-        Ok(())
+        last
     }
 
-    // The first thread parks on each key, is listed, and is unparked.
-    fn can_wait<R: Wait + Clock>(&mut self, rt: &R) -> Result<(), Fault> {
-        for key in KEYS {
-            if !self.waits_once(rt, key) {
-                return Err(Fault::Unlike("a wait after a registration"));
+    // Registrations that were refused have no number: the next gives the least.
+    fn gives_the_least_number<R: Wait + Clock>(&mut self, rt: &R) -> Result<(), Fault> {
+        let registered = self.data.len();
+        if registered < MOST && self.add(rt)? != registered {
+            return Err(Fault::Unlike("the number after a registration"));
+        }
+        self.can_wait(rt)
+    }
+
+    // Records resources for the first thread, and answers how often it did.
+    fn record_often(&mut self) -> Result<usize, Fault> {
+        let mut recorded = 0usize;
+        if let Some(data) = self.data.first_mut() {
+            for call in 0..RECORDINGS {
+                recorded = recorded.wrapping_add(record(data, KEYS[call % 3])?);
             }
         }
-        Ok(())
+        Ok(recorded)
     }
 
-    // Whether the first thread parks on the key, is listed there, and is unparked.
-    fn waits_once<R: Wait + Clock>(&mut self, rt: &R, key: usize) -> bool {
-        let Some(data) = self.threads.first_mut() else {
-            return true;
-        };
-        if !self.lot.accepts(data) {
-            return false;
+    // The first thread parks on the key, and is unparked. Answers who waited there meanwhile.
+    fn list_in_a_park<R: Wait + Clock>(
+        &mut self,
+        rt: &R,
+        key: usize,
+    ) -> Option<Result<Vec<usize>, NoMemory>> {
+        let (lot, alloc) = (&self.lot, self.alloc);
+        let data = self.data.first_mut()?;
+        if !lot.accepts(data) {
+            return None;
         }
-        let mut listed = false;
-        let lot = &self.lot;
-        let alloc = self.alloc;
+        let mut listed = None;
         let result = park(
             rt,
             lot,
@@ -121,245 +180,79 @@ impl<P: ThreadParkerT> Registered<P> {
             key,
             || true,
             || {
-                listed = is_listed(rt, alloc, lot, key);
+                listed = Some(lot.list(rt, alloc, key));
                 unpark_all(rt, lot, key, UnparkToken(key));
             },
             |_, _| (),
             DEFAULT_PARK_TOKEN,
             None,
         );
-        listed && result == ParkResult::Unparked(UnparkToken(key))
-    }
-}
-
-// Whether the thread 0 alone waits on the key.
-fn is_listed<P: ThreadParkerT, R: Wait>(
-    rt: &R,
-    alloc: Global,
-    lot: &ParkingLot<P>,
-    key: usize,
-) -> bool {
-    match lot.list(rt, alloc, key) {
-        Ok(waiting) => waiting.as_slice() == [0usize].as_slice(),
-        Err(_) => false,
-    }
-}
-
-// `ParkingLot::new`.
-#[derive(Drop)]
-struct New<P: ThreadParkerT> {
-    alloc: Global,
-    lot: Option<ParkingLot<P>>,
-}
-
-impl<P: ThreadParkerT> New<P> {
-    fn perform<R: Print + Wait + Clock>(mut self, rt: &R, alloc: Global) -> Result<(), Fault> {
-        self.show(rt, Moment::Before)?;
-        marks::begin(alloc);
-        let answer = self.act(rt);
-        marks::end(alloc);
-        tell_answer(rt, &answer)?;
-        self.show(rt, Moment::After)?;
-        let refused = self.refused(rt)?;
-        tell_refused(rt, refused)
-    }
-
-    fn act<R: Wait + Clock>(&mut self, _rt: &R) -> Option<LotError> {
-        match ParkingLot::new(self.alloc, SOME) {
-            Ok(lot) => {
-                self.lot = Some(lot);
-                None
-            }
-            Err(error) => Some(error),
+        if result == ParkResult::Unparked(UnparkToken(key)) {
+            listed
+        } else {
+            None
         }
     }
 
-    fn show<R: Print + Wait>(&self, rt: &R, moment: Moment) -> Result<(), Fault> {
-        if let Some(lot) = &self.lot {
-            println!(rt; "{moment} most {}", lot.max_threads())?;
+    // The first thread, if there is one, parks on each key, is listed, and is unparked.
+    fn can_wait<R: Wait + Clock>(&mut self, rt: &R) -> Result<(), Fault> {
+        if self.data.is_empty() {
+            return Ok(());
+        }
+        for key in KEYS {
+            let is_listed = match self.list_in_a_park(rt, key) {
+                Some(Ok(waiting)) => waiting.as_slice() == [0usize].as_slice(),
+                _ => false,
+            };
+            if !is_listed {
+                return Err(Fault::Unlike("a wait after a registration"));
+            }
         }
         Ok(())
     }
 
-    fn refused<R: Wait + Clock>(&mut self, _rt: &R) -> Result<usize, Fault> {
-        Ok(0)
-    }
-}
-
-// `ParkingLot::thread_data`, so many times.
-#[derive(Drop)]
-struct Register<P: ThreadParkerT> {
-    threads: Registered<P>,
-    calls: usize,
-}
-
-impl<P: ThreadParkerT> Register<P> {
-    fn perform<R: Print + Wait + Clock>(mut self, rt: &R, alloc: Global) -> Result<(), Fault> {
-        self.show(rt, Moment::Before)?;
-        marks::begin(alloc);
-        let answer = self.act(rt);
-        marks::end(alloc);
-        tell_answer(rt, &answer)?;
-        self.show(rt, Moment::After)?;
-        let refused = self.refused(rt)?;
-        tell_refused(rt, refused)
-    }
-
-    fn act<R: Wait + Clock>(&mut self, rt: &R) -> Result<usize, LotError> {
-        let mut last = self.threads.add(rt);
-        for _ in 1..self.calls {
-            last = self.threads.add(rt);
-        }
-        last
-    }
-
     fn show<R: Print + Wait>(&self, rt: &R, moment: Moment) -> Result<(), Fault> {
-        self.threads.show(rt, moment)
-    }
-
-    // Those that were refused have no number: the next registration gives the least.
-    fn refused<R: Wait + Clock>(&mut self, rt: &R) -> Result<usize, Fault> {
-        self.threads.can_wait(rt)?;
-        let registered = self.threads.threads.len();
-        if registered < MOST && self.threads.add(rt)? != registered {
-            return Err(Fault::Unlike("the number after a registration"));
-        }
-        self.threads.can_wait(rt)?;
-        if self.calls == 1 {
-            return Ok(0);
-        }
-        Ok(self.calls.wrapping_sub(registered))
-    }
-}
-
-// `ParkingLot::list`, in a park, which asks for nothing.
-#[derive(Drop)]
-struct List<P: ThreadParkerT>(Registered<P>);
-
-impl<P: ThreadParkerT> List<P> {
-    fn perform<R: Print + Wait + Clock>(mut self, rt: &R, alloc: Global) -> Result<(), Fault> {
-        self.show(rt, Moment::Before)?;
-        marks::begin(alloc);
-        let answer = self.act(rt);
-        marks::end(alloc);
-        tell_answer(rt, &answer)?;
-        self.show(rt, Moment::After)?;
-        let refused = self.refused(rt)?;
-        tell_refused(rt, refused)
-    }
-
-    fn act<R: Wait + Clock>(&mut self, rt: &R) -> Option<Result<Vec<usize>, NoMemory>> {
-        let data = self.0.threads.first_mut()?;
-        if !self.0.lot.accepts(data) {
-            return None;
-        }
-        let mut waiting = None;
-        let lot = &self.0.lot;
-        let alloc = self.0.alloc;
-        park(
-            rt,
-            lot,
-            data,
-            KEYS[0],
-            || true,
-            || {
-                waiting = Some(lot.list(rt, alloc, KEYS[0]));
-                unpark_all(rt, lot, KEYS[0], UnparkToken(1));
-            },
-            |_, _| (),
-            DEFAULT_PARK_TOKEN,
-            None,
-        );
-        waiting
-    }
-
-    fn show<R: Print + Wait>(&self, rt: &R, moment: Moment) -> Result<(), Fault> {
-        self.0.show(rt, moment)
-    }
-
-    fn refused<R: Wait + Clock>(&mut self, rt: &R) -> Result<usize, Fault> {
-        self.0.can_wait(rt)?;
-        Ok(0)
-    }
-}
-
-// `acquire_resource`, many times.
-#[derive(Drop)]
-struct Acquire<P: ThreadParkerT> {
-    threads: Registered<P>,
-    refused: usize,
-    unlike: bool,
-}
-
-impl<P: ThreadParkerT> Acquire<P> {
-    fn new(threads: Registered<P>) -> Acquire<P> {
-        Acquire {
-            threads,
-            refused: 0,
-            unlike: false,
-        }
-    }
-
-    // Records the key once more. A refusal leaves the count as it was.
-    fn acquire(&mut self, key: usize) {
-        let Some(data) = self.threads.threads.first_mut() else {
-            return;
-        };
-        let before = data.records(key);
-        let recorded = match acquire_resource(data, key) {
-            Ok(()) => 1,
-            Err(NoMemory) => {
-                self.refused = self.refused.wrapping_add(1);
-                0
-            }
-        };
-        self.unlike |= data.records(key) != before.wrapping_add(recorded);
-    }
-}
-
-impl<P: ThreadParkerT> Acquire<P> {
-    fn perform<R: Print + Wait + Clock>(mut self, rt: &R, alloc: Global) -> Result<(), Fault> {
-        self.show(rt, Moment::Before)?;
-        marks::begin(alloc);
-        let answer = self.act(rt);
-        marks::end(alloc);
-        tell_answer(rt, &answer)?;
-        self.show(rt, Moment::After)?;
-        let refused = self.refused(rt)?;
-        tell_refused(rt, refused)
-    }
-
-    fn act<R: Wait + Clock>(&mut self, _rt: &R) -> usize {
-        for call in 0..RECORDINGS {
-            self.acquire(KEYS[call % 3]);
-        }
-        RECORDINGS.wrapping_sub(self.refused)
-    }
-
-    fn show<R: Print + Wait>(&self, rt: &R, moment: Moment) -> Result<(), Fault> {
-        let Some(data) = self.threads.threads.first() else {
-            return Ok(());
-        };
+        let (most, registered) = (self.lot.max_threads(), self.data.len());
+        println!(rt; "{moment} most {most} registered {registered}")?;
         for key in KEYS {
-            println!(rt; "{moment} key {key} records {}", data.records(key))?;
+            show_waiting(rt, moment, key, self.lot.list(rt, self.alloc, key))?;
         }
-        self.threads.show(rt, moment)
+        Ok(())
     }
 
-    fn refused<R: Wait + Clock>(&mut self, rt: &R) -> Result<usize, Fault> {
-        self.threads.can_wait(rt)?;
-        if self.unlike {
-            return Err(Fault::Unlike("the records after a recording"));
+    // Shows the first thread's records too.
+    fn show_records<R: Print + Wait>(&self, rt: &R, moment: Moment) -> Result<(), Fault> {
+        if let Some(data) = self.data.first() {
+            for key in KEYS {
+                println!(rt; "{moment} key {key} records {}", data.records(key))?;
+            }
         }
-        Ok(self.refused)
+        self.show(rt, moment)
+    }
+
+    fn finish<A: fmt::Debug, R: Print + Wait + Clock>(
+        &mut self,
+        rt: &R,
+        answer: &A,
+    ) -> Result<(), Fault> {
+        tell_answer(rt, answer)?;
+        self.show(rt, Moment::After)?;
+        self.can_wait(rt)
     }
 }
 
-// `park` with each way to end, each unpark, and `release_resource`.
-#[derive(Drop)]
-struct Parks<P: ThreadParkerT> {
-    threads: Registered<P>,
-    results: Vec<ParkResult>,
+// Records the key once more, and answers how often it did. A refusal leaves the count as it was.
+fn record(data: &mut ThreadData, key: usize) -> Result<usize, Fault> {
+    let before = data.records(key);
+    let recorded = match acquire_resource(data, key) {
+        Ok(()) => 1,
+        Err(NoMemory) => 0,
+    };
+    if data.records(key) == before.wrapping_add(recorded) {
+        Ok(recorded)
+    } else {
+        Err(Fault::Unlike("the records after a recording"))
+    }
 }
 
 // What unparks a thread before it sleeps.
@@ -372,13 +265,30 @@ enum Unpark {
     Nobody,
 }
 
+// Parks of the first thread, and how they ended.
+#[derive(Drop)]
+struct Parks<P: ThreadParkerT> {
+    threads: Registered<P>,
+    results: Vec<ParkResult>,
+}
+
 impl<P: ThreadParkerT> Parks<P> {
-    fn new(mut threads: Registered<P>) -> Result<Parks<P>, Fault> {
-        if let Some(data) = threads.threads.first_mut() {
-            acquire_resource(data, KEYS[0])?;
+    fn new<R: Wait>(rt: &R, alloc: Global) -> Result<Parks<P>, Fault> {
+        let mut threads = Registered::new(rt, alloc, FEW)?;
+        if let Some(data) = threads.data.first_mut() {
+            record(data, KEYS[0])?;
         }
-        let results = Vec::with_capacity(threads.alloc, 16)?;
+        let results = Vec::with_capacity(alloc, 16)?;
         Ok(Parks { threads, results })
+    }
+
+    fn park_each_way<R: Wait + Clock>(&mut self, rt: &R, past: Instant) {
+        self.park_once(rt, false, Unpark::Nobody, None);
+        self.park_once(rt, true, Unpark::Nobody, Some(past));
+        for unpark in [Unpark::One, Unpark::All, Unpark::Filter, Unpark::Requeue] {
+            self.park_once(rt, true, unpark, None);
+            self.park_once(rt, true, unpark, Some(past));
+        }
     }
 
     fn park_once<R: Wait + Clock>(
@@ -389,7 +299,7 @@ impl<P: ThreadParkerT> Parks<P> {
         timeout: Option<Instant>,
     ) {
         let lot = &self.threads.lot;
-        let Some(data) = self.threads.threads.first_mut() else {
+        let Some(data) = self.threads.data.first_mut() else {
             return;
         };
         if !lot.accepts(data) {
@@ -408,6 +318,21 @@ impl<P: ThreadParkerT> Parks<P> {
         );
         let _ = self.results.push(result);
     }
+
+    fn release_twice(&mut self) {
+        if let Some(data) = self.threads.data.first_mut() {
+            release_resource(data, KEYS[0]);
+            release_resource(data, KEYS[0]);
+        }
+    }
+
+    fn show<R: Print + Wait>(&self, rt: &R, moment: Moment) -> Result<(), Fault> {
+        println!(rt; "{moment} results {:?}", self.results)?;
+        if let Some(data) = self.threads.data.first() {
+            println!(rt; "{moment} records {}", data.records(KEYS[0]))?;
+        }
+        self.threads.show(rt, moment)
+    }
 }
 
 // Unparks those who wait on the first key.
@@ -419,66 +344,35 @@ fn unpark_by<P: ThreadParkerT, R: Wait>(rt: &R, lot: &ParkingLot<P>, unpark: Unp
         Unpark::All => {
             unpark_all(rt, lot, KEYS[0], UnparkToken(2));
         }
-        Unpark::Filter => unpark_chosen(rt, lot),
+        Unpark::Filter => {
+            unpark_by_filter(rt, lot, KEYS[0], UnparkToken(3));
+        }
         Unpark::Requeue => {
-            requeue(rt, lot, KEYS[0], KEYS[1], RequeueOp::RequeueAll);
-            requeue(rt, lot, KEYS[1], KEYS[2], RequeueOp::RequeueOne);
-            requeue(rt, lot, KEYS[2], KEYS[0], RequeueOp::UnparkOne);
+            requeue(
+                rt,
+                lot,
+                KEYS[0],
+                KEYS[1],
+                RequeueOp::RequeueAll,
+                UnparkToken(4),
+            );
+            requeue(
+                rt,
+                lot,
+                KEYS[1],
+                KEYS[2],
+                RequeueOp::RequeueOne,
+                UnparkToken(4),
+            );
+            requeue(
+                rt,
+                lot,
+                KEYS[2],
+                KEYS[0],
+                RequeueOp::UnparkOne,
+                UnparkToken(4),
+            );
         }
         Unpark::Nobody => (),
-    }
-}
-
-fn unpark_chosen<P: ThreadParkerT, R: Wait>(rt: &R, lot: &ParkingLot<P>) {
-    unpark_filter(rt, lot, KEYS[0], |_| FilterOp::Unpark, |_| UnparkToken(3));
-}
-
-fn requeue<P: ThreadParkerT, R: Wait>(
-    rt: &R,
-    lot: &ParkingLot<P>,
-    from: usize,
-    to: usize,
-    op: RequeueOp,
-) {
-    unpark_requeue(rt, lot, from, to, || op, |_, _| UnparkToken(4));
-}
-
-impl<P: ThreadParkerT> Parks<P> {
-    fn perform<R: Print + Wait + Clock>(mut self, rt: &R, alloc: Global) -> Result<(), Fault> {
-        self.show(rt, Moment::Before)?;
-        marks::begin(alloc);
-        let answer = self.act(rt);
-        marks::end(alloc);
-        tell_answer(rt, &answer)?;
-        self.show(rt, Moment::After)?;
-        let refused = self.refused(rt)?;
-        tell_refused(rt, refused)
-    }
-
-    fn act<R: Wait + Clock>(&mut self, rt: &R) {
-        let Ok(past) = Instant::now(rt) else { return };
-        self.park_once(rt, false, Unpark::Nobody, None);
-        self.park_once(rt, true, Unpark::Nobody, Some(past));
-        for unpark in [Unpark::One, Unpark::All, Unpark::Filter, Unpark::Requeue] {
-            self.park_once(rt, true, unpark, None);
-            self.park_once(rt, true, unpark, Some(past));
-        }
-        if let Some(data) = self.threads.threads.first_mut() {
-            release_resource(data, KEYS[0]);
-            release_resource(data, KEYS[0]);
-        }
-    }
-
-    fn show<R: Print + Wait>(&self, rt: &R, moment: Moment) -> Result<(), Fault> {
-        println!(rt; "{moment} results {:?}", self.results)?;
-        if let Some(data) = self.threads.threads.first() {
-            println!(rt; "{moment} records {}", data.records(KEYS[0]))?;
-        }
-        self.threads.show(rt, moment)
-    }
-
-    fn refused<R: Wait + Clock>(&mut self, rt: &R) -> Result<usize, Fault> {
-        self.threads.can_wait(rt)?;
-        Ok(0)
     }
 }

@@ -3,17 +3,15 @@
 ghost use Rattle.std.specs.Prelude.{◌≡◌};
 
 use super::exclusive::show_lot;
-use super::{Moment, Scenario, Scene, perform};
+use super::{Moment, marks, tell_answer, tell_refused, tell_unmade};
 use crate::fault::Fault;
 use lot_tools::record::Record;
 use lot_tools::recording_lot::RecordingLot;
-use lot_tools::script::{self, script};
+use lot_tools::script::script;
 use parking_lot_core::LotError;
 use std::alloc::Global;
 use std::marker::Brand;
-use std::sync::Wait;
 use std::sync::ledger::{Blank, Ledger};
-use std::time::Clock;
 
 const MOST: usize = 40;
 
@@ -50,76 +48,28 @@ const LINES: &[&str] = &[
 
 const REFUSED: &[u8] = b"no memory";
 
-/// Does one of these scenarios.
-pub(super) fn play<R: Print + Wait + Clock>(
-    rt: &R,
-    alloc: Global,
-    scenario: Scenario,
-) -> Result<(), Fault> {
-    match scenario {
-        Scenario::RecordNew => perform(
-            rt,
-            alloc,
-            New {
-                alloc,
-                record: None,
-            },
-        ),
-        Scenario::RecordingLotNew => perform(rt, alloc, NewRecording(alloc)),
-        _ => perform(rt, alloc, Script::new(alloc)?),
-    }
-}
-
-// `Record::new`.
-#[derive(Drop)]
-struct New {
-    alloc: Global,
-    record: Option<Record>,
-}
-
-impl Scene for New {
-    type Answer = Option<LotError>;
-
-    fn act<R: Wait + Clock>(&mut self, _rt: &R) -> Option<LotError> {
-        match Record::new(self.alloc, MOST, JOURNAL) {
-            Ok(record) => {
-                self.record = Some(record);
-                None
-            }
-            Err(error) => Some(error),
+/// `Record::new`.
+pub(super) fn new_record<R: Print>(rt: &R, alloc: Global) -> Result<(), Fault> {
+    marks::begin(alloc);
+    let made = Record::new(alloc, MOST, JOURNAL);
+    marks::end(alloc);
+    match made {
+        Ok(record) => {
+            tell_answer(rt, &None::<LotError>)?;
+            show_lot(rt, Moment::After, record.lot())?;
+            tell_refused(rt, 0)
         }
-    }
-
-    fn show<R: Print + Wait>(&self, rt: &R, moment: Moment) -> Result<(), Fault> {
-        match &self.record {
-            Some(record) => show_lot(rt, moment, record.lot()),
-            None => Ok(()),
-        }
-    }
-
-    fn refused<R: Wait + Clock>(&mut self, _rt: &R) -> Result<usize, Fault> {
-        Ok(0)
+        Err(error) => tell_unmade(rt, error),
     }
 }
 
-// `RecordingLot::new`. The lot lives only in the call.
-#[derive(Drop)]
-struct NewRecording(Global);
-
-impl Scene for NewRecording {
-    type Answer = Result<usize, LotError>;
-
-    fn act<R: Wait + Clock>(&mut self, _rt: &R) -> Result<usize, LotError> {
-        tickets_of_workers(self.0)
-    }
-
-    fn show<R: Print + Wait>(&self, _rt: &R, _moment: Moment) -> Result<(), Fault> {
-        Ok(())
-    }
-
-    fn refused<R: Wait + Clock>(&mut self, _rt: &R) -> Result<usize, Fault> {
-        Ok(0)
-    }
+/// `RecordingLot::new`. The lot lives only in the call.
+pub(super) fn new_recording_lot<R: Print>(rt: &R, alloc: Global) -> Result<(), Fault> {
+    marks::begin(alloc);
+    let answer = tickets_of_workers(alloc);
+    marks::end(alloc);
+    tell_answer(rt, &answer)?;
+    tell_refused(rt, 0)
 }
 
 // Makes a recording lot, and answers for how many workers it has tickets.
@@ -150,26 +100,20 @@ fn tickets_of<C: Ledger, W: Ledger, U: Ledger>(
     Ok(tickets.len())
 }
 
-// `script`, with room for what it writes.
-#[derive(Drop)]
-struct Script {
-    alloc: Global,
-    input: Vec<u8>,
-    output: Vec<u8>,
-}
-
-impl Script {
-    fn new(alloc: Global) -> Result<Script, Fault> {
-        let mut input = Vec::new(alloc);
-        for line in LINES {
-            add_line(&mut input, line.as_bytes())?;
-        }
-        Ok(Script {
-            alloc,
-            input,
-            output: Vec::with_capacity(alloc, ROOM)?,
-        })
+/// `script`, with room for what it writes.
+pub(super) fn run_script<R: Print>(rt: &R, alloc: Global) -> Result<(), Fault> {
+    let mut input = Vec::new(alloc);
+    for line in LINES {
+        add_line(&mut input, line.as_bytes())?;
     }
+    let mut output = Vec::with_capacity(alloc, ROOM)?;
+    show_lines(rt, Moment::Before, output.as_slice())?;
+    marks::begin(alloc);
+    let answer = script(alloc, input.as_slice(), &mut output);
+    marks::end(alloc);
+    tell_answer(rt, &answer)?;
+    show_lines(rt, Moment::After, output.as_slice())?;
+    tell_refused(rt, refused(alloc, output.as_slice())?)
 }
 
 fn add_line(text: &mut Vec<u8>, line: &[u8]) -> Result<(), Fault> {
@@ -178,30 +122,23 @@ fn add_line(text: &mut Vec<u8>, line: &[u8]) -> Result<(), Fault> {
     Ok(())
 }
 
-impl Scene for Script {
-    type Answer = Result<(), script::Fault>;
-
-    fn act<R: Wait + Clock>(&mut self, _rt: &R) -> Result<(), script::Fault> {
-        script(self.alloc, self.input.as_slice(), &mut self.output)
+fn show_lines<R: Print>(rt: &R, moment: Moment, written: &[u8]) -> Result<(), Fault> {
+    for answer in written.split(|byte| *byte == b'\n') {
+        println!(rt; "{moment} line {answer:?}")?;
     }
+    Ok(())
+}
 
-    fn show<R: Print + Wait>(&self, rt: &R, moment: Moment) -> Result<(), Fault> {
-        for answer in self.output.as_slice().split(|byte| *byte == b'\n') {
-            println!(rt; "{moment} line {answer:?}")?;
-        }
-        Ok(())
-    }
-
-    // The lines that were not refused are answered as they are without the others. A line at which
-    // the script ended was refused too.
-    fn refused<R: Wait + Clock>(&mut self, _rt: &R) -> Result<usize, Fault> {
-        let kept = Kept::of(self.alloc, self.output.as_slice())?;
-        let mut again = Vec::new(self.alloc);
-        let _ = script(self.alloc, kept.lines.as_slice(), &mut again);
-        if again.as_slice() != kept.answers.as_slice() {
-            return Err(Fault::Unlike("an answer after a line that was refused"));
-        }
+// How many lines were refused. Those that were not are answered as they are without the others. A
+// line at which the script ended was refused too.
+fn refused(alloc: Global, written: &[u8]) -> Result<usize, Fault> {
+    let kept = Kept::of(alloc, written)?;
+    let mut again = Vec::new(alloc);
+    let _ = script(alloc, kept.lines.as_slice(), &mut again);
+    if again.as_slice() == kept.answers.as_slice() {
         Ok(LINES.len().wrapping_sub(kept.count))
+    } else {
+        Err(Fault::Unlike("an answer after a line that was refused"))
     }
 }
 

@@ -1,0 +1,29 @@
+//! Unparks whose closures answer the same for each thread.
+
+use parking_lot_core::{
+    FilterOp, ParkingLot, RequeueOp, ThreadParkerT, UnparkResult, UnparkToken, unpark_filter,
+    unpark_requeue,
+};
+use std::sync::Wait;
+
+/// Unparks all waiters of the key, by a filter, and answers how many there were.
+pub(super) fn unpark_by_filter<P: ThreadParkerT, R: Wait>(
+    rt: &R,
+    lot: &ParkingLot<P>,
+    key: usize,
+    token: UnparkToken,
+) -> usize {
+    unpark_filter(rt, lot, key, |_| FilterOp::Unpark, |_| token).unparked_threads
+}
+
+/// Requeues by this operation.
+pub(super) fn requeue<P: ThreadParkerT, R: Wait>(
+    rt: &R,
+    lot: &ParkingLot<P>,
+    from: usize,
+    to: usize,
+    op: RequeueOp,
+    token: UnparkToken,
+) -> UnparkResult {
+    unpark_requeue(rt, lot, from, to, || op, |_, _| token)
+}
