@@ -176,7 +176,8 @@ impl<P: ThreadParkerT> ParkingLot<P> {
     /// # Errors
     ///
     /// `NoMemory` if the table never had so few buckets and memory for them cannot be had. Nothing
-    /// changed then. Where the table is not too large none is asked for.
+    /// changed then. It does not come, since a table has grown through all smaller sizes, but no
+    /// contract says so.
     pub fn trim<R: Wait>(&self, rt: &R, alloc: Global) -> Result<(), NoMemory> {
         self.buckets.trim(rt, alloc)
     }

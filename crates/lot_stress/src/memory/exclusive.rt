@@ -37,6 +37,18 @@ pub(super) fn register<R: Print>(rt: &R, alloc: Global) -> Result<(), Fault> {
     finish(rt, lot, &answer)
 }
 
+/// `Lot::trim` after a thread was registered for which the table has grown.
+pub(super) fn trim<R: Print>(rt: &R, alloc: Global) -> Result<(), Fault> {
+    let mut lot = lot_of_waiters(alloc)?;
+    let last = lot.register()?;
+    lot.retire(last)?;
+    show_lot(rt, Moment::Before, &lot)?;
+    marks::begin(alloc);
+    let answer = lot.trim();
+    marks::end(alloc);
+    finish(rt, lot, &answer)
+}
+
 /// `Lot::acquire` of a thread without records.
 pub(super) fn acquire<R: Print>(rt: &R, alloc: Global) -> Result<(), Fault> {
     let mut lot = waiting_lot(rt, alloc)?;
@@ -94,14 +106,20 @@ pub(super) fn run_all<R: Print>(rt: &R, alloc: Global) -> Result<(), Fault> {
     schedule.finish(rt, alloc, &answer)
 }
 
-// A lot on which five threads are registered, and some of them wait. It is shown.
+// A lot of waiters. It is shown.
 fn waiting_lot<R: Print>(rt: &R, alloc: Global) -> Result<Lot, Fault> {
+    let lot = lot_of_waiters(alloc)?;
+    show_lot(rt, Moment::Before, &lot)?;
+    Ok(lot)
+}
+
+// A lot on which five threads are registered, and some of them wait.
+fn lot_of_waiters(alloc: Global) -> Result<Lot, Fault> {
     let mut lot = lot_with(alloc, MOST, FEW)?;
     for (thread, key) in [(1, KEYS[0]), (2, KEYS[1]), (3, KEYS[0])] {
         apply(&mut lot, &enter(thread, key, true));
     }
     lot.acquire(0, KEYS[2])?;
-    show_lot(rt, Moment::Before, &lot)?;
     Ok(lot)
 }
 

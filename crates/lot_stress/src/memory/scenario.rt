@@ -18,6 +18,9 @@ pub enum Scenario {
     /// `Table::register`, where the table grows.
     TableRegister,
 
+    /// `Table::trim`, where the table becomes smaller.
+    TableTrim,
+
     /// `Table::list`.
     TableList,
 
@@ -26,6 +29,9 @@ pub enum Scenario {
 
     /// `Lot::register`, where the table grows.
     LotRegister,
+
+    /// `Lot::trim`, where the table becomes smaller.
+    LotTrim,
 
     /// `Lot::acquire`, the first of a thread.
     LotAcquire,
@@ -96,6 +102,9 @@ pub enum Scenario {
     /// All steps of a lot but registrations and recordings.
     LotSteps,
 
+    /// `ParkingLot::trim`, where the table becomes smaller.
+    ParkingLotTrim,
+
     /// `park` and the unparks in one thread, and `release_resource`.
     Park,
 
@@ -117,9 +126,11 @@ pub const ROWS: &[Row] = &[
     (Scenario::BucketList, "each", "bucket_list", "any"),
     (Scenario::TableNew, "each", "table_new", "any"),
     (Scenario::TableRegister, "each", "table_register", "any"),
+    (Scenario::TableTrim, "each", "table_trim", "any"),
     (Scenario::TableList, "each", "table_list", "any"),
     (Scenario::LotNew, "each", "lot_new", "any"),
     (Scenario::LotRegister, "each", "lot_register", "any"),
+    (Scenario::LotTrim, "each", "lot_trim", "any"),
     (Scenario::LotAcquire, "each", "lot_acquire", "any"),
     (Scenario::LotRecords, "each", "lot_records", "any"),
     (
@@ -163,6 +174,7 @@ pub const ROWS: &[Row] = &[
     (Scenario::Parker, "none", "parker", "each"),
     (Scenario::TableSteps, "none", "table_steps", "any"),
     (Scenario::LotSteps, "none", "lot_steps", "any"),
+    (Scenario::ParkingLotTrim, "none", "parking_lot_trim", "each"),
     (Scenario::Park, "none", "park", "each"),
     (Scenario::Threads, "none", "threads", "each"),
     (Scenario::WordLock, "none", "word_lock", "any"),

@@ -31,6 +31,18 @@ pub(super) fn register<R: Print>(rt: &R, alloc: Global) -> Result<(), Fault> {
     finish(rt, alloc, &table, &answer)
 }
 
+/// `Table::trim` after a number was in use for which the table has grown.
+pub(super) fn trim<R: Print>(rt: &R, alloc: Global) -> Result<(), Fault> {
+    let mut table = table_of_waiters(alloc)?;
+    let last = table.register()?;
+    table.release(last);
+    show_table(rt, alloc, Moment::Before, &table)?;
+    marks::begin(alloc);
+    let answer = table.trim();
+    marks::end(alloc);
+    finish(rt, alloc, &table, &answer)
+}
+
 /// `Table::list`.
 pub(super) fn list<R: Print>(rt: &R, alloc: Global) -> Result<(), Fault> {
     let table = waiting_table(rt, alloc)?;
@@ -55,8 +67,15 @@ fn take_and_put(table: &mut Table) {
     table.put(bucket);
 }
 
-// A table with five numbers in use, on which three nodes wait. It is shown.
+// A table of waiters. It is shown.
 fn waiting_table<R: Print>(rt: &R, alloc: Global) -> Result<Table, Fault> {
+    let table = table_of_waiters(alloc)?;
+    show_table(rt, alloc, Moment::Before, &table)?;
+    Ok(table)
+}
+
+// A table with five numbers in use, on which three nodes wait.
+fn table_of_waiters(alloc: Global) -> Result<Table, Fault> {
     let mut table = Table::new(alloc, MOST)?;
     for _ in 0..FEW {
         table.register()?;
@@ -64,7 +83,6 @@ fn waiting_table<R: Print>(rt: &R, alloc: Global) -> Result<Table, Fault> {
     for (number, key) in [(1, KEYS[0]), (2, KEYS[1]), (3, KEYS[0])] {
         enter(alloc, &mut table, number, key)?;
     }
-    show_table(rt, alloc, Moment::Before, &table)?;
     Ok(table)
 }
 

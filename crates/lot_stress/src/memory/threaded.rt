@@ -55,6 +55,21 @@ pub(super) fn register<P: ThreadParkerT, R: Print + Wait + Clock>(
     tell_refused(rt, calls.wrapping_sub(added))
 }
 
+/// `ParkingLot::trim` after a thread was registered for which the table has grown.
+pub(super) fn trim<P: ThreadParkerT, R: Print + Wait + Clock>(
+    rt: &R,
+    alloc: Global,
+) -> Result<(), Fault> {
+    let mut threads = Registered::<P>::new(rt, alloc, FEW + 1)?;
+    threads.retire_last(rt);
+    threads.show(rt, Moment::Before)?;
+    marks::begin(alloc);
+    let answer = threads.lot.trim(rt, alloc);
+    marks::end(alloc);
+    threads.finish(rt, &answer)?;
+    tell_refused(rt, 0)
+}
+
 /// `ParkingLot::list`, in a park, which asks for nothing.
 pub(super) fn list<P: ThreadParkerT, R: Print + Wait + Clock>(
     rt: &R,
@@ -139,6 +154,12 @@ impl<P: ThreadParkerT> Registered<P> {
             last = self.add(rt);
         }
         last
+    }
+
+    fn retire_last<R: Wait>(&mut self, rt: &R) {
+        if let Some(data) = self.data.pop() {
+            self.lot.retire(rt, data);
+        }
     }
 
     // Registrations that were refused have no number: the next gives the least.
