@@ -1,10 +1,12 @@
 //! Threads that park and unpark.
 
 mod alone;
+mod calls;
 mod races;
 mod together;
 
 use crate::expect_equal;
+use calls::{new_lot, park_then, register, requeue, unpark_first, unpark_others};
 use lot_base::thread_parker::{ThreadParker, ThreadParkerT, YieldParker};
 use lot_base::token::{
     DEFAULT_PARK_TOKEN, DEFAULT_UNPARK_TOKEN, FilterOp, LotError, NoMemory, ParkResult, ParkToken,
@@ -42,21 +44,9 @@ fn wait<P: ThreadParkerT, R: Wait + Clock>(
     mut data: ThreadData,
     key: usize,
 ) -> Option<ParkResult> {
-    if !lot.accepts(&data) {
-        return None;
-    }
     let park_token = ParkToken(data.number());
-    Some(park(
-        rt,
-        lot,
-        &mut data,
-        key,
-        || true,
-        || (),
-        |_, _| (),
-        park_token,
-        None,
-    ))
+    let (result, _) = park_then(rt, lot, &mut data, key, park_token, None, || ())?;
+    Some(result)
 }
 
 // Waits until the flag is raised, and tells whether it was.
@@ -240,25 +230,31 @@ fn an_unpark_of_nobody_calls_back_with_the_default_result(rt: HostRuntime) -> Re
     Ok(())
 }
 
+// Registers a thread, and compares its number.
+fn expect_registered<R: Wait + Abort>(
+    rt: &R,
+    alloc: Global,
+    lot: &Lot,
+    number: usize,
+) -> ThreadData {
+    let data = register(rt, alloc, lot).expect(rt, "a number is left");
+    expect_equal(rt, data.number(), number);
+    data
+}
+
 // It refuses a `retire` that does nothing, or that frees another number too, and a `thread_data`
 // that answers `NoMemory` at each call or gives a number twice.
 #[test]
 fn dropped_data_keeps_its_number_and_retired_data_frees_it(rt: HostRuntime) -> Result<(), Fail> {
-    let lot = Lot::new(rt.alloc(), 3)?;
+    let lot = new_lot(rt.alloc(), 3)?;
     expect_equal(&rt, lot.max_threads(), 3);
-    let first = lot.thread_data(&rt, rt.alloc())?;
-    let second = lot.thread_data(&rt, rt.alloc())?;
-    let third = lot.thread_data(&rt, rt.alloc())?;
-    expect_equal(
-        &rt,
-        (first.number(), second.number(), third.number()),
-        (0, 1, 2),
-    );
-    drop(first);
+    drop(expect_registered(&rt, rt.alloc(), &lot, 0));
+    let second = expect_registered(&rt, rt.alloc(), &lot, 1);
+    drop(expect_registered(&rt, rt.alloc(), &lot, 2));
     assert!(rt; is_full(&rt, rt.alloc(), &lot));
     assert!(rt; lot.accepts(&second));
     lot.retire(&rt, second);
-    expect_equal(&rt, lot.thread_data(&rt, rt.alloc())?.number(), 1);
+    drop(expect_registered(&rt, rt.alloc(), &lot, 1));
     assert!(rt; is_full(&rt, rt.alloc(), &lot));
     Ok(())
 }

@@ -1,0 +1,134 @@
+//! Calls of the lot. They have no clauses, so that a test's proof carries none of what it does not
+//! need.
+
+use super::*;
+
+pub fn new_lot(alloc: Global, threads: usize) -> Result<Lot, LotError> {
+    Lot::new(alloc, threads)
+}
+
+pub fn register<P: ThreadParkerT, R: Wait>(
+    rt: &R,
+    alloc: Global,
+    lot: &ParkingLot<P>,
+) -> Result<ThreadData, LotError> {
+    lot.thread_data(rt, alloc)
+}
+
+// Parks, and calls this before it sleeps. It tells the key, too, that the callback was told after
+// the deadline. `None` says that the data is of another lot.
+pub fn park_then<P: ThreadParkerT, R: Wait + Clock, B: FnOnce()>(
+    rt: &R,
+    lot: &ParkingLot<P>,
+    data: &mut ThreadData,
+    key: usize,
+    park_token: ParkToken,
+    timeout: Option<Instant>,
+    before_sleep: B,
+) -> Option<(ParkResult, Option<usize>)>
+    requires { B.IsAlwaysCallable before_sleep }
+{
+    if !lot.accepts(data) {
+        return None;
+    }
+    let mut left = None;
+    let result = park(
+        rt,
+        lot,
+        data,
+        key,
+        || true,
+        before_sleep,
+        |key, _| left = Some(key),
+        park_token,
+        timeout,
+    );
+    Some((result, left))
+}
+
+pub fn unpark_first<P: ThreadParkerT, R: Wait>(
+    rt: &R,
+    lot: &ParkingLot<P>,
+    key: usize,
+    token: UnparkToken,
+) -> UnparkResult {
+    unpark_one(rt, lot, key, |_| token)
+}
+
+// What a requeue answered, whether it asked what to do, and what its callback was told.
+#[derive(Copy, Clone)]
+pub struct Requeued {
+    pub result: UnparkResult,
+    pub asked: bool,
+    pub told: Option<(RequeueOp, UnparkResult)>,
+}
+
+pub fn requeue<P: ThreadParkerT, R: Wait>(
+    rt: &R,
+    lot: &ParkingLot<P>,
+    from: usize,
+    to: usize,
+    op: RequeueOp,
+    token: UnparkToken,
+) -> Requeued {
+    let (mut asked, mut told) = (false, None);
+    let result = unpark_requeue(
+        rt,
+        lot,
+        from,
+        to,
+        || {
+            asked = true;
+            op
+        },
+        |op, answer| {
+            told = Some((op, answer));
+            token
+        },
+    );
+    Requeued {
+        result,
+        asked,
+        told,
+    }
+}
+
+// What an unpark by a filter answered, how often it asked the filter, which park token it showed
+// last, and what its callback was told.
+#[derive(Copy, Clone)]
+pub struct Filtered {
+    pub result: UnparkResult,
+    pub asked: usize,
+    pub shown: Option<ParkToken>,
+    pub told: Option<UnparkResult>,
+}
+
+// Unparks the waiters of the key but those with one park token.
+pub fn unpark_others<P: ThreadParkerT, R: Wait>(
+    rt: &R,
+    lot: &ParkingLot<P>,
+    key: usize,
+    skipped: Option<ParkToken>,
+    token: UnparkToken,
+) -> Filtered {
+    let (mut asked, mut shown, mut told) = (0_usize, None, None);
+    let filter = |park_token| {
+        asked = asked.wrapping_add(1);
+        shown = Some(park_token);
+        if skipped == Some(park_token) {
+            FilterOp::Skip
+        } else {
+            FilterOp::Unpark
+        }
+    };
+    let result = unpark_by(rt, lot, key, filter, |answer| {
+        told = Some(answer);
+        token
+    });
+    Filtered {
+        result,
+        asked,
+        shown,
+        told,
+    }
+}
