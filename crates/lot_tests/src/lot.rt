@@ -191,6 +191,28 @@ fn growth_keeps_the_waiters_of_each_key(rt: HostRuntime) -> Result<(), Fail> {
     Ok(())
 }
 
+// Five of six are left, for whom 16 buckets are enough: there 0 and 13 have the same place. It
+// refuses a `trim` that answers `NoMemory` at each call.
+#[test]
+fn a_trim_keeps_the_waiters_of_each_key(rt: HostRuntime) -> Result<(), Fail> {
+    let waiters = [(0, 0), (1, 13), (2, 0)];
+    let mut lot = lot_where(&rt, rt.alloc(), 6, &waiters, false)?;
+    expect_equal(&rt, lot.trim(), Ok(()));
+    expect_counts(&rt, &lot, (6, 32));
+    expect_equal(&rt, lot.retire(5), Ok(()));
+    expect_counts(&rt, &lot, (5, 32));
+    let lists = [(0, [0, 2].as_slice()), (13, [1].as_slice())];
+    for _ in 0..2 {
+        expect_equal(&rt, lot.trim(), Ok(()));
+        expect_counts(&rt, &lot, (5, 16));
+        expect_lists(&rt, &lot, &lists)?;
+    }
+    expect_equal(&rt, lot.register(), Ok(5));
+    expect_counts(&rt, &lot, (6, 32));
+    expect_lists(&rt, &lot, &lists)?;
+    Ok(())
+}
+
 #[test]
 fn all_waiters_of_a_key_get_the_token(rt: HostRuntime) -> Result<(), Fail> {
     let waiters = [(0, 0), (1, 13), (2, 0)];
@@ -447,6 +469,22 @@ fn a_refused_registration_leaves_the_list_of_each_key(rt: HostRuntime) -> Result
     }
     expect_equal(&rt, lot.register(), Err(LotError::Full));
     expect_counts(&rt, &lot, (6, 32));
+    expect_lists(&rt, &lot, &lists)?;
+    Ok(())
+}
+
+// `rt try --test --fail-alloc N` refuses the memory for the smaller row of buckets.
+#[test]
+fn a_refused_trim_leaves_the_list_of_each_key(rt: HostRuntime) -> Result<(), Fail> {
+    let mut lot = lot_where(&rt, rt.alloc(), 6, &[(0, 0), (1, 13)], false)?;
+    expect_equal(&rt, lot.retire(5), Ok(()));
+    let lists = [(0, [0].as_slice()), (13, [1].as_slice())];
+    if lot.trim().is_err() {
+        expect_counts(&rt, &lot, (5, 32));
+        expect_lists(&rt, &lot, &lists)?;
+        expect_equal(&rt, lot.trim(), Ok(()));
+    }
+    expect_counts(&rt, &lot, (5, 16));
     expect_lists(&rt, &lot, &lists)?;
     Ok(())
 }

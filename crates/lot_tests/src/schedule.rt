@@ -351,6 +351,36 @@ fn records_are_counted_while_the_thread_runs(rt: HostRuntime) -> Result<(), Fail
     Ok(())
 }
 
+// Six threads need 32 buckets, and five 16. It refuses an `apply` that answers `NoMemory` to each
+// trim.
+#[test]
+fn a_trim_makes_the_table_smaller_and_leaves_the_lists(rt: HostRuntime) -> Result<(), Fail> {
+    let mut lot = lot_of(rt.alloc(), &[(A, 0), (B, 13), (C, 0)])?;
+    let mut answers = Vec::new(rt.alloc());
+    for (steps, size) in [
+        ([Step::Register, Step::Register, Step::Trim].as_slice(), 32),
+        ([Step::Retire { thread: 5 }].as_slice(), 32),
+        ([Step::Trim, Step::Trim].as_slice(), 16),
+        ([Step::Register].as_slice(), 32),
+    ] {
+        run(&mut lot, steps, &mut answers)?;
+        expect_equal(&rt, (answers.len(), lot.size()), (answers.len(), size));
+        expect_equal(&rt, lot.list(0)?.as_slice(), [A, C].as_slice());
+        expect_equal(&rt, lot.list(13)?.as_slice(), [B].as_slice());
+    }
+    let expected = [
+        Answer::Registered(4),
+        Answer::Registered(5),
+        Answer::Trimmed,
+        Answer::Retired,
+        Answer::Trimmed,
+        Answer::Trimmed,
+        Answer::Registered(5),
+    ];
+    expect_equal(&rt, answers.as_slice(), expected.as_slice());
+    Ok(())
+}
+
 // It refuses a `run` that does nothing and answers `NoMemory`.
 #[test]
 fn answers_stand_behind_those_that_are_there(rt: HostRuntime) -> Result<(), Fail> {

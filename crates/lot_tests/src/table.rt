@@ -169,3 +169,55 @@ fn the_size_goes_by_the_number_of_threads(rt: HostRuntime) -> Result<(), Fail> {
     expect_equal(&rt, table.register(), Err(LotError::Full));
     Ok(())
 }
+
+// Each of these numbers is the least or the greatest that has its size.
+#[test]
+fn trims_bring_the_size_down_with_the_number_of_threads(rt: HostRuntime) -> Result<(), Fail> {
+    let mut table = table_of(rt.alloc(), 1_024, 1_024)?;
+    for (threads, size) in [
+        (1_024, 4_096),
+        (683, 4_096),
+        (682, 2_048),
+        (342, 2_048),
+        (341, 1_024),
+        (171, 1_024),
+        (170, 512),
+        (86, 512),
+        (85, 256),
+        (43, 256),
+        (42, 128),
+        (22, 128),
+        (21, 64),
+        (11, 64),
+        (10, 32),
+        (6, 32),
+        (5, 16),
+        (0, 16),
+    ] {
+        for number in threads..table.registered() {
+            table.release(number);
+        }
+        table.trim()?;
+        expect_equal(&rt, (table.registered(), table.size()), (threads, size));
+    }
+    Ok(())
+}
+
+// A trim may pass over sizes.
+#[test]
+fn a_trim_brings_a_table_down_to_the_first_size(rt: HostRuntime) -> Result<(), Fail> {
+    let alloc = rt.alloc();
+    let mut table = table_of(alloc, 43, 43)?;
+    for (number, key) in [(0, 0), (1, 13), (2, 0)] {
+        enter(alloc, &mut table, number, key)?;
+    }
+    for number in 3..43 {
+        table.release(number);
+    }
+    expect_equal(&rt, (table.registered(), table.size()), (3, 256));
+    table.trim()?;
+    expect_equal(&rt, (table.registered(), table.size()), (3, 16));
+    let lists = [(0, [0, 2].as_slice()), (13, [1].as_slice())];
+    expect_lists(&rt, alloc, &table, &lists)?;
+    Ok(())
+}

@@ -78,7 +78,8 @@ impl Arbitrary {
         }
     }
 
-    /// A step of one of so many threads. Three of 80 are registrations, and one is a retirement.
+    /// A step of one of so many threads. Three of 80 are registrations, one is a retirement, and one
+    /// a trim.
     pub fn step(&mut self, alloc: Global, threads: usize) -> Result<Step, NoMemory> {
         let thread = self.below(threads);
         match self.below(80) {
@@ -92,6 +93,7 @@ impl Arbitrary {
             50..=59 => Ok(Step::Resolve { thread }),
             60..=66 => Ok(acquire(thread, self.key())),
             67..=72 => Ok(release(thread, self.key())),
+            73 => Ok(Step::Trim),
             _ => Ok(Step::Return { thread }),
         }
     }

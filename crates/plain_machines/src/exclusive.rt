@@ -2,7 +2,7 @@
 //! for each key, a status for each number, what the threads have recorded, and the greatest number
 //! of threads.
 //!
-//! It knows no bucket, no node and no place, and no lot.
+//! It knows no bucket, no node and no place, and no lot, and of a table only its size.
 
 use crate::split::{Split, split_all, split_by, split_filter, split_first};
 use lot_base::token::{NoMemory, RequeueOp, UnparkResult, UnparkToken};
@@ -42,6 +42,18 @@ pub struct Plain {
     lists: Vec<List>,
     statuses: Vec<Status>,
     records: Vec<Record>,
+    size: usize,
+}
+
+// The least of 16, 32, 64 and so on that is three for each of so many threads.
+fn least_size(threads: usize) -> usize {
+    let mut size: usize = 16;
+    for _ in 0..threads {
+        if size < threads.wrapping_mul(3) {
+            size = size.wrapping_mul(2);
+        }
+    }
+    size
 }
 
 impl Plain {
@@ -56,6 +68,7 @@ impl Plain {
             lists: Vec::new(alloc),
             statuses,
             records: Vec::new(alloc),
+            size: 16,
         })
     }
 
@@ -85,6 +98,17 @@ impl Plain {
         times
     }
 
+    /// How many threads are registered.
+    pub fn registered(&self) -> usize {
+        let statuses = self.statuses.iter();
+        statuses.filter(|status| **status != Status::Free).count()
+    }
+
+    /// How many buckets the table has.
+    pub fn size(&self) -> usize {
+        self.size
+    }
+
     /// Does the step by its rule.
     pub fn step(&mut self, step: &Step) -> Result<Answer, NoMemory> {
         match step {
@@ -103,6 +127,7 @@ impl Plain {
             Step::Return { thread } => Ok(self.give_back(*thread)),
             Step::Acquire { thread, key } => self.acquire(*thread, *key),
             Step::Release { thread, key } => Ok(self.release(*thread, *key)),
+            Step::Trim => Ok(self.trim()),
         }
     }
 
@@ -137,13 +162,21 @@ impl Plain {
     }
 
     fn register(&mut self) -> Answer {
-        for (number, status) in self.statuses.iter_mut().enumerate() {
-            if *status == Status::Free {
-                *status = Status::Running;
-                return Answer::Registered(number);
-            }
-        }
-        Answer::Full
+        let Some(number) = self
+            .statuses
+            .iter()
+            .position(|status| *status == Status::Free)
+        else {
+            return Answer::Full;
+        };
+        self.set_status(number, Status::Running);
+        self.size = self.size.max(least_size(self.registered()));
+        Answer::Registered(number)
+    }
+
+    fn trim(&mut self) -> Answer {
+        self.size = self.size.min(least_size(self.registered()));
+        Answer::Trimmed
     }
 
     fn retire(&mut self, number: usize) -> Result<Answer, NoMemory> {

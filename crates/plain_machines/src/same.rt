@@ -37,7 +37,7 @@ fn is_same_op(op: &Op, other: &Op) -> bool {
 /// Whether two steps are the same.
 pub fn is_same(step: &Step, other: &Step) -> bool {
     match (step, other) {
-        (Step::Register, Step::Register) => true,
+        (Step::Register, Step::Register) | (Step::Trim, Step::Trim) => true,
         (
             Step::Enter {
                 thread,

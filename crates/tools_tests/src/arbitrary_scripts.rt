@@ -2,8 +2,6 @@
 
 use crate::text::{write_answer, write_step, write_waiters};
 use lot_base::token::NoMemory;
-use lot_exclusive::lot::Status;
-use lot_exclusive::schedule::Answer;
 use lot_tools::script::script;
 use plain_machines::arbitrary::Arbitrary;
 use plain_machines::exclusive::Plain;
@@ -21,7 +19,6 @@ struct Written {
     arbitrary: Arbitrary,
     plain: Plain,
     max_threads: usize,
-    buckets: usize,
     input: String,
     expected: String,
 }
@@ -33,7 +30,6 @@ impl Written {
             arbitrary: Arbitrary::new(seed),
             plain: Plain::new(alloc, max_threads)?,
             max_threads,
-            buckets: 16,
             input: String::new(alloc),
             expected: String::new(alloc),
         })
@@ -72,8 +68,8 @@ impl Written {
 
     fn add_size(&mut self) -> Result<(), Fail> {
         write!(self.input, "size")?;
-        let threads = self.registered();
-        write!(self.expected, "buckets {} threads {threads}", self.buckets)?;
+        let (buckets, threads) = (self.plain.size(), self.plain.registered());
+        write!(self.expected, "buckets {buckets} threads {threads}")?;
         Ok(())
     }
 
@@ -84,28 +80,7 @@ impl Written {
         write_step(&mut self.input, &step)?;
         let answer = self.plain.step(&step)?;
         write_answer(&mut self.expected, answer)?;
-        if let Answer::Registered(_) = answer {
-            self.grow();
-        }
         Ok(())
-    }
-
-    fn registered(&self) -> usize {
-        let mut threads: usize = 0;
-        for number in 0..self.max_threads {
-            if self.plain.status(number) != Status::Free {
-                threads = threads.wrapping_add(1);
-            }
-        }
-        threads
-    }
-
-    // A registration leaves three buckets a thread, and makes the table no smaller.
-    fn grow(&mut self) {
-        let wanted = self.registered().wrapping_mul(3);
-        if self.buckets < wanted {
-            self.buckets = wanted.checked_next_power_of_two().unwrap_or(wanted);
-        }
     }
 }
 

@@ -104,14 +104,17 @@ fn a_journal_without_room_takes_no_step_that_fits(rt: HostRuntime) -> Result<(),
         record.step(Step::Retire { thread: 0 }),
         Ok(Answer::Misfit),
     );
-    let mut record = Record::new(rt.alloc(), 0, 1)?;
-    expect_equal(&rt, record.step(Step::Register), Ok(Answer::Full));
-    expect_equal(
-        &rt,
-        record.step(Step::Register),
-        Err(RecordError::JournalFull),
-    );
-    expect_equal(&rt, record.journal().len(), 1);
+    for (step, answer) in [
+        (Step::Register, Answer::Full),
+        (Step::Trim, Answer::Trimmed),
+    ] {
+        let mut record = Record::new(rt.alloc(), 0, 1)?;
+        expect_equal(&rt, record.step(step), Ok(answer));
+        for refused in [Step::Register, Step::Trim] {
+            expect_equal(&rt, record.step(refused), Err(RecordError::JournalFull));
+        }
+        expect_equal(&rt, record.journal().len(), 1);
+    }
     Ok(())
 }
 

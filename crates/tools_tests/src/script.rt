@@ -60,6 +60,19 @@ fn a_thread_has_its_records(rt: HostRuntime) {
     expect(&rt, rt.alloc(), input.as_bytes(), written, Ok(()));
 }
 
+// Six threads need 32 buckets, and five 16.
+#[test]
+fn a_trim_makes_the_table_smaller_and_leaves_the_lists(rt: HostRuntime) {
+    let input = "lot 6\nregister\nregister\nregister\nregister\nregister\nregister\n\
+        enter 0 0 yes 0 untimed\nenter 1 13 yes 0 untimed\nenter 2 0 yes 0 untimed\n\
+        trim\nsize\nretire 5\ntrim\nsize\nlist 0\nlist 13\ntrim\nregister\nsize\n";
+    let written = "ok\nnumber 0\nnumber 1\nnumber 2\nnumber 3\nnumber 4\nnumber 5\n\
+        entered\nentered\nentered\ntrimmed\nbuckets 32 threads 6\nretired\n\
+        trimmed\nbuckets 16 threads 5\nwaiters 0 2\nwaiters 1\ntrimmed\nnumber 5\n\
+        buckets 32 threads 6\n";
+    expect(&rt, rt.alloc(), input.as_bytes(), written, Ok(()));
+}
+
 // The answers that the other rows do not have.
 #[test]
 fn each_form_has_its_answers(rt: HostRuntime) {
@@ -118,7 +131,7 @@ fn a_line_without_a_form_is_refused(rt: HostRuntime) {
         "lot 1\nenter 0 1 maybe 0 timed",
         "lot 1\nenter 0 1 yes 0 late",
         "lot 1\nrequeue 1 2 rest 0",
-        "lot 1\ntrim",
+        "lot 1\ntrim 1",
     ];
     for input in rows {
         let ended = stopped(2, Cause::BadStep);

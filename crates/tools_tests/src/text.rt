@@ -31,6 +31,7 @@ pub fn write_step(text: &mut String, step: &Step) -> Result<(), AllocError> {
         Step::Return { thread } => write!(text, "return {thread}"),
         Step::Acquire { thread, key } => write!(text, "acquire {thread} {key}"),
         Step::Release { thread, key } => write!(text, "release {thread} {key}"),
+        Step::Trim => write!(text, "trim"),
     }
 }
 
@@ -105,6 +106,7 @@ pub fn write_answer(text: &mut String, answer: Answer) -> Result<(), AllocError>
         Answer::Unparked(token) => write!(text, "unparked {}", token.0),
         Answer::Recorded => write!(text, "recorded"),
         Answer::Released => write!(text, "released"),
+        Answer::Trimmed => write!(text, "trimmed"),
         Answer::Misfit => write!(text, "misfit"),
     }
 }

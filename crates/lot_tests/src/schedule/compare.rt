@@ -78,8 +78,9 @@ impl Pair {
         Ok(())
     }
 
-    // Compares the threads whose numbers are below the bound, and the lists of the keys.
+    // Compares the sizes, the threads whose numbers are below the bound, and the lists of the keys.
     fn compare(&self, rt: &impl Abort, bound: usize, keys: &[usize]) -> Result<(), NoMemory> {
+        expect_equal(rt, self.lot.size(), self.plain.size());
         for number in 0..bound {
             self.compare_thread(rt, number, keys);
         }
@@ -146,8 +147,8 @@ fn short_lists_of_steps_are_those_of_the_plain_machine(rt: HostRuntime) -> Resul
     Ok(())
 }
 
-// Notes that an answer of this kind was given. There are thirteen kinds beside a refusal of memory.
-fn note(seen: &mut [bool; 14], answer: Answer) {
+// Notes that an answer of this kind was given. There are fourteen kinds beside a refusal of memory.
+fn note(seen: &mut [bool; 15], answer: Answer) {
     let kind = match answer {
         Answer::Registered(_) => 0,
         Answer::Full => 1,
@@ -162,7 +163,8 @@ fn note(seen: &mut [bool; 14], answer: Answer) {
         Answer::Misfit => 10,
         Answer::Recorded => 11,
         Answer::Released => 12,
-        Answer::NoMemory => 13,
+        Answer::Trimmed => 13,
+        Answer::NoMemory => 14,
     };
     seen[kind] = true;
 }
@@ -173,7 +175,7 @@ fn check_run(
     alloc: Global,
     pair: &mut Pair,
     steps: &[Step],
-    seen: &mut [bool; 14],
+    seen: &mut [bool; 15],
 ) -> Result<(), NoMemory> {
     let mut answers = Vec::new(alloc);
     run(&mut pair.lot, steps, &mut answers)?;
@@ -185,26 +187,42 @@ fn check_run(
     Ok(())
 }
 
-// Five lists of 3000 steps. A lot for 40 threads grows three times, to 128 buckets, where more than
-// 21 are registered, and every kind of answer comes up but that of no memory.
+// Every thread whose park may end has its outcome, those that run then retire, and the table is
+// trimmed.
+fn leave(alloc: Global, threads: usize) -> Result<Vec<Step>, NoMemory> {
+    let mut steps = Vec::new(alloc);
+    for thread in 0..threads {
+        steps.push(Step::Resolve { thread })?;
+        steps.push(Step::Retire { thread })?;
+    }
+    steps.push(Step::Trim)?;
+    Ok(steps)
+}
+
+// Five times three lists of 1000 steps. A lot for 40 threads grows to 128 buckets, where more than
+// 21 are registered; then most leave, and a trim makes the table smaller while some still wait.
+// Every kind of answer comes up but that of no memory.
 #[test]
 fn long_lists_of_steps_are_those_of_the_plain_machine(rt: HostRuntime) -> Result<(), Fail> {
-    let mut expected = [true; 14];
-    expected[13] = false;
+    let mut expected = [true; 15];
+    expected[14] = false;
     for seed in [1, 2, 3, 4, 5] {
         let mut arbitrary = Arbitrary::new(seed);
         let mut pair = Pair::new(rt.alloc(), 40)?;
-        let mut seen = [false; 14];
-        for _ in 0..60 {
+        let mut seen = [false; 15];
+        for round in 1..=60 {
             let steps = arbitrary.steps(rt.alloc(), 40, 50)?;
             check_run(&rt, rt.alloc(), &mut pair, steps.as_slice(), &mut seen)?;
             pair.compare(&rt, 41, KEYS.as_slice())?;
+            if round % 20 == 0 {
+                expect_equal(&rt, (seed, round, pair.lot.size()), (seed, round, 128));
+                let leaving = leave(rt.alloc(), 40)?;
+                check_run(&rt, rt.alloc(), &mut pair, leaving.as_slice(), &mut seen)?;
+                pair.compare(&rt, 41, KEYS.as_slice())?;
+                assert!(rt; pair.lot.size() < 128);
+            }
         }
-        expect_equal(
-            &rt,
-            (seed, (pair.lot.size(), seen)),
-            (seed, (128, expected)),
-        );
+        expect_equal(&rt, (seed, seen), (seed, expected));
     }
     Ok(())
 }

@@ -63,7 +63,7 @@ impl PlainRecord {
 
     fn fits(&self, step: &Step) -> bool {
         match step {
-            Step::Register | Step::Unpark(_) => true,
+            Step::Register | Step::Unpark(_) | Step::Trim => true,
             Step::Retire { thread }
             | Step::Enter { thread, .. }
             | Step::Acquire { thread, .. }
