@@ -1,17 +1,15 @@
 //! Worked rows of the exclusive lot, by its own calls.
 
+use crate::bare::{BareLot, TOKEN};
 use crate::expect_equal;
 use lot_base::token::{
-    DEFAULT_PARK_TOKEN, FilterOp, LotError, Misfit, NoMemory, ParkResult, ParkToken, RequeueOp,
-    StepError, UnparkResult, UnparkToken,
+    FilterOp, LotError, Misfit, NoMemory, ParkResult, RequeueOp, StepError, UnparkResult,
+    UnparkToken,
 };
-use lot_exclusive::laws::{acquire_and_release, requeue_all_to_itself, unpark_all_by_filter};
-use lot_exclusive::lot::{Lot, Status};
+use lot_exclusive::lot::Status;
 use std::alloc::Global;
 use std::process::Abort;
 use std::test::Fail;
-
-const TOKEN: UnparkToken = UnparkToken(42);
 
 fn unparked(unparked_threads: usize, more: bool) -> UnparkResult {
     UnparkResult {
@@ -30,17 +28,17 @@ fn requeued(requeued_threads: usize) -> UnparkResult {
 }
 
 // A lot for six threads, the first `count` of which are registered.
-fn lot_with(alloc: Global, count: usize) -> Result<Lot, LotError> {
-    let mut lot = Lot::new(alloc, 6)?;
+fn lot_with(alloc: Global, count: usize) -> Result<BareLot, LotError> {
+    let mut lot = BareLot::new(alloc, 6)?;
     for _ in 0..count {
         lot.register()?;
     }
     Ok(lot)
 }
 
-fn enter(rt: &impl Abort, lot: &mut Lot, (number, key): (usize, usize), timed: bool) {
-    let entered = lot.enter(number, key, || true, DEFAULT_PARK_TOKEN, timed);
-    expect_equal(rt, (number, key, entered), (number, key, Ok(true)));
+fn enter(rt: &impl Abort, lot: &mut BareLot, waiter: (usize, usize), timed: bool) {
+    let entered = lot.enter(waiter, true, timed);
+    expect_equal(rt, (waiter, entered), (waiter, (Ok(true), true)));
 }
 
 // Such a lot, where these threads have entered, each on its key.
@@ -50,7 +48,7 @@ fn lot_where(
     count: usize,
     waiters: &[(usize, usize)],
     timed: bool,
-) -> Result<Lot, LotError> {
+) -> Result<BareLot, LotError> {
     let mut lot = lot_with(alloc, count)?;
     for waiter in waiters {
         enter(rt, &mut lot, *waiter, timed);
@@ -58,65 +56,29 @@ fn lot_where(
     Ok(lot)
 }
 
-// What an unpark by a filter answers, and what its callback was handed.
-fn unpark_by<F: FnMut(ParkToken) -> FilterOp>(
-    lot: &mut Lot,
-    key: usize,
-    filter: F,
-) -> (UnparkResult, Option<UnparkResult>)
-    requires { (state : F) (park_token : _) → F.pre state park_token }
-{
-    let mut told = None;
-    let result = lot.unpark_filter(key, filter, |handed| {
-        told = Some(handed);
-        TOKEN
-    });
-    (result, told)
-}
-
-// What a resolution answers, and what `timed_out` was called with.
-fn resolve(lot: &mut Lot, number: usize) -> (Result<ParkResult, Misfit>, Option<(usize, bool)>) {
-    let mut told = None;
-    let result = lot.resolve(number, |key, last| {
-        told = Some((key, last));
-    });
-    (result, told)
-}
-
-// What a requeue from the key 1 to the key 2 answers, and what its callback was handed.
-fn requeue(lot: &mut Lot, op: RequeueOp) -> (UnparkResult, Option<(RequeueOp, UnparkResult)>) {
-    let mut told = None;
-    let result = lot.unpark_requeue(
-        1,
-        2,
-        || op,
-        |op, handed| {
-            told = Some((op, handed));
-            TOKEN
-        },
-    );
-    (result, told)
-}
-
 // Compares the list of each of these keys.
-fn expect_lists(rt: &impl Abort, lot: &Lot, rows: &[(usize, &[usize])]) -> Result<(), NoMemory> {
+fn expect_lists(
+    rt: &impl Abort,
+    lot: &BareLot,
+    rows: &[(usize, &[usize])],
+) -> Result<(), NoMemory> {
     for (key, numbers) in rows {
         expect_equal(rt, (key, lot.list(*key)?.as_slice()), (key, *numbers));
     }
     Ok(())
 }
 
-fn expect_status(rt: &impl Abort, lot: &Lot, number: usize, expected: Status) {
+fn expect_status(rt: &impl Abort, lot: &BareLot, number: usize, expected: Status) {
     expect_equal(rt, (number, lot.status(number)), (number, expected));
 }
 
 // Compares how many threads are registered, and the size of the table.
-fn expect_counts(rt: &impl Abort, lot: &Lot, expected: (usize, usize)) {
+fn expect_counts(rt: &impl Abort, lot: &BareLot, expected: (usize, usize)) {
     expect_equal(rt, (lot.registered(), lot.size()), expected);
 }
 
 // Compares how often a thread has recorded a key.
-fn expect_records(rt: &impl Abort, lot: &Lot, (number, key): (usize, usize), times: usize) {
+fn expect_records(rt: &impl Abort, lot: &BareLot, (number, key): (usize, usize), times: usize) {
     expect_equal(
         rt,
         (number, key, lot.records(number, key)),
@@ -125,16 +87,16 @@ fn expect_records(rt: &impl Abort, lot: &Lot, (number, key): (usize, usize), tim
 }
 
 // The deadline of a thread passes, and it is told its key and whether it was the last there.
-fn expect_timed_out(rt: &impl Abort, lot: &mut Lot, number: usize, told: (usize, bool)) {
+fn expect_timed_out(rt: &impl Abort, lot: &mut BareLot, number: usize, told: (usize, bool)) {
     expect_equal(rt, lot.deadline(number), Ok(()));
-    let resolved = resolve(lot, number);
+    let resolved = lot.resolve(number);
     expect_equal(rt, resolved, (Ok(ParkResult::TimedOut), Some(told)));
 }
 
 // It refuses a `new` or a `register` that answers `NoMemory` at each call.
 #[test]
 fn six_threads_register_by_number_and_the_seventh_is_refused(rt: HostRuntime) -> Result<(), Fail> {
-    let mut lot = Lot::new(rt.alloc(), 6)?;
+    let mut lot = BareLot::new(rt.alloc(), 6)?;
     expect_counts(&rt, &lot, (0, 16));
     for (number, size) in [16, 16, 16, 16, 16, 32].iter().enumerate() {
         expect_equal(&rt, lot.register()?, number);
@@ -163,17 +125,17 @@ fn a_retired_number_is_given_again(rt: HostRuntime) -> Result<(), Fail> {
 // It refuses a `new` that answers `NoMemory` for 1,024 threads.
 #[test]
 fn a_lot_is_for_at_most_1024_threads(rt: HostRuntime) -> Result<(), Fail> {
-    let refused = Lot::new(rt.alloc(), 1_025);
+    let refused = BareLot::new(rt.alloc(), 1_025);
     expect_equal(&rt, refused.err(), Some(LotError::TooManyThreads));
-    expect_equal(&rt, Lot::new(rt.alloc(), 1_024)?.registered(), 0);
+    expect_equal(&rt, BareLot::new(rt.alloc(), 1_024)?.registered(), 0);
     Ok(())
 }
 
 #[test]
 fn a_lot_for_nobody_is_full(rt: HostRuntime) -> Result<(), Fail> {
-    let mut lot = Lot::new(rt.alloc(), 0)?;
+    let mut lot = BareLot::new(rt.alloc(), 0)?;
     expect_equal(&rt, lot.register(), Err(LotError::Full));
-    expect_equal(&rt, lot.unpark_one(7, |_| TOKEN), UnparkResult::default());
+    expect_equal(&rt, lot.unpark_one(7), UnparkResult::default());
     expect_equal(&rt, lot.unpark_all(7, TOKEN), 0);
     Ok(())
 }
@@ -248,9 +210,9 @@ fn expect_unpark_one(
     (key, more): (usize, bool),
     taken: usize,
     lists: &[(usize, &[usize])],
-) -> Result<Lot, LotError> {
+) -> Result<BareLot, LotError> {
     let mut lot = lot_where(rt, alloc, 3, waiters, false)?;
-    let result = lot.unpark_one(key, |_| TOKEN);
+    let result = lot.unpark_one(key);
     expect_equal(rt, result, unparked(1, more));
     expect_status(rt, &lot, taken, Status::Taken(TOKEN));
     expect_lists(rt, &lot, lists)?;
@@ -295,17 +257,11 @@ fn expect_filter(
     calls: usize,
     answer: UnparkResult,
     left: &[usize],
-) -> Result<Lot, LotError> {
+) -> Result<BareLot, LotError> {
     let waiters = [(0, 1), (1, 1), (2, 1)];
     let mut lot = lot_where(rt, alloc, 3, &waiters, false)?;
-    let mut asked: usize = 0;
-    let answered = unpark_by(&mut lot, key, |_| {
-        let decision = decisions.get(asked).copied().unwrap_or(FilterOp::Unpark);
-        asked = asked.wrapping_add(1);
-        decision
-    });
-    expect_equal(rt, answered, (answer, Some(answer)));
-    expect_equal(rt, asked, calls);
+    let answered = lot.unpark_filter(key, decisions);
+    expect_equal(rt, answered, (answer, Some(answer), calls));
     expect_lists(rt, &lot, &[(1, left)])?;
     Ok(lot)
 }
@@ -346,7 +302,7 @@ fn a_filter_that_counts_is_called_up_to_its_stop_and_not_for_nobody(
 #[test]
 fn a_late_thread_times_out_and_is_not_unparked_then(rt: HostRuntime) -> Result<(), Fail> {
     let mut lot = lot_where(&rt, rt.alloc(), 1, &[(0, 1)], true)?;
-    expect_equal(&rt, resolve(&mut lot, 0), (Err(Misfit), None));
+    expect_equal(&rt, lot.resolve(0), (Err(Misfit), None));
     expect_timed_out(&rt, &mut lot, 0, (1, true));
     expect_status(&rt, &lot, 0, Status::Running);
     expect_equal(&rt, lot.unpark_all(1, TOKEN), 0);
@@ -357,9 +313,9 @@ fn a_late_thread_times_out_and_is_not_unparked_then(rt: HostRuntime) -> Result<(
 fn a_late_thread_that_was_unparked_gets_the_token(rt: HostRuntime) -> Result<(), Fail> {
     let mut lot = lot_where(&rt, rt.alloc(), 1, &[(0, 1)], true)?;
     expect_equal(&rt, lot.deadline(0), Ok(()));
-    expect_equal(&rt, lot.unpark_one(1, |_| TOKEN), unparked(1, false));
+    expect_equal(&rt, lot.unpark_one(1), unparked(1, false));
     for expected in [(Ok(ParkResult::Unparked(TOKEN)), None), (Err(Misfit), None)] {
-        expect_equal(&rt, resolve(&mut lot, 0), expected);
+        expect_equal(&rt, lot.resolve(0), expected);
     }
     Ok(())
 }
@@ -375,8 +331,7 @@ fn a_thread_that_times_out_leaves_the_others_of_its_key(rt: HostRuntime) -> Resu
 #[test]
 fn an_entry_that_is_not_valid_changes_nothing(rt: HostRuntime) -> Result<(), Fail> {
     let mut lot = lot_with(rt.alloc(), 1)?;
-    let entered = lot.enter(0, 7, || false, DEFAULT_PARK_TOKEN, true);
-    expect_equal(&rt, entered, Ok(false));
+    expect_equal(&rt, lot.enter((0, 7), false, true), (Ok(false), true));
     expect_status(&rt, &lot, 0, Status::Running);
     expect_lists(&rt, &lot, &[(7, [].as_slice())])?;
     Ok(())
@@ -389,19 +344,8 @@ fn a_step_that_does_not_fit_calls_no_closure(rt: HostRuntime) -> Result<(), Fail
         expect_equal(&rt, lot.give_back(number), Err(Misfit));
     }
     enter(&rt, &mut lot, (0, 7), false);
-    let mut called = false;
-    let entered = lot.enter(
-        0,
-        7,
-        || {
-            called = true;
-            true
-        },
-        DEFAULT_PARK_TOKEN,
-        false,
-    );
-    expect_equal(&rt, entered, Err(Misfit));
-    assert!(rt; !called);
+    let entered = lot.enter((0, 7), true, false);
+    expect_equal(&rt, entered, (Err(Misfit), false));
     expect_lists(&rt, &lot, &[(7, [0].as_slice())])?;
     Ok(())
 }
@@ -410,7 +354,7 @@ fn a_step_that_does_not_fit_calls_no_closure(rt: HostRuntime) -> Result<(), Fail
 // N` refuses the Nth: a registration or a list that is refused leaves all as it was.
 #[test]
 fn a_refused_request_for_memory_changes_nothing(rt: HostRuntime) {
-    let Ok(mut lot) = Lot::new(rt.alloc(), 2) else {
+    let Ok(mut lot) = BareLot::new(rt.alloc(), 2) else {
         return;
     };
     let refused = lot.register().is_err();
@@ -439,7 +383,7 @@ fn a_requeue_calls_back_with_its_answer_unless_it_aborts(rt: HostRuntime) -> Res
     ] {
         let waiters = [(0, key), (1, key)];
         let mut lot = lot_where(&rt, rt.alloc(), 2, &waiters, false)?;
-        expect_equal(&rt, (op, requeue(&mut lot, op)), (op, expected));
+        expect_equal(&rt, (op, lot.requeue(op)), (op, expected));
         expect_lists(&rt, &lot, &[(1, on_1), (2, on_2)])?;
     }
     Ok(())
@@ -448,7 +392,7 @@ fn a_requeue_calls_back_with_its_answer_unless_it_aborts(rt: HostRuntime) -> Res
 #[test]
 fn a_requeued_thread_times_out_on_its_new_key(rt: HostRuntime) -> Result<(), Fail> {
     let mut lot = lot_where(&rt, rt.alloc(), 2, &[(0, 1), (1, 1)], true)?;
-    let (answer, _) = requeue(&mut lot, RequeueOp::RequeueAll);
+    let (answer, _) = lot.requeue(RequeueOp::RequeueAll);
     expect_equal(&rt, answer, requeued(2));
     expect_timed_out(&rt, &mut lot, 0, (2, false));
     expect_lists(&rt, &lot, &[(2, [1].as_slice())])?;
@@ -500,7 +444,7 @@ fn a_thread_has_records_of_what_it_holds(rt: HostRuntime) -> Result<(), Fail> {
         expect_equal(&rt, lot.release(0, key), Ok(()));
     }
     for (valid, expected) in [(false, Ok(false)), (true, Ok(true)), (false, Err(Misfit))] {
-        let entered = lot.enter(0, 1, || valid, DEFAULT_PARK_TOKEN, false);
+        let (entered, _) = lot.enter((0, 1), valid, false);
         expect_equal(&rt, entered, expected);
     }
     expect_equal(&rt, lot.acquire(0, 5), Err(StepError::Misfit));
@@ -516,13 +460,9 @@ fn a_thread_has_records_of_what_it_holds(rt: HostRuntime) -> Result<(), Fail> {
 fn a_record_that_is_released_again_leaves_the_others(rt: HostRuntime) -> Result<(), Fail> {
     let mut lot = lot_with(rt.alloc(), 1)?;
     expect_equal(&rt, lot.acquire(0, 5), Ok(()));
-    expect_equal(&rt, acquire_and_release(&mut lot, 0, 5), Ok(()));
+    expect_equal(&rt, lot.acquire_and_release(0, 5), Ok(()));
     expect_records(&rt, &lot, (0, 5), 1);
-    expect_equal(
-        &rt,
-        acquire_and_release(&mut lot, 1, 5),
-        Err(StepError::Misfit),
-    );
+    expect_equal(&rt, lot.acquire_and_release(1, 5), Err(StepError::Misfit));
     Ok(())
 }
 
@@ -531,13 +471,9 @@ fn all_waiters_are_requeued_to_their_own_key_and_unparked_by_a_filter(
     rt: HostRuntime,
 ) -> Result<(), Fail> {
     let mut lot = lot_where(&rt, rt.alloc(), 2, &[(0, 1), (1, 1)], false)?;
-    expect_equal(&rt, requeue_all_to_itself(&mut lot, 1), requeued(2));
+    expect_equal(&rt, lot.requeue_all_to_itself(1), requeued(2));
     expect_lists(&rt, &lot, &[(1, [0, 1].as_slice())])?;
-    expect_equal(
-        &rt,
-        unpark_all_by_filter(&mut lot, 1, TOKEN),
-        unparked(2, false),
-    );
+    expect_equal(&rt, lot.unpark_all_by_filter(1, TOKEN), unparked(2, false));
     for number in 0..2 {
         expect_status(&rt, &lot, number, Status::Taken(TOKEN));
     }
@@ -585,7 +521,7 @@ fn a_refused_recording_changes_no_records(rt: HostRuntime) {
 // It refuses a registration or a recording that answers `NoMemory` once there are more than some.
 #[test]
 fn a_lot_has_1024_threads_and_a_thread_1000_records(rt: HostRuntime) -> Result<(), Fail> {
-    let mut lot = Lot::new(rt.alloc(), 1_024)?;
+    let mut lot = BareLot::new(rt.alloc(), 1_024)?;
     for number in 0..1_024 {
         expect_equal(&rt, lot.register(), Ok(number));
     }

@@ -2,10 +2,11 @@
 
 mod compare;
 
+use crate::bare::BareLot;
 use crate::expect_equal;
 use lot_base::token::{FilterOp, LotError, NoMemory, RequeueOp, UnparkToken};
-use lot_exclusive::lot::{Lot, Status};
-use lot_exclusive::schedule::{Answer, Step, run};
+use lot_exclusive::lot::Status;
+use lot_exclusive::schedule::{Answer, Step};
 use plain_machines::ops::{all, filter, one, requeue};
 use plain_machines::steps::{acquire, enter, enter_invalid, release, unpark, unparked};
 use std::alloc::Global;
@@ -24,8 +25,8 @@ const WAITS: Status = Status::Waiting { timed: false };
 
 // A lot for six threads, four of which are registered, where these threads have entered, each on
 // its key and untimed.
-fn lot_of(alloc: Global, waiters: &[(usize, usize)]) -> Result<Lot, LotError> {
-    let mut lot = Lot::new(alloc, 6)?;
+fn lot_of(alloc: Global, waiters: &[(usize, usize)]) -> Result<BareLot, LotError> {
+    let mut lot = BareLot::new(alloc, 6)?;
     for _ in 0..4 {
         lot.register()?;
     }
@@ -39,12 +40,12 @@ fn lot_of(alloc: Global, waiters: &[(usize, usize)]) -> Result<Lot, LotError> {
 fn expect(
     rt: &impl Abort,
     alloc: Global,
-    lot: &mut Lot,
+    lot: &mut BareLot,
     steps: &[Step],
     expected: &[Answer],
 ) -> Result<(), NoMemory> {
     let mut answers = Vec::new(alloc);
-    run(lot, steps, &mut answers)?;
+    lot.run(steps, &mut answers)?;
     expect_equal(rt, answers.as_slice(), expected);
     Ok(())
 }
@@ -52,7 +53,7 @@ fn expect(
 // Compares the lists of the keys 1 and 2.
 fn expect_lists(
     rt: &impl Abort,
-    lot: &Lot,
+    lot: &BareLot,
     on_1: &[usize],
     on_2: &[usize],
 ) -> Result<(), NoMemory> {
@@ -64,7 +65,7 @@ fn expect_lists(
 // It refuses an `apply` that answers `NoMemory` to each registration.
 #[test]
 fn six_threads_are_registered_and_the_seventh_is_refused(rt: HostRuntime) -> Result<(), Fail> {
-    let mut lot = Lot::new(rt.alloc(), 6)?;
+    let mut lot = BareLot::new(rt.alloc(), 6)?;
     for number in 0..6 {
         let answers = [Answer::Registered(number)];
         expect(&rt, rt.alloc(), &mut lot, &[Step::Register], &answers)?;
@@ -89,7 +90,7 @@ fn expect_requeue(
     answer: Answer,
     taken: &[usize],
     (on_1, on_2): (&[usize], &[usize]),
-) -> Result<Lot, LotError> {
+) -> Result<BareLot, LotError> {
     let mut lot = lot_of(alloc, waiters)?;
     let steps = [unpark(requeue((1, to), op, 9))];
     expect(rt, alloc, &mut lot, &steps, &[answer])?;
@@ -386,19 +387,32 @@ fn a_trim_makes_the_table_smaller_and_leaves_the_lists(rt: HostRuntime) -> Resul
 fn answers_stand_behind_those_that_are_there(rt: HostRuntime) -> Result<(), Fail> {
     let mut lot = lot_of(rt.alloc(), &[])?;
     let mut answers = Vec::new(rt.alloc());
-    run(&mut lot, &[], &mut answers)?;
+    lot.run(&[], &mut answers)?;
     expect_equal(&rt, answers.len(), 0);
 
-    run(
-        &mut lot,
-        &[enter_invalid(A, 1), unpark(all(1, 9))],
-        &mut answers,
-    )?;
-    run(&mut lot, &[], &mut answers)?;
-    run(&mut lot, &[Step::Retire { thread: D }], &mut answers)?;
+    let steps = [enter_invalid(A, 1), unpark(all(1, 9))];
+    lot.run(&steps, &mut answers)?;
+    lot.run(&[], &mut answers)?;
+    lot.run(&[Step::Retire { thread: D }], &mut answers)?;
     let expected = [Answer::Invalid, Answer::Count(0), Answer::Retired];
     expect_equal(&rt, answers.as_slice(), expected.as_slice());
     Ok(())
+}
+
+// What a registration, a recording and an entry answer, and what the thread does then, where so many
+// are registered and the thread has so many records.
+fn expected_with(registered: usize, records: usize) -> ([Answer; 3], Status) {
+    let number = Answer::Registered(0);
+    if registered == 0 {
+        return (
+            [Answer::NoMemory, Answer::Misfit, Answer::Misfit],
+            Status::Free,
+        );
+    }
+    if records == 0 {
+        return ([number, Answer::NoMemory, Answer::Entered], WAITS);
+    }
+    ([number, Answer::Recorded, Answer::Entered], WAITS)
 }
 
 // It ends well whichever one of its requests for memory is refused, as the command
@@ -406,30 +420,17 @@ fn answers_stand_behind_those_that_are_there(rt: HostRuntime) -> Result<(), Fail
 // as it was, and a registration or a recording that is refused is answered so.
 #[test]
 fn a_run_without_room_for_its_answers_changes_nothing(rt: HostRuntime) {
-    let Ok(mut lot) = Lot::new(rt.alloc(), 2) else {
+    let Ok(mut lot) = BareLot::new(rt.alloc(), 2) else {
         return;
     };
     let steps = [Step::Register, acquire(A, 5), enter(A, 7, false)];
     let mut answers = Vec::new(rt.alloc());
-    if run(&mut lot, &steps, &mut answers).is_err() {
+    if lot.run(&steps, &mut answers).is_err() {
         expect_equal(&rt, (answers.len(), lot.registered()), (0, 0));
-        assert!(rt; run(&mut lot, &steps, &mut answers).is_ok());
+        assert!(rt; lot.run(&steps, &mut answers).is_ok());
         expect_equal(&rt, lot.status(A), WAITS);
     }
-    let (expected, status) = match (lot.registered(), lot.records(A, 5)) {
-        (0, _) => (
-            [Answer::NoMemory, Answer::Misfit, Answer::Misfit],
-            Status::Free,
-        ),
-        (_, 0) => (
-            [Answer::Registered(0), Answer::NoMemory, Answer::Entered],
-            WAITS,
-        ),
-        _ => (
-            [Answer::Registered(0), Answer::Recorded, Answer::Entered],
-            WAITS,
-        ),
-    };
+    let (expected, status) = expected_with(lot.registered(), lot.records(A, 5));
     expect_equal(&rt, answers.as_slice(), expected.as_slice());
     expect_equal(&rt, lot.status(A), status);
 }

@@ -1,9 +1,9 @@
 //! The lot beside the plain machine: all short lists of steps, and long lists of arbitrary ones.
 
+use crate::bare::BareLot;
 use crate::expect_equal;
 use lot_base::token::{FilterOp, LotError, NoMemory, RequeueOp};
-use lot_exclusive::lot::Lot;
-use lot_exclusive::schedule::{Answer, Step, run};
+use lot_exclusive::schedule::{Answer, Step};
 use plain_machines::arbitrary::{Arbitrary, KEYS};
 use plain_machines::exclusive::Plain;
 use plain_machines::ops::{all, filter, one, requeue};
@@ -18,8 +18,7 @@ const LONGEST: usize = 4;
 // The steps that the short lists are made of. The keys 0 and 13 have place 0 of 16.
 const KINDS: usize = 29;
 
-fn alphabet(alloc: Global) -> Result<Vec<Step>, NoMemory> {
-    let mut steps = Vec::new(alloc);
+fn push_parks(steps: &mut Vec<Step>) -> Result<(), NoMemory> {
     for thread in 0..2 {
         for key in [0, 13] {
             steps.push(enter(thread, key, false))?;
@@ -29,44 +28,55 @@ fn alphabet(alloc: Global) -> Result<Vec<Step>, NoMemory> {
         steps.push(Step::Resolve { thread })?;
         steps.push(Step::Return { thread })?;
     }
-    for (op, token) in [
-        (RequeueOp::Abort, 100),
-        (RequeueOp::UnparkOneRequeueRest, 101),
-        (RequeueOp::RequeueAll, 102),
-        (RequeueOp::UnparkOne, 103),
-        (RequeueOp::RequeueOne, 104),
+    Ok(())
+}
+
+fn push_requeues(steps: &mut Vec<Step>) -> Result<(), NoMemory> {
+    for (keys, op, token) in [
+        ((0, 13), RequeueOp::Abort, 100),
+        ((0, 13), RequeueOp::UnparkOneRequeueRest, 101),
+        ((0, 13), RequeueOp::RequeueAll, 102),
+        ((0, 13), RequeueOp::UnparkOne, 103),
+        ((0, 13), RequeueOp::RequeueOne, 104),
+        ((13, 13), RequeueOp::RequeueAll, 105),
     ] {
-        steps.push(unpark(requeue((0, 13), op, token)))?;
+        steps.push(unpark(requeue(keys, op, token)))?;
     }
+    Ok(())
+}
+
+fn alphabet(alloc: Global) -> Result<Vec<Step>, NoMemory> {
+    let mut steps = Vec::new(alloc);
+    push_parks(&mut steps)?;
+    push_requeues(&mut steps)?;
     let decisions = [FilterOp::Skip, FilterOp::Unpark];
-    for op in [
-        requeue((13, 13), RequeueOp::RequeueAll, 105),
-        filter(alloc, 0, decisions.as_slice(), 106)?,
-        one(0, 107),
-        one(13, 108),
-        all(13, 109),
+    for step in [
+        unpark(filter(alloc, 0, decisions.as_slice(), 106)?),
+        unpark(one(0, 107)),
+        unpark(one(13, 108)),
+        unpark(all(13, 109)),
+        enter_invalid(0, 0),
+        acquire(1, 13),
+        release(1, 13),
+        Step::Retire { thread: 1 },
+        Step::Register,
     ] {
-        steps.push(unpark(op))?;
+        steps.push(step)?;
     }
-    steps.push(enter_invalid(0, 0))?;
-    steps.push(acquire(1, 13))?;
-    steps.push(release(1, 13))?;
-    steps.push(Step::Retire { thread: 1 })?;
-    steps.push(Step::Register)?;
     Ok(steps)
 }
 
 // A lot and the plain machine, for as many threads.
 #[derive(Drop)]
 struct Pair {
-    lot: Lot,
+    lot: BareLot,
     plain: Plain,
 }
 
 impl Pair {
     fn new(alloc: Global, max_threads: usize) -> Result<Pair, LotError> {
         Ok(Pair {
-            lot: Lot::new(alloc, max_threads)?,
+            lot: BareLot::new(alloc, max_threads)?,
             plain: Plain::new(alloc, max_threads)?,
         })
     }
@@ -178,7 +188,7 @@ fn check_run(
     seen: &mut [bool; 15],
 ) -> Result<(), NoMemory> {
     let mut answers = Vec::new(alloc);
-    run(&mut pair.lot, steps, &mut answers)?;
+    pair.lot.run(steps, &mut answers)?;
     expect_equal(rt, answers.len(), steps.len());
     for (index, (step, answer)) in steps.iter().zip(&answers).enumerate() {
         expect_equal(rt, (index, *answer), (index, pair.plain.step(step)?));
@@ -199,9 +209,38 @@ fn leave(alloc: Global, threads: usize) -> Result<Vec<Step>, NoMemory> {
     Ok(steps)
 }
 
-// Five times three lists of 1000 steps. A lot for 40 threads grows to 128 buckets, where more than
-// 21 are registered; then most leave, and a trim makes the table smaller while some still wait.
-// Every kind of answer comes up but that of no memory.
+fn check_list(
+    rt: &impl Abort,
+    alloc: Global,
+    pair: &mut Pair,
+    steps: &[Step],
+    seen: &mut [bool; 15],
+) -> Result<(), LotError> {
+    check_run(rt, alloc, pair, steps, seen)?;
+    Ok(pair.compare(rt, 41, KEYS.as_slice())?)
+}
+
+// A lot for 40 threads grows to 128 buckets, where more than 21 are registered; then most leave, and
+// a trim makes the table smaller while some still wait.
+fn grow_and_trim(
+    rt: &impl Abort,
+    alloc: Global,
+    arbitrary: &mut Arbitrary,
+    pair: &mut Pair,
+    seen: &mut [bool; 15],
+) -> Result<(), LotError> {
+    for _ in 0..20 {
+        let steps = arbitrary.steps(alloc, 40, 50)?;
+        check_list(rt, alloc, pair, steps.as_slice(), seen)?;
+    }
+    expect_equal(rt, pair.lot.size(), 128);
+    let leaving = leave(alloc, 40)?;
+    check_list(rt, alloc, pair, leaving.as_slice(), seen)?;
+    expect_equal(rt, pair.lot.size() < 128, true);
+    Ok(())
+}
+
+// Five times three lists of 1000 steps. Every kind of answer comes up but that of no memory.
 #[test]
 fn long_lists_of_steps_are_those_of_the_plain_machine(rt: HostRuntime) -> Result<(), Fail> {
     let mut expected = [true; 15];
@@ -210,17 +249,8 @@ fn long_lists_of_steps_are_those_of_the_plain_machine(rt: HostRuntime) -> Result
         let mut arbitrary = Arbitrary::new(seed);
         let mut pair = Pair::new(rt.alloc(), 40)?;
         let mut seen = [false; 15];
-        for round in 1..=60 {
-            let steps = arbitrary.steps(rt.alloc(), 40, 50)?;
-            check_run(&rt, rt.alloc(), &mut pair, steps.as_slice(), &mut seen)?;
-            pair.compare(&rt, 41, KEYS.as_slice())?;
-            if round % 20 == 0 {
-                expect_equal(&rt, (seed, round, pair.lot.size()), (seed, round, 128));
-                let leaving = leave(rt.alloc(), 40)?;
-                check_run(&rt, rt.alloc(), &mut pair, leaving.as_slice(), &mut seen)?;
-                pair.compare(&rt, 41, KEYS.as_slice())?;
-                assert!(rt; pair.lot.size() < 128);
-            }
+        for _ in 0..3 {
+            grow_and_trim(&rt, rt.alloc(), &mut arbitrary, &mut pair, &mut seen)?;
         }
         expect_equal(&rt, (seed, seen), (seed, expected));
     }
