@@ -426,6 +426,3 @@ fn push_if_waiting(
     }
     Ok(numbers)
 }
-
-#[cfg(test)]
-mod tests;
