@@ -11,5 +11,4 @@ pub mod RequeueLemmas
 pub mod RemoveLemmas
 pub mod SpreadLemmas
 pub mod LawLemmas
-pub mod TestLemmas
 pub mod WordParkerLemmas
