@@ -12,6 +12,29 @@ use std::alloc::Global;
 use std::process::Abort;
 use std::slice;
 
+/// `run_fine`, which promises nothing here: a proof carries what a call promises on to the end of the
+/// function that makes it, and a test has no use for it there.
+pub fn run_bare(
+    lot: &mut FineLot,
+    steps: &[FineStep],
+    answers: &mut Vec<FineAnswer>,
+    sequential: &mut Vec<Step>,
+) -> Result<(), NoMemory> {
+    run_fine(lot, steps, answers, sequential)
+}
+
+// A new lot that has done these steps, and its answers.
+fn lot_after(
+    alloc: Global,
+    max_threads: usize,
+    steps: &[Step],
+) -> Result<(Lot, Vec<Answer>), LotError> {
+    let mut lot = Lot::new(alloc, max_threads)?;
+    let mut answers = Vec::new(alloc);
+    run(&mut lot, steps, &mut answers)?;
+    Ok((lot, answers))
+}
+
 /// Both, with the sequential steps of all that was done, and their answers.
 #[derive(Drop)]
 pub struct Both {
@@ -54,7 +77,7 @@ impl Both {
         }
         let mut answers = Vec::new(self.alloc);
         let before = self.steps.len();
-        run_fine(&mut self.lot, steps, &mut answers, &mut self.steps)?;
+        run_bare(&mut self.lot, steps, &mut answers, &mut self.steps)?;
         expect_equal(rt, answers.as_slice(), expected.as_slice());
         expect_equal(rt, self.steps.len(), before.wrapping_add(sequential.len()));
         for (told, expected) in self.steps.iter().skip(before).zip(&sequential) {
@@ -82,9 +105,7 @@ impl Both {
     }
 
     fn compare_sequential(&self, rt: &impl Abort, keys: &[usize]) -> Result<(), LotError> {
-        let mut lot = Lot::new(self.alloc, self.max_threads)?;
-        let mut answers = Vec::new(self.alloc);
-        run(&mut lot, self.steps.as_slice(), &mut answers)?;
+        let (lot, answers) = lot_after(self.alloc, self.max_threads, self.steps.as_slice())?;
         expect_equal(rt, answers.as_slice(), self.answers.as_slice());
         expect_equal(rt, lot.size(), self.plain.size());
         for key in keys {
@@ -92,17 +113,22 @@ impl Both {
             expect_equal(rt, (key, found.as_slice()), (key, self.plain.list(*key)));
         }
         for number in 0..self.max_threads {
-            let expected = self.plain.sequential_status(number);
-            expect_equal(rt, (number, lot.status(number)), (number, expected));
-            for key in keys {
-                let expected = self.plain.records(number, *key);
-                expect_equal(
-                    rt,
-                    (number, key, lot.records(number, *key)),
-                    (number, key, expected),
-                );
-            }
+            self.compare_thread(rt, &lot, number, keys);
         }
         Ok(())
+    }
+
+    // Compares the status of the number in the lot, and its records of the keys.
+    fn compare_thread(&self, rt: &impl Abort, lot: &Lot, number: usize, keys: &[usize]) {
+        let expected = self.plain.sequential_status(number);
+        expect_equal(rt, (number, lot.status(number)), (number, expected));
+        for key in keys {
+            let expected = self.plain.records(number, *key);
+            expect_equal(
+                rt,
+                (number, key, lot.records(number, *key)),
+                (number, key, expected),
+            );
+        }
     }
 }

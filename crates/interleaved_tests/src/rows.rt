@@ -1,12 +1,12 @@
 //! Worked rows of the interleaved machine, on an interleaved lot and on the plain machine. The
 //! threads a and b are 0 and 1.
 
-use crate::both::Both;
+use crate::both::{Both, run_bare};
 use crate::expect_equal;
 use crate::sequential::expect_sequential;
 use lot_base::token::{FilterOp, LotError, RequeueOp};
 use lot_exclusive::schedule::{Answer, Step};
-use lot_interleaved::interleaved::{FineAnswer, FineLot, FineStep, run_fine};
+use lot_interleaved::interleaved::{FineAnswer, FineLot, FineStep};
 use plain_machines::fine_steps::{
     MISFIT, answer, begin, enter, enter_invalid, unparked, woken_with,
 };
@@ -298,14 +298,14 @@ fn interleaved_answers_stand_behind_those_that_are_there(rt: HostRuntime) -> Res
     let mut lot = FineLot::new(rt.alloc(), 1, 1)?;
     let mut answers = Vec::new(rt.alloc());
     let mut sequential = Vec::new(rt.alloc());
-    run_fine(&mut lot, &[], &mut answers, &mut sequential)?;
+    run_bare(&mut lot, &[], &mut answers, &mut sequential)?;
     expect_equal(&rt, (answers.len(), sequential.len()), (0, 0));
 
     let steps = [FineStep::Register, WAKE, enter_invalid(A, 1)];
-    run_fine(&mut lot, &steps, &mut answers, &mut sequential)?;
-    run_fine(&mut lot, &[], &mut answers, &mut sequential)?;
+    run_bare(&mut lot, &steps, &mut answers, &mut sequential)?;
+    run_bare(&mut lot, &[], &mut answers, &mut sequential)?;
     let retire = [FineStep::Retire { thread: A }];
-    run_fine(&mut lot, &retire, &mut answers, &mut sequential)?;
+    run_bare(&mut lot, &retire, &mut answers, &mut sequential)?;
     let expected = [
         registered(A),
         MISFIT,
@@ -345,13 +345,13 @@ fn an_interleaved_run_without_room_changes_nothing(rt: HostRuntime) {
     ];
     let mut answers = Vec::new(rt.alloc());
     let mut sequential = Vec::new(rt.alloc());
-    if run_fine(&mut lot, &steps, &mut answers, &mut sequential).is_err() {
+    if run_bare(&mut lot, &steps, &mut answers, &mut sequential).is_err() {
         expect_equal(
             &rt,
             (answers.len(), sequential.len(), lot.registered()),
             (0, 0, 0),
         );
-        assert!(rt; run_fine(&mut lot, &steps, &mut answers, &mut sequential).is_ok());
+        assert!(rt; run_bare(&mut lot, &steps, &mut answers, &mut sequential).is_ok());
     }
     let no_memory = answer(Answer::NoMemory);
     let recorded = answer(Answer::Recorded);
@@ -373,7 +373,7 @@ fn an_interleaved_lot_has_1024_threads_and_a_thread_records(rt: HostRuntime) -> 
     let mut answers = Vec::new(rt.alloc());
     let mut sequential = Vec::new(rt.alloc());
     for number in 0..1_024 {
-        run_fine(
+        run_bare(
             &mut lot,
             &[FineStep::Register],
             &mut answers,
@@ -383,7 +383,7 @@ fn an_interleaved_lot_has_1024_threads_and_a_thread_records(rt: HostRuntime) -> 
     }
     for key in 0..1_000 {
         let acquire = FineStep::Acquire { thread: 1_023, key };
-        run_fine(&mut lot, &[acquire], &mut answers, &mut sequential)?;
+        run_bare(&mut lot, &[acquire], &mut answers, &mut sequential)?;
         expect_equal(&rt, answers.last(), Some(&answer(Answer::Recorded)));
     }
     Ok(())

@@ -131,6 +131,10 @@ impl BareLot {
         self.0.size()
     }
 
+    pub fn trim(&mut self) -> Result<(), NoMemory> {
+        self.0.trim()
+    }
+
     pub fn apply(&mut self, step: &Step) -> Answer {
         self.0.apply(step)
     }

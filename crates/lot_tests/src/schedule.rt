@@ -364,7 +364,7 @@ fn a_trim_makes_the_table_smaller_and_leaves_the_lists(rt: HostRuntime) -> Resul
         ([Step::Trim, Step::Trim].as_slice(), 16),
         ([Step::Register].as_slice(), 32),
     ] {
-        run(&mut lot, steps, &mut answers)?;
+        lot.run(steps, &mut answers)?;
         expect_equal(&rt, (answers.len(), lot.size()), (answers.len(), size));
         expect_equal(&rt, lot.list(0)?.as_slice(), [A, C].as_slice());
         expect_equal(&rt, lot.list(13)?.as_slice(), [B].as_slice());

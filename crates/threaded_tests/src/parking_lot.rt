@@ -7,7 +7,7 @@ mod together;
 
 use crate::expect_equal;
 use calls::{new_lot, park_then, register, requeue, unpark_first, unpark_others};
-use lot_base::thread_parker::{ThreadParker, ThreadParkerT, YieldParker};
+use lot_base::thread_parker::{ThreadParker, ThreadParkerT, WordParker, YieldParker};
 use lot_base::token::{
     DEFAULT_PARK_TOKEN, DEFAULT_UNPARK_TOKEN, FilterOp, LotError, NoMemory, ParkResult, ParkToken,
     RequeueOp, UnparkResult, UnparkToken,
@@ -26,14 +26,16 @@ use std::time::{Clock, Duration, Instant};
 
 type Lot = ParkingLot<ThreadParker>;
 
+type Waiters = Vec<JoinHandle<Option<ParkResult>>>;
+
 const KEY: usize = 7;
 
 const TURNS: usize = 10_000_000;
 
 // The instant that comes so long from now.
-fn from_now<R: Clock + Abort>(rt: &R, duration: Duration) -> Result<Instant, Fail> {
-    let now = Instant::now(rt)?;
-    Ok(now.checked_add(duration).expect(rt, "a time of the clock"))
+fn from_now<R: Clock + Abort>(rt: &R, duration: Duration) -> Instant {
+    let now = Instant::now(rt).expect(rt, "a time of the clock");
+    now.checked_add(duration).expect(rt, "a time of the clock")
 }
 
 // Parks on the key until another thread unparks this one, and shows filters the thread's number.
@@ -60,19 +62,6 @@ fn raised_by_turns(flag: &AtomicBool) -> bool {
     false
 }
 
-// Unparks those waiters of the key that the filter chooses.
-fn unpark_by<
-    P: ThreadParkerT,
-    R: Wait,
-    F: FnMut(ParkToken) -> FilterOp,
-    C: FnOnce(UnparkResult) -> UnparkToken,
->(rt: &R, lot: &ParkingLot<P>, key: usize, filter: F, callback: C) -> UnparkResult
-    requires filter { (state : F) (park_token : _) → F.pre state park_token }
-    requires callback { (answer : _) → C.pre callback answer }
-{
-    unpark_filter(rt, lot, key, filter, callback)
-}
-
 // Unparks one thread of the key as soon as one waits there, and tells whether one did.
 fn unpark_by_turns<P: ThreadParkerT, R: Wait>(
     rt: &R,
@@ -81,7 +70,7 @@ fn unpark_by_turns<P: ThreadParkerT, R: Wait>(
     token: UnparkToken,
 ) -> bool {
     for _ in 0..TURNS {
-        if unpark_one(rt, lot, key, |_| token).unparked_threads == 1 {
+        if unpark_first(rt, lot, key, token).unparked_threads == 1 {
             return true;
         }
         thread::yield_now();
@@ -89,26 +78,36 @@ fn unpark_by_turns<P: ThreadParkerT, R: Wait>(
     false
 }
 
-// Waits until so many threads wait on the key, and tells whether they did.
-fn come_by_turns<P: ThreadParkerT, R: Wait>(
+// The numbers of those who wait on the key, in order.
+fn waiting<P: ThreadParkerT, R: Wait + Abort>(
+    rt: &R,
+    alloc: Global,
+    lot: &ParkingLot<P>,
+    key: usize,
+) -> Vec<usize> {
+    lot.list(rt, alloc, key).expect(rt, "memory")
+}
+
+// Waits until so many threads wait on the key.
+fn await_threads<P: ThreadParkerT, R: Wait + Abort>(
     rt: &R,
     alloc: Global,
     lot: &ParkingLot<P>,
     key: usize,
     threads: usize,
-) -> Result<bool, NoMemory> {
+) {
     for _ in 0..TURNS {
-        if lot.list(rt, alloc, key)?.len() == threads {
-            return Ok(true);
+        if waiting(rt, alloc, lot, key).len() == threads {
+            return;
         }
         thread::yield_now();
     }
-    Ok(false)
+    assert!(rt; false, "they did not come");
 }
 
 // Whether no number is left, so that a registration is refused.
 fn is_full<P: ThreadParkerT, R: Wait>(rt: &R, alloc: Global, lot: &ParkingLot<P>) -> bool {
-    matches!(&lot.thread_data(rt, alloc), Err(LotError::Full))
+    matches!(&register(rt, alloc, lot), Err(LotError::Full))
 }
 
 // Compares the numbers of those who wait on the key.
@@ -118,10 +117,9 @@ fn expect_list<P: ThreadParkerT, R: Wait + Abort>(
     lot: &ParkingLot<P>,
     key: usize,
     numbers: &[usize],
-) -> Result<(), NoMemory> {
-    let waiting = lot.list(rt, alloc, key)?;
-    expect_equal(rt, (key, waiting.as_slice()), (key, numbers));
-    Ok(())
+) {
+    let found = waiting(rt, alloc, lot, key);
+    expect_equal(rt, (key, found.as_slice()), (key, numbers));
 }
 
 // Registers four threads, whose data it drops, and tells their numbers.
@@ -132,7 +130,7 @@ fn register_four<P: ThreadParkerT, R: Wait>(
 ) -> Result<Vec<usize>, LotError> {
     let mut numbers = Vec::new(alloc);
     for _ in 0..4 {
-        numbers.push(lot.thread_data(rt, alloc)?.number())?;
+        numbers.push(register(rt, alloc, lot)?.number())?;
     }
     Ok(numbers)
 }
@@ -172,11 +170,42 @@ where
     thread::spawn(rt, move || wait(&runtime, &lot, data, key)).ok()
 }
 
+// Starts a thread for each of these keys, which parks there, so that so many wait on the key then.
+fn start_row<P, R>(
+    rt: &R,
+    alloc: Global,
+    lot: &Arc<ParkingLot<P>, Global>,
+    keys: &[(usize, usize)],
+) -> Result<Waiters, Fail>
+where
+    P: ThreadParkerT + Send + Sync + 'static,
+    P::UnparkHandle: 'static,
+    R: Threads + Wait + Clock + Abort + Copy + Send + 'static,
+{
+    let mut waiters = Vec::new(alloc);
+    for (key, threads) in keys {
+        let data = register(rt, alloc, lot)?;
+        let started = start_waiter(rt, Arc::try_clone(lot)?, data, *key);
+        waiters.push(started.expect(rt, "a thread"))?;
+        await_threads(rt, alloc, lot, *key, *threads);
+    }
+    Ok(waiters)
+}
+
+// Joins the waiters, and compares the tokens with which they were unparked.
+fn expect_tokens<R: Threads + Abort>(rt: &R, waiters: Waiters, tokens: &[usize]) {
+    expect_equal(rt, waiters.len(), tokens.len());
+    for (waiter, token) in waiters.into_iter().zip(tokens) {
+        let unparked = ParkResult::Unparked(UnparkToken(*token));
+        expect_equal(rt, waiter.join(rt), Some(unparked));
+    }
+}
+
 // It refuses an `unpark_one` that wakes nobody.
 #[test]
 fn two_threads_park_and_unpark(rt: HostRuntime) -> Result<(), Fail> {
-    let lot = Arc::new(rt.alloc(), Lot::new(rt.alloc(), 1)?)?;
-    let data = lot.thread_data(&rt, rt.alloc())?;
+    let lot = Arc::new(rt.alloc(), new_lot(rt.alloc(), 1)?)?;
+    let data = register(&rt, rt.alloc(), &lot)?;
     let waiter = start_waiter(&rt, Arc::try_clone(&lot)?, data, KEY).expect(&rt, "a thread");
     assert!(rt;
         unpark_by_turns(&rt, &lot, KEY, UnparkToken(42)),
@@ -193,8 +222,8 @@ fn two_threads_park_and_unpark(rt: HostRuntime) -> Result<(), Fail> {
 // It refuses a `park` that leaves the thread in its queue although `validate` answered false.
 #[test]
 fn a_park_that_is_not_valid_ends_at_once(rt: HostRuntime) -> Result<(), Fail> {
-    let lot = Lot::new(rt.alloc(), 1)?;
-    let mut data = lot.thread_data(&rt, rt.alloc())?;
+    let lot = new_lot(rt.alloc(), 1)?;
+    let mut data = register(&rt, rt.alloc(), &lot)?;
     let mut validations = 0;
     let result = park(
         &rt,
@@ -213,13 +242,14 @@ fn a_park_that_is_not_valid_ends_at_once(rt: HostRuntime) -> Result<(), Fail> {
     expect_equal(&rt, result, ParkResult::Invalid);
     expect_equal(&rt, validations, 1);
     expect_equal(&rt, data.number(), 0);
-    Ok(expect_list(&rt, rt.alloc(), &lot, KEY, &[])?)
+    expect_list(&rt, rt.alloc(), &lot, KEY, &[]);
+    Ok(())
 }
 
 // It refuses an `unpark_one` that answers one thread where nobody waits.
 #[test]
 fn an_unpark_of_nobody_calls_back_with_the_default_result(rt: HostRuntime) -> Result<(), Fail> {
-    let lot = Lot::new(rt.alloc(), 1)?;
+    let lot = new_lot(rt.alloc(), 1)?;
     let mut told = None;
     let result = unpark_one(&rt, &lot, KEY, |answer| {
         told = Some(answer);
@@ -262,9 +292,9 @@ fn dropped_data_keeps_its_number_and_retired_data_frees_it(rt: HostRuntime) -> R
 // It refuses a `thread_data` that gives one number always.
 #[test]
 fn a_lot_accepts_no_number_that_only_a_larger_lot_has(rt: HostRuntime) -> Result<(), Fail> {
-    let (lot, larger) = (Lot::new(rt.alloc(), 2)?, Lot::new(rt.alloc(), 3)?);
+    let (lot, larger) = (new_lot(rt.alloc(), 2)?, new_lot(rt.alloc(), 3)?);
     for number in 0..3 {
-        let data = larger.thread_data(&rt, rt.alloc())?;
+        let data = register(&rt, rt.alloc(), &larger)?;
         assert!(rt; larger.accepts(&data));
         expect_equal(&rt, (number, lot.accepts(&data)), (number, number < 2));
     }
@@ -274,11 +304,34 @@ fn a_lot_accepts_no_number_that_only_a_larger_lot_has(rt: HostRuntime) -> Result
 // It refuses a `new` that answers `NoMemory` always.
 #[test]
 fn a_lot_is_for_at_most_1024_threads(rt: HostRuntime) -> Result<(), Fail> {
-    let refused = Lot::new(rt.alloc(), 1_025);
+    let refused = new_lot(rt.alloc(), 1_025);
     assert!(rt; matches!(&refused, Err(LotError::TooManyThreads)));
-    expect_equal(&rt, Lot::new(rt.alloc(), 1_024)?.max_threads(), 1_024);
-    let without_threads = Lot::new(rt.alloc(), 0)?;
+    expect_equal(&rt, new_lot(rt.alloc(), 1_024)?.max_threads(), 1_024);
+    let without_threads = new_lot(rt.alloc(), 0)?;
     assert!(rt; is_full(&rt, rt.alloc(), &without_threads));
+    Ok(())
+}
+
+// Unparks four threads on the keys 0 and 13 by turns, each with a token of its own.
+fn unpark_four<R: Wait + Abort>(rt: &R, lot: &Lot) {
+    for (key, number) in [(0, 0), (13, 1), (0, 2), (13, 3)] {
+        let result = unpark_first(rt, lot, key, UnparkToken(10 + number));
+        expect_equal(rt, result.unparked_threads, 1);
+        expect_equal(rt, result.have_more_threads, number < 2);
+    }
+}
+
+// Registers eight threads while four wait, and then unparks these.
+fn grow_and_unpark<R: Threads + Wait + Abort + Sync>(
+    rt: &R,
+    alloc: Global,
+    lot: &Lot,
+) -> Result<(), LotError> {
+    let numbers = register_eight(rt, alloc, lot)?;
+    expect_equal(rt, numbers.as_slice(), &[4, 5, 6, 7, 8, 9, 10, 11][..]);
+    expect_list(rt, alloc, lot, 0, &[0, 2]);
+    expect_list(rt, alloc, lot, 13, &[1, 3]);
+    unpark_four(rt, lot);
     Ok(())
 }
 
@@ -288,28 +341,11 @@ fn a_lot_is_for_at_most_1024_threads(rt: HostRuntime) -> Result<(), Fail> {
 // It refuses a `list` that is always empty, and a growth that drops the nodes in the locks.
 #[test]
 fn waiters_stay_where_the_table_grows_twice_under_them(rt: HostRuntime) -> Result<(), Fail> {
-    let lot = Arc::new(rt.alloc(), Lot::new(rt.alloc(), 12)?)?;
-    let mut waiters = Vec::new(rt.alloc());
-    for number in 0..4 {
-        let data = lot.thread_data(&rt, rt.alloc())?;
-        let key = if number % 2 == 0 { 0 } else { 13 };
-        let started = start_waiter(&rt, Arc::try_clone(&lot)?, data, key);
-        waiters.push(started.expect(&rt, "a thread"))?;
-        assert!(rt; come_by_turns(&rt, rt.alloc(), &lot, key, number / 2 + 1)?);
-    }
-    let numbers = register_eight(&rt, rt.alloc(), &lot)?;
-    expect_equal(&rt, numbers.as_slice(), &[4, 5, 6, 7, 8, 9, 10, 11][..]);
-    expect_list(&rt, rt.alloc(), &lot, 0, &[0, 2])?;
-    expect_list(&rt, rt.alloc(), &lot, 13, &[1, 3])?;
-    for (key, number) in [(0, 0), (13, 1), (0, 2), (13, 3)] {
-        let result = unpark_one(&rt, &lot, key, |_| UnparkToken(10 + number));
-        expect_equal(&rt, result.unparked_threads, 1);
-        expect_equal(&rt, result.have_more_threads, number < 2);
-    }
-    for (number, waiter) in waiters.into_iter().enumerate() {
-        let token = UnparkToken(10 + number);
-        expect_equal(&rt, waiter.join(&rt), Some(ParkResult::Unparked(token)));
-    }
+    let lot = Arc::new(rt.alloc(), new_lot(rt.alloc(), 12)?)?;
+    let keys = [(0, 1), (13, 1), (0, 2), (13, 2)];
+    let waiters = start_row(&rt, rt.alloc(), &lot, &keys)?;
+    grow_and_unpark(&rt, rt.alloc(), &lot)?;
+    expect_tokens(&rt, waiters, &[10, 11, 12, 13]);
     Ok(())
 }
 
@@ -319,8 +355,8 @@ fn register_again_if_refused<R: Wait>(
     alloc: Global,
     lot: &Lot,
 ) -> Result<ThreadData, LotError> {
-    match lot.thread_data(rt, alloc) {
-        Err(LotError::NoMemory) => lot.thread_data(rt, alloc),
+    match register(rt, alloc, lot) {
+        Err(LotError::NoMemory) => register(rt, alloc, lot),
         registered => registered,
     }
 }
@@ -333,7 +369,7 @@ fn register_again_if_refused<R: Wait>(
 // number that was refused is then lost, and the lot full with a thread less.
 #[test]
 fn a_refused_request_for_memory_leaves_the_lot_as_it_was(rt: HostRuntime) -> Result<(), Fail> {
-    let Ok(lot) = Lot::new(rt.alloc(), 6) else {
+    let Ok(lot) = new_lot(rt.alloc(), 6) else {
         return Ok(());
     };
     for number in 0..6 {

@@ -19,7 +19,9 @@ use std::thread::Threads;
 
 const THREADS: usize = 6;
 
-// How many steps each of the four threads takes.
+const WORKERS: usize = 4;
+
+// How many steps each of the workers takes.
 const CALLS: usize = 1_000;
 
 fn enter(thread: usize, key: usize, timed: bool) -> Step {
@@ -56,9 +58,51 @@ fn stop(alloc: Global, key: usize) -> Result<Step, NoMemory> {
     }))
 }
 
-// The totals of a ticket.
-fn totals<C: Ledger, W: Ledger, U: Ledger>(ticket: &Ticket<C, W, U>) -> (usize, usize, usize) {
-    (ticket.count(), ticket.woken(), ticket.unparked())
+// The number of a ticket, a step with it, and its answer.
+type Told = (usize, Step, Result<Answer, RecordError>);
+
+// Does the steps, each with the ticket of its number, and compares the answers.
+fn expect_answers<C: Ledger, W: Ledger, U: Ledger, R: Wait + Abort>(
+    rt: &R,
+    lot: &RecordingLot<C, W, U>,
+    tickets: &mut [Ticket<C, W, U>],
+    steps: Vec<Told>,
+) {
+    for (number, step, answer) in steps {
+        if let Some(ticket) = tickets.get_mut(number) {
+            expect_equal(rt, lot.step(rt, ticket, step), answer);
+        }
+    }
+}
+
+// Compares the totals of each ticket: its entries, whom it woke, and whom it unparked.
+fn expect_totals<C: Ledger, W: Ledger, U: Ledger, R: Abort>(
+    rt: &R,
+    tickets: &[Ticket<C, W, U>],
+    expected: &[(usize, usize, usize)],
+) {
+    expect_equal(rt, tickets.len(), expected.len());
+    for (ticket, totals) in tickets.iter().zip(expected) {
+        let found = (ticket.count(), ticket.woken(), ticket.unparked());
+        expect_equal(rt, found, *totals);
+    }
+}
+
+fn steps_of_two(alloc: Global) -> Result<Vec<Told>, NoMemory> {
+    let last = UnparkToken(usize::MAX);
+    let (s, t) = (0, 1);
+    Ok(Vec::from_array(
+        alloc,
+        [
+            (s, Step::Register, Ok(Answer::Registered(0))),
+            (t, Step::Register, Ok(Answer::Registered(1))),
+            (s, enter(0, 1, false), Ok(Answer::Entered)),
+            (t, one(1, usize::MAX), Ok(unparked(1))),
+            (s, Step::Return { thread: 0 }, Ok(Answer::Unparked(last))),
+            (s, Step::Return { thread: 0 }, Ok(Answer::Misfit)),
+            (t, stop(alloc, 1)?, Ok(unparked(0))),
+        ],
+    )?)
 }
 
 // Two tickets in turn. It refuses a lot that tells one ticket what another was told, counts a step
@@ -74,26 +118,11 @@ fn use_two_tickets<C: Ledger, W: Ledger, U: Ledger, R: Wait + Abort>(
         × (blanks.2.parts ≡ U.parts) }
     requires workers { (C.parts ≡ 2) × (W.parts ≡ 2) × (U.parts ≡ 2) }
 {
+    let steps = steps_of_two(alloc)?;
     let (count, woken, wakes) = blanks;
     let (lot, mut tickets) = RecordingLot::<C, W, U>::new(alloc, 2, 8, 2, count, woken, wakes)?;
-    let last = UnparkToken(usize::MAX);
-    let (s, t) = (0, 1);
-    let steps = [
-        (s, Step::Register, Answer::Registered(0)),
-        (t, Step::Register, Answer::Registered(1)),
-        (s, enter(0, 1, false), Answer::Entered),
-        (t, one(1, usize::MAX), unparked(1)),
-        (s, Step::Return { thread: 0 }, Answer::Unparked(last)),
-        (s, Step::Return { thread: 0 }, Answer::Misfit),
-        (t, stop(alloc, 1)?, unparked(0)),
-    ];
-    for (ticket, step, answer) in steps {
-        if let Some(ticket) = tickets.get_mut(ticket) {
-            expect_equal(rt, lot.step(rt, ticket, step), Ok(answer));
-        }
-    }
-    expect_equal(rt, totals(&tickets[s]), (3, 1, 0));
-    expect_equal(rt, totals(&tickets[t]), (3, 0, 1));
+    expect_answers(rt, &lot, tickets.as_mut_slice(), steps);
+    expect_totals(rt, tickets.as_slice(), &[(3, 1, 0), (3, 0, 1)]);
     expect_equal(rt, lot.close(tickets).journal().len(), 6);
     Ok(())
 }
@@ -102,6 +131,23 @@ fn use_two_tickets<C: Ledger, W: Ledger, U: Ledger, R: Wait + Abort>(
 fn a_ticket_counts_what_its_worker_was_told(rt: HostRuntime) -> Result<(), Fail> {
     let blanks = (Blank::new(2), Blank::new(2), Blank::new(2));
     use_two_tickets::<Brand, Brand, Brand, HostRuntime>(&rt, rt.alloc(), blanks)
+}
+
+fn steps_of_one(alloc: Global) -> Result<Vec<Told>, NoMemory> {
+    let timed_out = Answer::TimedOut { key: 1, last: true };
+    let full = RecordError::JournalFull;
+    Ok(Vec::from_array(
+        alloc,
+        [
+            (0, Step::Register, Ok(Answer::Registered(0))),
+            (0, enter(0, 1, true), Ok(Answer::Entered)),
+            (0, one(1, 42), Err(full)),
+            (0, Step::Deadline { thread: 0 }, Ok(Answer::Late)),
+            (0, Step::Resolve { thread: 0 }, Ok(timed_out)),
+            (0, Step::Register, Err(full)),
+            (0, Step::Resolve { thread: 0 }, Ok(Answer::Misfit)),
+        ],
+    )?)
 }
 
 // One ticket, and a journal with room for four entries. It refuses a lot that always answers that
@@ -117,26 +163,11 @@ fn fill_the_journal<C: Ledger, W: Ledger, U: Ledger, R: Wait + Abort>(
         × (blanks.2.parts ≡ U.parts) }
     requires workers { (C.parts ≡ 1) × (W.parts ≡ 1) × (U.parts ≡ 1) }
 {
+    let steps = steps_of_one(alloc)?;
     let (count, woken, wakes) = blanks;
     let (lot, mut tickets) = RecordingLot::<C, W, U>::new(alloc, 1, 4, 1, count, woken, wakes)?;
-    let steps = [
-        (Step::Register, Ok(Answer::Registered(0))),
-        (enter(0, 1, true), Ok(Answer::Entered)),
-        (one(1, 42), Err(RecordError::JournalFull)),
-        (Step::Deadline { thread: 0 }, Ok(Answer::Late)),
-        (
-            Step::Resolve { thread: 0 },
-            Ok(Answer::TimedOut { key: 1, last: true }),
-        ),
-        (Step::Register, Err(RecordError::JournalFull)),
-        (Step::Resolve { thread: 0 }, Ok(Answer::Misfit)),
-    ];
-    for (step, expected) in steps {
-        if let Some(ticket) = tickets.get_mut(0) {
-            expect_equal(rt, lot.step(rt, ticket, step), expected);
-        }
-    }
-    expect_equal(rt, totals(&tickets[0]), (4, 0, 0));
+    expect_answers(rt, &lot, tickets.as_mut_slice(), steps);
+    expect_totals(rt, tickets.as_slice(), &[(4, 0, 0)]);
     let recorded = lot.close(tickets);
     expect_replay(rt, alloc, &recorded, 1)?;
     expect_equal(rt, recorded.journal().len(), 4);
@@ -181,18 +212,32 @@ fn step_of(call: usize) -> Step {
     }
 }
 
-// What each of four threads does.
+// What each of the threads does with its ticket.
 fn call_often<C: Ledger, W: Ledger, U: Ledger, R: Wait>(
     rt: &R,
     lot: &RecordingLot<C, W, U>,
-    tickets: &mut [Ticket<C, W, U>],
+    ticket: &mut Ticket<C, W, U>,
     first: usize,
 ) {
-    if let Some(ticket) = tickets.first_mut() {
-        for call in 0..CALLS {
-            let _ = lot.step(rt, ticket, step_of(first.wrapping_add(call)));
-        }
+    for call in 0..CALLS {
+        let _ = lot.step(rt, ticket, step_of(first.wrapping_add(call)));
     }
+}
+
+// A thread for each ticket, each of which begins with another step.
+fn call_from_each<C, W, U, R>(rt: &R, lot: &RecordingLot<C, W, U>, tickets: &mut [Ticket<C, W, U>])
+where
+    C: Ledger + Send + Sync,
+    W: Ledger + Send + Sync,
+    U: Ledger + Send + Sync,
+    R: Threads + Wait + Sync,
+{
+    thread::for_each_mut(
+        rt,
+        tickets,
+        WORKERS,
+        &|number, ticket| call_often(rt, lot, ticket, number.wrapping_mul(3)),
+    );
 }
 
 // It refuses a lot whose journal is not what its threads were told.
@@ -216,32 +261,13 @@ where
     let (lot, mut tickets) = RecordingLot::<C, W, U>::new(
         alloc,
         THREADS,
-        4 * CALLS,
-        4,
+        WORKERS * CALLS,
+        WORKERS,
         count,
         woken,
         wakes,
     )?;
-    let (front, back) = tickets.as_mut_slice().split_at_mut(2);
-    let (first, second) = front.split_at_mut(1);
-    let (third, fourth) = back.split_at_mut(1);
-    thread::join(
-        rt,
-        || {
-            thread::join(
-                rt,
-                || call_often(rt, &lot, first, 0),
-                || call_often(rt, &lot, second, 3),
-            )
-        },
-        || {
-            thread::join(
-                rt,
-                || call_often(rt, &lot, third, 5),
-                || call_often(rt, &lot, fourth, 8),
-            )
-        },
-    );
+    call_from_each(rt, &lot, tickets.as_mut_slice());
     let mut counted: usize = 0;
     for ticket in &tickets {
         counted = counted.wrapping_add(ticket.count());

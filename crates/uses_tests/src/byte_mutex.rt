@@ -1,5 +1,7 @@
 //! Tests of the mutex among threads.
 
+use crate::expect_equal;
+use crate::lots::register;
 use parking_lot_core::{ParkingLot, ThreadData, ThreadParkerT, WordParker};
 use std::alloc::Global;
 use std::sync::atomic::{AtomicUsize, Ordering};
@@ -97,14 +99,15 @@ fn threads_count_in_turn(rt: HostRuntime) -> Result<(), Fail> {
     let shared = Arc::new(rt.alloc(), Shared::new(lot))?;
     let mut counting = Vec::new(rt.alloc());
     for _ in 0..THREADS {
-        let data = shared.lot.thread_data(&rt, rt.alloc())?;
+        let data = register(&rt, rt.alloc(), &shared.lot)?;
         let started = start_counting(&rt, Arc::try_clone(&shared)?, data);
         counting.push(started.expect(&rt, "a thread"))?;
     }
     for thread in counting {
         assert!(rt; thread.join(&rt));
     }
-    assert_eq!(rt; shared.counts(), (THREADS * ROUNDS, THREADS * ROUNDS));
+    let all = THREADS * ROUNDS;
+    expect_equal(&rt, shared.counts(), (all, all));
     Ok(())
 }
 
@@ -127,15 +130,15 @@ fn come_by_turns<P: ThreadParkerT, R: Wait>(rt: &R, alloc: Global, lot: &Parking
 fn a_waiter_is_handed_the_mutex(rt: HostRuntime) -> Result<(), Fail> {
     let lot = ParkingLot::<WordParker>::new(rt.alloc(), 1)?;
     let shared = Arc::new(rt.alloc(), Shared::new(lot))?;
-    let data = shared.lot.thread_data(&rt, rt.alloc())?;
+    let data = register(&rt, rt.alloc(), &shared.lot)?;
     let theirs = Arc::try_clone(&shared)?;
     let held = shared.mutex.try_lock().expect(&rt, "nobody holds it");
     let started = start_counting(&rt, theirs, data);
     let came = come_by_turns(&rt, rt.alloc(), &shared.lot);
     let counts = shared.counts();
     let handed = shared.mutex.unlock(&rt, &shared.lot, held);
-    assert_eq!(rt; (came, counts, handed), (true, (0, 0), true));
+    expect_equal(&rt, (came, counts, handed), (true, (0, 0), true));
     assert!(rt; started.expect(&rt, "a thread").join(&rt));
-    assert_eq!(rt; shared.counts(), (ROUNDS, ROUNDS));
+    expect_equal(&rt, shared.counts(), (ROUNDS, ROUNDS));
     Ok(())
 }

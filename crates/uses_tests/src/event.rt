@@ -1,6 +1,7 @@
 //! Tests of the event among threads.
 
 use crate::expect_equal;
+use crate::lots::register;
 use parking_lot_core::{ParkingLot, ThreadData, ThreadParkerT, WordParker};
 use std::alloc::Global;
 use std::sync::{Arc, Wait};
@@ -74,7 +75,7 @@ fn the_event_wakes_every_thread(rt: HostRuntime) -> Result<(), Fail> {
     let shared = Arc::new(rt.alloc(), shared)?;
     let mut waiters = Vec::new(rt.alloc());
     for _ in 0..THREADS {
-        let data = shared.lot.thread_data(&rt, rt.alloc())?;
+        let data = register(&rt, rt.alloc(), &shared.lot)?;
         let started = start_waiter(&rt, Arc::try_clone(&shared)?, data);
         waiters.push(started.expect(&rt, "a thread"))?;
     }
@@ -86,8 +87,8 @@ fn the_event_wakes_every_thread(rt: HostRuntime) -> Result<(), Fail> {
     }
 
     // Who comes after the event does not sleep.
-    let mut data = shared.lot.thread_data(&rt, rt.alloc())?;
-    assert!(rt; shared.event.wait(&rt, &shared.lot, &mut data, None));
+    let data = register(&rt, rt.alloc(), &shared.lot)?;
+    assert!(rt; see_it_set(&rt, &shared, data));
     expect_equal(&rt, shared.event.set(&rt, &shared.lot), 0);
     Ok(())
 }

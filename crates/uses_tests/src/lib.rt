@@ -8,6 +8,8 @@ mod event;
 #[cfg(test)]
 mod interleaving;
 #[cfg(test)]
+mod lots;
+#[cfg(test)]
 mod recording;
 #[cfg(test)]
 mod semaphore;

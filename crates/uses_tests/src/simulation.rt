@@ -1,9 +1,12 @@
 //! Tests of simulations.
 
 use crate::expect_equal;
+use crate::lots::{enter, expect_list, lot_of_two, new_lot};
 use parking_lot_core::lot::{Lot, Status};
 use parking_lot_core::schedule::{Answer, Op, Step};
-use parking_lot_core::{DEFAULT_PARK_TOKEN, ParkResult, UnparkToken};
+use parking_lot_core::{DEFAULT_PARK_TOKEN, NoMemory, ParkResult, UnparkToken};
+use std::alloc::Global;
+use std::process::Abort;
 use std::test::Fail;
 use uses::semaphore::PERMIT;
 use uses::simulation::{simulate, two_tasks, wait_in_vain};
@@ -24,7 +27,7 @@ fn a_run_tells_each_answer(rt: HostRuntime) -> Result<(), Fail> {
         Step::Unpark(Op::All { key: 1, token }),
         Step::Return { thread: 0 },
     ];
-    let mut lot = Lot::new(rt.alloc(), 1)?;
+    let mut lot = new_lot(rt.alloc(), 1)?;
     let answers = simulate(rt.alloc(), &mut lot, &steps)?;
     let expected = [
         Answer::Registered(0),
@@ -37,23 +40,31 @@ fn a_run_tells_each_answer(rt: HostRuntime) -> Result<(), Fail> {
     Ok(())
 }
 
+// Thread 1 waits in vain on key 5, where it is last or not.
+fn expect_in_vain<R: Abort>(
+    rt: &R,
+    alloc: Global,
+    lot: &mut Lot,
+    last: bool,
+) -> Result<(), NoMemory> {
+    assert_eq!(rt; lot.status(1), Status::Running);
+    let answers = wait_in_vain(alloc, lot, 1, 5)?;
+    let expected = [
+        Answer::Entered,
+        Answer::Late,
+        Answer::TimedOut { key: 5, last },
+    ];
+    expect_equal(rt, answers.as_slice(), expected.as_slice());
+    Ok(())
+}
+
 #[test]
 fn who_waits_in_vain_leaves_the_others(rt: HostRuntime) -> Result<(), Fail> {
-    let mut lot = Lot::new(rt.alloc(), 2)?;
-    expect_equal(&rt, lot.register(), Ok(0));
-    expect_equal(&rt, lot.register(), Ok(1));
+    let mut lot = lot_of_two(&rt, rt.alloc())?;
     for last in [true, false] {
-        assert_eq!(rt; lot.status(1), Status::Running);
-        let answers = wait_in_vain(rt.alloc(), &mut lot, 1, 5)?;
-        let expected = [
-            Answer::Entered,
-            Answer::Late,
-            Answer::TimedOut { key: 5, last },
-        ];
-        expect_equal(&rt, answers.as_slice(), expected.as_slice());
-        let entered = lot.enter(0, 5, || true, DEFAULT_PARK_TOKEN, false);
-        expect_equal(&rt, entered.is_ok(), last);
-        expect_equal(&rt, lot.list(5)?.as_slice(), [0].as_slice());
+        expect_in_vain(&rt, rt.alloc(), &mut lot, last)?;
+        expect_equal(&rt, enter(&mut lot, 0, 5, false).is_ok(), last);
+        expect_list(&rt, &lot, 5, &[0])?;
     }
     Ok(())
 }

@@ -1,7 +1,9 @@
 //! Tests of the semaphore among threads.
 
-use parking_lot_core::{ParkingLot, ThreadData, ThreadParkerT, WordParker};
-use std::alloc::AllocError;
+use crate::expect_equal;
+use crate::lots::register;
+use parking_lot_core::{LotError, ParkingLot, ThreadData, ThreadParkerT, WordParker};
+use std::alloc::{AllocError, Global};
 use std::sync::Wait;
 use std::sync::atomic::{AtomicUsize, Ordering};
 use std::test::Fail;
@@ -72,6 +74,20 @@ where
     Ok(visits.into_iter().all(|always_room| always_room))
 }
 
+// How many permits are free, of which it takes one. `None` says that the data is of another lot.
+fn free_permits<P: ThreadParkerT, R: Wait + Clock>(
+    rt: &R,
+    alloc: Global,
+    shared: &Shared<P>,
+) -> Result<Option<usize>, LotError> {
+    let mut data = register(rt, alloc, &shared.lot)?;
+    if !shared.lot.accepts(&data) {
+        return Ok(None);
+    }
+    let free = shared.semaphore.acquire(rt, &shared.lot, &mut data);
+    Ok(Some(free))
+}
+
 // It refuses an `acquire` that takes no permit, and a `release` that wakes nobody.
 #[test]
 fn as_many_threads_are_inside_as_there_are_permits(rt: HostRuntime) -> Result<(), Fail> {
@@ -83,14 +99,13 @@ fn as_many_threads_are_inside_as_there_are_permits(rt: HostRuntime) -> Result<()
     };
     let mut data = Vec::new(rt.alloc());
     for _ in 0..THREADS {
-        data.push(shared.lot.thread_data(&rt, rt.alloc())?)?;
+        data.push(register(&rt, rt.alloc(), &shared.lot)?)?;
     }
     assert!(rt; visit_together(&rt, &shared, data)?);
-    assert_eq!(rt; shared.came.load(Ordering::SeqCst), THREADS * ROUNDS);
+    expect_equal(&rt, shared.came.load(Ordering::SeqCst), THREADS * ROUNDS);
 
     // All permits are free again.
-    let mut own = shared.lot.thread_data(&rt, rt.alloc())?;
-    let free = shared.semaphore.acquire(&rt, &shared.lot, &mut own);
-    assert_eq!(rt; free, PERMITS);
+    let free = free_permits(&rt, rt.alloc(), &shared)?;
+    expect_equal(&rt, free, Some(PERMITS));
     Ok(())
 }

@@ -132,3 +132,16 @@ pub fn unpark_others<P: ThreadParkerT, R: Wait>(
         told,
     }
 }
+
+// Unparks those waiters of the key that the filter chooses.
+fn unpark_by<
+    P: ThreadParkerT,
+    R: Wait,
+    F: FnMut(ParkToken) -> FilterOp,
+    C: FnOnce(UnparkResult) -> UnparkToken,
+>(rt: &R, lot: &ParkingLot<P>, key: usize, filter: F, callback: C) -> UnparkResult
+    requires filter { (state : F) (park_token : _) → F.pre state park_token }
+    requires callback { (answer : _) → C.pre callback answer }
+{
+    unpark_filter(rt, lot, key, filter, callback)
+}

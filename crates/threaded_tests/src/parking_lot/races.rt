@@ -1,4 +1,4 @@
-//! Sections that race with one another and with a growing table.
+//! Sections that race with one another and with a table that grows and is trimmed.
 
 use super::*;
 use crate::expect_equal;
@@ -9,20 +9,31 @@ const PARKS_EACH: usize = 200;
 
 const MAX_REGISTERED: usize = 100;
 
+const TRIMS: usize = 50;
+
 // What one of the threads does.
 #[derive(Drop)]
 enum Job {
     // Parks on the keys 0 and 13 by turns.
     Park(ThreadData),
 
-    // Moves all threads of key 0 to key 13, until the parks are done.
-    Requeue,
-
-    // Unparks all threads of key 13, until the parks are done.
-    UnparkAll,
+    // Calls this unpark until the parks are done.
+    Unpark(Call),
 
     // Registers threads until no number is left, and frees their numbers.
     Register,
+
+    // Trims the table, over and over.
+    Trim,
+}
+
+#[derive(Copy, Clone)]
+enum Call {
+    // Moves all threads of key 0 to key 13.
+    Requeue,
+
+    // Unparks all threads of key 13.
+    UnparkAll,
 }
 
 // How often one thread was unparked, and how many it unparked.
@@ -39,22 +50,9 @@ fn park_briefly<P: ThreadParkerT, R: Wait + Clock + Abort>(
     data: &mut ThreadData,
     key: usize,
 ) -> bool {
-    assert!(rt; lot.accepts(data), "a number of this lot");
-    let now = Instant::now(rt).expect(rt, "a time of the clock");
-    let deadline = now
-        .checked_add(Duration::from_millis(1))
-        .expect(rt, "a time of the clock");
-    let result = park(
-        rt,
-        lot,
-        data,
-        key,
-        || true,
-        || (),
-        |_, _| (),
-        DEFAULT_PARK_TOKEN,
-        Some(deadline),
-    );
+    let deadline = Some(from_now(rt, Duration::from_millis(1)));
+    let parked = park_then(rt, lot, data, key, DEFAULT_PARK_TOKEN, deadline, || ());
+    let (result, _) = parked.expect(rt, "a number of this lot");
     assert!(rt;
         result != ParkResult::Invalid,
         "the validation answered true"
@@ -82,19 +80,18 @@ fn park_by_turns<P: ThreadParkerT, R: Wait + Clock + Abort>(
     }
 }
 
-fn requeue_until_done<P: ThreadParkerT, R: Wait>(
+fn unpark_until_done<P: ThreadParkerT, R: Wait>(
     rt: &R,
     lot: &ParkingLot<P>,
     done: &AtomicUsize,
+    call: Call,
 ) -> Tally {
     let mut answered = 0_usize;
     for _ in 0..TURNS {
         if done.load(Ordering::SeqCst) == PARKERS {
             break;
         }
-        let op = || RequeueOp::RequeueAll;
-        let result = unpark_requeue(rt, lot, 0, 13, op, |_, _| DEFAULT_UNPARK_TOKEN);
-        answered = answered.wrapping_add(result.unparked_threads);
+        answered = answered.wrapping_add(unpark_some(rt, lot, call));
     }
     Tally {
         received: 0,
@@ -102,21 +99,14 @@ fn requeue_until_done<P: ThreadParkerT, R: Wait>(
     }
 }
 
-fn unpark_until_done<P: ThreadParkerT, R: Wait>(
-    rt: &R,
-    lot: &ParkingLot<P>,
-    done: &AtomicUsize,
-) -> Tally {
-    let mut answered = 0_usize;
-    for _ in 0..TURNS {
-        if done.load(Ordering::SeqCst) == PARKERS {
-            break;
+// It answers how many it unparked.
+fn unpark_some<P: ThreadParkerT, R: Wait>(rt: &R, lot: &ParkingLot<P>, call: Call) -> usize {
+    match call {
+        Call::Requeue => {
+            let requeued = requeue(rt, lot, 0, 13, RequeueOp::RequeueAll, DEFAULT_UNPARK_TOKEN);
+            requeued.result.unparked_threads
         }
-        answered = answered.wrapping_add(unpark_all(rt, lot, 13, DEFAULT_UNPARK_TOKEN));
-    }
-    Tally {
-        received: 0,
-        answered,
+        Call::UnparkAll => unpark_all(rt, lot, 13, DEFAULT_UNPARK_TOKEN),
     }
 }
 
@@ -129,12 +119,28 @@ fn register_the_rest<P: ThreadParkerT, R: Wait + Clock + Abort>(
     let mut registered = Vec::new(alloc);
     for _ in PARKERS..MAX_REGISTERED {
         thread::sleep(rt, Duration::from_millis(1));
-        let data = lot.thread_data(rt, alloc).expect(rt, "a number is left");
+        let data = register(rt, alloc, lot).expect(rt, "a number is left");
         registered.push(data).expect(rt, "memory");
     }
     assert!(rt; is_full(rt, alloc, lot));
     for data in registered {
         lot.retire(rt, data);
+    }
+    Tally {
+        received: 0,
+        answered: 0,
+    }
+}
+
+// Trims the table, 2 ms apart.
+fn trim_by_turns<P: ThreadParkerT, R: Wait + Clock + Abort>(
+    rt: &R,
+    alloc: Global,
+    lot: &ParkingLot<P>,
+) -> Tally {
+    for _ in 0..TRIMS {
+        thread::sleep(rt, Duration::from_millis(2));
+        lot.trim(rt, alloc).expect(rt, "memory");
     }
     Tally {
         received: 0,
@@ -151,9 +157,9 @@ fn play<P: ThreadParkerT, R: Wait + Clock + Abort>(
 ) -> Tally {
     match job {
         Job::Park(data) => park_by_turns(rt, lot, data, done),
-        Job::Requeue => requeue_until_done(rt, lot, done),
-        Job::UnparkAll => unpark_until_done(rt, lot, done),
+        Job::Unpark(call) => unpark_until_done(rt, lot, done, call),
         Job::Register => register_the_rest(rt, alloc, lot),
+        Job::Trim => trim_by_turns(rt, alloc, lot),
     }
 }
 
@@ -179,27 +185,30 @@ where
     let lot = ParkingLot::<P>::new(alloc, MAX_REGISTERED)?;
     let mut jobs = Vec::new(alloc);
     for _ in 0..PARKERS {
-        jobs.push(Job::Park(lot.thread_data(rt, alloc)?))?;
+        jobs.push(Job::Park(register(rt, alloc, &lot)?))?;
     }
-    jobs.push(Job::Requeue)?;
-    jobs.push(Job::UnparkAll)?;
+    jobs.push(Job::Unpark(Call::Requeue))?;
+    jobs.push(Job::Unpark(Call::UnparkAll))?;
     jobs.push(Job::Register)?;
+    jobs.push(Job::Trim)?;
     let (mut received, mut answered) = (0_usize, 0_usize);
     for tally in play_all(rt, alloc, &lot, jobs)? {
         received = received.wrapping_add(tally.received);
         answered = answered.wrapping_add(tally.answered);
     }
     expect_equal(rt, received, answered);
-    expect_list(rt, alloc, &lot, 0, &[])?;
-    Ok(expect_list(rt, alloc, &lot, 13, &[])?)
+    expect_list(rt, alloc, &lot, 0, &[]);
+    expect_list(rt, alloc, &lot, 13, &[]);
+    Ok(())
 }
 
 // It refuses a section that goes on in a bucket of the table that was in use before, and a thread
 // that leaves its queue although its unpark was committed.
 #[test]
-fn nobody_is_lost_between_unparks_requeues_deadlines_and_growth(
+fn nobody_is_lost_between_unparks_requeues_deadlines_growth_and_trims(
     rt: HostRuntime,
 ) -> Result<(), Fail> {
     nobody_is_lost::<ThreadParker, _>(&rt, rt.alloc())?;
+    nobody_is_lost::<WordParker, _>(&rt, rt.alloc())?;
     nobody_is_lost::<YieldParker, _>(&rt, rt.alloc())
 }

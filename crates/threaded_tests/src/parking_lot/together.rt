@@ -3,58 +3,20 @@
 use super::*;
 use crate::expect_equal;
 
-// Starts so many threads, each of which parks on the key once the one before it waits there.
-fn start_row<P, R>(
-    rt: &R,
-    alloc: Global,
-    lot: &Arc<ParkingLot<P>, Global>,
-    key: usize,
-    threads: usize,
-) -> Result<Vec<JoinHandle<Option<ParkResult>>>, Fail>
-where
-    P: ThreadParkerT + Send + Sync + 'static,
-    P::UnparkHandle: 'static,
-    R: Threads + Wait + Clock + Abort + Copy + Send + 'static,
-{
-    let mut waiters = Vec::new(alloc);
-    for number in 0..threads {
-        let data = lot.thread_data(rt, alloc)?;
-        let started = start_waiter(rt, Arc::try_clone(lot)?, data, key);
-        waiters.push(started.expect(rt, "a thread"))?;
-        assert!(rt; come_by_turns(rt, alloc, lot, key, number + 1)?);
-    }
-    Ok(waiters)
-}
-
 // Unparks the first waiter of key 1 with token 9 and moves the others to key 2; there it unparks
 // all but thread 1 with token 5, and then all with token 42.
-fn unpark_three<P: ThreadParkerT, R: Wait + Abort>(
-    rt: &R,
-    alloc: Global,
-    lot: &ParkingLot<P>,
-) -> Result<(), Fail> {
-    let requeued = unpark_requeue(
-        rt,
-        lot,
-        1,
-        2,
-        || RequeueOp::UnparkOneRequeueRest,
-        |_, _| UnparkToken(9),
-    );
+fn unpark_three<P: ThreadParkerT, R: Wait + Abort>(rt: &R, alloc: Global, lot: &ParkingLot<P>) {
+    let op = RequeueOp::UnparkOneRequeueRest;
+    let requeued = requeue(rt, lot, 1, 2, op, UnparkToken(9)).result;
     expect_equal(
         rt,
         (requeued.unparked_threads, requeued.requeued_threads),
         (1, 2),
     );
     assert!(rt; !requeued.have_more_threads);
-    expect_list(rt, alloc, lot, 1, &[])?;
-    expect_list(rt, alloc, lot, 2, &[1, 2])?;
-    let filter = |token: ParkToken| if token.0 == 1 {
-        FilterOp::Skip
-    } else {
-        FilterOp::Unpark
-    };
-    let filtered = unpark_by(rt, lot, 2, filter, |_| UnparkToken(5));
+    expect_list(rt, alloc, lot, 1, &[]);
+    expect_list(rt, alloc, lot, 2, &[1, 2]);
+    let filtered = unpark_others(rt, lot, 2, Some(ParkToken(1)), UnparkToken(5)).result;
     expect_equal(
         rt,
         (filtered.unparked_threads, filtered.requeued_threads),
@@ -62,7 +24,6 @@ fn unpark_three<P: ThreadParkerT, R: Wait + Abort>(
     );
     assert!(rt; filtered.have_more_threads);
     expect_equal(rt, unpark_all(rt, lot, 2, UnparkToken(42)), 1);
-    Ok(())
 }
 
 fn three_threads_are_unparked_in_three_ways<P, R>(rt: &R, alloc: Global) -> Result<(), Fail>
@@ -72,15 +33,9 @@ where
     R: Threads + Wait + Clock + Abort + Copy + Send + 'static,
 {
     let lot = Arc::new(alloc, ParkingLot::<P>::new(alloc, 3)?)?;
-    let waiters = start_row(rt, alloc, &lot, 1, 3)?;
-    unpark_three(rt, alloc, &lot)?;
-    for (waiter, token) in waiters.into_iter().zip([9, 42, 5]) {
-        expect_equal(
-            rt,
-            waiter.join(rt),
-            Some(ParkResult::Unparked(UnparkToken(token))),
-        );
-    }
+    let waiters = start_row(rt, alloc, &lot, &[(1, 1), (1, 2), (1, 3)])?;
+    unpark_three(rt, alloc, &lot);
+    expect_tokens(rt, waiters, &[9, 42, 5]);
     Ok(())
 }
 
@@ -150,9 +105,9 @@ where
     R: Threads + Wait + Clock + Abort + Sync,
 {
     let lot = ParkingLot::<P>::new(alloc, 6)?;
-    let data = lot.thread_data(rt, alloc)?;
+    let data = register(rt, alloc, &lot)?;
     for _ in 1..6 {
-        drop(lot.thread_data(rt, alloc)?);
+        drop(register(rt, alloc, &lot)?);
     }
     let (parked, unparked) = two_sections_at_once(rt, &lot, data);
     expect_equal(rt, parked, Some((ParkResult::Invalid, true)));
@@ -169,25 +124,11 @@ fn time_out_after_a_move<P: ThreadParkerT, R: Wait + Clock>(
     from: usize,
     deadline: Instant,
     moved: &AtomicBool,
-) -> Option<(ParkResult, usize)> {
-    if !lot.accepts(&data) {
-        return None;
-    }
-    let mut left = from;
-    let result = park(
-        rt,
-        lot,
-        &mut data,
-        from,
-        || true,
-        || {
-            raised_by_turns(moved);
-        },
-        |key, _| left = key,
-        DEFAULT_PARK_TOKEN,
-        Some(deadline),
-    );
-    Some((result, left))
+) -> Option<(ParkResult, Option<usize>)> {
+    let deadline = Some(deadline);
+    park_then(rt, lot, &mut data, from, DEFAULT_PARK_TOKEN, deadline, || {
+        raised_by_turns(moved);
+    })
 }
 
 // Moves one thread to the other key as soon as one waits.
@@ -199,9 +140,9 @@ fn move_by_turns<P: ThreadParkerT, R: Wait>(
     moved: &AtomicBool,
 ) -> bool {
     for _ in 0..TURNS {
-        let op = || RequeueOp::RequeueAll;
-        let result = unpark_requeue(rt, lot, from, to, op, |_, _| DEFAULT_UNPARK_TOKEN);
-        if result.requeued_threads == 1 {
+        let op = RequeueOp::RequeueAll;
+        let requeued = requeue(rt, lot, from, to, op, DEFAULT_UNPARK_TOKEN);
+        if requeued.result.requeued_threads == 1 {
             moved.store(true, Ordering::SeqCst);
             return true;
         }
@@ -217,7 +158,7 @@ fn is_moved_and_times_out<P: ThreadParkerT + Send + Sync, R: Threads + Wait + Cl
     from: usize,
     to: usize,
     deadline: Instant,
-) -> (Option<(ParkResult, usize)>, bool) {
+) -> (Option<(ParkResult, Option<usize>)>, bool) {
     let moved = AtomicBool::new(false);
     thread::join(
         rt,
@@ -233,12 +174,13 @@ fn leaves_its_new_key<P: ThreadParkerT + Send + Sync, R: Threads + Wait + Clock 
     to: usize,
 ) -> Result<(), Fail> {
     let lot = ParkingLot::<P>::new(alloc, 1)?;
-    let data = lot.thread_data(rt, alloc)?;
-    let deadline = from_now(rt, Duration::from_millis(20))?;
+    let data = register(rt, alloc, &lot)?;
+    let deadline = from_now(rt, Duration::from_millis(20));
     let (left, moved) = is_moved_and_times_out(rt, &lot, data, from, to, deadline);
     assert!(rt; moved, "nobody came to be moved");
-    expect_equal(rt, left, Some((ParkResult::TimedOut, to)));
-    Ok(expect_list(rt, alloc, &lot, to, &[])?)
+    expect_equal(rt, left, Some((ParkResult::TimedOut, Some(to))));
+    expect_list(rt, alloc, &lot, to, &[]);
+    Ok(())
 }
 
 // It refuses a requeue that moves nobody, a filter that unparks nobody, and an `unpark_all` that

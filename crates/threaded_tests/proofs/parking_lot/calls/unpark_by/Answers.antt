@@ -1,6 +1,6 @@
 use Rattle.std.proofs.Common.{rules}
 use Rattle.lot_base.proofs.FilterLemmas.{IsFilterCallable-always}
-use Rattle.threaded_tests.proofs.parking_lot.unpark_by.Goals as goal
+use Rattle.threaded_tests.proofs.parking_lot.calls.unpark_by.Goals as goal
 
 pub unpark_filter-requires-after_bounds : goal.unpark_filter-requires-after_bounds
 unpark_filter-requires-after_bounds g c κs within =
