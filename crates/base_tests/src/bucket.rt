@@ -1,7 +1,7 @@
 //! Worked rows of each step. The threads a, b, c and d are 0, 1, 2 and 3, and each parks with its
 //! number for a park token. All buckets are those of a table of 16, where the keys 0 and 13 have
 //! place 0, key 1 has place 9, key 2 has place 3 and key 7 has place 5.
-#![tactic(auto, using(lot_base::proofs::TestLemmas::is_table_size_16, lot_base::proofs::TestLemmas::is_table_size_32, crate::proofs::TableSizes::is_table_size_65536))]
+#![tactic(auto, using(crate::proofs::TableSizes::is_table_size_16, crate::proofs::TableSizes::is_table_size_32, crate::proofs::TableSizes::is_table_size_65536))]
 
 mod steps;
 mod walk;

@@ -1,5 +1,5 @@
 //! Each step with closures that note what they were handed.
-#![tactic(auto, using(lot_base::proofs::TestLemmas::is_table_size_16))]
+#![tactic(auto, using(crate::proofs::TableSizes::is_table_size_16))]
 
 ghost use Rattle.std.specs.Prelude.{◌≡◌, IfOk};
 ghost use Rattle.lot_base.specs.Node.{fields};

@@ -1,6 +1,6 @@
 //! All ways to fill two buckets with up to four threads, on two keys of one place and one key of
 //! another, and each step on each of them, compared with a plain computation on lists of numbers.
-#![tactic(auto, using(lot_base::proofs::TestLemmas::is_table_size_16))]
+#![tactic(auto, using(crate::proofs::TableSizes::is_table_size_16))]
 
 ghost use Rattle.std.specs.Prelude.{◌<◌};
 
