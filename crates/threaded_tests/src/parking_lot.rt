@@ -224,6 +224,7 @@ fn two_threads_park_and_unpark(rt: HostRuntime) -> Result<(), Fail> {
 fn a_park_that_is_not_valid_ends_at_once(rt: HostRuntime) -> Result<(), Fail> {
     let lot = new_lot(rt.alloc(), 1)?;
     let mut data = register(&rt, rt.alloc(), &lot)?;
+    assert!(rt; lot.accepts(&data), "a number of this lot");
     let mut validations = 0;
     let result = park(
         &rt,
