@@ -1,6 +1,6 @@
 -- Thread numbers, and the sizes of tables.
 use Rattle.std.proofs.Common.{◌≡◌, ℕ, ◌+◌, ◌/◌, ◌^◌, ◌<◌, ◌≤◌, List, [], ◌∷◌, length, get_or, max, min, slice_get, slice_set}
-use Rattle.std.proofs.Common.{Some, refl, ap, ◌∙◌, ⊎_elim, arith, suc, zero, cond}
+use Rattle.std.proofs.Common.{Some, refl, sym, ap, ◌∙◌, ◌*◌, ⊎_elim, arith, suc, zero, cond}
 use Rattle.std.proofs.Math.Nat.{pow-le-pow_right}
 use Rattle.std.proofs.lemmas.Bool.{cases_lt}
 use Rattle.std.proofs.lemmas.Nat.{pow_below}
@@ -8,8 +8,10 @@ use Rattle.std.proofs.lemmas.List.Sums.{count_by-le-length, sum_by-cons, sum_by-
 use Rattle.std.proofs.lemmas.Option.{none-some, get_or_from_slice_get, slice_get_within}
 use Rattle.std.specs.Int.{IsPowerOfTwo}
 use Rattle.lot_base.specs.Place.{IsTableSize}
+use Rattle.lot_base.proofs.PlaceLemmas.{exponent_of_power}
 use Rattle.lot_exclusive.specs.declared.table.Use.{Use}
 use Rattle.lot_exclusive.specs.declared.table.Use.TheVariants.{Free, Registered}
+use Rattle.lot_exclusive.specs.Size.{IsNextPowerOfTwo, IsTrimmedSize, IsTooLarge}
 use Rattle.lot_exclusive.specs.Table.{is_in_use, count_registered}
 
 -- one number more, and what is counted then
@@ -84,3 +86,34 @@ IsTableSize-trimmed size least table power above =
     (λ (h : least ≤ size). let e : min least size ≡ least = omega arith in
     rw e (IsTableSize-power least power above (omega (arith, h, IsTableSize-greatest size table))))
     (cases_lt size least)
+
+-- two next powers of two, the one not above the other
+IsNextPowerOfTwo-ordered : (n new other : ℕ) → IsNextPowerOfTwo n new → IsNextPowerOfTwo n other → new ≤ other
+    → new ≡ other
+IsNextPowerOfTwo-ordered n new other is is_other below =
+    let (bits, power) = is.is_power in
+    let (other_bits, other_power) = is_other.is_power in
+    let above : 2 ^ other_bits < 2 * 2 ^ bits = omega (arith, is.not_below, is_other.least, power, other_power) in
+    let same : bits ≡ other_bits = exponent_of_power other_bits bits (omega (arith, below, power, other_power)) above in
+    power ∙ ap (λ b. 2 ^ b) same ∙ sym other_power
+
+pub IsNextPowerOfTwo-fixes : (n new other : ℕ) → IsNextPowerOfTwo n new → IsNextPowerOfTwo n other → new ≡ other
+IsNextPowerOfTwo-fixes n new other is is_other =
+    ⊎_elim (λ (h : other < new). sym (IsNextPowerOfTwo-ordered n other new is_other is (omega (arith, h))))
+    (λ (h : new ≤ other). IsNextPowerOfTwo-ordered n new other is is_other h)
+    (cases_lt other new)
+
+-- there is one size that a trim gives, and it is smaller where the table is too large, and there alone
+pub IsTrimmedSize-fixes : (threads old new other : ℕ) → IsTrimmedSize threads old new → IsTrimmedSize threads old other
+    → new ≡ other
+IsTrimmedSize-fixes threads old new other (least, is_least, new_is) (another, is_another, other_is) =
+    new_is ∙ ap (λ n. min n old) (IsNextPowerOfTwo-fixes (3 * max threads 3) least another is_least is_another)
+    ∙ sym other_is
+
+pub IsTooLarge-smaller : (threads old new : ℕ) → IsTrimmedSize threads old new → new < old → IsTooLarge threads old
+IsTooLarge-smaller threads old new (least, is_least, new_is) below = (least, is_least, omega (arith, new_is, below))
+
+pub smaller-IsTooLarge : (threads old new : ℕ) → IsTrimmedSize threads old new → IsTooLarge threads old → new < old
+smaller-IsTooLarge threads old new (least, is_least, new_is) (another, is_another, above) =
+    let same = IsNextPowerOfTwo-fixes (3 * max threads 3) least another is_least is_another in
+    omega (arith, new_is, same, above)

@@ -1,7 +1,7 @@
 //! The hash table of an exclusive lot: the numbers that threads register under, and the buckets. It
 //! grows with the threads that are registered, and a trim makes it smaller again.
 
-ghost use Rattle.std.specs.Prelude.{◌≡◌, ◌≢◌, ◌↔◌, ◌+◌, ◌*◌, ◌<◌, ◌≤◌, [], Some, IsErrOf, IfOk, OnOk, OnErr, length, nat_lt, replicate, slice_set, slice_get};
+ghost use Rattle.std.specs.Prelude.{◌≡◌, ◌≢◌, ◌↔◌, ◌+◌, ◌*◌, ◌<◌, ◌≤◌, [], Some, IsTrue, IsErrOf, IfOk, OnOk, OnErr, length, nat_lt, replicate, slice_set, slice_get};
 ghost use Rattle.lot_base.specs.Place.{IsTableSize, place_of};
 ghost use Rattle.lot_exclusive.specs.Represents.{bucket_at};
 ghost use Rattle.lot_exclusive.specs.Size.{IsSizeFor, IsTrimmedSize, IsTooLarge};
@@ -106,6 +106,14 @@ impl Table {
             ≡ nat_lt (length self.now.cells) (3 * (count_registered self.now.numbers + 1)) }
     {
         self.cells.len() < BUCKETS_PER_THREAD * (self.numbers.registered() + 1)
+    }
+
+    /// Whether a trim makes it smaller.
+    pub fn is_too_large(&self) -> bool
+        ensures { IsTrue result
+            ↔ IsTooLarge (count_registered self.now.numbers) (length self.now.cells) }
+    {
+        trimmed_size(self.numbers.registered(), self.cells.len()) < self.cells.len()
     }
 
     /// The bucket at the key's place.
