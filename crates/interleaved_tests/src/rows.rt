@@ -160,6 +160,32 @@ fn a_growth_waits_for_every_section(rt: HostRuntime) -> Result<(), Fail> {
     Ok(())
 }
 
+// Key 13 has place 0 of 16, and another of 32. It refuses a trim while a section holds a bucket, and
+// one that is blocked though the table is not too large.
+#[test]
+fn a_trim_waits_for_every_section(rt: HostRuntime) -> Result<(), Fail> {
+    let mut both = both_of(&rt, rt.alloc(), 6, 1)?;
+    expect_equal(&rt, both.plain.size(), 32);
+    let trimmed = answer(Answer::Trimmed);
+    let rows = [
+        (enter(A, 13, true), ENTERED),
+        (FineStep::Retire { thread: 5 }, answer(Answer::Retired)),
+        (FineStep::Deadline { thread: A }, FineAnswer::Late),
+        (FineStep::ReadKey { thread: A }, FineAnswer::Read(13)),
+        (begin(0, one(7, 42)), unparked(0, 0, false)),
+        (FineStep::Trim, FineAnswer::Blocked),
+        (END, FineAnswer::Ended),
+        (FineStep::Trim, trimmed),
+        (begin(0, one(7, 42)), unparked(0, 0, false)),
+        (FineStep::Trim, trimmed),
+        (END, FineAnswer::Ended),
+        (FineStep::Look { thread: A }, timed_out(13, true)),
+    ];
+    expect(&rt, &mut both, &rows)?;
+    expect_equal(&rt, both.plain.size(), 16);
+    Ok(())
+}
+
 #[test]
 fn a_caller_has_one_section_at_a_time(rt: HostRuntime) -> Result<(), Fail> {
     for (second, expected) in [(0, MISFIT), (1, unparked(1, 0, false)), (2, MISFIT)] {

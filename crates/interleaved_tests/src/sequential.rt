@@ -86,6 +86,7 @@ fn every_kind(alloc: Global) -> Result<Vec<FineStep>, NoMemory> {
     kinds.push(enter_invalid(1, 0))?;
     kinds.push(FineStep::Retire { thread: 1 })?;
     kinds.push(FineStep::Register)?;
+    kinds.push(FineStep::Trim)?;
     Ok(kinds)
 }
 
@@ -148,13 +149,13 @@ fn check_lists(
     Ok(lists)
 }
 
-// There are 1 + 30 + 900 + 27_000 = 27_931 lists of up to three steps of 30 kinds.
+// There are 1 + 31 + 961 + 29_791 = 30_784 lists of up to three steps of 31 kinds.
 #[test]
 fn short_interleaved_lists_amount_to_their_sequential_steps(rt: HostRuntime) -> Result<(), Fail> {
     let kinds = every_kind(rt.alloc())?;
-    expect_equal(&rt, kinds.len(), 30);
+    expect_equal(&rt, kinds.len(), 31);
     let lists = check_lists(&rt, rt.alloc(), &[], kinds.as_slice(), 3)?;
-    expect_equal(&rt, lists, 27_931);
+    expect_equal(&rt, lists, 30_784);
     Ok(())
 }
 
@@ -190,25 +191,72 @@ fn note(seen: &mut [bool; 13], given: FineAnswer) {
     seen[kind] = true;
 }
 
-// Ten lists of 3000 steps. In each the table grows to 64 buckets, and in them every kind of answer
-// comes up.
+// Every section ends, every thread whose park may end has its outcome, those that run then retire,
+// and the table is trimmed.
+fn leave(alloc: Global, (threads, callers): (usize, usize)) -> Result<Vec<FineStep>, NoMemory> {
+    let mut steps = Vec::new(alloc);
+    for caller in 0..callers {
+        for _ in 0..threads {
+            steps.push(FineStep::Commit { caller })?;
+        }
+        steps.push(FineStep::End { caller })?;
+    }
+    for thread in 0..threads {
+        steps.push(FineStep::Return { thread })?;
+        steps.push(FineStep::Deadline { thread })?;
+        steps.push(FineStep::ReadKey { thread })?;
+        steps.push(FineStep::Look { thread })?;
+        steps.push(FineStep::Retire { thread })?;
+    }
+    steps.push(FineStep::Trim)?;
+    Ok(steps)
+}
+
+fn check_steps(
+    rt: &impl Abort,
+    both: &mut Both,
+    steps: &[FineStep],
+    seen: &mut [bool; 13],
+) -> Result<(), LotError> {
+    for given in &both.run(rt, steps)? {
+        note(seen, *given);
+    }
+    both.compare(rt, KEYS.as_slice())
+}
+
+// The table may grow in 1000 steps. Then most threads leave, and a trim makes it no larger while
+// others wait.
+fn grow_and_trim(
+    rt: &impl Abort,
+    alloc: Global,
+    arbitrary: &mut Arbitrary,
+    both: &mut Both,
+    seen: &mut [bool; 13],
+) -> Result<(), LotError> {
+    for _ in 0..10 {
+        let mut steps = Vec::new(alloc);
+        for _ in 0..100 {
+            steps.push(arbitrary.fine_step(alloc, (12, 4))?)?;
+        }
+        check_steps(rt, both, steps.as_slice(), seen)?;
+    }
+    let grown = both.plain.size();
+    let leaving = leave(alloc, (12, 4))?;
+    check_steps(rt, both, leaving.as_slice(), seen)?;
+    expect_equal(rt, both.plain.size() <= grown, true);
+    Ok(())
+}
+
+// Ten times three lists of 1000 steps, in which every kind of answer comes up.
 #[test]
 fn long_interleaved_lists_amount_to_their_sequential_steps(rt: HostRuntime) -> Result<(), Fail> {
     let mut seen = [false; 13];
     for seed in 1..=10 {
         let mut arbitrary = Arbitrary::new(seed);
         let mut both = Both::new(rt.alloc(), (12, 4))?;
-        for _ in 0..30 {
-            let mut steps = Vec::new(rt.alloc());
-            for _ in 0..100 {
-                steps.push(arbitrary.fine_step(rt.alloc(), (12, 4))?)?;
-            }
-            for given in &both.run(&rt, steps.as_slice())? {
-                note(&mut seen, *given);
-            }
-            both.compare(&rt, KEYS.as_slice())?;
+        for _ in 0..3 {
+            grow_and_trim(&rt, rt.alloc(), &mut arbitrary, &mut both, &mut seen)?;
         }
-        expect_equal(&rt, (seed, both.plain.size()), (seed, 64));
     }
     expect_equal(&rt, seen, [true; 13]);
     Ok(())

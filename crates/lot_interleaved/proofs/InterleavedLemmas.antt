@@ -1,6 +1,6 @@
 -- What new interleaved states and single steps give.
-use Rattle.std.proofs.Common.{◌≡◌, ℕ, ◌*◌, ◌^◌, ◌<◌, ◌≤◌, ◌==◌, List, [], ◌∷◌, refl, sym, ap}
-use Rattle.std.proofs.Common.{◌∙◌, ⊎_elim, arith, subst, Some, None}
+use Rattle.std.proofs.Common.{◌≡◌, ℕ, ◌*◌, ◌<◌, ◌≤◌, ◌==◌, List, [], ◌∷◌, refl, sym, ap}
+use Rattle.std.proofs.Common.{◌∙◌, ⊎_elim, subst, Some, None}
 use Rattle.std.proofs.lemmas.Bool.{cases_lt}
 use Rattle.std.specs.Prelude.{zero, suc, replicate, flat_map, Option, MatchOption, is_none, ◌&&◌, not}
 use Rattle.std.specs.List.{list_any}
@@ -17,20 +17,20 @@ use Rattle.lot_interleaved.specs.declared.interleaved.FineAnswer.TheVariants as 
 use Rattle.lot_interleaved.specs.declared.interleaved.FineStep.{FineStep}
 use Rattle.lot_interleaved.specs.declared.interleaved.FineStep.TheVariants.{Begin, Commit, End, Wake, Deadline}
 use Rattle.lot_interleaved.specs.declared.interleaved.FineStep.TheVariants.{ReadKey, Look, Enter, Return, Register}
-use Rattle.lot_interleaved.specs.declared.interleaved.FineStep.TheVariants.{Retire, Acquire, Release}
+use Rattle.lot_interleaved.specs.declared.interleaved.FineStep.TheVariants.{Retire, Acquire, Release, Trim}
 use Rattle.lot_interleaved.specs.InterleavedState.{FineState, Section, Caller, TakenThread, new_fine_state}
 use Rattle.lot_interleaved.specs.InterleavedSteps.{FineGives, GivesByMachine, IsCommit, IsReadKey, IsFineReturn}
-use Rattle.lot_interleaved.specs.InterleavedSteps.{IsFineRegister}
+use Rattle.lot_interleaved.specs.InterleavedSteps.{IsFineRegister, IsFineTrim}
 use Rattle.lot_interleaved.specs.InterleavedSteps.{section_of, wakes_of, IsFineStep, is_held, keys_of, can_begin}
 use Rattle.lot_interleaved.specs.InterleavedSteps.{is_full, is_growth_blocked}
 use Rattle.lot_interleaved.specs.InterleavedView.{taken_of, taken_in, with_taken}
 use Rattle.lot_interleaved.specs.InterleavedLaws.{NewStatesStandForNewMachines, FineAnswersFixTheState}
 use Rattle.lot_exclusive.specs.Machine.{Machine, new_machine, threads_of}
-use Rattle.lot_exclusive.specs.Size.{IsNextPowerOfTwo, IsSizeFor, IsSizeAfter}
+use Rattle.lot_exclusive.specs.Size.{IsSizeFor, IsSizeAfter}
 use Rattle.lot_exclusive.specs.Status.{is_running, awaits_deadline}
 use Rattle.lot_exclusive.specs.Steps.{IsStep}
-use Rattle.lot_base.proofs.PlaceLemmas.{exponent_of_power}
 use Rattle.lot_exclusive.proofs.LawLemmas.{MatchBool-both, IsStep-fixes}
+use Rattle.lot_exclusive.proofs.NumberLemmas.{IsNextPowerOfTwo-fixes, IsTrimmedSize-fixes}
 
 -- new callers have taken nobody
 taken-none : (callers : ℕ) → flat_map (λ (caller : Caller). taken_in caller.section)
@@ -52,22 +52,6 @@ MatchOption-both : {A : Type 0} (o : Option A) {P P' R : Type 0} {Q Q' : A → T
 MatchOption-both None f g p p' = f p p'
 MatchOption-both (Some x) f g q q' = g x q q'
 
--- two next powers of two, the one not above the other
-IsNextPowerOfTwo-ordered : (n new other : ℕ) → IsNextPowerOfTwo n new → IsNextPowerOfTwo n other → new ≤ other
-    → new ≡ other
-IsNextPowerOfTwo-ordered n new other is is_other below =
-    let (bits, power) = is.is_power in
-    let (other_bits, other_power) = is_other.is_power in
-    let above : 2 ^ other_bits < 2 * 2 ^ bits = omega (arith, is.not_below, is_other.least, power, other_power) in
-    let same : bits ≡ other_bits = exponent_of_power other_bits bits (omega (arith, below, power, other_power)) above in
-    power ∙ ap (λ b. 2 ^ b) same ∙ sym other_power
-
-IsNextPowerOfTwo-fixes : (n new other : ℕ) → IsNextPowerOfTwo n new → IsNextPowerOfTwo n other → new ≡ other
-IsNextPowerOfTwo-fixes n new other is is_other =
-    ⊎_elim (λ (h : other < new). sym (IsNextPowerOfTwo-ordered n other new is_other is (omega (arith, h))))
-    (λ (h : new ≤ other). IsNextPowerOfTwo-ordered n new other is is_other h)
-    (cases_lt other new)
-
 IsSizeFor-fixes : (threads old new other : ℕ) → IsSizeFor threads old new → IsSizeFor threads old other → new ≡ other
 IsSizeFor-fixes threads old new other is is_other =
     ⊎_elim (λ (grows : old < 3 * threads).
@@ -79,6 +63,12 @@ IsSizeAfter-fixes : (given : Answer) (threads old new other : ℕ) → IsSizeAft
     → IsSizeAfter machine.Register given threads old other → new ≡ other
 IsSizeAfter-fixes (answer.Registered number) threads old new other = IsSizeFor-fixes threads old new other
 IsSizeAfter-fixes _ threads old new other = λ is is_other. is ∙ sym is_other
+
+size_by_trim-fixes : (given : Answer) (threads old new other : ℕ) → IsSizeAfter machine.Trim given threads old new
+    → IsSizeAfter machine.Trim given threads old other → new ≡ other
+size_by_trim-fixes answer.Trimmed threads old new other = IsTrimmedSize-fixes threads old new other
+size_by_trim-fixes answer.NoMemory threads old new other = λ (_, is) (_, is_other). is ∙ sym is_other
+size_by_trim-fixes _ threads old new other = λ is is_other. is ∙ sym is_other
 
 -- the answer of a machine's step
 abbrev machine_answer : FineAnswer → Answer
@@ -136,6 +126,27 @@ module _ (s : FineState) (given : FineAnswer) (new other : FineState) where
       new_is ∙ ap (λ m. record s { threads_view = m; size = size }) fixes
       ∙ ap (λ n. record s { threads_view = left; size = n }) sizes ∙ sym other_is)
 
+  trim_by-fixes : (by_rule : Answer) (view left : Machine) (size other_size : ℕ)
+      → IsStep s.threads_view machine.Trim by_rule view → IsStep s.threads_view machine.Trim by_rule left
+      → IsSizeAfter machine.Trim by_rule (threads_of view) s.size size
+      → IsSizeAfter machine.Trim by_rule (threads_of left) s.size other_size
+      → new ≡ record s { threads_view = view; size = size }
+      → other ≡ record s { threads_view = left; size = other_size } → new ≡ other
+  trim_by-fixes by_rule view left size other_size does does_other sized other_sized new_is other_is =
+      let fixes : view ≡ left = IsStep-fixes s.threads_view machine.Trim by_rule view left does does_other in
+      let sized_alike : IsSizeAfter machine.Trim by_rule (threads_of left) s.size size =
+      subst (λ m. IsSizeAfter machine.Trim by_rule (threads_of m) s.size size) fixes sized in
+      let sizes : size ≡ other_size =
+      size_by_trim-fixes by_rule (threads_of left) s.size size other_size sized_alike other_sized in
+      new_is ∙ ap (λ m. record s { threads_view = m; size = size }) fixes
+      ∙ ap (λ n. record s { threads_view = left; size = n }) sizes ∙ sym other_is
+
+  IsTrim-fixes : (answers : FineAnswer) → IsFineTrim s answers new → IsFineTrim s answers other → new ≡ other
+  IsTrim-fixes fine.Blocked (_, _, new_is) (_, _, other_is) = new_is ∙ sym other_is
+  IsTrim-fixes (fine.Answer by_rule) (_, view, size, does, sized, new_is) (_, left, other_size, does_other, other_sized, other_is) =
+      trim_by-fixes by_rule view left size other_size does does_other sized other_sized new_is other_is
+  IsTrim-fixes _ none _ = absurd none
+
   IsFineStep-fix : (step : FineStep) → IsFineStep s step given new → IsFineStep s step given other → new ≡ other
   IsFineStep-fix (Begin caller op) =
       MatchBool-both (can_begin s caller)
@@ -168,6 +179,7 @@ module _ (s : FineState) (given : FineAnswer) (new other : FineState) where
   IsFineStep-fix (Retire thread) = GivesByMachine-fixes (machine.Retire thread) _
   IsFineStep-fix (Acquire thread key) = GivesByMachine-fixes (machine.Acquire thread key) _
   IsFineStep-fix (Release thread key) = GivesByMachine-fixes (machine.Release thread key) _
+  IsFineStep-fix Trim = IsTrim-fixes given
 
 pub IsFineStep-fixes : FineAnswersFixTheState
 IsFineStep-fixes s step given new other = IsFineStep-fix s given new other step

@@ -17,7 +17,7 @@ use Rattle.lot_interleaved.specs.declared.interleaved.FineAnswer.TheVariants as 
 use Rattle.lot_interleaved.specs.declared.interleaved.FineStep.{FineStep}
 use Rattle.lot_interleaved.specs.declared.interleaved.FineStep.TheVariants.{Begin, Commit, End, Wake, Deadline}
 use Rattle.lot_interleaved.specs.declared.interleaved.FineStep.TheVariants.{ReadKey, Look, Enter, Return, Register}
-use Rattle.lot_interleaved.specs.declared.interleaved.FineStep.TheVariants.{Retire, Acquire, Release}
+use Rattle.lot_interleaved.specs.declared.interleaved.FineStep.TheVariants.{Retire, Acquire, Release, Trim}
 use Rattle.lot_interleaved.specs.InterleavedLaws.{InterleavedOutcomesAlternate, InterleavedThreadsComeBack}
 use Rattle.lot_interleaved.specs.InterleavedOutcomes.{unparked_in, returned_in, parks_in, ends_park_in}
 use Rattle.lot_interleaved.specs.InterleavedState.{Caller, FineState, Section, TakenThread}
@@ -79,6 +79,9 @@ tells_same s number (Acquire thread key) _ = (refl, refl)
 tells_same s number (Release thread key) (fine.Answer answer.Misfit) = (refl, refl)
 tells_same s number (Release thread key) (fine.Answer given) = (refl, refl)
 tells_same s number (Release thread key) _ = (refl, refl)
+tells_same s number Trim (fine.Answer answer.Misfit) = (refl, refl)
+tells_same s number Trim (fine.Answer given) = (refl, refl)
+tells_same s number Trim _ = (refl, refl)
 
 MatchBool-map : (b : Bool) {P Q R S : Type 0} → (P → R) → (Q → S) → MatchBool b P Q → MatchBool b R S
 MatchBool-map true f g p = f p
@@ -208,6 +211,8 @@ module _ (f : Answer → ℕ) (of_misfit : f answer.Misfit ≡ 0) (of_late : f a
   sum-told s (Acquire thread key) _ new does = sym of_misfit
   sum-told s (Release thread key) (fine.Answer given) new does = sum-answered (machine.Release thread key) given
   sum-told s (Release thread key) _ new does = sym of_misfit
+  sum-told s Trim (fine.Answer given) new does = sum-answered machine.Trim given
+  sum-told s Trim _ new does = sym of_misfit
 
   sums-told : (s : FineState) (steps : List FineStep) (answers : List FineAnswer) (last : FineState)
       (ran : IsRun IsFineStep s steps answers last) → sum_by f (answers_of (sequential_steps s steps answers last ran))

@@ -20,7 +20,7 @@ use Rattle.lot_interleaved.specs.declared.interleaved.FineAnswer.TheVariants as 
 use Rattle.lot_interleaved.specs.declared.interleaved.FineStep.{FineStep}
 use Rattle.lot_interleaved.specs.declared.interleaved.FineStep.TheVariants.{Begin, Commit, End, Wake, Deadline}
 use Rattle.lot_interleaved.specs.declared.interleaved.FineStep.TheVariants.{ReadKey, Look, Enter, Return, Register}
-use Rattle.lot_interleaved.specs.declared.interleaved.FineStep.TheVariants.{Retire, Acquire, Release}
+use Rattle.lot_interleaved.specs.declared.interleaved.FineStep.TheVariants.{Retire, Acquire, Release, Trim}
 use Rattle.lot_interleaved.specs.InterleavedState.{FineState, Section, Caller, TakenThread}
 use Rattle.lot_interleaved.specs.InterleavedSteps.{FineGives, IsFineMisfit, IsBegin, IsCommit, IsReadKey}
 use Rattle.lot_interleaved.specs.InterleavedSteps.{IsFineReturn, IsLook}
@@ -39,6 +39,7 @@ use Rattle.lot_exclusive.specs.Steps as steps
 use Rattle.lot_interleaved.proofs.BeginLemmas.{begin-amounts, taken_nowhere}
 use Rattle.lot_interleaved.proofs.HandedLemmas.{None-from_test, times_taken-append, times_taken-other}
 use Rattle.lot_interleaved.proofs.RegisterLemmas.{IsRegister-amounts}
+use Rattle.lot_interleaved.proofs.TrimLemmas.{IsTrim-amounts}
 use Rattle.lot_interleaved.proofs.AmountsLemmas.{Amounts, Amounts-none, Amounts-read, Amounts-retry, own_status}
 use Rattle.lot_interleaved.proofs.AmountsLemmas.{sequential_step-misfit, still_status}
 use Rattle.lot_interleaved.proofs.CallerAmountsLemmas.{Amounts-end, Amounts-wake, Amounts-commit}
@@ -277,6 +278,7 @@ module _ (s : FineState) (c : IsFineConsistent s) where
         (sequential_step s (Release thread key) (fine.Answer a))) (sym answers)
         (Amounts-release s c thread runs key)))
         does gives
+    step-amounts Trim = IsTrim-amounts s c given new
 
 pub IsFineStep-amounts : (s : FineState) (step : FineStep) (given : FineAnswer) (new : FineState) → IsFineConsistent s
     → IsFineStep s step given new → Amounts s new (sequential_step s step given)

@@ -6,6 +6,7 @@ pub mod OutcomeAmountsLemmas
 pub mod DeadlineAmountsLemmas
 pub mod RunningAmountsLemmas
 pub mod RegisterLemmas
+pub mod TrimLemmas
 pub mod BeginLemmas
 pub mod InterleavingLemmas
 pub mod FineLotLemmas
@@ -13,6 +14,7 @@ pub mod FineStateLemmas
 pub mod FineThreadLemmas
 pub mod FineCallerLemmas
 pub mod FineTableLemmas
+pub mod FineTrimLemmas
 pub mod FineSectionLemmas
 pub mod FineRunLemmas
 pub mod CopyLemmas

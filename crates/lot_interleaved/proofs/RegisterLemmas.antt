@@ -34,7 +34,7 @@ use Rattle.lot_interleaved.proofs.RunningAmountsLemmas.{view_set, handed_set, un
 use Rattle.lot_exclusive.proofs.StepLemmas.{MatchBool-either}
 
 -- where no section is open, nobody is taken
-none_taken : (callers : List Caller) → list_any (λ caller. is_some caller.section) callers ≡ false
+pub none_taken : (callers : List Caller) → list_any (λ caller. is_some caller.section) callers ≡ false
     → flat_map (λ (caller : Caller). taken_in caller.section) callers ≡ []
 none_taken [] closed = refl
 none_taken (caller ∷ callers) closed = at caller.section refl (none_taken callers)

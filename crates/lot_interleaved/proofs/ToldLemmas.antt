@@ -12,7 +12,7 @@ use Rattle.lot_interleaved.specs.declared.interleaved.FineStep.{FineStep}
 use Rattle.lot_interleaved.specs.declared.interleaved.FineStep.TheVariants.{Begin, Commit, End, Wake, Deadline}
 use Rattle.lot_interleaved.specs.declared.interleaved.FineStep.TheVariants.{ReadKey}
 use Rattle.lot_interleaved.specs.declared.interleaved.FineStep.TheVariants.{Look, Enter, Return, Register, Retire}
-use Rattle.lot_interleaved.specs.declared.interleaved.FineStep.TheVariants.{Acquire, Release}
+use Rattle.lot_interleaved.specs.declared.interleaved.FineStep.TheVariants.{Acquire, Release, Trim}
 use Rattle.lot_interleaved.specs.InterleavedState.{FineState, TakenThread}
 use Rattle.lot_interleaved.specs.InterleavedSteps.{IsDeadline, IsFineStep}
 use Rattle.lot_interleaved.specs.InterleavedView.{sequential_step}
@@ -78,6 +78,8 @@ module _ (s new : FineState) where
   sequential_step-after (Acquire thread key) _ does = refl
   sequential_step-after (Release thread key) (fine.Answer given) does = refl
   sequential_step-after (Release thread key) _ does = refl
+  sequential_step-after Trim (fine.Answer given) does = refl
+  sequential_step-after Trim _ does = refl
   sequential_step-after (Commit caller) given does = refl
   sequential_step-after (End caller) given does = refl
   sequential_step-after (Wake caller) given does = refl

@@ -2,7 +2,7 @@
 -- said by that machine's rule. Each step tests first whether it fits, then whether a number is free, then whether its
 -- buckets are, and last memory. `fine.`, `answer.`, `status.` and `machine.` stand before the variants of `FineAnswer`,
 -- `Answer`, `Status` and `Step`.
-use Rattle.std.specs.Prelude.{◌≡◌, ℕ, ◌+◌, ◌*◌, ◌-◌, ◌==◌, Bool, false, ◌&&◌, not, nat_lt, is_some, is_none}
+use Rattle.std.specs.Prelude.{◌≡◌, ℕ, ◌+◌, ◌*◌, ◌-◌, ◌==◌, Bool, false, ◌&&◌, not, nat_lt, is_some, is_none, IsTrue}
 use Rattle.std.specs.Prelude.{MatchBool, MatchOption, length, slice_get, slice_set, option_and_then, Option, Some, None}
 use Rattle.std.specs.Prelude.{List, ◌∷◌, [], map, if◌then◌else◌}
 use Rattle.std.specs.List.{list_any}
@@ -24,10 +24,10 @@ use Rattle.lot_interleaved.specs.declared.interleaved.FineAnswer.TheVariants as 
 use Rattle.lot_interleaved.specs.declared.interleaved.FineStep.{FineStep}
 use Rattle.lot_interleaved.specs.declared.interleaved.FineStep.TheVariants.{Begin, Commit, End, Wake, Deadline}
 use Rattle.lot_interleaved.specs.declared.interleaved.FineStep.TheVariants.{ReadKey, Look, Enter, Return, Register}
-use Rattle.lot_interleaved.specs.declared.interleaved.FineStep.TheVariants.{Retire, Acquire, Release}
+use Rattle.lot_interleaved.specs.declared.interleaved.FineStep.TheVariants.{Retire, Acquire, Release, Trim}
 use Rattle.lot_interleaved.specs.InterleavedState.{FineState, Section, TakenThread}
 use Rattle.lot_exclusive.specs.Machine.{Machine, Waiter, entries_of, threads_of, with_status, after_timeout, is_last}
-use Rattle.lot_exclusive.specs.Size.{IsSizeAfter}
+use Rattle.lot_exclusive.specs.Size.{IsSizeAfter, IsTooLarge}
 use Rattle.lot_exclusive.specs.Status.{is_running, awaits_deadline}
 use Rattle.lot_exclusive.specs.Steps.{IsStep}
 
@@ -242,6 +242,18 @@ IsFineRegister s given new =
     × IsSizeAfter machine.Register by_rule (threads_of view) s.size size
     × FineGives (record s { threads_view = view; size = size }) (fine.Answer by_rule) given new)
 
+-- Trim: it is blocked where the table is too large for its threads and a section is open. Else it is the machine's, after
+-- which the table's size is as its rule says, and where the table is too large no section is open
+abbrev pub IsFineTrim : FineState → FineAnswer → FineState → Type 0
+IsFineTrim s fine.Blocked new =
+    IsTooLarge (threads_of s.threads_view) s.size × IsTrue (is_any_open s) × (new ≡ s)
+IsFineTrim s (fine.Answer by_rule) new =
+    (IsTooLarge (threads_of s.threads_view) s.size → is_any_open s ≡ false)
+    × (view : Machine) × (size : ℕ) × IsStep s.threads_view machine.Trim by_rule view
+    × IsSizeAfter machine.Trim by_rule (threads_of view) s.size size
+    × (new ≡ record s { threads_view = view; size = size })
+IsFineTrim s _ new = ⊥
+
 -- one step: the state before, the step, its answer and the state after
 abbrev pub IsFineStep : FineState → FineStep → FineAnswer → FineState → Type 0
 IsFineStep s (Begin caller op) given new = IsBegin s caller op given new
@@ -263,3 +275,4 @@ IsFineStep s Register given new = IsFineRegister s given new
 IsFineStep s (Retire thread) given new = IsMachineStep s (machine.Retire thread) given new
 IsFineStep s (Acquire thread key) given new = IsMachineStep s (machine.Acquire thread key) given new
 IsFineStep s (Release thread key) given new = IsMachineStep s (machine.Release thread key) given new
+IsFineStep s Trim given new = IsFineTrim s given new

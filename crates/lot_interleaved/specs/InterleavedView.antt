@@ -19,7 +19,7 @@ use Rattle.lot_interleaved.specs.declared.interleaved.FineAnswer.{FineAnswer}
 use Rattle.lot_interleaved.specs.declared.interleaved.FineAnswer.TheVariants as fine
 use Rattle.lot_interleaved.specs.declared.interleaved.FineStep.{FineStep}
 use Rattle.lot_interleaved.specs.declared.interleaved.FineStep.TheVariants.{Begin, Deadline, Look, Enter, Return}
-use Rattle.lot_interleaved.specs.declared.interleaved.FineStep.TheVariants.{Register, Retire, Acquire, Release}
+use Rattle.lot_interleaved.specs.declared.interleaved.FineStep.TheVariants.{Register, Retire, Acquire, Release, Trim}
 use Rattle.lot_interleaved.specs.InterleavedState.{FineState, Section, Caller, TakenThread}
 use Rattle.lot_interleaved.specs.InterleavedSteps.{IsFineStep, holds}
 use Rattle.lot_exclusive.specs.Run.{IsRun}
@@ -106,6 +106,7 @@ sequential_step s Register (fine.Answer given) = answered machine.Register given
 sequential_step s (Retire thread) (fine.Answer given) = answered (machine.Retire thread) given
 sequential_step s (Acquire thread key) (fine.Answer given) = answered (machine.Acquire thread key) given
 sequential_step s (Release thread key) (fine.Answer given) = answered (machine.Release thread key) given
+sequential_step s Trim (fine.Answer given) = answered machine.Trim given
 sequential_step s _ _ = []
 
 -- the sequential steps of a run, with their answers

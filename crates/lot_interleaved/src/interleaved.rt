@@ -133,14 +133,19 @@ pub enum FineStep {
         /// The key of the record.
         key: usize,
     },
+
+    /// The table becomes smaller, if it is too large for the threads that are registered. If it is,
+    /// this needs every bucket.
+    Trim,
 }
 
 /// What an interleaved step answers.
 #[derive(Copy, Clone, Eq, PartialEq, Debug)]
 pub enum FineAnswer {
     /// An answer that a step of a lot gives too: of `Begin` that of the unpark, of `Look` and
-    /// `Return` the outcome of the park, of `Enter`, `Register`, `Retire`, `Acquire` and `Release`
-    /// that of a lot, and of a step that does not fit `Misfit`. A deadline answers `Late` below.
+    /// `Return` the outcome of the park, of `Enter`, `Register`, `Retire`, `Acquire`, `Release` and
+    /// `Trim` that of a lot, and of a step that does not fit `Misfit`. A deadline answers `Late`
+    /// below.
     Answer(Answer),
 
     /// The node of the thread of this number lies in its slot.
@@ -287,8 +292,8 @@ impl FineLot {
 /// before, by these steps, to the one that it means after. `FineLot::new` says what a new lot
 /// means. A step that does not fit is answered by `Misfit`, else a registration that finds no free
 /// number by `Full`, else a step that needs a bucket which an open section holds by `Blocked`, and
-/// else a registration or a recording that finds no memory by `NoMemory`. None of the four changes
-/// anything.
+/// else a registration, a recording or a trim that finds no memory by `NoMemory`. None of the four
+/// changes anything.
 ///
 /// The sequential steps, with their answers, are a run of the machine with one list of waiters for
 /// each key, between the sequential views of the two states. Their lists of decisions are copies.

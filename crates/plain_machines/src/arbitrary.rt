@@ -98,7 +98,8 @@ impl Arbitrary {
         }
     }
 
-    /// An interleaved step of one of so many threads, or of one of so many callers.
+    /// An interleaved step of one of so many threads, or of one of so many callers. One of 69 is a
+    /// trim.
     pub fn fine_step(
         &mut self,
         alloc: Global,
@@ -107,7 +108,7 @@ impl Arbitrary {
         let thread = self.below(threads);
         let caller = self.below(callers);
         let key = self.key();
-        match self.below(68) {
+        match self.below(69) {
             0..=1 => Ok(FineStep::Register),
             2 => Ok(FineStep::Retire { thread }),
             3 => Ok(fine_steps::enter_invalid(thread, key)),
@@ -122,6 +123,7 @@ impl Arbitrary {
             52..=56 => Ok(FineStep::Look { thread }),
             57..=63 => Ok(FineStep::Return { thread }),
             64..=65 => Ok(FineStep::Acquire { thread, key }),
+            66 => Ok(FineStep::Trim),
             _ => Ok(FineStep::Release { thread, key }),
         }
     }

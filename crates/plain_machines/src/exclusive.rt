@@ -109,6 +109,11 @@ impl Plain {
         self.size
     }
 
+    /// Whether a trim makes the table smaller.
+    pub fn is_too_large(&self) -> bool {
+        least_size(self.registered()) < self.size
+    }
+
     /// Does the step by its rule.
     pub fn step(&mut self, step: &Step) -> Result<Answer, NoMemory> {
         match step {

@@ -54,7 +54,6 @@ pub struct FinePlain {
     view: Plain,
     threads: Vec<Thread>,
     callers: Vec<Caller>,
-    size: usize,
 }
 
 // The place of a key in a table of this many buckets.
@@ -72,7 +71,6 @@ impl FinePlain {
             view: Plain::new(alloc, max_threads)?,
             threads: Vec::new(alloc),
             callers: Vec::new(alloc),
-            size: 16,
         };
         for _ in 0..max_threads {
             plain.threads.push(Thread {
@@ -102,7 +100,7 @@ impl FinePlain {
 
     /// How many buckets there are.
     pub fn size(&self) -> usize {
-        self.size
+        self.view.size()
     }
 
     /// Does the step by its rule.
@@ -127,6 +125,7 @@ impl FinePlain {
             FineStep::Retire { thread } => self.machine_step(&Step::Retire { thread: *thread }),
             FineStep::Acquire { thread, key } => self.machine_step(&acquire(*thread, *key)),
             FineStep::Release { thread, key } => self.machine_step(&release(*thread, *key)),
+            FineStep::Trim => self.trim(),
         }
     }
 
@@ -137,7 +136,7 @@ impl FinePlain {
 
     fn is_held(&self, key: usize) -> bool {
         self.callers.iter().any(|caller| match &caller.section {
-            Some(section) => section.held.contains(&place(key, self.size)),
+            Some(section) => section.held.contains(&place(key, self.size())),
             None => false,
         })
     }
@@ -207,7 +206,7 @@ impl FinePlain {
         let given = self.machine_step(&Step::Unpark(ops::copy(self.alloc, op)?))?;
         let taken = self.taken_of(before.as_slice())?;
         self.note_key(to);
-        let held = [place(from, self.size), place(to, self.size)];
+        let held = [place(from, self.size()), place(to, self.size())];
         self.open(caller, Section { held, taken, token });
         Ok(given)
     }
@@ -344,14 +343,17 @@ impl FinePlain {
     fn register(&mut self) -> Result<FineAnswer, NoMemory> {
         let registered = self.registered();
         let needed = registered.wrapping_add(1).wrapping_mul(3);
-        if registered != self.threads.len() && self.size < needed {
-            if self.is_any_open() {
-                return Ok(FineAnswer::Blocked);
-            }
-            // The next power of two: one thread more needs three buckets more.
-            self.size = self.size.wrapping_mul(2);
+        if registered != self.threads.len() && self.size() < needed && self.is_any_open() {
+            return Ok(FineAnswer::Blocked);
         }
-        Ok(answer(self.view.step(&Step::Register)?))
+        self.machine_step(&Step::Register)
+    }
+
+    fn trim(&mut self) -> Result<FineAnswer, NoMemory> {
+        if self.view.is_too_large() && self.is_any_open() {
+            return Ok(FineAnswer::Blocked);
+        }
+        self.machine_step(&Step::Trim)
     }
 
     // Whether the thread stands in the list of its key word.
@@ -426,6 +428,7 @@ impl FinePlain {
             FineStep::Retire { thread } => Ok(Some(Step::Retire { thread: *thread })),
             FineStep::Acquire { thread, key } => Ok(Some(acquire(*thread, *key))),
             FineStep::Release { thread, key } => Ok(Some(release(*thread, *key))),
+            FineStep::Trim => Ok(Some(Step::Trim)),
             _ => Ok(None),
         }
     }

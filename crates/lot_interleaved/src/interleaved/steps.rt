@@ -15,7 +15,7 @@ use super::sections::unpark;
 use super::{FineAnswer, FineLot, FineStep};
 use lot_base::bucket::place;
 use lot_base::queue::Node;
-use lot_base::token::{Misfit, ParkToken, StepError};
+use lot_base::token::{Misfit, NoMemory, ParkToken, StepError};
 use lot_exclusive::lot::Status;
 use lot_exclusive::schedule::{Answer, Op, Step};
 
@@ -67,6 +67,7 @@ impl FineLot {
             FineStep::Retire { thread } => self.retire(*thread),
             FineStep::Acquire { thread, key } => self.acquire(*thread, *key),
             FineStep::Release { thread, key } => self.release(*thread, *key),
+            FineStep::Trim => Ok(self.trim()),
         }
     }
 
@@ -307,6 +308,18 @@ impl FineLot {
         node.number = number;
         self.threads[number].register(node);
         FineAnswer::Answer(Answer::Registered(number))
+    }
+
+    fn trim(&mut self) -> FineAnswer
+        ensures { IsFineStep (fine_state self.old) FineStep.Trim result (fine_state self.new) }
+    {
+        if self.table.is_too_large() && self.is_any_open() {
+            return FineAnswer::Blocked;
+        }
+        match self.table.trim() {
+            Ok(()) => FineAnswer::Answer(Answer::Trimmed),
+            Err(NoMemory) => FineAnswer::Answer(Answer::NoMemory),
+        }
     }
 
     // Whether an open section holds a bucket of the operation's keys.

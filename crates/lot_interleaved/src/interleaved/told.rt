@@ -175,6 +175,7 @@ fn answered_step(step: &FineStep, op: Option<Op>, given: Answer) -> Option<Step>
             thread: *thread,
             key: *key,
         }),
+        FineStep::Trim => Some(Step::Trim),
         FineStep::End { .. }
         | FineStep::Wake { .. }
         | FineStep::Deadline { .. }
