@@ -55,8 +55,8 @@ fn expect_one(
     Ok(())
 }
 
-// A filter, with the token 42, of the waiters of key 1 with these decisions: whom it is asked about,
-// what it answers and takes, and whom it leaves.
+// A filter, with the token 42, of the waiters of key 1 with these decisions: whom it is asked
+// about, what it answers and takes, and whom it leaves.
 #[derive(Drop)]
 struct Filtered<'a> {
     waiters: &'a [(usize, usize)],
@@ -221,9 +221,9 @@ fn a_filter_of_an_empty_key_is_not_called_and_its_callback_is(rt: HostRuntime) -
     expect_filtered(&rt, rt.alloc(), &row)
 }
 
-// A requeue from the first key to the second: its name, the numbers and keys of the nodes in the bucket of
-// the first key, those in the bucket of the second where it is another one, what the requeue
-// answers and takes, whom it moves, and the lists of both keys afterwards.
+// A requeue from the first key to the second: its name, the numbers and keys of the nodes in the
+// bucket of the first key, those in the bucket of the second where it is another one, what the
+// requeue answers and takes, whom it moves, and the lists of both keys afterwards.
 #[derive(Drop)]
 struct Row<'a> {
     name: &'a str,

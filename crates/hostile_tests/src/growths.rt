@@ -74,8 +74,8 @@ fn watch_a_growth<P: ThreadParkerT + Send + Sync, R: Threads + Wait + Clock + Ab
     took
 }
 
-// One thread waits while the table grows, and is seen so long after the beginning. It tells how long
-// the growth took.
+// One thread waits while the table grows, and is seen so long after the beginning. It tells how
+// long the growth took.
 fn is_seen_after<P, R>(rt: &R, alloc: Global, delay: Duration) -> Duration
 where
     P: ThreadParkerT + Send + Sync,

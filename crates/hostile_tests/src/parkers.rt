@@ -243,8 +243,8 @@ fn a_deadline_far_away_has_not_passed(rt: HostRuntime) {
     }
 }
 
-// In milliseconds, how long the owner waits again, how long after its beginning it is woken, and how
-// long after its deadline it has waited too long.
+// In milliseconds, how long the owner waits again, how long after its beginning it is woken, and
+// how long after its deadline it has waited too long.
 const WAIT: u64 = 500;
 
 const WAKE_AFTER: u64 = 400;

@@ -4,8 +4,8 @@
 //! bits are the newest place of the waiting list, or 0. There are four places, 8 to 11. The word of
 //! a place's number is its link: while the place is in the list, 1 if it is the oldest, and else 1
 //! more than the place that entered before it; and 0 once it was told that it was removed. Words 12
-//! to 15 are the places' marks: 0 while nobody has the place, and else 1, or 2 where somebody sleeps
-//! until it is given back. Nobody writes the others: they keep links and marks out of
+//! to 15 are the places' marks: 0 while nobody has the place, and else 1, or 2 where somebody
+//! sleeps until it is given back. Nobody writes the others: they keep links and marks out of
 //! the cache line of word 0, and the words of the next lock out of the lines of these. A caller
 //! that comes reads word 16.
 //!
@@ -145,8 +145,8 @@ impl<T: Fits> WordLock<T> {
         Held { value, caller }
     }
 
-    /// Puts the value back, which has to fit the lock's key, and lets the lock go. The contract asks
-    /// that this lock's `lock` gave what is passed. It does not wait.
+    /// Puts the value back, which has to fit the lock's key, and lets the lock go. The contract
+    /// asks that this lock's `lock` gave what is passed. It does not wait.
     ///
     /// If nobody is in the list, it is one exchange of the word. Else it reads the links of the
     /// list, at most five times in all, tries the word up to three times, of which the last changes

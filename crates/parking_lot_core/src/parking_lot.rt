@@ -68,10 +68,10 @@ impl ThreadData {
 /// bucket has a lock of its own, and a section is what a call does under the lock of its key's
 /// bucket, or of its two keys' buckets, the one at the lower place first. In it an unpark is
 /// committed, once the thread's node lies in the slot of its parker. A section takes no other lock
-/// but parkers' own, one at a time. Registering, retiring and trimming take the lock of the numbers.
-/// A registration that lets the table grow, and a trim that makes it smaller, also take that of each
-/// bucket in turn, and with it, for each node there, that of the bucket to which the node moves;
-/// sections that meet it sleep until it is done.
+/// but parkers' own, one at a time. Registering, retiring and trimming take the lock of the
+/// numbers. A registration that lets the table grow, and a trim that makes it smaller, also take
+/// that of each bucket in turn, and with it, for each node there, that of the bucket to which the
+/// node moves; sections that meet it sleep until it is done.
 ///
 /// Whoever finds a bucket locked sleeps, once it has spun in vain. No order is kept among callers.
 ///
@@ -137,19 +137,19 @@ impl<P: ThreadParkerT> ParkingLot<P> {
 
     /// Registers a thread under the least free number. It has no records.
     ///
-    /// It takes the lock of the numbers, looks for a free one, and lets the table grow, if it has to,
-    /// with that lock held. Growth allocates the larger row of buckets, if the table never had so
-    /// many. It waits for each section of the old buckets in turn, and sections that come meanwhile
-    /// sleep until it is done. The thread's node was made with the lot, so it parks without asking
-    /// for memory.
+    /// It takes the lock of the numbers, looks for a free one, and lets the table grow, if it has
+    /// to, with that lock held. Growth allocates the larger row of buckets, if the table never had
+    /// so many. It waits for each section of the old buckets in turn, and sections that come
+    /// meanwhile sleep until it is done. The thread's node was made with the lot, so it parks
+    /// without asking for memory.
     ///
     /// Upstream registers a thread with its first use, by `ThreadData::new`, which grows the table.
     ///
     /// # Errors
     ///
     /// `Full` if the greatest number of threads is registered, which is tested first, and else
-    /// `NoMemory` if memory cannot be had. No number was given then; the lot may keep the buckets of
-    /// a larger table for the next time.
+    /// `NoMemory` if memory cannot be had. No number was given then; the lot may keep the buckets
+    /// of a larger table for the next time.
     pub fn thread_data<R: Wait>(&self, rt: &R, alloc: Global) -> Result<ThreadData, LotError>
         ensures not_too_many { result ≢ Err LotError.TooManyThreads }
         ensures number { IfOk result (λ thread. thread.number < self.now.max_threads) }
@@ -224,11 +224,11 @@ impl<P: ThreadParkerT> ParkingLot<P> {
 /// What the other thread did before its unpark is seen once this answers `Unparked`, and what a
 /// section did by the next section of that bucket: every step on a shared word is `SeqCst`.
 ///
-/// It is one section with one `Bucket::enter`, and after a deadline one more, or more where requeues
-/// move the thread meanwhile; in it it looks at the parker, and does one `Bucket::remove` unless it
-/// was unparked. Between them it takes the parker's lock alone. It is never refused and allocates
-/// nothing. `validate` and `timed_out` must not call the lot, nor wait for a thread that does.
-/// `before_sleep` may make any call of the lot, `park` with other data.
+/// It is one section with one `Bucket::enter`, and after a deadline one more, or more where
+/// requeues move the thread meanwhile; in it it looks at the parker, and does one `Bucket::remove`
+/// unless it was unparked. Between them it takes the parker's lock alone. It is never refused and
+/// allocates nothing. `validate` and `timed_out` must not call the lot, nor wait for a thread that
+/// does. `before_sleep` may make any call of the lot, `park` with other data.
 ///
 /// Upstream has it under this name. There the lot and the thread's data are found, not handed in,
 /// and any number that the caller has no right to is unsafe as a key; here it is only unwise.
