@@ -15,10 +15,10 @@ use std::time::Clock;
 
 const OTHER_KEY: usize = 8;
 
-const MAX_THREADS: usize = 1_024;
+const MAX_THREADS: usize = 16_384;
 
-// The key 0 has the first place in a table of each size from 16 to 4,096, and this the last one.
-const LAST_PLACE: usize = 2_584;
+// The key 0 has the first place in a table of each size from 16 to 65,536, and this the last one.
+const LAST_PLACE: usize = 46_368;
 
 // Takes the last number, and gives it back.
 fn take_the_last<P: ThreadParkerT, R: Wait + Abort>(rt: &R, alloc: Global, lot: &ParkingLot<P>) {
@@ -45,7 +45,7 @@ fn register_the_rest<P: ThreadParkerT, R: Wait + Abort>(
     expect_equal(rt, unpark_all(rt, lot, key, TOKEN), 1);
 }
 
-// The table grows from 16 buckets to 4,096 while one thread waits.
+// The table grows from 16 buckets to 65,536 while one thread waits.
 fn a_waiter_stays<P: ThreadParkerT, R: Wait + Clock + Abort>(rt: &R, alloc: Global, key: usize) {
     let lot = new_lot::<P, _>(rt, alloc, MAX_THREADS);
     let mut data = register(rt, alloc, &lot);
@@ -101,7 +101,7 @@ fn the_last_number_parks<P: ThreadParkerT, R: Wait + Clock + Abort>(rt: &R, allo
 
 // It refuses a number that is cut where its thread is handed its node, woken, or noted on its key.
 #[test]
-fn the_last_of_1024_parks_in_each_way(rt: HostRuntime) {
+fn the_last_of_16384_parks_in_each_way(rt: HostRuntime) {
     the_last_number_parks::<ThreadParker, _>(&rt, rt.alloc());
     the_last_number_parks::<YieldParker, _>(&rt, rt.alloc());
 }

@@ -300,15 +300,15 @@ fn a_new_interleaved_lot_is_empty(rt: HostRuntime) -> Result<(), Fail> {
     let lot = FineLot::new(rt.alloc(), 6, 2)?;
     expect_equal(&rt, (lot.size(), lot.registered()), (16, 0));
     expect_equal(&rt, lot.list(7)?.len(), 0);
-    FineLot::new(rt.alloc(), 1_024, 1_024)?;
+    FineLot::new(rt.alloc(), 16_384, 16_384)?;
     FineLot::new(rt.alloc(), 0, 0)?;
     Ok(())
 }
 
 // It ends well whichever one of its requests for memory is refused.
 #[test]
-fn an_interleaved_lot_is_for_at_most_1024_threads_and_callers(rt: HostRuntime) {
-    for (threads, callers) in [(1_025, 1), (1, 1_025)] {
+fn an_interleaved_lot_is_for_at_most_16384_threads_and_callers(rt: HostRuntime) {
+    for (threads, callers) in [(16_385, 1), (1, 16_385)] {
         let made = FineLot::new(rt.alloc(), threads, callers);
         assert!(rt; matches!(made, Err(LotError::TooManyThreads)));
     }
@@ -394,11 +394,11 @@ fn an_interleaved_run_without_room_changes_nothing(rt: HostRuntime) {
 
 // It refuses a registration or a recording that answers `NoMemory` once there are more than some.
 #[test]
-fn an_interleaved_lot_has_1024_threads_and_a_thread_records(rt: HostRuntime) -> Result<(), Fail> {
-    let mut lot = FineLot::new(rt.alloc(), 1_024, 1)?;
+fn an_interleaved_lot_has_16384_threads_and_a_thread_records(rt: HostRuntime) -> Result<(), Fail> {
+    let mut lot = FineLot::new(rt.alloc(), 16_384, 1)?;
     let mut answers = Vec::new(rt.alloc());
     let mut sequential = Vec::new(rt.alloc());
-    for number in 0..1_024 {
+    for number in 0..16_384 {
         run_bare(
             &mut lot,
             &[FineStep::Register],
@@ -408,7 +408,7 @@ fn an_interleaved_lot_has_1024_threads_and_a_thread_records(rt: HostRuntime) -> 
         expect_equal(&rt, answers.last(), Some(&registered(number)));
     }
     for key in 0..1_000 {
-        let acquire = FineStep::Acquire { thread: 1_023, key };
+        let acquire = FineStep::Acquire { thread: 16_383, key };
         run_bare(&mut lot, &[acquire], &mut answers, &mut sequential)?;
         expect_equal(&rt, answers.last(), Some(&answer(Answer::Recorded)));
     }

@@ -1,18 +1,20 @@
 -- Thread numbers, and the sizes of tables.
 use Rattle.std.proofs.Common.{◌≡◌, ℕ, ◌+◌, ◌/◌, ◌^◌, ◌<◌, ◌≤◌, List, [], ◌∷◌, length, get_or, max, min, slice_get, slice_set}
-use Rattle.std.proofs.Common.{Some, refl, sym, ap, ◌∙◌, ◌*◌, ⊎_elim, arith, suc, zero, cond}
+use Rattle.std.proofs.Common.{◌≢◌, Some, refl, sym, ap, ◌∙◌, ◌*◌, subst, ⊎_elim, arith, suc, zero, cond}
 use Rattle.std.proofs.Math.Nat.{pow-le-pow_right}
-use Rattle.std.proofs.lemmas.Bool.{cases_lt}
+use Rattle.std.proofs.Math.ListN.{length-set}
+use Rattle.std.proofs.lemmas.Bool.{cases_eq, cases_lt}
+use Rattle.std.proofs.lemmas.List.{get_or-set_other, get_or-set_same}
 use Rattle.std.proofs.lemmas.Nat.{pow_below}
 use Rattle.std.proofs.lemmas.List.Sums.{count_by-le-length, sum_by-cons, sum_by-set}
-use Rattle.std.proofs.lemmas.Option.{none-some, get_or_from_slice_get, slice_get_within}
+use Rattle.std.proofs.lemmas.Option.{none-some, get_or_from_slice_get, slice_get_read, slice_get_within}
 use Rattle.std.specs.Int.{IsPowerOfTwo}
 use Rattle.lot_base.specs.Place.{IsTableSize}
 use Rattle.lot_base.proofs.PlaceLemmas.{exponent_of_power}
 use Rattle.lot_exclusive.specs.declared.table.Use.{Use}
 use Rattle.lot_exclusive.specs.declared.table.Use.TheVariants.{Free, Registered}
 use Rattle.lot_exclusive.specs.Size.{IsNextPowerOfTwo, IsTrimmedSize, IsTooLarge}
-use Rattle.lot_exclusive.specs.Table.{is_in_use, count_registered}
+use Rattle.lot_exclusive.specs.Table.{is_in_use, count_registered, AreRegisteredBelow}
 
 -- one number more, and what is counted then
 count-free : (numbers : List Use) → count_registered (Free ∷ numbers) ≡ count_registered numbers
@@ -50,14 +52,49 @@ count_registered-set numbers k free =
     let was : weight (get_or numbers k Free) ≡ 0 = ap weight (get_or_from_slice_get numbers k Free Free free) in
     omega (arith, was, sum_by-set weight numbers k Registered Free (slice_get_within numbers k Free free))
 
+-- a number keeps being registered where another is changed, and where it is registered itself
+registered-other : (numbers : List Use) (number k : ℕ) (now : Use) → k ≢ number → slice_get numbers k ≡ Some Registered
+    → slice_get (slice_set numbers number now) k ≡ Some Registered
+registered-other numbers number k now other registered =
+    slice_get_read (slice_set numbers number now) (length numbers) k Registered (sym (length-set numbers number now))
+    (slice_get_within numbers k Registered registered)
+    (sym (get_or-set_other numbers number k now Registered other
+    ∙ get_or_from_slice_get numbers k Registered Registered registered))
+
+registered-same : (numbers : List Use) (number : ℕ) → slice_get numbers number ≡ Some Free
+    → slice_get (slice_set numbers number Registered) number ≡ Some Registered
+registered-same numbers number free =
+    let low = slice_get_within numbers number Free free in
+    slice_get_read (slice_set numbers number Registered) (length numbers) number Registered
+    (sym (length-set numbers number Registered)) low (sym (get_or-set_same numbers number Registered Registered low))
+
+-- a free number is registered: all below are as before, with it where it is the next one
+pub AreRegisteredBelow-registered : (numbers : List Use) (number from next : ℕ) → slice_get numbers number ≡ Some Free
+    → AreRegisteredBelow numbers from → next ≤ from + 1 → (from < next → number ≡ from)
+    → AreRegisteredBelow (slice_set numbers number Registered) next
+AreRegisteredBelow-registered numbers number from next free below most same k low =
+    ⊎_elim
+    (λ (here : k ≡ number). subst (λ j. slice_get (slice_set numbers number Registered) j ≡ Some Registered) (sym here)
+    (registered-same numbers number free))
+    (λ (other : k ≢ number). registered-other numbers number k Registered other (below k
+    (⊎_elim (λ (h : k < from). h) (λ (h : from ≤ k). let e = same (omega (arith, h, low)) in
+    absurd (other (omega (arith, e, h, low, most)))) (cases_lt k from))))
+    (cases_eq k number)
+
+-- a number is freed: all below it stay registered
+pub AreRegisteredBelow-freed : (numbers : List Use) (number from : ℕ) → AreRegisteredBelow numbers from
+    → AreRegisteredBelow (slice_set numbers number Free) (min from number)
+AreRegisteredBelow-freed numbers number from below k low =
+    registered-other numbers number k Free (λ same. absurd (omega (arith, same, low))) (below k (omega (arith, low)))
+
 -- a power of two of this range is the size of a table; the first from 9 on is 16
-pub IsTableSize-power : (size : ℕ) → IsPowerOfTwo size → 9 ≤ size → size ≤ 65536 → IsTableSize size
+pub IsTableSize-power : (size : ℕ) → IsPowerOfTwo size → 9 ≤ size → size < 131072 → IsTableSize size
 IsTableSize-power size power low high = record {
   bits = power.0;
   at_least_4 = ⊎_elim (λ (h : power.0 < 4). absurd (let p = pow-le-pow_right {n = 2} (omega arith) {i = power.0} {j = 3} (omega arith)
       in omega (arith, power.1))) (λ (h : 4 ≤ power.0). h) (cases_lt power.0 4);
-  at_most_16 = ⊎_elim (λ (h : 16 < power.0). absurd (let p = pow_below 16 power.0 h in omega (arith, power.1)))
-      (λ (h : power.0 ≤ 16). h) (cases_lt 16 power.0);
+  at_most_16 = ⊎_elim (λ (h : 16 < power.0). absurd (let p = pow-le-pow_right {n = 2} (omega arith) {i = 17} {j = power.0} h
+      in omega (arith, power.1))) (λ (h : power.0 ≤ 16). h) (cases_lt 16 power.0);
   is_power = power.1;
 }
 
@@ -73,7 +110,7 @@ IsTableSize-greatest size table =
     let p = pow-le-pow_right {n = 2} (omega arith) {i = table.bits} {j = 16} table.at_most_16 in omega (arith, table.is_power)
 
 -- the next power of two after so many buckets is the size of a table
-pub IsTableSize-grown : (old wanted size : ℕ) → IsTableSize old → old < wanted → wanted ≤ 3072 → IsPowerOfTwo size
+pub IsTableSize-grown : (old wanted size : ℕ) → IsTableSize old → old < wanted → wanted ≤ 49152 → IsPowerOfTwo size
     → wanted ≤ size → size / 2 < max 1 wanted → IsTableSize size
 IsTableSize-grown old wanted size table more few power not_below least =
     let low = IsTableSize-least old table in IsTableSize-power size power (omega arith) (omega arith)

@@ -21,10 +21,14 @@ is_in_use Registered = true
 abbrev pub count_registered : List Use → ℕ
 count_registered numbers = count_by is_in_use numbers
 
+-- all numbers below this one are registered
+abbrev pub AreRegisteredBelow : List Use → ℕ → Type 0
+AreRegisteredBelow numbers number = (k : ℕ) → k < number → slice_get numbers k ≡ Some Registered
+
 -- the number is free, and all below it are registered
 pub record IsLeastUnregistered (numbers : List Use) (number : ℕ) : Type 0 where
   pub free : slice_get numbers number ≡ Some Free
-  pub least : (k : ℕ) → k < number → slice_get numbers k ≡ Some Registered
+  pub least : AreRegisteredBelow numbers number
 
 -- a row of so many buckets, each at its own place
 pub record IsRowOf (size : ℕ) (row : List BucketState) : Type 0 where

@@ -20,7 +20,7 @@ use std::marker::Model;
 use std::mem;
 
 /// The greatest number of threads that a table can be made for.
-pub const MAX_THREADS: usize = 1_024;
+pub const MAX_THREADS: usize = 16_384;
 
 /// Whether a thread number is registered.
 #[derive(Copy, Clone, Eq, PartialEq, Debug)]
@@ -130,8 +130,8 @@ impl Table {
     /// for each thread grows to the next power of two of 3 buckets for each; the list of every key
     /// stays as it was.
     ///
-    /// It passes over the numbers once, up to the one that it answers, and allocates nothing unless
-    /// the table grows. Growth allocates the buckets of the new table before it changes anything,
+    /// It passes over the numbers that may be free, up to the one that it answers
+    /// (`Numbers::least_free`), and allocates nothing unless the table grows. Growth allocates the buckets of the new table before it changes anything,
     /// and then takes each waiting node once from its bucket and puts it last, by one `push_back`,
     /// into that of its key.
     ///

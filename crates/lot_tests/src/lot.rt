@@ -122,12 +122,12 @@ fn a_retired_number_is_given_again(rt: HostRuntime) -> Result<(), Fail> {
     Ok(())
 }
 
-// It refuses a `new` that answers `NoMemory` for 1,024 threads.
+// It refuses a `new` that answers `NoMemory` for 16,384 threads.
 #[test]
-fn a_lot_is_for_at_most_1024_threads(rt: HostRuntime) -> Result<(), Fail> {
-    let refused = BareLot::new(rt.alloc(), 1_025);
+fn a_lot_is_for_at_most_16384_threads(rt: HostRuntime) -> Result<(), Fail> {
+    let refused = BareLot::new(rt.alloc(), 16_385);
     expect_equal(&rt, refused.err(), Some(LotError::TooManyThreads));
-    expect_equal(&rt, BareLot::new(rt.alloc(), 1_024)?.registered(), 0);
+    expect_equal(&rt, BareLot::new(rt.alloc(), 16_384)?.registered(), 0);
     Ok(())
 }
 
@@ -520,14 +520,14 @@ fn a_refused_recording_changes_no_records(rt: HostRuntime) {
 
 // It refuses a registration or a recording that answers `NoMemory` once there are more than some.
 #[test]
-fn a_lot_has_1024_threads_and_a_thread_1000_records(rt: HostRuntime) -> Result<(), Fail> {
-    let mut lot = BareLot::new(rt.alloc(), 1_024)?;
-    for number in 0..1_024 {
+fn a_lot_has_16384_threads_and_a_thread_1000_records(rt: HostRuntime) -> Result<(), Fail> {
+    let mut lot = BareLot::new(rt.alloc(), 16_384)?;
+    for number in 0..16_384 {
         expect_equal(&rt, lot.register(), Ok(number));
     }
     for key in 0..1_000 {
-        expect_equal(&rt, lot.acquire(1_023, usize::MAX - key), Ok(()));
+        expect_equal(&rt, lot.acquire(16_383, usize::MAX - key), Ok(()));
     }
-    expect_records(&rt, &lot, (1_023, usize::MAX), 1);
+    expect_records(&rt, &lot, (16_383, usize::MAX), 1);
     Ok(())
 }

@@ -105,10 +105,10 @@ fn numbers_are_given_from_the_least_free_one_on(rt: HostRuntime) -> Result<(), F
 }
 
 #[test]
-fn a_table_is_for_at_most_1024_threads(rt: HostRuntime) {
-    let refused = Table::new(rt.alloc(), 1_025);
+fn a_table_is_for_at_most_16384_threads(rt: HostRuntime) {
+    let refused = Table::new(rt.alloc(), 16_385);
     expect_equal(&rt, refused.err(), Some(LotError::TooManyThreads));
-    let made = Table::new(rt.alloc(), 1_024);
+    let made = Table::new(rt.alloc(), 16_384);
     expect_equal(&rt, made.err(), None);
 }
 
@@ -153,7 +153,7 @@ fn growth_keeps_the_list_of_each_key(rt: HostRuntime) -> Result<(), Fail> {
 
 #[test]
 fn the_size_goes_by_the_number_of_threads(rt: HostRuntime) -> Result<(), Fail> {
-    let mut table = table_of(rt.alloc(), 1_024, 0)?;
+    let mut table = table_of(rt.alloc(), 16_384, 0)?;
     for (threads, size) in [
         (5, 16),
         (6, 32),
@@ -171,7 +171,15 @@ fn the_size_goes_by_the_number_of_threads(rt: HostRuntime) -> Result<(), Fail> {
         (342, 2_048),
         (682, 2_048),
         (683, 4_096),
-        (1_024, 4_096),
+        (1_365, 4_096),
+        (1_366, 8_192),
+        (2_730, 8_192),
+        (2_731, 16_384),
+        (5_461, 16_384),
+        (5_462, 32_768),
+        (10_922, 32_768),
+        (10_923, 65_536),
+        (16_384, 65_536),
     ] {
         for _ in counts(&table).0..threads {
             register(&mut table)?;
@@ -185,9 +193,17 @@ fn the_size_goes_by_the_number_of_threads(rt: HostRuntime) -> Result<(), Fail> {
 // Each of these numbers is the least or the greatest that has its size.
 #[test]
 fn trims_bring_the_size_down_with_the_number_of_threads(rt: HostRuntime) -> Result<(), Fail> {
-    let mut table = table_of(rt.alloc(), 1_024, 1_024)?;
+    let mut table = table_of(rt.alloc(), 16_384, 16_384)?;
     for (threads, size) in [
-        (1_024, 4_096),
+        (16_384, 65_536),
+        (10_923, 65_536),
+        (10_922, 32_768),
+        (5_462, 32_768),
+        (5_461, 16_384),
+        (2_731, 16_384),
+        (2_730, 8_192),
+        (1_366, 8_192),
+        (1_365, 4_096),
         (683, 4_096),
         (682, 2_048),
         (342, 2_048),

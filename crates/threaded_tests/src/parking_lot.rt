@@ -304,10 +304,10 @@ fn a_lot_accepts_no_number_that_only_a_larger_lot_has(rt: HostRuntime) -> Result
 
 // It refuses a `new` that answers `NoMemory` always.
 #[test]
-fn a_lot_is_for_at_most_1024_threads(rt: HostRuntime) -> Result<(), Fail> {
-    let refused = new_lot(rt.alloc(), 1_025);
+fn a_lot_is_for_at_most_16384_threads(rt: HostRuntime) -> Result<(), Fail> {
+    let refused = new_lot(rt.alloc(), 16_385);
     assert!(rt; matches!(&refused, Err(LotError::TooManyThreads)));
-    expect_equal(&rt, new_lot(rt.alloc(), 1_024)?.max_threads(), 1_024);
+    expect_equal(&rt, new_lot(rt.alloc(), 16_384)?.max_threads(), 16_384);
     let without_threads = new_lot(rt.alloc(), 0)?;
     assert!(rt; is_full(&rt, rt.alloc(), &without_threads));
     Ok(())

@@ -94,7 +94,7 @@ fn each_form_has_its_answers(rt: HostRuntime) {
 #[test]
 fn a_first_line_that_makes_no_lot_is_refused(rt: HostRuntime) {
     let rows = [
-        ("lot 1025", Cause::TooManyThreads),
+        ("lot 16385", Cause::TooManyThreads),
         ("lot 18446744073709551615\n", Cause::TooManyThreads),
         ("lot 18446744073709551616", Cause::BadStep),
         ("", Cause::BadStep),

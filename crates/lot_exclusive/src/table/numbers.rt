@@ -1,7 +1,7 @@
 //! The numbers that threads register under.
 
 ghost use Rattle.std.specs.Prelude.{◌≡◌, ◌≢◌, ◌↔◌, ◌+◌, ◌<◌, ◌≤◌, Some, Err, IfSome, IfNone, IsErrOf, IfOk, length, replicate, slice_get, slice_set};
-ghost use Rattle.lot_exclusive.specs.Table.{count_registered, IsLeastUnregistered};
+ghost use Rattle.lot_exclusive.specs.Table.{count_registered, AreRegisteredBelow, IsLeastUnregistered};
 
 use super::{MAX_THREADS, Use};
 use lot_base::token::{LotError, NoMemory};
@@ -18,6 +18,9 @@ use std::mem;
 pub struct Numbers {
     uses: Vec<Use>,
     registered: usize,
+
+    // All numbers below it are registered, so whoever looks for a free one begins here.
+    search_from: usize,
 }
 
 impl Model for Numbers {
@@ -28,12 +31,13 @@ impl Model for Numbers {
 
     ghost use Rattle.std.specs.Prelude.{◌≡◌, ◌≤◌, length};
     ghost use Rattle.lot_exclusive.specs.declared.table.TheConstants.{MAX_THREADS};
-    ghost use Rattle.lot_exclusive.specs.Table.{count_registered};
+    ghost use Rattle.lot_exclusive.specs.Table.{count_registered, AreRegisteredBelow};
 
     ghost view = { λ numbers. numbers.uses.items };
 
     ghost invariant = { λ numbers. (numbers.registered ≡ count_registered numbers.uses.items)
-        × (length numbers.uses.items ≤ MAX_THREADS) };
+        × (length numbers.uses.items ≤ MAX_THREADS)
+        × AreRegisteredBelow numbers.uses.items numbers.search_from };
 }
 
 impl Numbers {
@@ -55,6 +59,7 @@ impl Numbers {
         Ok(Numbers {
             uses,
             registered: 0,
+            search_from: 0,
         })
     }
 
@@ -65,14 +70,18 @@ impl Numbers {
         self.registered
     }
 
-    /// The least number that is not registered, if there is one. It passes over the numbers once,
-    /// up to the one that it answers.
+    /// The least number that is not registered, if there is one.
+    ///
+    /// It passes over numbers up to the one that it answers, from behind the last of which it is
+    /// known that it and all below are registered: so threads that register one after another pass
+    /// over each number once. A release makes the next search begin at the released number at the
+    /// latest.
     pub fn least_free(&self) -> Option<usize>
         ensures some { IfSome result (IsLeastUnregistered self.now) }
         ensures few { IfSome result (λ _. count_registered self.now < MAX_THREADS) }
         ensures none { IfNone result (count_registered self.now ≡ length self.now) }
     {
-        least_free_of(&self.uses)
+        least_free_of(&self.uses, self.search_from)
     }
 
     /// Registers a free number. It allocates nothing.
@@ -83,6 +92,7 @@ impl Numbers {
     {
         self.uses[number] = Use::Registered;
         self.registered += 1;
+        self.search_from = search_after(self.search_from, number);
     }
 
     /// Frees the number. One that is not registered changes nothing. It allocates nothing.
@@ -97,6 +107,7 @@ impl Numbers {
         };
         if let Use::Registered = mem::replace(released, Use::Free) {
             self.registered -= 1;
+            self.search_from = self.search_from.min(number);
         }
     }
 }
@@ -112,12 +123,26 @@ fn free_uses(alloc: Global, max: usize) -> Result<Vec<Use>, NoMemory>
     Ok(uses)
 }
 
-// The least number that is not registered, if there is one.
-fn least_free_of(uses: &Vec<Use>) -> Option<usize>
+// Where the next search begins, once this number is registered too.
+fn search_after(search_from: usize, number: usize) -> usize
+    requires { number < MAX_THREADS }
+    ensures most { result ≤ search_from + 1 }
+    ensures next { search_from < result → number ≡ search_from }
+{
+    if number == search_from {
+        number + 1
+    } else {
+        search_from
+    }
+}
+
+// The least number that is not registered, if there is one, where all below the first are.
+fn least_free_of(uses: &Vec<Use>, first: usize) -> Option<usize>
+    requires { AreRegisteredBelow uses.now.items first }
     ensures some { IfSome result (IsLeastUnregistered uses.now.items) }
     ensures none { IfNone result (count_registered uses.now.items ≡ length uses.now.items) }
 {
-    for number in 0..uses.len() {
+    for number in first..uses.len() {
         if let Use::Free = uses[number] {
             return Some(number);
         }
