@@ -53,8 +53,8 @@ pub enum Status {
 ///
 /// Threads go by their numbers. What each step does is told by the machine that the lot means,
 /// which has one list of waiters for each key. A step that does not fit the status of its thread
-/// answers `Misfit`, changes nothing and calls no closure. Only `new`, `register`, `trim`, `acquire`
-/// and `list` ask for memory. No call takes a lock.
+/// answers `Misfit`, changes nothing and calls no closure. Only `new`, `register`, `trim`,
+/// `acquire` and `list` ask for memory. No call takes a lock.
 ///
 /// Upstream has no such type. Its `park` is `enter`, and after the sleep `resolve`.
 #[derive(Drop)]

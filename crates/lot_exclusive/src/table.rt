@@ -131,9 +131,9 @@ impl Table {
     /// stays as it was.
     ///
     /// It passes over the numbers that may be free, up to the one that it answers
-    /// (`Numbers::least_free`), and allocates nothing unless the table grows. Growth allocates the buckets of the new table before it changes anything,
-    /// and then takes each waiting node once from its bucket and puts it last, by one `push_back`,
-    /// into that of its key.
+    /// (`Numbers::least_free`), and allocates nothing unless the table grows. Growth allocates the
+    /// buckets of the new table before it changes anything, and then takes each waiting node once
+    /// from its bucket and puts it last, by one `push_back`, into that of its key.
     ///
     /// # Errors
     ///

@@ -381,8 +381,8 @@ impl<T: Fits> WordLock<T> {
         self.table.shared.wake_one(place);
     }
 
-    /// Sleeps while the link of the place is this one. The system compares the low 32 bits of a word
-    /// alone; a link is at most one above a place, and so they tell it.
+    /// Sleeps while the link of the place is this one. The system compares the low 32 bits of a
+    /// word alone; a link is at most one above a place, and so they tell it.
     pub(super) fn sleep<R: Wait>(&self, rt: &R, place: usize, link: u64)
         requires { IsPlace place }
     {

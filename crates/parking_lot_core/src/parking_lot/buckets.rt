@@ -315,8 +315,8 @@ impl Buckets {
         registered
     }
 
-    // Registers the least free number of the registry, which is locked, and answers its node. If the
-    // table has less than three buckets for each thread then, it grows first.
+    // Registers the least free number of the registry, which is locked, and answers its node. If
+    // the table has less than three buckets for each thread then, it grows first.
     //
     // Whether a number is free is asked before memory is, so a full lot is `Full` and never
     // `NoMemory`.

@@ -1,8 +1,8 @@
 //! The sections of a threaded lot: what each call does while the bucket of its key is locked.
 //!
 //! A section locks, does its step, commits, and lets go before it answers. It has no `?` while it
-//! has a bucket. Its own contract repeats what needs no bucket: for some list of waiters, the answer
-//! and the handles.
+//! has a bucket. Its own contract repeats what needs no bucket: for some list of waiters, the
+//! answer and the handles.
 
 ghost use Rattle.std.specs.Prelude.{◌≡◌, ◌≢◌, ◌<◌, ◌≤◌, ℕ, List, min, [], ◌∷◌, ◌++◌, length, not, Some, None, IsTrue, IfOk, IfErr, OnOk, OnErr, is_ok};
 ghost use Rattle.std.specs.List.{find};

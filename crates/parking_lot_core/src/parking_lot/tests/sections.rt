@@ -185,8 +185,8 @@ fn park_in_vain_and_list<R: Threads + Wait + Clock + Sync>(
 
 // It refuses a call that calls its `filter`, `callback` or `validate` without the lock of the
 // bucket, commits without it, or wakes with it; a `park` that calls its parker in another order or
-// not at all; and a second look that calls `timed_out` or answers `TimedOut` although the node is in
-// the slot.
+// not at all; and a second look that calls `timed_out` or answers `TimedOut` although the node is
+// in the slot.
 #[test]
 fn an_unpark_decides_and_commits_in_its_section_and_wakes_after_it(
     rt: HostRuntime,

@@ -1,4 +1,5 @@
-//! A parker that notes how it is called, and watches where the sections of its thread's unparks end.
+//! A parker that notes how it is called, and watches where the sections of its thread's unparks
+//! end.
 
 use super::*;
 use lot_base::thread_parker::YieldHandle;
