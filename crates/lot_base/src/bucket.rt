@@ -393,7 +393,7 @@ impl Bucket {
     }
 
     /// The numbers of the threads that wait on the key, in order. It visits each node of the
-    /// bucket once, and asks for memory for the list alone.
+    /// bucket once, and asks for memory for the list alone, again whenever that has to grow.
     ///
     /// # Errors
     ///

@@ -14,7 +14,7 @@ use Rattle.lot_base.proofs.PlaceLemmas.{exponent_of_power}
 use Rattle.lot_exclusive.specs.declared.table.Use.{Use}
 use Rattle.lot_exclusive.specs.declared.table.Use.TheVariants.{Free, Registered}
 use Rattle.lot_exclusive.specs.Size.{IsNextPowerOfTwo, IsTrimmedSize, IsTooLarge}
-use Rattle.lot_exclusive.specs.Table.{is_in_use, count_registered, AreRegisteredBelow}
+use Rattle.lot_exclusive.specs.Table.{is_in_use, count_registered, AreRegisteredBelow, IsLeastUnregistered}
 
 -- one number more, and what is counted then
 count-free : (numbers : List Use) → count_registered (Free ∷ numbers) ≡ count_registered numbers
@@ -68,17 +68,15 @@ registered-same numbers number free =
     slice_get_read (slice_set numbers number Registered) (length numbers) number Registered
     (sym (length-set numbers number Registered)) low (sym (get_or-set_same numbers number Registered Registered low))
 
--- a free number is registered: all below are as before, with it where it is the next one
-pub AreRegisteredBelow-registered : (numbers : List Use) (number from next : ℕ) → slice_get numbers number ≡ Some Free
-    → AreRegisteredBelow numbers from → next ≤ from + 1 → (from < next → number ≡ from)
-    → AreRegisteredBelow (slice_set numbers number Registered) next
-AreRegisteredBelow-registered numbers number from next free below most same k low =
+-- the least free number is registered: all up to it are then
+pub AreRegisteredBelow-registered : (numbers : List Use) (number : ℕ) → IsLeastUnregistered numbers number
+    → AreRegisteredBelow (slice_set numbers number Registered) (number + 1)
+AreRegisteredBelow-registered numbers number least k low =
     ⊎_elim
     (λ (here : k ≡ number). subst (λ j. slice_get (slice_set numbers number Registered) j ≡ Some Registered) (sym here)
-    (registered-same numbers number free))
-    (λ (other : k ≢ number). registered-other numbers number k Registered other (below k
-    (⊎_elim (λ (h : k < from). h) (λ (h : from ≤ k). let e = same (omega (arith, h, low)) in
-    absurd (other (omega (arith, e, h, low, most)))) (cases_lt k from))))
+    (registered-same numbers number least.free))
+    (λ (other : k ≢ number). registered-other numbers number k Registered other
+    (least.least k (omega (arith, other, low))))
     (cases_eq k number)
 
 -- a number is freed: all below it stay registered

@@ -24,11 +24,12 @@ pub const MAX_JOURNAL: usize = 1_048_576;
 /// Why a step was not done on a record.
 #[derive(Copy, Clone, Eq, PartialEq, Debug, Drop, Error)]
 pub enum RecordError {
-    /// The journal has no room for the step.
+    /// The journal has no room for the step. The record is as it was.
     #[error("journal is full")]
     JournalFull,
 
-    /// A request for memory was refused.
+    /// A request for memory was refused. The lot is as it was, and the journal has the step with
+    /// that answer.
     #[error("no memory")]
     NoMemory,
 }

@@ -25,7 +25,8 @@ use threads::{PerThread, new_threads};
 
 /// A registered thread: its number, its node while it does not wait, and the records of what it
 /// holds, which `deadlock` changes. It belongs to the lot that gave it. With another lot's data
-/// every call is safe, and acts for whoever has that number there.
+/// every call is safe, and acts for whoever has that number there; a park of either with a timeout
+/// may then find the other's node, or look for its own until an unpark comes.
 ///
 /// Data that is only dropped leaves its number registered; `ParkingLot::retire` frees it.
 ///
@@ -138,10 +139,11 @@ impl<P: ThreadParkerT> ParkingLot<P> {
     /// Registers a thread under the least free number. It has no records.
     ///
     /// It takes the lock of the numbers, looks for a free one, and lets the table grow, if it has
-    /// to, with that lock held. Growth allocates the larger row of buckets, if the table never had
-    /// so many. It waits for each section of the old buckets in turn, and sections that come
-    /// meanwhile sleep until it is done. The thread's node was made with the lot, so it parks
-    /// without asking for memory.
+    /// to, with that lock held. Growth allocates the larger row of buckets, by three requests for
+    /// each and one for the row, if the table never had so many. It waits for each section of the
+    /// old buckets in turn, and sections that come meanwhile sleep until it is done. The thread's
+    /// node was made with the lot, so it parks without asking for memory. A section must not call
+    /// this.
     ///
     /// Upstream registers a thread with its first use, by `ThreadData::new`, which grows the table.
     ///
@@ -182,8 +184,9 @@ impl<P: ThreadParkerT> ParkingLot<P> {
         self.buckets.trim(rt, alloc)
     }
 
-    /// Frees the thread's number, and takes its node back. It takes the lock of the numbers, and
-    /// allocates nothing. With another lot's data it frees whoever has that number here.
+    /// Frees the thread's number, takes its node back, and drops its records. It takes the lock of
+    /// the numbers, and allocates nothing. A section must not call it. With another lot's data it
+    /// frees whoever has that number here, and nobody where it is not below `max_threads`.
     ///
     /// Upstream counts one thread less as its data is dropped.
     pub fn retire<R: Wait>(&self, rt: &R, data: ThreadData) {
@@ -193,7 +196,8 @@ impl<P: ThreadParkerT> ParkingLot<P> {
 
     /// The numbers of the threads that waited on the key while its bucket was locked, in order.
     ///
-    /// It is one section with one `Bucket::list`, which asks for memory with the bucket locked.
+    /// It is one section with one `Bucket::list`, which asks for memory with the bucket locked. A
+    /// section must not call it.
     ///
     /// # Errors
     ///
@@ -324,8 +328,9 @@ pub fn unpark_one<P: ThreadParkerT, R: Wait, C: FnOnce(UnparkResult) -> UnparkTo
 /// many there were.
 ///
 /// It is one section with one `Bucket::take_all`, in which each unpark is committed. The first
-/// eight threads are woken after the section, and any others in it. It is never refused and
-/// allocates nothing. What it answers is shown by tests: no contract tells how many waited.
+/// eight threads are woken after the section, and any others before, with the bucket locked. It is
+/// never refused and allocates nothing. What it answers is shown by tests: no contract tells how
+/// many waited.
 ///
 /// Upstream has it under this name, and keeps the handles of more than eight threads in memory that
 /// it asks for.
@@ -349,8 +354,9 @@ pub fn unpark_all<P: ThreadParkerT, R: Wait>(
 /// is left. What it answers where none was unparked is ignored.
 ///
 /// It is one section with one `Bucket::take_filter`, in which each unpark is committed. The first
-/// eight threads are woken after the section, and any others in it. It is never refused and
-/// allocates nothing. Neither closure may call the lot, nor wait for a thread that does.
+/// eight threads are woken after the section, and any others before, with the bucket locked. It is
+/// never refused and allocates nothing. Neither closure may call the lot, nor wait for a thread
+/// that does.
 ///
 /// Upstream has it under this name, and keeps the handles of more than eight threads in memory that
 /// it asks for.

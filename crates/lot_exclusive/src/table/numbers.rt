@@ -72,10 +72,9 @@ impl Numbers {
 
     /// The least number that is not registered, if there is one.
     ///
-    /// It passes over numbers up to the one that it answers, from behind the last of which it is
-    /// known that it and all below are registered: so threads that register one after another pass
-    /// over each number once. A release makes the next search begin at the released number at the
-    /// latest.
+    /// It begins behind the number that was registered last, or at the least one that was released
+    /// since, and passes over numbers up to the one that it answers. So threads that register one
+    /// after another pass over each number once.
     pub fn least_free(&self) -> Option<usize>
         ensures some { IfSome result (IsLeastUnregistered self.now) }
         ensures few { IfSome result (λ _. count_registered self.now < MAX_THREADS) }
@@ -84,15 +83,15 @@ impl Numbers {
         least_free_of(&self.uses, self.search_from)
     }
 
-    /// Registers a free number. It allocates nothing.
+    /// Registers the least free number. It allocates nothing.
     pub fn register(&mut self, number: usize)
-        requires { slice_get self.old number ≡ Some Use.Free }
+        requires { IsLeastUnregistered self.old number }
         ensures registered { self.new ≡ slice_set self.old number Use.Registered }
         ensures count { count_registered self.new ≡ count_registered self.old + 1 }
     {
         self.uses[number] = Use::Registered;
         self.registered += 1;
-        self.search_from = search_after(self.search_from, number);
+        self.search_from = number + 1;
     }
 
     /// Frees the number. One that is not registered changes nothing. It allocates nothing.
@@ -121,19 +120,6 @@ fn free_uses(alloc: Global, max: usize) -> Result<Vec<Use>, NoMemory>
         uses.push(Use::Free)?;
     }
     Ok(uses)
-}
-
-// Where the next search begins, once this number is registered too.
-fn search_after(search_from: usize, number: usize) -> usize
-    requires { number < MAX_THREADS }
-    ensures most { result ≤ search_from + 1 }
-    ensures next { search_from < result → number ≡ search_from }
-{
-    if number == search_from {
-        number + 1
-    } else {
-        search_from
-    }
 }
 
 // The least number that is not registered, if there is one, where all below the first are.

@@ -241,14 +241,15 @@ impl Buckets {
     {
         for _ in rt.forever() {
             let current = self.current.load();
-            if let Some(row) = self.row(current) {
-                let bucket = row.claim(rt, place(key, row.size()));
-                if self.is_in_use(current) {
-                    return bucket;
-                }
-                bucket.unlock();
+            let Some(row) = self.row(current) else {
+                self.wait_for_change(rt);
+                continue;
+            };
+            let bucket = row.claim(rt, place(key, row.size()));
+            if self.is_in_use(current) {
+                return bucket;
             }
-            self.wait_for_change(rt);
+            bucket.unlock();
         }
         unreachable!()
     }
@@ -272,16 +273,17 @@ impl Buckets {
     {
         for _ in rt.forever() {
             let current = self.current.load();
-            if let Some(row) = self.row(current) {
-                let size = row.size();
-                let (source, target) = row.lock_two(rt, place(from, size), place(to, size));
-                if self.is_in_use(current) {
-                    return (source, target);
-                }
-                source.unlock();
-                unlock_if_any(target);
+            let Some(row) = self.row(current) else {
+                self.wait_for_change(rt);
+                continue;
+            };
+            let size = row.size();
+            let (source, target) = row.lock_two(rt, place(from, size), place(to, size));
+            if self.is_in_use(current) {
+                return (source, target);
             }
-            self.wait_for_change(rt);
+            source.unlock();
+            unlock_if_any(target);
         }
         unreachable!()
     }
@@ -291,7 +293,8 @@ impl Buckets {
         self.current.load() == current
     }
 
-    // Waits until the thread that changes the row is done: it has the registry meanwhile.
+    // Waits until the thread that changes the row is done: it has the registry meanwhile. Whoever
+    // finds another row in use by then does not come here.
     #[cold]
     #[inline(never)]
     fn wait_for_change<R: Wait>(&self, rt: &R) {

@@ -58,8 +58,9 @@ impl<P: ThreadParkerT> ParkingLot<P> {
     //
     // Where the slot is full, the wait for the node does not sleep: the slot is the thread's own,
     // and nobody else takes from it. Where the slot is empty while the bucket of the thread's key
-    // is locked, the node is in that bucket, so its removal does not miss. No contract tells what a
-    // lock holds, so the loop looks again if it does.
+    // is locked, the node is in that bucket, so its removal does not miss, unless data of another
+    // lot parks under this number too. No contract tells what a lock holds, so the loop looks again
+    // if it does.
     pub(super) fn leave<R: Wait, T: FnOnce(usize, bool)>(
         &self,
         rt: &R,

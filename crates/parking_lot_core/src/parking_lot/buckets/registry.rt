@@ -123,9 +123,9 @@ impl Registry {
         self.row = row;
     }
 
-    // Registers a free number, where this row is in use, and answers its node.
+    // Registers the least free number, where this row is in use, and answers its node.
     pub(super) fn register(&mut self, number: usize, row: RowInUse) -> Box<Node>
-        requires free { slice_get self.old.numbers number ≡ Some Use.Free }
+        requires least { IsLeastUnregistered self.old.numbers number }
         requires table { IsTableSize row.size }
         requires room { 3 * (count_registered self.old.numbers + 1) ≤ row.size }
         ensures registered { self.new ≡ record {
