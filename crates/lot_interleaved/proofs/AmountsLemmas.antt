@@ -107,6 +107,8 @@ module _ (s : FineState) (c : IsFineConsistent s) where
           (with_value-other s.keys_read thread (Some (s.key_words thread)) n other) read))
           (cases_eq n thread);
       held = c.held;
+      holding = c.holding;
+      alone = c.alone;
     };
   }
 
@@ -124,5 +126,7 @@ module _ (s : FineState) (c : IsFineConsistent s) where
           (with_value-other s.keys_read thread None n other) read))
           (cases_eq n thread);
       held = c.held;
+      holding = c.holding;
+      alone = c.alone;
     };
   }

@@ -20,7 +20,7 @@ use Rattle.lot_interleaved.specs.declared.interleaved.FineAnswer.TheVariants as 
 use Rattle.lot_interleaved.specs.declared.interleaved.FineStep.TheVariants.{Begin}
 use Rattle.lot_interleaved.specs.InterleavedState.{FineState, Section, Caller, TakenThread}
 use Rattle.lot_interleaved.specs.InterleavedSteps.{section_of, wakes_of, with_caller, with_tokens, with_key_words}
-use Rattle.lot_interleaved.specs.InterleavedSteps.{can_begin, after_begin, holds}
+use Rattle.lot_interleaved.specs.InterleavedSteps.{can_begin, after_begin, holds, is_held, keys_of}
 use Rattle.lot_interleaved.specs.InterleavedView.{sequential_view, sequential_status, sequential_step, taken_of}
 use Rattle.lot_interleaved.specs.InterleavedView.{taken_in}
 use Rattle.lot_interleaved.specs.InterleavedView.{times_taken, with_taken, with_slot, once_if, HoldsForTaken}
@@ -33,6 +33,7 @@ use Rattle.lot_interleaved.proofs.HandedLemmas.{times_taken-append, times_taken-
 use Rattle.lot_interleaved.proofs.HandedLemmas.{with_taken-alike, with_taken-append, with_taken-with_tokens}
 use Rattle.lot_interleaved.proofs.HandedLemmas.{is_taken-among}
 use Rattle.lot_interleaved.proofs.HandedLemmas.{None-from_test, TakenAround, taken_around}
+use Rattle.lot_interleaved.proofs.HoldingLemmas.{EachHoldsABucket-set, EachHoldsAlone-set, some_holds, places_free}
 use Rattle.lot_exclusive.proofs.StandingLemmas.{same_machine, is_queued-standing, StandsAt-standing}
 use Rattle.lot_exclusive.proofs.MachineLemmas.{MatchesStatus-after_requeue}
 use Rattle.lot_exclusive.proofs.StandingLemmas.{after_requeue-after_unpark}
@@ -102,7 +103,9 @@ module _ (s : FineState) (c : IsFineConsistent s) where
       (lists_are : (k : ℕ) → lists k ≡ lists_after_requeue s.threads_view.lists from to split k)
       (key_words : ℕ → ℕ) (stays : (j : ℕ) → times_in j split.moved ≡ 0 → key_words j ≡ s.key_words j)
       (moves : (j : ℕ) → times_in j split.moved ≢ 0 → key_words j ≡ to) (held : List ℕ)
-      (holds_from : list_any (λ place. place == place_of from s.size) held ≡ true) where
+      (holds_from : list_any (λ place. place == place_of from s.size) held ≡ true)
+      (apart : (place : ℕ) → list_any (λ h. h == place) held ≡ true
+      → list_any (λ (cl : Caller). holds place cl.section) s.callers ≡ false) where
     abbrev section : Section
     section = record { held = held; taken = with_tokens token split.taken }
 
@@ -233,6 +236,9 @@ module _ (s : FineState) (c : IsFineConsistent s) where
       unaware = c.unaware;
       reading = c.reading;
       held = held_begun;
+      holding = EachHoldsABucket-set s caller opened (λ is_open. (place_of from s.size, holds_from)) c.holding;
+      alone = EachHoldsAlone-set s caller opened (λ place other here there. absurd (false≢true
+          (sym (apart place here) ∙ some_holds (holds place) refl s.callers other there))) c.alone;
     }
 
     -- an unpark of this operation
@@ -244,50 +250,51 @@ module _ (s : FineState) (c : IsFineConsistent s) where
 
   -- one that moves nobody
   Amounts-one_key : (caller : ℕ) (cl : Caller) → slice_get s.callers caller ≡ Some cl → cl.section ≡ None → (op : Op)
-      (given : Answer) (view : Machine) (key : ℕ) (split : Split Waiter) (token : UnparkToken) → split.moved ≡ []
+      (given : Answer) (view : Machine) (key : ℕ) (split : Split Waiter) (token : UnparkToken)
+      → list_any (is_held s) (key ∷ []) ≡ false → split.moved ≡ []
       → AreParts split (s.threads_view.lists key) → view ≡ after_unpark s.threads_view key split token
       → ((left : Machine) → left ≡ after_unpark (sequential_view s) key split token
       → IsUnpark (sequential_view s) op given left)
       → Amounts s (with_caller (record s { threads_view = record s.threads_view { lists = view.lists } }) caller
       (Some (record { held = place_of key s.size ∷ []; taken = with_tokens token split.taken })) 0)
       ((machine.Unpark op, given) ∷ [])
-  Amounts-one_key caller cl at closed op given view key split token none parts view_is does =
+  Amounts-one_key caller cl at closed op given view key split token free none parts view_is does =
       Amounts-begun caller cl at closed key key split token parts view.lists
       (λ k. ap (λ (m : Machine). m.lists k)
       (view_is ∙ sym (after_requeue-after_unpark s.threads_view key split token none)))
       s.key_words (λ j unmoved. refl) (λ j some. absurd (some (ap (times_in j) none))) (place_of key s.size ∷ [])
       (ap (λ b. b || false) (eq-eqb (place_of key s.size) (place_of key s.size) refl))
-      op given
+      (places_free s (key ∷ []) free) op given
       (λ left is. does left (is ∙ after_requeue-after_unpark (sequential_view s) key split token none))
 
   -- the machine's step on the threads' view
   IsUnpark-amounts : (caller : ℕ) (cl : Caller) → slice_get s.callers caller ≡ Some cl → cl.section ≡ None → (op : Op)
-      (given : Answer) (view : Machine) → IsUnpark s.threads_view op given view
+      (given : Answer) (view : Machine) → list_any (is_held s) (keys_of op) ≡ false → IsUnpark s.threads_view op given view
       → Amounts s (after_begin s caller op view) (sequential_step s (Begin caller op) (fine.Answer given))
-  IsUnpark-amounts caller cl at closed (One key token) given view (answers, view_is) =
+  IsUnpark-amounts caller cl at closed (One key token) given view free (answers, view_is) =
       let split : Split Waiter = split_first (s.threads_view.lists key) in
       let op : Op = One key token in
       subst (λ a. Amounts s (after_begin s caller op view) (sequential_step s (Begin caller op) (fine.Answer a)))
       (sym answers)
-      (Amounts-one_key caller cl at closed op _ view key split token refl (AreParts-first (s.threads_view.lists key))
+      (Amounts-one_key caller cl at closed op _ view key split token free refl (AreParts-first (s.threads_view.lists key))
       view_is (λ left is. (refl, is)))
-  IsUnpark-amounts caller cl at closed (AllOp key token) given view (answers, view_is) =
+  IsUnpark-amounts caller cl at closed (AllOp key token) given view free (answers, view_is) =
       let split : Split Waiter = split_all (s.threads_view.lists key) in
       let op : Op = AllOp key token in
       subst (λ a. Amounts s (after_begin s caller op view) (sequential_step s (Begin caller op) (fine.Answer a)))
       (sym answers)
-      (Amounts-one_key caller cl at closed op _ view key split token refl (AreParts-all (s.threads_view.lists key))
+      (Amounts-one_key caller cl at closed op _ view key split token free refl (AreParts-all (s.threads_view.lists key))
       view_is (λ left is. (refl, is)))
-  IsUnpark-amounts caller cl at closed (Filter key decisions token) given view (answers, view_is) =
+  IsUnpark-amounts caller cl at closed (Filter key decisions token) given view free (answers, view_is) =
       let split : Split Waiter = split_filter decisions.items (s.threads_view.lists key) in
       let op : Op = Filter key decisions token in
       subst (λ a. Amounts s (after_begin s caller op view) (sequential_step s (Begin caller op) (fine.Answer a)))
       (sym answers)
-      (Amounts-one_key caller cl at closed op _ view key split token
+      (Amounts-one_key caller cl at closed op _ view key split token free
       (split_filter-moves_nobody decisions.items (s.threads_view.lists key))
       (AreParts-filter decisions.items (s.threads_view.lists key))
       view_is (λ left is. (refl, is)))
-  IsUnpark-amounts caller cl at closed (Requeue from to by token) given view (answers, view_is) =
+  IsUnpark-amounts caller cl at closed (Requeue from to by token) given view free (answers, view_is) =
       let split : Split Waiter = split_by by (s.threads_view.lists from) in
       let op : Op = Requeue from to by token in
       subst (λ a. Amounts s (after_begin s caller op view) (sequential_step s (Begin caller op) (fine.Answer a)))
@@ -301,11 +308,11 @@ module _ (s : FineState) (c : IsFineConsistent s) where
       (place_of from s.size ∷ place_of to s.size ∷ [])
       (ap (λ b. b || ((place_of to s.size == place_of from s.size) || false))
       (eq-eqb (place_of from s.size) (place_of from s.size) refl))
-      op _ (λ left is. (refl, is)))
+      (places_free s (from ∷ to ∷ []) free) op _ (λ left is. (refl, is)))
 
   -- the caller that may begin
   pub begin-amounts : (caller : ℕ) → can_begin s caller ≡ true → (op : Op) (given : Answer) (view : Machine)
-      → IsUnpark s.threads_view op given view
+      → list_any (is_held s) (keys_of op) ≡ false → IsUnpark s.threads_view op given view
       → Amounts s (after_begin s caller op view) (sequential_step s (Begin caller op) (fine.Answer given))
   begin-amounts caller can op given view =
       let fresh : Caller = record { section = None; wakes = 0 } in

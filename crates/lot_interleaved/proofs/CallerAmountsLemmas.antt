@@ -1,7 +1,7 @@
 -- What the steps of a caller amount to: the end of a section, a wake, a commit.
 use Rattle.std.proofs.Common.{◌≡◌, ◌≢◌, ℕ, ◌+◌, ◌≤◌, List, [], ◌∷◌, ◌++◌}
 use Rattle.std.proofs.Common.{refl, sym, ap, ◌∙◌, subst, arith, ⊎_elim, Some, None, slice_get, slice_set}
-use Rattle.std.proofs.lemmas.Bool.{cases_eq}
+use Rattle.std.proofs.lemmas.Bool.{cases_eq, false≢true}
 use Rattle.std.proofs.lemmas.List.Elements.{All-nil, All-tail, All-set, All-get_or}
 use Rattle.std.proofs.lemmas.Option.{get_or_from_slice_get, slice_get_within}
 use Rattle.std.specs.Option.{option_map_or}
@@ -14,20 +14,23 @@ use Rattle.lot_interleaved.specs.InterleavedState.{FineState, Section, Caller, T
 use Rattle.lot_interleaved.specs.InterleavedSteps.{holds, section_of, wakes_of, with_caller}
 use Rattle.lot_interleaved.specs.InterleavedView.{sequential_view, sequential_status, taken_of, times_taken, once_if}
 use Rattle.lot_interleaved.specs.InterleavedView.{taken_in, with_taken, with_slot, HoldsForTaken, IsFineConsistent}
+use Rattle.lot_interleaved.specs.InterleavedView.{EachHoldsABucket, EachHoldsAlone}
 use Rattle.lot_exclusive.specs.Machine.{MatchesStatus}
 use Rattle.lot_exclusive.specs.Status.{is_queued}
 use Rattle.lot_interleaved.proofs.HandedLemmas.{times_taken-append, times_taken-own}
 use Rattle.lot_interleaved.proofs.HandedLemmas.{times_taken-other, with_taken-none}
 use Rattle.lot_interleaved.proofs.HandedLemmas.{with_taken-alike, with_taken-append}
 use Rattle.lot_interleaved.proofs.HandedLemmas.{None-from, once_if-most, TakenAround, taken_around, caller_at}
+use Rattle.lot_interleaved.proofs.HoldingLemmas.{EachHoldsABucket-set, EachHoldsAlone-set}
 use Rattle.lot_exclusive.proofs.StandingLemmas.{same_machine}
 use Rattle.lot_interleaved.proofs.AmountsLemmas.{Amounts}
 
 module _ (s : FineState) (c : IsFineConsistent s) where
   -- callers that have taken the same, in the same order
   Amounts-callers : (callers : List Caller) → taken_of (record s { callers = callers }) ≡ taken_of s
-      → All (HoldsForTaken s) callers → Amounts s (record s { callers = callers }) []
-  Amounts-callers callers same held = record {
+      → All (HoldsForTaken s) callers → EachHoldsABucket (record s { callers = callers })
+      → EachHoldsAlone (record s { callers = callers }) → Amounts s (record s { callers = callers }) []
+  Amounts-callers callers same held holding alone = record {
     run = sym view;
     consistent = record {
       view = subst (MatchesStatus s.key_words) (sym view) c.view;
@@ -35,6 +38,8 @@ module _ (s : FineState) (c : IsFineConsistent s) where
       unaware = c.unaware;
       reading = c.reading;
       held = held;
+      holding = holding;
+      alone = alone;
     };
   }
     where
@@ -61,6 +66,8 @@ module _ (s : FineState) (c : IsFineConsistent s) where
       Amounts-callers (slice_set s.callers caller closed)
       (around.set closed ∙ ap (λ ts. around.before ++ (ts ++ around.after)) (sym taken) ∙ sym around.old)
       (All-set (HoldsForTaken s) s.callers caller closed (All-nil _) c.held)
+      (EachHoldsABucket-set s caller closed (λ none. absurd (false≢true none)) c.holding)
+      (EachHoldsAlone-set s caller closed (λ place other none there. absurd (false≢true none)) c.alone)
 
   -- Wake
   pub Amounts-wake : (caller : ℕ) (wakes : ℕ) → wakes_of s caller ≢ 0
@@ -81,6 +88,8 @@ module _ (s : FineState) (c : IsFineConsistent s) where
           (All-set (HoldsForTaken s) s.callers caller woken
           (subst (λ o. HoldsForTaken s (record { section = o; wakes = wakes })) (sym has) (holds_at caller cl is))
           c.held)
+          (EachHoldsABucket-set s caller woken (c.holding caller) c.holding)
+          (EachHoldsAlone-set s caller woken (λ place. c.alone place caller) c.alone)
 
   -- Commit: the first that the section took has its node in its slot
   module _ (caller : ℕ) (section : Section) (first : TakenThread) (rest : List TakenThread)
@@ -186,6 +195,11 @@ module _ (s : FineState) (c : IsFineConsistent s) where
         λ t. IsTrue (holds (place_of (s.key_words t.number) s.size) (Some section)) in
         All-tail Held first rest (subst (All Held) taken_is all)
 
+    still_holding : IsTrue (is_some left.section) → (place : ℕ) × IsTrue (holds place left.section)
+    still_holding is_open =
+        let (place, holds_it) = c.holding caller (ap is_some open_is) in
+        (place, subst (λ o. IsTrue (holds place o)) open_is holds_it)
+
     pub Amounts-commit : Amounts s committed []
     Amounts-commit = record {
       run = sym view;
@@ -195,5 +209,9 @@ module _ (s : FineState) (c : IsFineConsistent s) where
         unaware = c.unaware;
         reading = c.reading;
         held = All-set (HoldsForTaken s) s.callers caller left still_held c.held;
+        holding = EachHoldsABucket-set s caller left still_holding c.holding;
+        alone = EachHoldsAlone-set s caller left
+            (λ place other here. c.alone place caller other (subst (λ o. IsTrue (holds place o)) (sym open_is) here))
+            c.alone;
       };
     }

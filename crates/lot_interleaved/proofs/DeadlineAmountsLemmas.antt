@@ -62,6 +62,8 @@ module _ (s : FineState) (c : IsFineConsistent s) where
           ∙ c.reading n (subst (λ o. IsTrue (is_some o)) (with_value-other s.keys_read thread None n other) read))
           (cases_eq n thread);
       held = c.held;
+      holding = c.holding;
+      alone = c.alone;
     }
 
     of_others : (n : ℕ) → n ≢ thread → sequential_status passed n ≡ sequential_status s n

@@ -17,6 +17,7 @@ use Rattle.lot_interleaved.specs.InterleavedView.{IsFineConsistent, HoldsForTake
 use Rattle.lot_exclusive.specs.Lot.{free_thread, machine, thread_at, thread_keys}
 use Rattle.lot_exclusive.specs.Machine.{MatchesStatus, new_machine}
 use Rattle.lot_exclusive.specs.Represents.{bucket_at}
+use Rattle.lot_interleaved.proofs.HoldingLemmas.{EachHoldsABucket-new, EachHoldsAlone-new}
 use Rattle.lot_interleaved.proofs.InterleavedLemmas.{sequential_view-new, taken_of-new}
 use Rattle.lot_exclusive.proofs.LotThreadLemmas.{IsLotStep}
 use Rattle.lot_exclusive.proofs.LotLemmas.{IsLotStep-new}
@@ -48,6 +49,8 @@ IsFineConsistent-new max_threads callers = record {
   unaware = λ number. refl;
   reading = λ number read. absurd (false≢true read);
   held = All-replicate (HoldsForTaken (new_fine_state max_threads callers)) callers _ (All-nil _);
+  holding = EachHoldsABucket-new max_threads callers;
+  alone = EachHoldsAlone-new max_threads callers;
 }
 
 pub plain_threads-free : (a n : ℕ) → plain_threads (map free_fine_thread (range_with_len a n))

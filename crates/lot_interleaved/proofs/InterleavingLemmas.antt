@@ -123,8 +123,8 @@ module _ (s : FineState) (c : IsFineConsistent s) where
         MatchBool-either (can_begin s caller)
         (λ can. MatchBool-either (list_any (is_held s) (keys_of op))
         (λ _. from_gives (Begin caller op) (Amounts-none s c))
-        (λ _ (by_rule, view, does, gives).
-        from_gives (Begin caller op) (begin-amounts s c caller can op by_rule view does) gives))
+        (λ free (by_rule, view, does, gives).
+        from_gives (Begin caller op) (begin-amounts s c caller can op by_rule view free does) gives))
         (λ _. from_misfit (Begin caller op))
 
     commit : (caller : ℕ) (section : Section) → section_of s caller ≡ Some section → (taken : List TakenThread)

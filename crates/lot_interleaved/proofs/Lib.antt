@@ -1,5 +1,6 @@
 pub mod InterleavedLemmas
 pub mod HandedLemmas
+pub mod HoldingLemmas
 pub mod AmountsLemmas
 pub mod CallerAmountsLemmas
 pub mod OutcomeAmountsLemmas

@@ -76,6 +76,8 @@ module _ (s : FineState) (c : IsFineConsistent s) where
           ∙ c.reading n (subst (λ o. IsTrue (is_some o)) (with_value-other s.keys_read thread None n other) read))
           (cases_eq n thread);
       held = c.held;
+      holding = c.holding;
+      alone = c.alone;
     }
 
   -- Return, and Look of a thread that finds its node

@@ -116,6 +116,8 @@ module _ (s : FineState) (c : IsFineConsistent s) where
         unaware = unaware_set s c number status.Running (ap is_queued least.free) refl;
         reading = reading_set s c number status.Running (ap is_queued least.free) refl;
         held = held_at kept;
+        holding = c.holding;
+        alone = c.alone;
       };
     }
 

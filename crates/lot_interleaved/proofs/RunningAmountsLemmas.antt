@@ -109,6 +109,8 @@ module _ (s : FineState) (c : IsFineConsistent s) where
             unaware = unaware_set thread status.Free (ap is_queued runs) refl;
             reading = reading_set thread status.Free (ap is_queued runs) refl;
             held = c.held;
+            holding = c.holding;
+            alone = c.alone;
           };
         }
 
@@ -122,6 +124,8 @@ module _ (s : FineState) (c : IsFineConsistent s) where
       unaware = c.unaware;
       reading = c.reading;
       held = c.held;
+      holding = c.holding;
+      alone = c.alone;
     }
 
     pub Amounts-acquire : (key : ℕ) → Amounts s (record s { threads_view = after_acquire s.threads_view thread key })
@@ -171,5 +175,7 @@ module _ (s : FineState) (c : IsFineConsistent s) where
               held = still_held_at s (with_value s.key_words thread key) s.size s.callers
                   (λ n some. ap (λ k. place_of k s.size) (with_value-other s.key_words thread key n
                   (λ same. some (ap (λ j. times_taken j (taken_of s)) same ∙ (not_taken s c) thread still)))) c.held;
+              holding = c.holding;
+              alone = c.alone;
             };
           }

@@ -40,6 +40,8 @@ module _ (s : FineState) (c : IsFineConsistent s) where
           (λ n some. ⊎_elim (λ (same : size ≡ s.size). ap (place_of (s.key_words n)) same)
           (λ (nobody : taken_of s ≡ []). absurd (some (ap (times_taken n) nobody))) kept)
           c.held;
+      holding = c.holding;
+      alone = c.alone;
     };
   }
 

@@ -21,7 +21,7 @@ use Rattle.lot_interleaved.specs.declared.interleaved.FineStep.{FineStep}
 use Rattle.lot_interleaved.specs.declared.interleaved.FineStep.TheVariants.{Begin, Deadline, Look, Enter, Return}
 use Rattle.lot_interleaved.specs.declared.interleaved.FineStep.TheVariants.{Register, Retire, Acquire, Release, Trim}
 use Rattle.lot_interleaved.specs.InterleavedState.{FineState, Section, Caller, TakenThread}
-use Rattle.lot_interleaved.specs.InterleavedSteps.{IsFineStep, holds}
+use Rattle.lot_interleaved.specs.InterleavedSteps.{IsFineStep, holds, section_of}
 use Rattle.lot_exclusive.specs.Run.{IsRun}
 use Rattle.lot_exclusive.specs.Machine.{Machine, MatchesStatus}
 use Rattle.lot_exclusive.specs.Status.{is_queued, is_taken}
@@ -69,6 +69,16 @@ HoldsForTaken s caller =
     All (λ thread. IsTrue (holds (place_of (s.key_words thread.number) s.size) caller.section))
     (taken_in caller.section)
 
+-- each open section holds a bucket
+abbrev pub EachHoldsABucket : FineState → Type 0
+EachHoldsABucket s = (caller : ℕ) → IsTrue (is_some (section_of s caller))
+    → (place : ℕ) × IsTrue (holds place (section_of s caller))
+
+-- where two callers' open sections hold the same bucket, they are one caller
+abbrev pub EachHoldsAlone : FineState → Type 0
+EachHoldsAlone s = (place caller other : ℕ) → IsTrue (holds place (section_of s caller))
+    → IsTrue (holds place (section_of s other)) → caller ≡ other
+
 pub record IsFineConsistent (s : FineState) : Type 0 where
   -- the sequential view keeps what every machine keeps, and each thread that waits or is late in it stands at its key
   -- word
@@ -83,6 +93,9 @@ pub record IsFineConsistent (s : FineState) : Type 0 where
   -- sections hold the buckets of those that they took, so a late one of these cannot look by its key word before the
   -- section's end
   pub held : All (HoldsForTaken s) s.callers
+  -- an open section holds a bucket, and no other caller's section holds it
+  pub holding : EachHoldsABucket s
+  pub alone : EachHoldsAlone s
 
 -- a step of the machine with its answer, if it fitted
 abbrev pub answered : Step → Answer → List (Step × Answer)
