@@ -71,7 +71,7 @@ size_by_trim-fixes answer.NoMemory threads old new other = λ (_, is) (_, is_oth
 size_by_trim-fixes _ threads old new other = λ is is_other. is ∙ sym is_other
 
 -- the answer of a machine's step
-abbrev machine_answer : FineAnswer → Answer
+abbrev pub machine_answer : FineAnswer → Answer
 machine_answer (fine.Answer given) = given
 machine_answer _ = answer.Misfit
 

@@ -22,3 +22,7 @@ pub mod CopyLemmas
 pub mod ToldLemmas
 pub mod InterleavedOutcomeLemmas
 pub mod FineAnswerLemmas
+pub mod BlockedLemmas
+pub mod OneAnswerLemmas
+pub mod TableAnswerLemmas
+pub mod StepAnswerLemmas

@@ -52,9 +52,32 @@ none_taken (caller ∷ callers) closed = at caller.section refl (none_taken call
         absurd
         (true≢false (sym (ap (λ o. is_some o || list_any (λ (x : Caller). is_some x.section) callers) is) ∙ closed))
 
+-- a number that is free
+module _ (s : FineState) (number : ℕ) (below : number < s.threads_view.max_threads)
+    (free : s.threads_view.status number ≡ status.Free) where
+  pub one_more_thread : threads_of (with_status s.threads_view number status.Running) ≡ threads_of s.threads_view + 1
+  one_more_thread =
+      threads_of-one_more s.threads_view (with_status s.threads_view number status.Running) number refl below
+      (ap is_registered free)
+      (ap is_registered (with_value-same s.threads_view.status number status.Running number refl))
+      (λ j other. sym (registered-with_status s.threads_view number status.Running j other))
+
+  pub has_room : is_full s ≡ false
+  has_room =
+      let most = count_by-le-length
+      (λ k. is_registered ((with_status s.threads_view number status.Running).status k))
+      (range_with_len 0 s.threads_view.max_threads) in
+      ne_eqb (threads_of s.threads_view) s.threads_view.max_threads (λ full. omega (
+        arith,
+        full,
+        most,
+        one_more_thread,
+        length-range_with_len 0 s.threads_view.max_threads,
+      ))
+
 module _ (s : FineState) (c : IsFineConsistent s) where
   -- a number is free in the sequential view where it is
-  free_own : (k : ℕ) → sequential_status s k ≡ status.Free → s.threads_view.status k ≡ status.Free
+  pub free_own : (k : ℕ) → sequential_status s k ≡ status.Free → s.threads_view.status k ≡ status.Free
   free_own k free = at (s.slots k) refl
     where
       at : (o : Option _) → s.slots k ≡ o → s.threads_view.status k ≡ status.Free
@@ -68,7 +91,7 @@ module _ (s : FineState) (c : IsFineConsistent s) where
           ∙ is_taken-among k (taken_of s) s.threads_view.status some)))
           (cases_eq (times_taken k (taken_of s)) 0)
 
-  free_view : (k : ℕ) → s.threads_view.status k ≡ status.Free → sequential_status s k ≡ status.Free
+  pub free_view : (k : ℕ) → s.threads_view.status k ≡ status.Free → sequential_status s k ≡ status.Free
   free_view k free = still_status s c k (ap is_queued free) ∙ free
 
   Amounts-full : IsFull s.threads_view → Amounts s s (answered machine.Register answer.Full)
@@ -121,13 +144,6 @@ module _ (s : FineState) (c : IsFineConsistent s) where
       };
     }
 
-    one_more_thread : threads_of (with_status s.threads_view number status.Running) ≡ threads_of s.threads_view + 1
-    one_more_thread =
-        threads_of-one_more s.threads_view (with_status s.threads_view number status.Running) number refl least.below
-        (ap is_registered least.free)
-        (ap is_registered (with_value-same s.threads_view.status number status.Running number refl))
-        (λ j other. sym (registered-with_status s.threads_view number status.Running j other))
-
     -- the table keeps its size, or no section is open
     keeps_or_closed : (not (is_full s) && is_growth_blocked s) ≡ false
         → IsSizeAfter machine.Register (answer.Registered number) (threads_of registered.threads_view) s.size size
@@ -137,26 +153,14 @@ module _ (s : FineState) (c : IsFineConsistent s) where
         (λ (keeps : 3 * threads_of registered.threads_view ≤ s.size). inl (sized.kept keeps))
         (cases_lt s.size (3 * threads_of registered.threads_view))
       where
-        room : is_full s ≡ false
-        room =
-            let most = count_by-le-length
-            (λ k. is_registered ((with_status s.threads_view number status.Running).status k))
-            (range_with_len 0 s.threads_view.max_threads) in
-            ne_eqb (threads_of s.threads_view) s.threads_view.max_threads (λ full. omega (
-              arith,
-              full,
-              most,
-              one_more_thread,
-              length-range_with_len 0 s.threads_view.max_threads,
-            ))
-
         unblocked : is_growth_blocked s ≡ false
-        unblocked = ⊎_elim (λ full. absurd (true≢false (ap not (sym room) ∙ full))) (λ not_blocked. not_blocked)
+        unblocked = ⊎_elim (λ full. absurd (true≢false (ap not (sym (has_room s number least.below least.free)) ∙ full))) (λ not_blocked. not_blocked)
             (and_cases (not (is_full s)) (is_growth_blocked s) free)
 
         closed : s.size < 3 * threads_of registered.threads_view → taken_of s ≡ []
         closed grows =
-            let grown : s.size < 3 * (threads_of s.threads_view + 1) = omega (arith, grows, one_more_thread) in
+            let grown : s.size < 3 * (threads_of s.threads_view + 1) =
+            omega (arith, grows, one_more_thread s number least.below least.free) in
             ⊎_elim
             (λ keeps. absurd (true≢false (sym (lt-ltb s.size (3 * (threads_of s.threads_view + 1)) grown) ∙ keeps)))
             (λ none. none_taken s.callers none)

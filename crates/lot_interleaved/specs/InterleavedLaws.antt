@@ -1,13 +1,20 @@
 -- What the definitions of the interleaved machine give for every state, step and run.
-use Rattle.std.specs.Prelude.{◌≡◌, ◌≢◌, ℕ, ◌+◌, List, is_some}
-use Rattle.std.specs.List.{sum_by}
+use Rattle.std.specs.Prelude.{◌≡◌, ◌≢◌, ◌↔◌, ℕ, ◌+◌, ◌*◌, ◌<◌, ◌==◌, false, IsTrue, List, Some, is_some}
+use Rattle.std.specs.List.{list_any, sum_by}
+use Rattle.lot_base.specs.Place.{place_of}
+use Rattle.lot_exclusive.specs.declared.lot.Status.TheVariants.{Running}
+use Rattle.lot_exclusive.specs.declared.schedule.Answer.TheVariants.{NoMemory}
 use Rattle.lot_interleaved.specs.declared.interleaved.FineAnswer.{FineAnswer}
+use Rattle.lot_interleaved.specs.declared.interleaved.FineAnswer.TheVariants as fine
 use Rattle.lot_interleaved.specs.declared.interleaved.FineStep.{FineStep}
+use Rattle.lot_interleaved.specs.declared.interleaved.FineStep.TheVariants.{Begin, Look, Enter, Register, Acquire, Trim}
 use Rattle.lot_interleaved.specs.InterleavedState.{FineState, new_fine_state}
-use Rattle.lot_interleaved.specs.InterleavedSteps.{IsFineStep}
+use Rattle.lot_interleaved.specs.InterleavedSteps.{IsFineStep, holds, is_any_open, is_growth_blocked, keys_of}
+use Rattle.lot_interleaved.specs.InterleavedSteps.{section_of}
 use Rattle.lot_interleaved.specs.InterleavedView.{sequential_view, sequential_steps, steps_of, answers_of}
 use Rattle.lot_interleaved.specs.InterleavedView.{IsFineConsistent, taken_of, times_taken, once_if}
-use Rattle.lot_exclusive.specs.Machine.{new_machine, times_in}
+use Rattle.lot_exclusive.specs.Machine.{IsFull, new_machine, threads_of, times_in}
+use Rattle.lot_exclusive.specs.Size.{IsTooLarge}
 use Rattle.lot_exclusive.specs.Status.{is_parked, is_registered, is_running}
 use Rattle.lot_interleaved.specs.InterleavedOutcomes.{unparked_in, returned_in, parks_in, ends_park_in}
 use Rattle.lot_exclusive.specs.Totals.{taken_threads_of}
@@ -45,6 +52,51 @@ NoNodeIsInAnotherList = (s : FineState) (number key : ℕ) → IsFineConsistent 
 abbrev pub FineAnswersFixTheState : Type 0
 FineAnswersFixTheState = (s : FineState) (step : FineStep) (given : FineAnswer) (new other : FineState)
     → IsFineStep s step given new → IsFineStep s step given other → new ≡ other
+
+-- every step of a consistent state has an answer other than `NoMemory`
+abbrev pub EachFineStepHasAnAnswer : Type 0
+EachFineStepHasAnAnswer = (s : FineState) (step : FineStep) → IsFineConsistent s
+    → (given : FineAnswer) × (given ≢ fine.Answer NoMemory) × (new : FineState) × IsFineStep s step given new
+
+-- and no other such answer
+abbrev pub NoOtherFineAnswer : Type 0
+NoOtherFineAnswer = (s : FineState) (step : FineStep) (given other : FineAnswer) (new left : FineState)
+    → IsFineConsistent s → IsFineStep s step given new → IsFineStep s step other left → given ≢ fine.Answer NoMemory
+    → other ≢ fine.Answer NoMemory → given ≡ other
+
+-- where memory may be wanting: at a registration that is neither full nor blocked, at an acquire of a running thread,
+-- and at a trim of a table that is too large, while no section is open
+abbrev pub MayWantFineMemory : FineState → FineStep → Type 0
+MayWantFineMemory s Register = (IsFull s.threads_view → ⊥) × (is_growth_blocked s ≡ false)
+MayWantFineMemory s (Acquire thread _) = s.threads_view.status thread ≡ Running
+MayWantFineMemory s Trim = IsTooLarge (threads_of s.threads_view) s.size × (is_any_open s ≡ false)
+MayWantFineMemory s _ = ⊥
+
+-- there, and nowhere else, a step may be answered by `NoMemory`, and then it changes nothing
+abbrev pub OnlyFineMemoryIsOpen : Type 0
+OnlyFineMemoryIsOpen = (s : FineState) (step : FineStep) (new : FineState)
+    → IsFineStep s step (fine.Answer NoMemory) new ↔ (MayWantFineMemory s step × (new ≡ s))
+
+-- a step needs the bucket at this place: it is that of a key of the step; or it is any, where the table has to grow, or
+-- is too large and is trimmed
+abbrev pub NeedsBucket : FineState → FineStep → ℕ → Type 0
+NeedsBucket s (Begin caller op) place = IsTrue (list_any (λ key. place_of key s.size == place) (keys_of op))
+NeedsBucket s (Look thread) place = (key : ℕ) × (s.keys_read thread ≡ Some key) × (place_of key s.size ≡ place)
+NeedsBucket s (Enter thread key valid park_token timed) place = place_of key s.size ≡ place
+NeedsBucket s Register place = s.size < 3 * (threads_of s.threads_view + 1)
+NeedsBucket s Trim place = IsTooLarge (threads_of s.threads_view) s.size
+NeedsBucket s _ place = ⊥
+
+-- where a step is blocked, some caller's open section holds a bucket that the step needs, and nothing changes
+abbrev pub BlockedNeedsASection : Type 0
+BlockedNeedsASection = (s : FineState) (step : FineStep) (new : FineState) → IsFineConsistent s
+    → IsFineStep s step fine.Blocked new
+    → (caller : ℕ) × (place : ℕ) × IsTrue (holds place (section_of s caller)) × NeedsBucket s step place × (new ≡ s)
+
+-- so where no section is open none is
+abbrev pub NoneIsBlockedByNobody : Type 0
+NoneIsBlockedByNobody = (s : FineState) (step : FineStep) (new : FineState) → is_any_open s ≡ false
+    → IsFineStep s step fine.Blocked new → ⊥
 
 -- every interleaved run from a consistent state amounts to a run of the machine, from the one sequential view to the
 -- other

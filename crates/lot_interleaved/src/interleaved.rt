@@ -269,7 +269,7 @@ impl FineLot {
     /// Does nothing. Its contract tells what the lot's type keeps: the state that it means is
     /// consistent, and so the node of each registered thread is in exactly one of four places, with
     /// the thread, in the list of its key word, among those that open sections took, or in its
-    /// slot, and in no list but that.
+    /// slot, and in no list but that; and no bucket is held by two open sections.
     pub fn consistency(&self)
         ensures consistent { IsFineConsistent (fine_state self.now) }
         ensures one_place { let s = fine_state self.now in (number : ℕ)

@@ -1,7 +1,7 @@
 //! Laws of the interleaved machine, for every state and every run. The functions do nothing: their
 //! contract is the law, over the definitions of the interleaved machine.
 
-ghost use Rattle.lot_interleaved.specs.InterleavedLaws.{NewStatesStandForNewMachines, NewFineStatesAreConsistent, FineStepsKeepConsistency, FineAnswersFixTheState, EveryInterleavingIsARun, InterleavedOutcomesAlternate, EachNodeIsInOnePlace, NoNodeIsInAnotherList, InterleavedThreadsComeBack};
+ghost use Rattle.lot_interleaved.specs.InterleavedLaws.{NewStatesStandForNewMachines, NewFineStatesAreConsistent, FineStepsKeepConsistency, FineAnswersFixTheState, EveryInterleavingIsARun, InterleavedOutcomesAlternate, EachNodeIsInOnePlace, NoNodeIsInAnotherList, InterleavedThreadsComeBack, EachFineStepHasAnAnswer, NoOtherFineAnswer, OnlyFineMemoryIsOpen, BlockedNeedsASection, NoneIsBlockedByNobody};
 
 /// Every interleaved run from a consistent state is a run of the machine with one list of waiters
 /// for each key: its sequential steps, with their answers, lead from the sequential view of the
@@ -41,4 +41,20 @@ pub fn fine_steps_keep_consistency()
 /// An interleaved step and its answer leave nothing open about the state after it.
 pub fn fine_answers_fix_the_state()
     ensures { FineAnswersFixTheState }
+{}
+
+/// In a consistent state each interleaved step has an answer, and just one: but that a registration
+/// that is neither full nor blocked, an acquire of a running thread, and a trim of a table that is
+/// too large, while no section is open, may be answered by `NoMemory` too.
+pub fn each_fine_step_has_one_answer()
+    ensures some { EachFineStepHasAnAnswer }
+    ensures one { NoOtherFineAnswer }
+    ensures memory { OnlyFineMemoryIsOpen }
+{}
+
+/// In a consistent state a step is answered by `Blocked` only where an open section of some caller
+/// holds a bucket that the step needs. Where no section is open, no step is.
+pub fn blocked_needs_a_section()
+    ensures section { BlockedNeedsASection }
+    ensures none { NoneIsBlockedByNobody }
 {}
