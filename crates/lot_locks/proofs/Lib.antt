@@ -1,0 +1,4 @@
+pub mod FairMachineLemmas
+pub mod FairCoreLemmas
+pub mod FairStepLemmas
+pub mod FairLawLemmas

@@ -1,0 +1,26 @@
+//! Laws of the machine of a fair mutex, for every state and every run. The functions do nothing:
+//! their contract is the law, over the definitions that the contract of `run_fair` cites.
+
+ghost use Rattle.lot_locks.specs.FairLaws.{NewStatesAreConsistent, FairStepsKeepConsistency, WaitersKeepTheirOrder, NotifiedThreadsKeepTheirPlace};
+
+/// The state of a new core is consistent, and each step keeps it so: at most one thread holds the
+/// mutex; nobody waits for it while nobody holds it; each thread that is queued or leaving stands
+/// in exactly one of the two lists, once, and any other in none.
+pub fn fair_steps_keep_consistency()
+    ensures new { NewStatesAreConsistent }
+    ensures consistent { FairStepsKeepConsistency }
+{}
+
+/// The mutex is handed over in the order of arrival: in every run a thread that waits for it was
+/// handed it, or those who stood before it have only become fewer, from the front, and all others
+/// stand behind it in their order. So who queues first holds first, and who comes later gets the
+/// mutex later. That it is ever handed over is not said.
+pub fn waiters_keep_their_order()
+    ensures { WaitersKeepTheirOrder }
+{}
+
+/// A thread that a notify of all moves, since the mutex is held, stands behind those who waited and
+/// those who slept before it, and no other thread ever comes to stand before it.
+pub fn notified_threads_keep_their_place()
+    ensures { NotifiedThreadsKeepTheirPlace }
+{}
