@@ -1,6 +1,6 @@
 -- What the steps of a lot do to the state of a core, and who is noted as the holder then.
-use Rattle.std.proofs.Common.{◌≡◌, ◌≢◌, ℕ, ◌<◌, ◌==◌, Bool, true, false, IsTrue, List, [], ◌∷◌, ◌++◌, length, map, take}
-use Rattle.std.proofs.Common.{drop, filter, append-nil, refl, sym, ap, ◌∙◌, subst, ⊎_elim, ◌⊎◌, arith}
+use Rattle.std.proofs.Common.{◌≡◌, ◌≢◌, ℕ, ◌<◌, Bool, true, false, IsTrue, List, [], ◌∷◌, ◌++◌, length, map, take}
+use Rattle.std.proofs.Common.{drop, refl, sym, ap, ◌∙◌, subst, ⊎_elim, arith}
 use Rattle.std.proofs.lemmas.Bool.{cases_eq, eq-eqb, ne_eqb, false≢true, eqb-true}
 use Rattle.std.proofs.lemmas.List.{length-map, take-map, drop-map, map-append}
 use Rattle.lot_base.proofs.ValueLemmas.{with_value-same, with_value-other}
@@ -21,8 +21,7 @@ use Rattle.lot_locks.specs.declared.fair.fair_core.Holder.{Holder}
 use Rattle.lot_locks.specs.declared.fair.fair_core.Holder.TheVariants as holder
 use Rattle.lot_locks.specs.declared.fair.fair_core.TheConstants.{MUTEX_KEY, CONDVAR_KEY}
 use Rattle.lot_locks.specs.FairMachine.{FairState, IsUnlocked, IsLocked, holds, with_status, with_handed, let_go}
-use Rattle.lot_locks.specs.FairMachine.{after_queue, after_wait, after_release, after_notify}
-use Rattle.lot_locks.specs.FairSteps.{FitsNotify}
+use Rattle.lot_locks.specs.FairMachine.{after_queue, after_wait, after_notify}
 use Rattle.lot_locks.specs.FairCore.{state_of, fair_status, is_noted, keeps_hold, MatchesHolder}
 use Rattle.lot_locks.proofs.FairMachineLemmas.{holds-keeps_hold, test-with_value}
 

@@ -1,12 +1,12 @@
 -- The laws of `specs/FairLaws`.
-use Rattle.std.proofs.Common.{◌≡◌, ◌≢◌, ℕ, ◌+◌, ◌<◌, ◌≤◌, ◌==◌, Bool, true, false, IsTrue, IsFalse, if◌then◌else◌, List}
-use Rattle.std.proofs.Common.{[], ◌∷◌, ◌++◌, length, take, drop, append-nil, append_assoc, refl, sym, ap, ◌∙◌, subst}
-use Rattle.std.proofs.Common.{⊎_elim, ◌⊎◌, inl, inr, arith}
-use Rattle.std.proofs.lemmas.Bool.{cases_eq, eq-eqb, ne_eqb, false≢true, true≢false}
+use Rattle.std.proofs.Common.{◌≡◌, ◌≢◌, ℕ, ◌==◌, false, IsFalse, List}
+use Rattle.std.proofs.Common.{[], ◌∷◌, ◌++◌, take, drop, append-nil, append_assoc, refl, sym, ap, ◌∙◌, subst}
+use Rattle.std.proofs.Common.{⊎_elim, ◌⊎◌, inl, inr}
+use Rattle.std.proofs.lemmas.Bool.{cases_eq, eq-eqb, false≢true, true≢false}
 use Rattle.lot_base.proofs.ValueLemmas.{with_value-same, with_value-other}
 use Rattle.lot_base.specs.Waiting.{with_value, split_by}
 use Rattle.lot_base.specs.declared.token.RequeueOp.{RequeueOp}
-use Rattle.lot_base.specs.declared.token.RequeueOp.TheVariants.{Abort, UnparkOneRequeueRest, RequeueAll, UnparkOne}
+use Rattle.lot_base.specs.declared.token.RequeueOp.TheVariants.{UnparkOneRequeueRest, RequeueAll, UnparkOne}
 use Rattle.lot_base.specs.declared.token.RequeueOp.TheVariants.{RequeueOne}
 use Rattle.lot_exclusive.proofs.StepLemmas.{MatchBool-either}
 use Rattle.lot_exclusive.specs.Run.{IsRun}
@@ -17,13 +17,13 @@ use Rattle.lot_locks.specs.declared.fair.schedule.FairAnswer.TheVariants as answ
 use Rattle.lot_locks.specs.declared.fair.schedule.FairStep.{FairStep}
 use Rattle.lot_locks.specs.declared.fair.schedule.FairStep.TheVariants.{Register, Retire, Lock, Unlock, Return, Wait}
 use Rattle.lot_locks.specs.declared.fair.schedule.FairStep.TheVariants.{Leave, NotifyOne, NotifyAll}
-use Rattle.lot_locks.specs.FairMachine.{FairState, IsLocked, IsUnlocked, with_status, with_handed, let_go, holds}
+use Rattle.lot_locks.specs.FairMachine.{FairState, with_status, with_handed, let_go}
 use Rattle.lot_locks.specs.FairMachine.{after_queue, after_wait, after_release, after_notify}
-use Rattle.lot_locks.specs.FairSteps.{IsFairStep, IsRegister, IsLock, IsRelease, IsNotifyBy, is_idle, is_holding}
+use Rattle.lot_locks.specs.FairSteps.{IsFairStep, IsRegister, IsLock, is_idle, is_holding}
 use Rattle.lot_locks.specs.FairSteps.{is_leaving, is_handed}
 use Rattle.lot_locks.specs.FairLaws.{MovesUp, NeverComesBack, WaitersKeepTheirOrder, NotifiedThreadsKeepTheirPlace}
 use Rattle.lot_locks.specs.FairLaws.{comes_back}
-use Rattle.lot_locks.proofs.FairMachineLemmas.{Idle-from, Holding-from, Leaving-from, Handed-from}
+use Rattle.lot_locks.proofs.FairMachineLemmas.{Idle-from, Holding-from, Leaving-from}
 
 -- a thread was handed the mutex, or has moved up from where it stood
 abbrev Kept : ℕ → List ℕ → List ℕ → FairState → Type 0

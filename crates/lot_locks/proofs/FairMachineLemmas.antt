@@ -1,11 +1,11 @@
 -- Each step keeps a state of the machine of a fair mutex consistent.
-use Rattle.std.proofs.Common.{◌≡◌, ◌≢◌, ℕ, ◌+◌, ◌<◌, ◌≤◌, ◌==◌, Bool, true, false, if◌then◌else◌, IsTrue, IsFalse}
-use Rattle.std.proofs.Common.{MatchBool, List, [], ◌∷◌, ◌++◌, length, take, drop, append-nil, refl, sym, ap, ◌∙◌}
-use Rattle.std.proofs.Common.{subst, ⊎_elim, ◌⊎◌, arith}
-use Rattle.std.proofs.lemmas.Bool.{cases_eq, eq-eqb, ne_eqb, false≢true, cond-true, cond-false}
+use Rattle.std.proofs.Common.{◌≡◌, ◌≢◌, ℕ, ◌+◌, ◌≤◌, ◌==◌, Bool, true, false, if◌then◌else◌, IsTrue, IsFalse}
+use Rattle.std.proofs.Common.{List, [], ◌∷◌, ◌++◌, length, take, drop, append-nil, refl, sym, ap, ◌∙◌}
+use Rattle.std.proofs.Common.{subst, ⊎_elim, arith}
+use Rattle.std.proofs.lemmas.Bool.{cases_eq, eq-eqb, ne_eqb, false≢true}
 use Rattle.std.proofs.lemmas.List.Sums.{sum_by-append}
 use Rattle.lot_base.proofs.ValueLemmas.{with_value-same, with_value-other}
-use Rattle.lot_base.specs.Waiting.{with_value, split_by}
+use Rattle.lot_base.specs.Waiting.{with_value}
 use Rattle.lot_base.specs.declared.token.RequeueOp.{RequeueOp}
 use Rattle.lot_base.specs.declared.token.RequeueOp.TheVariants.{Abort, UnparkOneRequeueRest, RequeueAll, UnparkOne}
 use Rattle.lot_base.specs.declared.token.RequeueOp.TheVariants.{RequeueOne}
@@ -20,7 +20,7 @@ use Rattle.lot_locks.specs.declared.fair.schedule.FairStep.TheVariants.{Leave, N
 use Rattle.lot_locks.specs.FairMachine.{FairState, IsLocked, IsUnlocked, IsFairConsistent, StandsByStatus, holds, stands}
 use Rattle.lot_locks.specs.FairMachine.{with_status, with_handed, let_go, times_in, new_fair_state}
 use Rattle.lot_locks.specs.FairMachine.{after_queue, after_wait, after_release, after_notify}
-use Rattle.lot_locks.specs.FairSteps.{IsFairStep, IsRegister, IsLock, IsNotifyBy, FitsNotify, Gives, is_idle}
+use Rattle.lot_locks.specs.FairSteps.{IsFairStep, IsRegister, IsLock, FitsNotify, is_idle}
 use Rattle.lot_locks.specs.FairSteps.{is_holding, is_leaving, is_handed}
 use Rattle.lot_locks.specs.FairCore.{keeps_hold}
 

@@ -1,10 +1,9 @@
 -- In which state each step leaves a core, and that it is a core again.
-use Rattle.std.proofs.Common.{◌≡◌, ◌≢◌, ℕ, ◌+◌, ◌<◌, ◌==◌, Bool, true, false, IsTrue, List, [], ◌∷◌, ◌++◌, length, take}
-use Rattle.std.proofs.Common.{drop, map, refl, sym, ap, ◌∙◌, subst, ⊎_elim, ◌⊎◌, arith}
+use Rattle.std.proofs.Common.{◌≡◌, ◌≢◌, ℕ, ◌<◌, Bool, true, false, IsTrue, List, [], ◌∷◌, length, take}
+use Rattle.std.proofs.Common.{drop, map, refl, sym, ap, ◌∙◌, subst, ⊎_elim, arith}
 use Rattle.std.proofs.lemmas.Bool.{cases_eq, false≢true}
-use Rattle.std.proofs.lemmas.List.{length-map, take-map}
 use Rattle.lot_base.proofs.ValueLemmas.{with_value-same, with_value-other}
-use Rattle.lot_base.specs.Waiting.{with_value, split_first, split_by, has_any}
+use Rattle.lot_base.specs.Waiting.{with_value, split_first, split_by}
 use Rattle.lot_base.specs.declared.token.ParkToken.{ParkToken}
 use Rattle.lot_base.specs.declared.token.RequeueOp.{RequeueOp}
 use Rattle.lot_base.specs.declared.token.RequeueOp.TheVariants.{Abort, UnparkOneRequeueRest, RequeueAll, UnparkOne}
@@ -12,7 +11,6 @@ use Rattle.lot_base.specs.declared.token.RequeueOp.TheVariants.{RequeueOne}
 use Rattle.lot_base.specs.declared.token.UnparkToken.{UnparkToken}
 use Rattle.lot_exclusive.specs.LotState.{LotState}
 use Rattle.lot_exclusive.specs.Lot.{machine}
-use Rattle.lot_exclusive.specs.declared.lot.Status.{Status}
 use Rattle.lot_exclusive.specs.declared.lot.Status.TheVariants as status
 use Rattle.lot_exclusive.specs.Machine as lot_machine
 use Rattle.lot_exclusive.specs.Machine.{Machine, Waiter, after_retire, after_enter, after_unpark, after_requeue}

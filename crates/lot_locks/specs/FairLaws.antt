@@ -1,5 +1,5 @@
 -- What the definitions of `FairSteps` give for every state and every run.
-use Rattle.std.specs.Prelude.{◌≡◌, ℕ, ◌≤◌, Bool, true, false, ◌==◌, IsFalse, if◌then◌else◌, ⊤, List, [], ◌∷◌, ◌++◌}
+use Rattle.std.specs.Prelude.{◌≡◌, ℕ, ◌≤◌, Bool, true, false, ◌==◌, IsFalse, ⊤, List, ◌∷◌, ◌++◌}
 use Rattle.std.specs.Prelude.{length, drop, count_by, ◌⊎◌}
 use Rattle.lot_exclusive.specs.Run.{IsRun}
 use Rattle.lot_locks.specs.declared.fair.fair_core.FairStatus.TheVariants.{Queued, Handed}
@@ -7,7 +7,7 @@ use Rattle.lot_locks.specs.declared.fair.schedule.FairAnswer.{FairAnswer}
 use Rattle.lot_locks.specs.declared.fair.schedule.FairAnswer.TheVariants.{Locked}
 use Rattle.lot_locks.specs.declared.fair.schedule.FairStep.{FairStep}
 use Rattle.lot_locks.specs.declared.fair.schedule.FairStep.TheVariants.{Return, NotifyOne, NotifyAll}
-use Rattle.lot_locks.specs.FairMachine.{FairState, IsUnlocked, IsLocked, IsFairConsistent, new_fair_state}
+use Rattle.lot_locks.specs.FairMachine.{FairState, IsLocked, IsFairConsistent, new_fair_state}
 use Rattle.lot_locks.specs.FairSteps.{IsFairStep}
 
 -- new states are consistent, and each step keeps that

@@ -8,3 +8,5 @@ pub mod FairCoreState
 pub mod FairCore
 -- Then what follows for every run.
 pub mod FairLaws
+-- Last the locks for threads.
+pub mod LockState

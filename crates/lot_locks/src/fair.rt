@@ -5,9 +5,13 @@
 //! every step of every thread: each list of its steps is a run of a small machine, of which `laws`
 //! speaks.
 
+mod condvar;
 mod fair_core;
 pub mod laws;
+mod mutex;
 mod schedule;
 
+pub use condvar::FairCondvar;
 pub use fair_core::{FairCore, FairStatus};
+pub use mutex::FairMutex;
 pub use schedule::{FairAnswer, FairStep, run_fair};

@@ -1,6 +1,5 @@
-use Rattle.std.proofs.Common.{◌≡◌, ◌∙◌, ◌+◌, ◌++◌, ◌∷◌, [], sym, ap, take, get_or, append_assoc, arith}
+use Rattle.std.proofs.Common.{◌≡◌, ◌∙◌, ◌+◌, ◌++◌, ◌∷◌, [], ap, take, get_or, append_assoc, arith}
 use Rattle.std.proofs.lemmas.List.{take_all, take_more}
-use Rattle.lot_exclusive.specs.Run.{IsRun}
 use Rattle.lot_exclusive.proofs.RunLemmas.{IsRun-push}
 use Rattle.lot_locks.specs.declared.fair.schedule.FairStep.TheVariants.{Register}
 use Rattle.lot_locks.specs.FairSteps.{IsFairStep}

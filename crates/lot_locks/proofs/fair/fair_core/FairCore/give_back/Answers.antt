@@ -1,4 +1,4 @@
-use Rattle.std.proofs.Common.{rules, ◌≡◌, ◌∙◌, refl, sym, ap, subst}
+use Rattle.std.proofs.Common.{rules, ◌≡◌, refl, ap, subst}
 use Rattle.lot_exclusive.specs.LotState.{LotState}
 use Rattle.lot_exclusive.specs.Lot.{machine}
 use Rattle.lot_exclusive.specs.Machine.{with_status}

@@ -1,6 +1,4 @@
-use Rattle.std.proofs.Common.{rules, ◌≡◌, ◌≢◌, true, false, subst, ⊎_elim}
-use Rattle.std.proofs.lemmas.Bool.{cases_Bool, false≢true}
-use Rattle.lot_locks.specs.FairMachine.{IsLocked}
+use Rattle.std.proofs.Common.{rules, ◌≢◌, subst}
 use Rattle.lot_locks.specs.FairCore.{fair_state, MatchesHolder}
 use Rattle.lot_locks.specs.FairCoreState.{FairCoreState}
 use Rattle.lot_locks.specs.declared.fair.fair_core.Holder.TheVariants.{Nobody}

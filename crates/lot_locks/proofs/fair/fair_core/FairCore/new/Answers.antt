@@ -1,9 +1,9 @@
-use Rattle.std.proofs.Common.{rules, ◌≡◌, ℕ, ap, refl, subst}
+use Rattle.std.proofs.Common.{rules, ◌≡◌, ℕ, ap, refl}
 use Rattle.lot_exclusive.specs.Lot.{machine}
 use Rattle.lot_exclusive.specs.LotState.{LotState}
 use Rattle.lot_exclusive.specs.Machine.{new_machine}
 use Rattle.lot_locks.specs.declared.fair.fair_core.Holder.TheVariants.{Nobody}
-use Rattle.lot_locks.specs.FairCore.{fair_state, state_of, IsFairCore}
+use Rattle.lot_locks.specs.FairCore.{state_of}
 use Rattle.lot_locks.specs.FairMachine.{new_fair_state}
 use Rattle.lot_locks.proofs.FairMachineLemmas.{IsFairConsistent-new}
 use Rattle.lot_locks.proofs.FairStepLemmas.{Leaves, Leaves-from}

@@ -1,4 +1,4 @@
-use Rattle.std.proofs.Common.{rules, ◌≡◌, ℕ, ◌<◌, ◌≤◌, List, [], ◌∷◌, length, map, refl, ap, subst, sym, ◌∙◌, arith}
+use Rattle.std.proofs.Common.{rules, ◌≡◌, ℕ, ◌<◌, ◌≤◌, List, length, map, refl, ap, subst, sym, ◌∙◌, arith}
 use Rattle.lot_base.specs.Waiting.{split_by, requeue_result}
 use Rattle.lot_base.specs.declared.token.RequeueOp.{RequeueOp}
 use Rattle.lot_base.specs.declared.token.RequeueOp.TheVariants.{Abort, UnparkOneRequeueRest, RequeueAll, UnparkOne}
@@ -7,7 +7,7 @@ use Rattle.lot_base.specs.declared.token.TheConstants.{DEFAULT_UNPARK_TOKEN}
 use Rattle.lot_base.specs.declared.token.UnparkResult.{UnparkResult}
 use Rattle.lot_exclusive.specs.LotState.{LotState}
 use Rattle.lot_exclusive.specs.Lot.{machine}
-use Rattle.lot_exclusive.specs.Machine.{Waiter, after_requeue}
+use Rattle.lot_exclusive.specs.Machine.{after_requeue}
 use Rattle.lot_exclusive.proofs.AnswerLemmas.{after_requeue-token}
 use Rattle.lot_locks.specs.declared.fair.fair_core.Holder.{Holder}
 use Rattle.lot_locks.specs.declared.fair.fair_core.Holder.TheVariants.{Taken}

@@ -1,4 +1,4 @@
-use Rattle.std.proofs.Common.{rules, ◌≡◌, ℕ, refl, ap, subst, sym}
+use Rattle.std.proofs.Common.{rules, ◌≡◌, ℕ, ap, subst, sym}
 use Rattle.lot_exclusive.specs.LotState.{LotState}
 use Rattle.lot_exclusive.specs.Lot.{machine}
 use Rattle.lot_exclusive.specs.Machine as lot_machine

@@ -1,6 +1,5 @@
-use Rattle.std.proofs.Common.{rules, ◌≡◌, ℕ, ◌<◌, ◌≤◌, Bool, true, false, List, [], ◌∷◌, length, take, map, refl, ap}
+use Rattle.std.proofs.Common.{rules, ◌≡◌, ℕ, ◌<◌, true, false, List, [], ◌∷◌, length, take, map, refl, ap}
 use Rattle.std.proofs.Common.{subst, sym, ◌∙◌, arith}
-use Rattle.std.proofs.lemmas.Bool.{lt-ltb, le-ltb}
 use Rattle.lot_base.specs.Waiting.{split_first, has_any}
 use Rattle.lot_base.specs.declared.token.TheConstants.{DEFAULT_UNPARK_TOKEN}
 use Rattle.lot_base.specs.declared.token.UnparkResult.{UnparkResult}
