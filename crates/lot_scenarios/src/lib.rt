@@ -3,6 +3,7 @@
 #![tactic(auto)]
 
 mod buckets;
+mod fair;
 mod latch;
 mod meeting;
 pub mod pair;
@@ -45,6 +46,12 @@ pub enum Scenario {
 
     /// A call on one key does not wait for a section of a key in another bucket.
     TwoBuckets,
+
+    /// A fair mutex goes to those who wait in their order, and excludes.
+    FairHandover,
+
+    /// A notify of all moves those who wait on a condition variable to its mutex, in their order.
+    FairNotifyAll,
 }
 
 impl Scenario {
@@ -75,6 +82,8 @@ where
         Scenario::FilterThenAll => wake::filter_then_all::<P, _>(rt, alloc),
         Scenario::Latches(plan) => latch::run::<P, _>(rt, alloc, plan),
         Scenario::TwoBuckets => buckets::run::<P, _>(rt, alloc),
+        Scenario::FairHandover => fair::handover::<P, _>(rt, alloc),
+        Scenario::FairNotifyAll => fair::notify_all::<P, _>(rt, alloc),
     }
 }
 

@@ -49,7 +49,7 @@ fn chosen_command<R: Env + AllocGlobal>(rt: &R) -> Option<Command> {
 }
 
 // The scenarios by their names, in the order in which they run.
-fn all_scenarios() -> [(&'static str, Scenario); 11] {
+fn all_scenarios() -> [(&'static str, Scenario); 13] {
     [
         ("single_thread_timeout", Scenario::Timeout),
         (
@@ -68,6 +68,8 @@ fn all_scenarios() -> [(&'static str, Scenario); 11] {
         ),
         ("hundred_unpark_all_one", Scenario::with_latches(100, 1, 0)),
         ("two_buckets", Scenario::TwoBuckets),
+        ("fair_handover", Scenario::FairHandover),
+        ("fair_notify_all", Scenario::FairNotifyAll),
     ]
 }
 

@@ -1,0 +1,243 @@
+//! Tests of the fair mutex and its condition variable.
+
+use crate::turns::{TURNS, comes_to};
+use lot_locks::fair::{FairCondvar, FairMutex};
+use parking_lot_core::{ParkingLot, ThreadData, ThreadParkerT, UnparkResult};
+use std::alloc::Global;
+use std::sync::atomic::{AtomicUsize, Ordering};
+use std::sync::{Arc, Wait};
+use std::thread;
+use std::thread::{JoinHandle, Threads};
+use std::time::Clock;
+
+// How many threads the lot is for.
+const MAX_THREADS: usize = 8;
+
+const MUTEX_KEY: usize = 11;
+
+const CONDVAR_KEY: usize = 12;
+
+const COUNTERS: usize = 4;
+
+const ROUNDS: usize = 1_000;
+
+// What a thread does once it holds the mutex, which it unlocks then.
+#[derive(Copy, Clone)]
+enum Job {
+    // It notes its number.
+    Note,
+
+    // It waits on the condition variable, and then notes its number.
+    WaitAndNote,
+
+    // It counts in rounds, each with the mutex locked anew.
+    Count,
+}
+
+// What the threads share.
+#[derive(Drop)]
+struct Table<P: ThreadParkerT> {
+    lot: ParkingLot<P>,
+    mutex: FairMutex,
+    condvar: FairCondvar,
+
+    // The numbers noted so far, the first of them the highest digit.
+    noted: AtomicUsize,
+
+    // How often threads have counted.
+    count: AtomicUsize,
+
+    // How many threads have done their job.
+    done: AtomicUsize,
+}
+
+impl<P: ThreadParkerT> Table<P> {
+    fn shared(alloc: Global) -> Option<Arc<Table<P>, Global>> {
+        let table = Table {
+            lot: ParkingLot::<P>::new(alloc, MAX_THREADS).ok()?,
+            mutex: FairMutex::new(MUTEX_KEY),
+            condvar: FairCondvar::new(CONDVAR_KEY),
+            noted: AtomicUsize::new(0),
+            count: AtomicUsize::new(0),
+            done: AtomicUsize::new(0),
+        };
+        Arc::new(alloc, table).ok()
+    }
+
+    // `None` says that the data is of another lot.
+    fn lock<R: Wait + Clock>(&self, rt: &R, data: &mut ThreadData) -> Option<()> {
+        if !self.lot.accepts(data) {
+            return None;
+        }
+        self.mutex.lock(rt, &self.lot, data);
+        Some(())
+    }
+
+    fn unlock<R: Wait>(&self, rt: &R) {
+        self.mutex.unlock(rt, &self.lot);
+    }
+
+    // `None` says that the data is of another lot, or that the keys are one.
+    fn wait<R: Wait + Clock>(&self, rt: &R, data: &mut ThreadData) -> Option<()> {
+        if !self.lot.accepts(data) || self.condvar.key() == self.mutex.key() {
+            return None;
+        }
+        self.condvar.wait(rt, &self.mutex, &self.lot, data);
+        Some(())
+    }
+
+    fn notify_all<R: Wait>(&self, rt: &R) -> Option<UnparkResult> {
+        if self.condvar.key() == self.mutex.key() {
+            return None;
+        }
+        Some(self.condvar.notify_all(rt, &self.mutex, &self.lot))
+    }
+
+    // Only who holds the mutex notes and counts, so a load and a store are enough.
+    fn note(&self, number: usize) {
+        let noted = self.noted.load(Ordering::SeqCst);
+        self.noted.store(
+            noted.wrapping_mul(10).wrapping_add(number),
+            Ordering::SeqCst,
+        );
+    }
+
+    fn count<R: Wait + Clock>(&self, rt: &R, data: &mut ThreadData) -> Option<()> {
+        for _ in 0..ROUNDS {
+            self.lock(rt, data)?;
+            let count = self.count.load(Ordering::SeqCst);
+            self.count.store(count.wrapping_add(1), Ordering::SeqCst);
+            self.unlock(rt);
+        }
+        Some(())
+    }
+
+    fn do_job<R: Wait + Clock>(&self, rt: &R, data: &mut ThreadData, job: Job) -> Option<()> {
+        match job {
+            Job::Note => {
+                self.lock(rt, data)?;
+                self.note(data.number());
+                self.unlock(rt);
+            }
+            Job::WaitAndNote => {
+                self.lock(rt, data)?;
+                self.wait(rt, data)?;
+                self.note(data.number());
+                self.unlock(rt);
+            }
+            Job::Count => self.count(rt, data)?,
+        }
+        self.done.fetch_add(1, Ordering::SeqCst);
+        Some(())
+    }
+
+    // Waits until just these threads stand on the key, in this order.
+    fn comes_to_stand<R: Wait>(
+        &self,
+        rt: &R,
+        alloc: Global,
+        key: usize,
+        numbers: &[usize],
+    ) -> Option<()> {
+        for _ in 0..TURNS {
+            if self.lot.list(rt, alloc, key).ok()?.as_slice() == numbers {
+                return Some(());
+            }
+            thread::yield_now();
+        }
+        None
+    }
+}
+
+// Starts a thread with this job.
+fn start<P, R>(
+    rt: &R,
+    alloc: Global,
+    table: &Arc<Table<P>, Global>,
+    job: Job,
+) -> Option<JoinHandle<Option<()>>>
+where
+    P: ThreadParkerT + Send + Sync + 'static,
+    P::UnparkHandle: 'static,
+    R: Threads + Wait + Clock + Copy + Send + 'static,
+{
+    let mut data = table.lot.thread_data(rt, alloc).ok()?;
+    let table = Arc::try_clone(table).ok()?;
+    let runtime = *rt;
+    thread::spawn(rt, move || table.do_job(&runtime, &mut data, job)).ok()
+}
+
+/// While one thread holds the mutex two others queue, one after the other; once it unlocks they
+/// hold it in this order. Then threads count under the mutex, and no count is lost.
+pub fn handover<P, R>(rt: &R, alloc: Global) -> Option<()>
+where
+    P: ThreadParkerT + Send + Sync + 'static,
+    P::UnparkHandle: 'static,
+    R: Threads + Wait + Clock + Copy + Send + 'static,
+{
+    let table = Table::<P>::shared(alloc)?;
+    let mut data = table.lot.thread_data(rt, alloc).ok()?;
+    table.lock(rt, &mut data)?;
+    let first = start(rt, alloc, &table, Job::Note)?;
+    table.comes_to_stand(rt, alloc, MUTEX_KEY, [1].as_slice())?;
+    let second = start(rt, alloc, &table, Job::Note)?;
+    table.comes_to_stand(rt, alloc, MUTEX_KEY, [1, 2].as_slice())?;
+    table.unlock(rt);
+    comes_to(&table.done, 2)?;
+    first.join(rt)?;
+    second.join(rt)?;
+    if table.noted.load(Ordering::SeqCst) != 12 {
+        return None;
+    }
+    count_together(rt, alloc, &table)
+}
+
+// Starts threads that count, and tells whether all counts came.
+fn count_together<P, R>(rt: &R, alloc: Global, table: &Arc<Table<P>, Global>) -> Option<()>
+where
+    P: ThreadParkerT + Send + Sync + 'static,
+    P::UnparkHandle: 'static,
+    R: Threads + Wait + Clock + Copy + Send + 'static,
+{
+    let done = table.done.load(Ordering::SeqCst);
+    let mut threads = Vec::new(alloc);
+    for _ in 0..COUNTERS {
+        threads.push(start(rt, alloc, table, Job::Count)?).ok()?;
+    }
+    comes_to(&table.done, done.checked_add(COUNTERS)?)?;
+    for thread in threads {
+        thread.join(rt)?;
+    }
+    (table.count.load(Ordering::SeqCst) == COUNTERS * ROUNDS).then_some(())
+}
+
+/// Two threads wait on the condition variable, one after the other. A notify of all by who holds
+/// the mutex wakes none and moves both to the mutex, which they then hold in this order.
+pub fn notify_all<P, R>(rt: &R, alloc: Global) -> Option<()>
+where
+    P: ThreadParkerT + Send + Sync + 'static,
+    P::UnparkHandle: 'static,
+    R: Threads + Wait + Clock + Copy + Send + 'static,
+{
+    let table = Table::<P>::shared(alloc)?;
+    let mut data = table.lot.thread_data(rt, alloc).ok()?;
+    let first = start(rt, alloc, &table, Job::WaitAndNote)?;
+    table.comes_to_stand(rt, alloc, CONDVAR_KEY, [1].as_slice())?;
+    let second = start(rt, alloc, &table, Job::WaitAndNote)?;
+    table.comes_to_stand(rt, alloc, CONDVAR_KEY, [1, 2].as_slice())?;
+    table.lock(rt, &mut data)?;
+    let moved = UnparkResult {
+        unparked_threads: 0,
+        requeued_threads: 2,
+        have_more_threads: false,
+    };
+    if table.notify_all(rt)? != moved {
+        return None;
+    }
+    table.comes_to_stand(rt, alloc, MUTEX_KEY, [1, 2].as_slice())?;
+    table.unlock(rt);
+    comes_to(&table.done, 2)?;
+    first.join(rt)?;
+    second.join(rt)?;
+    (table.noted.load(Ordering::SeqCst) == 12).then_some(())
+}
