@@ -40,20 +40,31 @@ fn park_often<P: ThreadParkerT, R: Wait + Clock>(
 ) -> Result<(), Fault> {
     let lot = ParkingLot::<P>::new(alloc, 1)?;
     let mut data = lot.thread_data(rt, alloc)?;
+    park_on_each_key(rt, &lot, &mut data, count, figures)?;
+    lot.retire(rt, data);
+    Ok(())
+}
+
+fn park_on_each_key<P: ThreadParkerT, R: Wait + Clock>(
+    rt: &R,
+    lot: &ParkingLot<P>,
+    data: &mut ThreadData,
+    count: usize,
+    figures: &mut Figures,
+) -> Result<(), Fault> {
     let past = Instant::now(rt)?;
     for key in 0..count {
         let ends = if key % 4 == 0 {
             figures.timed_out = figures.timed_out.wrapping_add(1);
-            times_out(rt, &lot, &mut data, key, past)
+            times_out(rt, lot, data, key, past)
         } else {
             figures.unparked = figures.unparked.wrapping_add(1);
-            is_unparked(rt, &lot, &mut data, key, (key % 4 == 1).then_some(past))
+            is_unparked(rt, lot, data, key, (key % 4 == 1).then_some(past))
         };
         if !ends {
             return Err(Fault::Unlike("the end of a park"));
         }
     }
-    lot.retire(rt, data);
     Ok(())
 }
 

@@ -70,12 +70,16 @@ fn number_in<R: Wait>(rt: &R, lock: &WordLock<Number>) -> usize {
 pub(super) fn list<R: Print>(rt: &R, alloc: Global) -> Result<(), Fault> {
     let mut bucket = Bucket::new(place(KEY, SIZE), SIZE);
     enter(&mut bucket, Node::new(alloc, OWNER)?);
-    show_bucket(rt, alloc, Moment::Before, &bucket)?;
+    list_bucket(rt, alloc, &bucket)
+}
+
+fn list_bucket<R: Print>(rt: &R, alloc: Global, bucket: &Bucket) -> Result<(), Fault> {
+    show_bucket(rt, alloc, Moment::Before, bucket)?;
     marks::begin(alloc);
     let answer = bucket.list(alloc, KEY);
     marks::end(alloc);
     tell_answer(rt, &answer)?;
-    show_bucket(rt, alloc, Moment::After, &bucket)?;
+    show_bucket(rt, alloc, Moment::After, bucket)?;
     tell_refused(rt, 0)
 }
 

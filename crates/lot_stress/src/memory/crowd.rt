@@ -174,6 +174,17 @@ impl<P: ThreadParkerT> Crowd<P> {
         }
     }
 
+    // Tells how many were unparked each time. False says that a thread did not wait to the end.
+    fn finish<R: Print>(&self, rt: &R, seen: [usize; 6], waited: bool) -> Result<(), Fault> {
+        tell_answer(rt, &seen)?;
+        tell_refused(rt, 0)?;
+        if waited && seen == [1, 11, 11, 11, 12, 12] {
+            self.show(rt)
+        } else {
+            Err(Fault::Unlike("how many of the threads were unparked"))
+        }
+    }
+
     // Shows what all threads saw together, and whether it is right.
     fn show<R: Print>(&self, rt: &R) -> Result<(), Fault> {
         let tokens = self.tokens.load(Ordering::SeqCst);
@@ -232,13 +243,7 @@ where
 {
     let crowd = Crowd::<P>::new(alloc)?;
     let (seen, waited) = lead_and_wait(rt, alloc, &crowd);
-    tell_answer(rt, &seen)?;
-    tell_refused(rt, 0)?;
-    if waited && seen == [1, 11, 11, 11, 12, 12] {
-        crowd.show(rt)
-    } else {
-        Err(Fault::Unlike("how many of the threads were unparked"))
-    }
+    crowd.finish(rt, seen, waited)
 }
 
 fn lead_and_wait<P, R>(rt: &R, alloc: Global, crowd: &Crowd<P>) -> ([usize; 6], bool)
@@ -292,10 +297,14 @@ pub(super) fn use_word_lock<R: Print + Threads + Wait + Clock + Copy + Send + Sy
         || gate.open(alloc, LOCKERS) && gate.close(alloc, LOCKERS),
         || all_lock(rt, alloc, &lock, &gate),
     );
-    let count = count_in(rt, &lock);
+    tell_count(rt, count_in(rt, &lock), are_done && locked)
+}
+
+// False says that a thread did not lock as often as it should.
+fn tell_count<R: Print>(rt: &R, count: usize, have_locked: bool) -> Result<(), Fault> {
     tell_answer(rt, &count)?;
     tell_refused(rt, 0)?;
-    if are_done && locked && count == LOCKERS * LOCKS {
+    if have_locked && count == LOCKERS * LOCKS {
         Ok(())
     } else {
         Err(Fault::Unlike("the count of the threads that locked"))

@@ -23,7 +23,7 @@ pub(super) fn new<R: Print>(rt: &R, alloc: Global) -> Result<(), Fault> {
     let made = Lot::new(alloc, MOST);
     marks::end(alloc);
     match made {
-        Ok(lot) => finish(rt, lot, &None::<LotError>),
+        Ok(mut lot) => finish(rt, &mut lot, &None::<LotError>),
         Err(error) => tell_unmade(rt, error),
     }
 }
@@ -34,15 +34,19 @@ pub(super) fn register<R: Print>(rt: &R, alloc: Global) -> Result<(), Fault> {
     marks::begin(alloc);
     let answer = lot.register();
     marks::end(alloc);
-    finish(rt, lot, &answer)
+    finish(rt, &mut lot, &answer)
 }
 
 /// `Lot::trim` after a thread was registered for which the table has grown.
 pub(super) fn trim<R: Print>(rt: &R, alloc: Global) -> Result<(), Fault> {
     let mut lot = lot_of_waiters(alloc)?;
+    trim_after_growth(rt, alloc, &mut lot)
+}
+
+fn trim_after_growth<R: Print>(rt: &R, alloc: Global, lot: &mut Lot) -> Result<(), Fault> {
     let last = lot.register()?;
     lot.retire(last)?;
-    show_lot(rt, Moment::Before, &lot)?;
+    show_lot(rt, Moment::Before, lot)?;
     marks::begin(alloc);
     let answer = lot.trim();
     marks::end(alloc);
@@ -55,55 +59,59 @@ pub(super) fn acquire<R: Print>(rt: &R, alloc: Global) -> Result<(), Fault> {
     marks::begin(alloc);
     let answer = lot.acquire(4, KEYS[1]);
     marks::end(alloc);
-    finish(rt, lot, &answer)
+    finish(rt, &mut lot, &answer)
 }
 
 /// `Lot::list`.
 pub(super) fn list<R: Print>(rt: &R, alloc: Global) -> Result<(), Fault> {
-    let lot = waiting_lot(rt, alloc)?;
+    let mut lot = waiting_lot(rt, alloc)?;
     marks::begin(alloc);
     let answer = lot.list(KEYS[0]);
     marks::end(alloc);
-    finish(rt, lot, &answer)
+    finish(rt, &mut lot, &answer)
 }
 
 /// `Lot::acquire`, many times.
 pub(super) fn records<R: Print>(rt: &R, alloc: Global) -> Result<(), Fault> {
-    let mut steps = Vec::new(alloc);
+    let mut schedule = Schedule::new(alloc, 1, 1)?;
+    add_many_recordings(&mut schedule.steps)?;
+    schedule.play_each(rt, alloc)
+}
+
+fn add_many_recordings(steps: &mut Vec<Step>) -> Result<(), Fault> {
     for call in 0..RECORDINGS {
         let key = KEYS[call % 3];
         steps.push(Step::Acquire { thread: 0, key })?;
     }
-    apply_each(rt, alloc, Schedule::new(alloc, 1, 1, steps)?)
+    Ok(())
 }
 
 /// `Lot::register`, once more than there are numbers.
 pub(super) fn registrations<R: Print>(rt: &R, alloc: Global) -> Result<(), Fault> {
-    let mut steps = Vec::new(alloc);
+    let mut schedule = Schedule::new(alloc, MOST, 0)?;
+    add_registrations(&mut schedule.steps)?;
+    schedule.play_each(rt, alloc)
+}
+
+fn add_registrations(steps: &mut Vec<Step>) -> Result<(), Fault> {
     for _ in 0..=MOST {
         steps.push(Step::Register)?;
     }
-    apply_each(rt, alloc, Schedule::new(alloc, MOST, 0, steps)?)
+    Ok(())
 }
 
 /// Steps of each kind but registrations and recordings.
 pub(super) fn use_steps<R: Print>(rt: &R, alloc: Global) -> Result<(), Fault> {
-    let mut steps = Vec::new(alloc);
-    add_all_but_requests(alloc, &mut steps)?;
-    apply_each(rt, alloc, Schedule::new(alloc, MOST, FEW, steps)?)
+    let mut schedule = Schedule::new(alloc, MOST, FEW)?;
+    add_all_but_requests(alloc, &mut schedule.steps)?;
+    schedule.play_each(rt, alloc)
 }
 
 /// `run` of steps of each kind.
 pub(super) fn run_all<R: Print>(rt: &R, alloc: Global) -> Result<(), Fault> {
-    let mut steps = Vec::new(alloc);
-    add_all_but_requests(alloc, &mut steps)?;
-    add_requests(&mut steps)?;
-    let mut schedule = Schedule::new(alloc, MOST, FEW, steps)?;
-    schedule.show(rt, Moment::Before)?;
-    marks::begin(alloc);
-    let answer = schedule.run();
-    marks::end(alloc);
-    schedule.finish(rt, alloc, &answer)
+    let mut schedule = Schedule::new(alloc, MOST, FEW)?;
+    add_all_steps(alloc, &mut schedule.steps)?;
+    schedule.play_run(rt, alloc)
 }
 
 // A lot of waiters. It is shown.
@@ -169,12 +177,12 @@ fn show_records<R: Print>(rt: &R, moment: Moment, lot: &Lot, key: usize) -> Resu
 }
 
 // A new thread can wait and be unparked afterwards.
-fn finish<A: fmt::Debug, R: Print>(rt: &R, mut lot: Lot, answer: &A) -> Result<(), Fault> {
+fn finish<A: fmt::Debug, R: Print>(rt: &R, lot: &mut Lot, answer: &A) -> Result<(), Fault> {
     tell_answer(rt, answer)?;
-    show_lot(rt, Moment::After, &lot)?;
+    show_lot(rt, Moment::After, lot)?;
     let thread = lot.register()?;
     for key in KEYS {
-        wait_once(&mut lot, thread, key)?;
+        wait_once(lot, thread, key)?;
     }
     tell_refused(rt, 0)
 }
@@ -201,19 +209,33 @@ struct Schedule {
 }
 
 impl Schedule {
-    fn new(
-        alloc: Global,
-        max_threads: usize,
-        registered: usize,
-        steps: Vec<Step>,
-    ) -> Result<Schedule, Fault> {
+    // It has no steps yet.
+    fn new(alloc: Global, max_threads: usize, registered: usize) -> Result<Schedule, Fault> {
         Ok(Schedule {
             max_threads,
             registered,
             lot: lot_with(alloc, max_threads, registered)?,
-            steps,
+            steps: Vec::new(alloc),
             answers: Vec::new(alloc),
         })
+    }
+
+    // Does each step by `Lot::apply`, with room for its answer.
+    fn play_each<R: Print>(&mut self, rt: &R, alloc: Global) -> Result<(), Fault> {
+        self.answers.reserve(self.steps.len())?;
+        self.show(rt, Moment::Before)?;
+        marks::begin(alloc);
+        let answer = self.apply_each();
+        marks::end(alloc);
+        self.finish(rt, alloc, &answer)
+    }
+
+    fn play_run<R: Print>(&mut self, rt: &R, alloc: Global) -> Result<(), Fault> {
+        self.show(rt, Moment::Before)?;
+        marks::begin(alloc);
+        let answer = self.run();
+        marks::end(alloc);
+        self.finish(rt, alloc, &answer)
     }
 
     fn apply_each(&mut self) -> Result<(), NoMemory> {
@@ -247,23 +269,17 @@ impl Schedule {
     // without the others.
     fn refused(&self, alloc: Global) -> Result<usize, Fault> {
         let mut again = lot_with(alloc, self.max_threads, self.registered)?;
-        let refused = replay(&mut again, self.steps.as_slice(), self.answers.as_slice())?;
-        if are_alike(&self.lot, &again)? {
+        self.refused_beside(&mut again)
+    }
+
+    fn refused_beside(&self, again: &mut Lot) -> Result<usize, Fault> {
+        let refused = replay(again, self.steps.as_slice(), self.answers.as_slice())?;
+        if are_alike(&self.lot, again)? {
             Ok(refused)
         } else {
             Err(Fault::Unlike("the lot after steps of which some were refused"))
         }
     }
-}
-
-// Does each step by `Lot::apply`, with room for its answer.
-fn apply_each<R: Print>(rt: &R, alloc: Global, mut schedule: Schedule) -> Result<(), Fault> {
-    schedule.answers.reserve(schedule.steps.len())?;
-    schedule.show(rt, Moment::Before)?;
-    marks::begin(alloc);
-    let answer = schedule.apply_each();
-    marks::end(alloc);
-    schedule.finish(rt, alloc, &answer)
 }
 
 // Does the steps that were answered, without those that were refused, and answers how many these
@@ -309,6 +325,11 @@ fn are_alike_at(one: &Lot, other: &Lot, key: usize) -> Result<bool, Fault> {
         }
     }
     Ok(true)
+}
+
+fn add_all_steps(alloc: Global, steps: &mut Vec<Step>) -> Result<(), Fault> {
+    add_all_but_requests(alloc, steps)?;
+    add_requests(steps)
 }
 
 // Registrations, recordings, and entries behind them.

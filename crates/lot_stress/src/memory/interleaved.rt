@@ -37,13 +37,7 @@ pub(super) fn list<R: Print>(rt: &R, alloc: Global) -> Result<(), Fault> {
 /// `run_fine` of steps of each kind.
 pub(super) fn run_all<R: Print>(rt: &R, alloc: Global) -> Result<(), Fault> {
     let mut schedule = Schedule::new(alloc, mixed(alloc)?)?;
-    schedule.show(rt, Moment::Before)?;
-    marks::begin(alloc);
-    let answer = schedule.run();
-    marks::end(alloc);
-    tell_answer(rt, &answer)?;
-    schedule.show(rt, Moment::After)?;
-    tell_refused(rt, schedule.refused(alloc)?)
+    schedule.play(rt, alloc)
 }
 
 // A lot on which two threads wait. It is shown.
@@ -102,6 +96,16 @@ impl Schedule {
         })
     }
 
+    fn play<R: Print>(&mut self, rt: &R, alloc: Global) -> Result<(), Fault> {
+        self.show(rt, Moment::Before)?;
+        marks::begin(alloc);
+        let answer = self.run();
+        marks::end(alloc);
+        tell_answer(rt, &answer)?;
+        self.show(rt, Moment::After)?;
+        tell_refused(rt, self.refused(alloc)?)
+    }
+
     fn run(&mut self) -> Result<(), NoMemory> {
         run_fine(
             &mut self.lot,
@@ -122,14 +126,20 @@ impl Schedule {
     fn refused(&self, alloc: Global) -> Result<usize, Fault> {
         let (kept, expected) = unrefused(alloc, mixed(alloc)?, self.answers.as_slice())?;
         let mut again = Schedule::new(alloc, kept)?;
+        self.is_alike(&mut again, expected.as_slice())?;
+        Ok(self.answers.len().wrapping_sub(expected.len()))
+    }
+
+    // Runs the other schedule, which is to give these answers and the same lot.
+    fn is_alike(&self, again: &mut Schedule, expected: &[FineAnswer]) -> Result<(), Fault> {
         again.run()?;
-        if again.answers.as_slice() != expected.as_slice() {
+        if again.answers.as_slice() != expected {
             return Err(Fault::Unlike("an answer after a step that was refused"));
         }
         if !are_alike(&self.lot, &again.lot)? {
             return Err(Fault::Unlike("the lot after steps of which some were refused"));
         }
-        Ok(self.answers.len().wrapping_sub(expected.len()))
+        Ok(())
     }
 }
 
@@ -167,22 +177,27 @@ fn unrefused(
 // Steps of each kind.
 fn mixed(alloc: Global) -> Result<Vec<FineStep>, Fault> {
     let mut steps = Vec::new(alloc);
+    add_mixed(&mut steps)?;
+    Ok(steps)
+}
+
+fn add_mixed(steps: &mut Vec<FineStep>) -> Result<(), Fault> {
     for thread in 0..2 * FEW {
-        add_entry(&mut steps, thread)?;
+        add_entry(steps, thread)?;
     }
     let (key, token) = (KEYS[0], UnparkToken(1));
-    add_section(&mut steps, 0, Op::All { key, token })?;
+    add_section(steps, 0, Op::All { key, token })?;
     let (key, token) = (KEYS[1], UnparkToken(2));
-    add_section(&mut steps, 1, Op::One { key, token })?;
+    add_section(steps, 1, Op::One { key, token })?;
     for thread in 0..FEW {
-        add_end(&mut steps, thread)?;
+        add_end(steps, thread)?;
     }
     steps.push(FineStep::Release {
         thread: 1,
         key: KEYS[1],
     })?;
     steps.push(FineStep::Retire { thread: 1 })?;
-    Ok(steps)
+    Ok(())
 }
 
 // A thread registers, records a resource, and waits.

@@ -34,13 +34,17 @@ pub(super) fn register<R: Print>(rt: &R, alloc: Global) -> Result<(), Fault> {
 /// `Table::trim` after a number was in use for which the table has grown.
 pub(super) fn trim<R: Print>(rt: &R, alloc: Global) -> Result<(), Fault> {
     let mut table = table_of_waiters(alloc)?;
+    trim_after_growth(rt, alloc, &mut table)
+}
+
+fn trim_after_growth<R: Print>(rt: &R, alloc: Global, table: &mut Table) -> Result<(), Fault> {
     let last = table.register()?;
     table.release(last);
-    show_table(rt, alloc, Moment::Before, &table)?;
+    show_table(rt, alloc, Moment::Before, table)?;
     marks::begin(alloc);
     let answer = table.trim();
     marks::end(alloc);
-    finish(rt, alloc, &table, &answer)
+    finish(rt, alloc, table, &answer)
 }
 
 /// `Table::list`.

@@ -44,15 +44,7 @@ pub(super) fn register<P: ThreadParkerT, R: Print + Wait + Clock>(
     calls: usize,
 ) -> Result<(), Fault> {
     let mut threads = Registered::<P>::new(rt, alloc, registered)?;
-    threads.show(rt, Moment::Before)?;
-    marks::begin(alloc);
-    let answer = threads.add_often(rt, calls);
-    marks::end(alloc);
-    threads.finish(rt, &answer)?;
-    // Of a single call the answer says whether it was refused.
-    let added = if calls == 1 { 1 } else { threads.data.len() };
-    threads.gives_the_least_number(rt)?;
-    tell_refused(rt, calls.wrapping_sub(added))
+    threads.play_registrations(rt, calls)
 }
 
 /// `ParkingLot::trim` after a thread was registered for which the table has grown.
@@ -62,12 +54,7 @@ pub(super) fn trim<P: ThreadParkerT, R: Print + Wait + Clock>(
 ) -> Result<(), Fault> {
     let mut threads = Registered::<P>::new(rt, alloc, FEW + 1)?;
     threads.retire_last(rt);
-    threads.show(rt, Moment::Before)?;
-    marks::begin(alloc);
-    let answer = threads.lot.trim(rt, alloc);
-    marks::end(alloc);
-    threads.finish(rt, &answer)?;
-    tell_refused(rt, 0)
+    threads.play_trim(rt)
 }
 
 /// `ParkingLot::list`, in a park, which asks for nothing.
@@ -76,12 +63,7 @@ pub(super) fn list<P: ThreadParkerT, R: Print + Wait + Clock>(
     alloc: Global,
 ) -> Result<(), Fault> {
     let mut threads = Registered::<P>::new(rt, alloc, FEW)?;
-    threads.show(rt, Moment::Before)?;
-    marks::begin(alloc);
-    let answer = threads.list_in_a_park(rt, KEYS[0]);
-    marks::end(alloc);
-    threads.finish(rt, &answer)?;
-    tell_refused(rt, 0)
+    threads.play_list(rt)
 }
 
 /// `acquire_resource`, many times.
@@ -90,14 +72,7 @@ pub(super) fn acquire<P: ThreadParkerT, R: Print + Wait + Clock>(
     alloc: Global,
 ) -> Result<(), Fault> {
     let mut threads = Registered::<P>::new(rt, alloc, FEW)?;
-    threads.show_records(rt, Moment::Before)?;
-    marks::begin(alloc);
-    let recorded = threads.record_often()?;
-    marks::end(alloc);
-    tell_answer(rt, &recorded)?;
-    threads.show_records(rt, Moment::After)?;
-    threads.can_wait(rt)?;
-    tell_refused(rt, RECORDINGS.wrapping_sub(recorded))
+    threads.play_recordings(rt)
 }
 
 /// `park` with each way to end, each unpark, and `release_resource`.
@@ -106,16 +81,7 @@ pub(super) fn park_each_way<P: ThreadParkerT, R: Print + Wait + Clock>(
     alloc: Global,
 ) -> Result<(), Fault> {
     let mut parks = Parks::<P>::new(rt, alloc)?;
-    let past = Instant::now(rt)?;
-    parks.show(rt, Moment::Before)?;
-    marks::begin(alloc);
-    parks.park_each_way(rt, past);
-    parks.release_twice();
-    marks::end(alloc);
-    tell_answer(rt, &())?;
-    parks.show(rt, Moment::After)?;
-    parks.threads.can_wait(rt)?;
-    tell_refused(rt, 0)
+    parks.play(rt)
 }
 
 // A lot, and the data of its threads.
@@ -137,6 +103,51 @@ impl<P: ThreadParkerT> Registered<P> {
             registered.add(rt)?;
         }
         Ok(registered)
+    }
+
+    fn play_registrations<R: Print + Wait + Clock>(
+        &mut self,
+        rt: &R,
+        calls: usize,
+    ) -> Result<(), Fault> {
+        self.show(rt, Moment::Before)?;
+        marks::begin(self.alloc);
+        let answer = self.add_often(rt, calls);
+        marks::end(self.alloc);
+        self.finish(rt, &answer)?;
+        // Of a single call the answer says whether it was refused.
+        let added = if calls == 1 { 1 } else { self.data.len() };
+        self.gives_the_least_number(rt)?;
+        tell_refused(rt, calls.wrapping_sub(added))
+    }
+
+    fn play_trim<R: Print + Wait + Clock>(&mut self, rt: &R) -> Result<(), Fault> {
+        self.show(rt, Moment::Before)?;
+        marks::begin(self.alloc);
+        let answer = self.lot.trim(rt, self.alloc);
+        marks::end(self.alloc);
+        self.finish(rt, &answer)?;
+        tell_refused(rt, 0)
+    }
+
+    fn play_list<R: Print + Wait + Clock>(&mut self, rt: &R) -> Result<(), Fault> {
+        self.show(rt, Moment::Before)?;
+        marks::begin(self.alloc);
+        let answer = self.list_in_a_park(rt, KEYS[0]);
+        marks::end(self.alloc);
+        self.finish(rt, &answer)?;
+        tell_refused(rt, 0)
+    }
+
+    fn play_recordings<R: Print + Wait + Clock>(&mut self, rt: &R) -> Result<(), Fault> {
+        self.show_records(rt, Moment::Before)?;
+        marks::begin(self.alloc);
+        let recorded = self.record_often()?;
+        marks::end(self.alloc);
+        tell_answer(rt, &recorded)?;
+        self.show_records(rt, Moment::After)?;
+        self.can_wait(rt)?;
+        tell_refused(rt, RECORDINGS.wrapping_sub(recorded))
     }
 
     // Registers one more thread, and answers its number.
@@ -301,6 +312,19 @@ impl<P: ThreadParkerT> Parks<P> {
         }
         let results = Vec::with_capacity(alloc, 16)?;
         Ok(Parks { threads, results })
+    }
+
+    fn play<R: Print + Wait + Clock>(&mut self, rt: &R) -> Result<(), Fault> {
+        let past = Instant::now(rt)?;
+        self.show(rt, Moment::Before)?;
+        marks::begin(self.threads.alloc);
+        self.park_each_way(rt, past);
+        self.release_twice();
+        marks::end(self.threads.alloc);
+        tell_answer(rt, &())?;
+        self.show(rt, Moment::After)?;
+        self.threads.can_wait(rt)?;
+        tell_refused(rt, 0)
     }
 
     fn park_each_way<R: Wait + Clock>(&mut self, rt: &R, past: Instant) {

@@ -54,13 +54,15 @@ pub(super) fn new_record<R: Print>(rt: &R, alloc: Global) -> Result<(), Fault> {
     let made = Record::new(alloc, MOST, JOURNAL);
     marks::end(alloc);
     match made {
-        Ok(record) => {
-            tell_answer(rt, &None::<LotError>)?;
-            show_lot(rt, Moment::After, record.lot())?;
-            tell_refused(rt, 0)
-        }
+        Ok(record) => tell_record(rt, &record),
         Err(error) => tell_unmade(rt, error),
     }
+}
+
+fn tell_record<R: Print>(rt: &R, record: &Record) -> Result<(), Fault> {
+    tell_answer(rt, &None::<LotError>)?;
+    show_lot(rt, Moment::After, record.lot())?;
+    tell_refused(rt, 0)
 }
 
 /// `RecordingLot::new`. The lot lives only in the call.
@@ -103,13 +105,27 @@ fn tickets_of<C: Ledger, W: Ledger, U: Ledger>(
 /// `script`, with room for what it writes.
 pub(super) fn run_script<R: Print>(rt: &R, alloc: Global) -> Result<(), Fault> {
     let mut input = Vec::new(alloc);
-    for line in LINES {
-        add_line(&mut input, line.as_bytes())?;
-    }
+    add_lines(&mut input)?;
     let mut output = Vec::with_capacity(alloc, ROOM)?;
+    play_script(rt, alloc, input.as_slice(), &mut output)
+}
+
+fn add_lines(text: &mut Vec<u8>) -> Result<(), Fault> {
+    for line in LINES {
+        add_line(text, line.as_bytes())?;
+    }
+    Ok(())
+}
+
+fn play_script<R: Print>(
+    rt: &R,
+    alloc: Global,
+    input: &[u8],
+    output: &mut Vec<u8>,
+) -> Result<(), Fault> {
     show_lines(rt, Moment::Before, output.as_slice())?;
     marks::begin(alloc);
-    let answer = script(alloc, input.as_slice(), &mut output);
+    let answer = script(alloc, input, output);
     marks::end(alloc);
     tell_answer(rt, &answer)?;
     show_lines(rt, Moment::After, output.as_slice())?;

@@ -68,22 +68,12 @@ where
     P::UnparkHandle: 'static,
     R: Threads + Wait + Clock + Copy + Send + 'static,
 {
-    let round = Round::<P> {
-        lot: ParkingLot::new(alloc, MOST)?,
-        is_over: AtomicBool::new(false),
-        parking: AtomicUsize::new(PARKERS),
-    };
-    let round = Arc::new(alloc, round)?;
+    let round = Arc::new(alloc, Round::<P>::new(alloc)?)?;
     let mut draws = Draws::new(seed);
     let threads = start_all(rt, alloc, &round, &mut draws)?;
     thread::sleep(rt, Duration::from_millis(ROUND_MILLISECONDS));
-    let mut figures = round.end(rt, &mut draws)?;
-    figures.add(join_all(rt, threads)?);
-    if !figures.are_even() {
-        return Err(Fault::Unlike("the tokens that were told, beside those handed out"));
-    }
-    round.are_lists_empty(rt, alloc)?;
-    Ok(figures)
+    let figures = round.end(rt, &mut draws)?;
+    round.finish(rt, alloc, figures, threads)
 }
 
 fn start_all<P, R>(
@@ -144,6 +134,30 @@ fn join_all<R: Threads>(
 }
 
 impl<P: ThreadParkerT> Round<P> {
+    fn new(alloc: Global) -> Result<Round<P>, Fault> {
+        Ok(Round {
+            lot: ParkingLot::new(alloc, MOST)?,
+            is_over: AtomicBool::new(false),
+            parking: AtomicUsize::new(PARKERS),
+        })
+    }
+
+    // What the threads have done, and who led them.
+    fn finish<R: Threads + Wait>(
+        &self,
+        rt: &R,
+        alloc: Global,
+        mut figures: Figures,
+        threads: Vec<JoinHandle<Option<Figures>>>,
+    ) -> Result<Figures, Fault> {
+        figures.add(join_all(rt, threads)?);
+        if !figures.are_even() {
+            return Err(Fault::Unlike("the tokens that were told, beside those handed out"));
+        }
+        self.are_lists_empty(rt, alloc)?;
+        Ok(figures)
+    }
+
     fn act<R: Wait + Clock>(
         &self,
         rt: &R,
