@@ -2,19 +2,22 @@
 
 use crate::expect_equal;
 use lot_base::queue::{Node, Queue};
-use lot_base::token::{NoMemory, ParkToken, UnparkToken};
+use lot_base::token::{ParkToken, UnparkToken};
 use std::alloc::Global;
 use std::process::Abort;
-use std::test::Fail;
+
+fn node(rt: &impl Abort, alloc: Global, number: usize) -> Box<Node> {
+    Node::new(alloc, number).expect(rt, "memory")
+}
 
 // A queue of nodes with these numbers, first to last. No clause refuses a `Node::new` that always
 // answers `NoMemory`; each test that fills a queue does.
-fn queue_of(alloc: Global, numbers: &[usize]) -> Result<Queue, NoMemory> {
+fn queue_of(rt: &impl Abort, alloc: Global, numbers: &[usize]) -> Queue {
     let mut queue = Queue::new();
     for number in numbers {
-        queue.push_back(Node::new(alloc, *number)?);
+        queue.push_back(node(rt, alloc, *number));
     }
-    Ok(queue)
+    queue
 }
 
 // The decimal number whose digits are the numbers of the nodes, in order.
@@ -58,10 +61,10 @@ enum Step {
 }
 
 impl Queues {
-    fn step(&mut self, alloc: Global, step: Step) -> Result<(), NoMemory> {
+    fn step(&mut self, rt: &impl Abort, alloc: Global, step: Step) {
         match step {
-            Step::Push(number) => self.queue.push_back(Node::new(alloc, number)?),
-            Step::PushToOther(number) => self.other.push_back(Node::new(alloc, number)?),
+            Step::Push(number) => self.queue.push_back(node(rt, alloc, number)),
+            Step::PushToOther(number) => self.other.push_back(node(rt, alloc, number)),
             Step::Take => {
                 let number = self.queue.pop_front().map(|node| node.number);
                 self.taken = self
@@ -76,7 +79,6 @@ impl Queues {
             }
             Step::Append => self.queue.append(&mut self.other),
         }
-        Ok(())
     }
 }
 
@@ -87,82 +89,122 @@ fn left(queue: &Queue) -> Left {
     (digits(queue), first(queue))
 }
 
-// Does the steps on two queues of nodes with these numbers, and compares what was taken and what is
-// left in both.
-fn expect_after(
-    rt: &impl Abort,
-    alloc: Global,
-    (numbers, others): (&[usize], &[usize]),
-    steps: &[Step],
-    expected: (usize, Left, Left),
-) -> Result<(), Fail> {
-    let mut queues = Queues {
-        queue: queue_of(alloc, numbers)?,
-        other: queue_of(alloc, others)?,
-        taken: 0,
-    };
-    for step in steps {
-        queues.step(alloc, *step)?;
-    }
-    let found = (queues.taken, left(&queues.queue), left(&queues.other));
-    expect_equal(rt, found, expected);
-    Ok(())
-}
-
 const NOTHING: Left = (0, None);
 
+// Two queues of nodes with these numbers, what is done to them, what is taken, and what is left in
+// both.
+#[derive(Drop)]
+struct Row<'a> {
+    name: &'a str,
+    numbers: (&'a [usize], &'a [usize]),
+    steps: &'a [Step],
+    taken: usize,
+    left: (Left, Left),
+}
+
+fn check_row(rt: &impl Abort, alloc: Global, row: &Row<'_>) {
+    let (numbers, others) = row.numbers;
+    let mut queues = Queues {
+        queue: queue_of(rt, alloc, numbers),
+        other: queue_of(rt, alloc, others),
+        taken: 0,
+    };
+    for step in row.steps {
+        queues.step(rt, alloc, *step);
+    }
+    expect_equal(rt, (row.name, queues.taken), (row.name, row.taken));
+    let found = (left(&queues.queue), left(&queues.other));
+    expect_equal(rt, (row.name, found), (row.name, row.left));
+}
+
+const ROWS: [Row<'static>; 9] = [
+    Row {
+        name: "nodes leave in the order in which they came",
+        numbers: (&[3, 1, 2], &[]),
+        steps: &[
+            Step::Take,
+            Step::Take,
+            Step::Push(4),
+            Step::Take,
+            Step::Take,
+            Step::Take,
+        ],
+        taken: 31240,
+        left: (NOTHING, NOTHING),
+    },
+    Row {
+        name: "an append puts the other's nodes behind",
+        numbers: (&[1, 2], &[3, 4]),
+        steps: &[Step::Append],
+        taken: 0,
+        left: ((1234, Some(1)), NOTHING),
+    },
+    Row {
+        name: "an append of no nodes changes nothing",
+        numbers: (&[1, 2, 3], &[]),
+        steps: &[Step::Append],
+        taken: 0,
+        left: ((123, Some(1)), NOTHING),
+    },
+    Row {
+        name: "an append to no nodes moves them all",
+        numbers: (&[], &[1, 2, 3]),
+        steps: &[Step::Append],
+        taken: 0,
+        left: ((123, Some(1)), NOTHING),
+    },
+    Row {
+        name: "the only node leaves",
+        numbers: (&[1], &[]),
+        steps: &[Step::Take],
+        taken: 1,
+        left: (NOTHING, NOTHING),
+    },
+    Row {
+        name: "a queue goes on after its only node left",
+        numbers: (&[1], &[]),
+        steps: &[Step::Take, Step::Push(2)],
+        taken: 1,
+        left: ((2, Some(2)), NOTHING),
+    },
+    Row {
+        name: "a node is last behind nodes that were appended",
+        numbers: (&[1, 2], &[3, 4]),
+        steps: &[Step::Append, Step::Push(5)],
+        taken: 0,
+        left: ((12345, Some(1)), NOTHING),
+    },
+    Row {
+        name: "a queue that gave its nodes away goes on",
+        numbers: (&[1], &[2, 3]),
+        steps: &[Step::Append, Step::PushToOther(4)],
+        taken: 0,
+        left: ((123, Some(1)), (4, Some(4))),
+    },
+    Row {
+        name: "a node that leaves a queue can enter another",
+        numbers: (&[1, 2, 3], &[4]),
+        steps: &[Step::Move],
+        taken: 0,
+        left: ((23, Some(2)), (41, Some(4))),
+    },
+];
+
 #[test]
-fn nodes_leave_in_the_order_in_which_they_came(rt: HostRuntime) -> Result<(), Fail> {
-    let steps = [
-        Step::Take,
-        Step::Take,
-        Step::Push(4),
-        Step::Take,
-        Step::Take,
-        Step::Take,
-    ];
-    let numbers = (&[3, 1, 2][..], &[][..]);
-    expect_after(&rt, rt.alloc(), numbers, &steps, (31240, NOTHING, NOTHING))
+fn nodes_keep_their_order_in_each_row_of_the_table(rt: HostRuntime) {
+    for row in ROWS {
+        check_row(&rt, rt.alloc(), &row);
+    }
 }
 
 #[test]
-fn a_fold_visits_the_nodes_in_order(rt: HostRuntime) -> Result<(), Fail> {
-    expect_equal(&rt, digits(&queue_of(rt.alloc(), &[1, 7, 2, 9])?), 1729);
+fn a_fold_visits_the_nodes_in_order(rt: HostRuntime) {
+    expect_equal(&rt, digits(&queue_of(&rt, rt.alloc(), &[1, 7, 2, 9])), 1729);
     expect_equal(
         &rt,
         Queue::new().fold(5usize, |number, _| number.wrapping_add(1)),
         5,
     );
-    Ok(())
-}
-
-#[test]
-fn an_append_puts_the_others_nodes_behind(rt: HostRuntime) -> Result<(), Fail> {
-    let numbers = (&[1, 2][..], &[3, 4][..]);
-    let left = (0, (1234, Some(1)), NOTHING);
-    expect_after(&rt, rt.alloc(), numbers, &[Step::Append], left)
-}
-
-#[test]
-fn an_append_of_no_nodes_changes_nothing(rt: HostRuntime) -> Result<(), Fail> {
-    let numbers = (&[1, 2, 3][..], &[][..]);
-    let left = (0, (123, Some(1)), NOTHING);
-    expect_after(&rt, rt.alloc(), numbers, &[Step::Append], left)
-}
-
-#[test]
-fn an_append_to_no_nodes_moves_them_all(rt: HostRuntime) -> Result<(), Fail> {
-    let numbers = (&[][..], &[1, 2, 3][..]);
-    let left = (0, (123, Some(1)), NOTHING);
-    expect_after(&rt, rt.alloc(), numbers, &[Step::Append], left)
-}
-
-#[test]
-fn a_queue_goes_on_after_its_only_node_left(rt: HostRuntime) -> Result<(), Fail> {
-    let one = (&[1][..], &[][..]);
-    expect_after(&rt, rt.alloc(), one, &[Step::Take], (1, NOTHING, NOTHING))?;
-    let left = (1, (2, Some(2)), NOTHING);
-    expect_after(&rt, rt.alloc(), one, &[Step::Take, Step::Push(2)], left)
 }
 
 // How many nodes there are.
@@ -170,45 +212,12 @@ fn count(queue: &Queue) -> usize {
     queue.fold(0usize, |number, _| number.wrapping_add(1))
 }
 
-#[test]
-fn a_node_is_last_behind_nodes_that_were_appended(rt: HostRuntime) -> Result<(), Fail> {
-    let numbers = (&[1, 2][..], &[3, 4][..]);
-    let left = (0, (12345, Some(1)), NOTHING);
-    expect_after(
-        &rt,
-        rt.alloc(),
-        numbers,
-        &[Step::Append, Step::Push(5)],
-        left,
-    )
-}
-
-#[test]
-fn a_queue_that_gave_its_nodes_away_goes_on(rt: HostRuntime) -> Result<(), Fail> {
-    let numbers = (&[1][..], &[2, 3][..]);
-    let left = (0, (123, Some(1)), (4, Some(4)));
-    expect_after(
-        &rt,
-        rt.alloc(),
-        numbers,
-        &[Step::Append, Step::PushToOther(4)],
-        left,
-    )
-}
-
-#[test]
-fn a_node_that_leaves_a_queue_can_enter_another(rt: HostRuntime) -> Result<(), Fail> {
-    let numbers = (&[1, 2, 3][..], &[4][..]);
-    let left = (0, (23, Some(2)), (41, Some(4)));
-    expect_after(&rt, rt.alloc(), numbers, &[Step::Move], left)
-}
-
 // A node with a value of its own in each field.
-fn prepared_node(alloc: Global) -> Result<Box<Node>, NoMemory> {
-    let mut node = Node::new(alloc, 1)?;
+fn prepared_node(rt: &impl Abort, alloc: Global) -> Box<Node> {
+    let mut node = node(rt, alloc, 1);
     node.prepare(7, ParkToken(8), true);
     node.unpark_token = UnparkToken(9);
-    Ok(node)
+    node
 }
 
 // Compares each of its fields.
@@ -218,33 +227,25 @@ fn expect_prepared(rt: &impl Abort, node: &Node) {
     expect_equal(rt, tokens, (ParkToken(8), UnparkToken(9)));
 }
 
-// Puts that node between two others, and takes the first of the three, whose number it tells, and
-// then the second.
-fn second_of_three(alloc: Global) -> Result<(Option<usize>, Option<Box<Node>>), NoMemory> {
-    let mut queue = queue_of(alloc, &[2])?;
-    queue.push_back(prepared_node(alloc)?);
-    queue.push_back(Node::new(alloc, 3)?);
-    let first = queue.pop_front().map(|node| node.number);
-    Ok((first, queue.pop_front()))
-}
-
+// The node stands between two others, and leaves second.
 #[test]
-fn a_node_leaves_with_what_it_entered_with(rt: HostRuntime) -> Result<(), Fail> {
-    let (first, node) = second_of_three(rt.alloc())?;
-    expect_equal(&rt, first, Some(2));
-    expect_prepared(&rt, &*node.expect(&rt, "a node"));
-    Ok(())
+fn a_node_leaves_with_what_it_entered_with(rt: HostRuntime) {
+    let mut queue = queue_of(&rt, rt.alloc(), &[2]);
+    queue.push_back(prepared_node(&rt, rt.alloc()));
+    queue.push_back(node(&rt, rt.alloc(), 3));
+    let first = queue.pop_front().expect(&rt, "a node");
+    expect_equal(&rt, first.number, 2);
+    expect_prepared(&rt, &*queue.pop_front().expect(&rt, "a node"));
 }
 
 // A derived end would free no node, and one by boxes would call itself once for each and run out
 // of stack.
 #[test]
-fn a_long_queue_is_freed_by_a_loop(rt: HostRuntime) -> Result<(), Fail> {
+fn a_long_queue_is_freed_by_a_loop(rt: HostRuntime) {
     let mut queue = Queue::new();
     for number in 0..100_000usize {
-        queue.push_back(Node::new(rt.alloc(), number)?);
+        queue.push_back(node(&rt, rt.alloc(), number));
     }
     expect_equal(&rt, count(&queue), 100_000);
     drop(queue);
-    Ok(())
 }

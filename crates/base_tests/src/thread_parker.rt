@@ -1,6 +1,6 @@
 //! Tests of slots, and of every parker through the trait alone.
 
-ghost use Rattle.std.specs.Prelude.{◌≡◌, IfOk};
+ghost use Rattle.std.specs.Prelude.{◌≡◌};
 ghost use Rattle.lot_base.specs.Node.{fields};
 
 use crate::expect_equal;
@@ -8,12 +8,11 @@ use lot_base::queue::Node;
 use lot_base::thread_parker::{
     Slot, ThreadParker, ThreadParkerT, UnparkHandleT, WordParker, YieldParker, thread_yield,
 };
-use lot_base::token::{DEFAULT_PARK_TOKEN, NoMemory, UnparkToken};
+use lot_base::token::{DEFAULT_PARK_TOKEN, UnparkToken};
 use std::alloc::Global;
 use std::process::Abort;
 use std::sync::Wait;
 use std::sync::atomic::{AtomicBool, Ordering};
-use std::test::Fail;
 use std::thread::Threads;
 use std::time::{Clock, Duration, Instant};
 use std::{io, thread};
@@ -38,17 +37,28 @@ impl<R> Clock for Clockless<R> {
     }
 }
 
-fn from_now<R: Clock + Abort>(rt: &R, duration: Duration) -> Result<Instant, Fail> {
-    let now = Instant::now(rt)?;
-    Ok(now.checked_add(duration).expect(rt, "a time of the clock"))
+fn now<R: Clock + Abort>(rt: &R) -> Instant {
+    Instant::now(rt).expect(rt, "the clock")
 }
 
-fn owners_node(alloc: Global, token: UnparkToken) -> Result<Box<Node>, NoMemory>
-    ensures { IfOk result (λ node. (fields node.value).number ≡ OWNER) }
+fn from_now<R: Clock + Abort>(rt: &R, duration: Duration) -> Instant {
+    now(rt)
+        .checked_add(duration)
+        .expect(rt, "a time of the clock")
+}
+
+fn new_parker<P: ThreadParkerT>(rt: &impl Abort, alloc: Global) -> P
+    ensures { P.owner result ≡ OWNER }
 {
-    let mut node = Node::new(alloc, OWNER)?;
-    node.unpark_token = token;
-    Ok(node)
+    P::new(alloc, OWNER).expect(rt, "memory")
+}
+
+fn owners_node(rt: &impl Abort, alloc: Global, token: usize) -> Box<Node>
+    ensures { (fields result.value).number ≡ OWNER }
+{
+    let mut node = Node::new(alloc, OWNER).expect(rt, "memory");
+    node.unpark_token = UnparkToken(token);
+    node
 }
 
 // No node is in the slot, for this cause.
@@ -59,6 +69,11 @@ fn expect_empty<P: ThreadParkerT, R: Wait + Abort>(rt: &R, parker: &P, cause: &s
 // The first node that comes has this token.
 fn expect_token<P: ThreadParkerT, R: Wait + Abort>(rt: &R, parker: &P, token: UnparkToken) {
     expect_equal(rt, parker.park(rt).unpark_token, token);
+}
+
+// A node came, with this token.
+fn expect_token_of(rt: &impl Abort, node: Option<Box<Node>>, token: UnparkToken) {
+    expect_equal(rt, node.map(|node| node.unpark_token), Some(token));
 }
 
 // A commit fills the slot until its node is taken, and its unpark may come after that.
@@ -96,18 +111,14 @@ fn take_two_commits<P: ThreadParkerT, R: Wait + Abort>(
 // No clause says when a slot is full, nor which of two nodes comes first. This refuses a parker
 // whose `timed_out` has one answer always, whose `park` gives the second node first, or whose
 // `unpark_lock` drops the node, so that the first `park` does not end.
-fn commits_take_turns<P: ThreadParkerT, R: Wait + Abort>(
-    rt: &R,
-    alloc: Global,
-) -> Result<(), NoMemory> {
-    let parker = P::new(alloc, OWNER)?;
+fn commits_take_turns<P: ThreadParkerT, R: Wait + Abort>(rt: &R, alloc: Global) {
+    let parker: P = new_parker(rt, alloc);
     parker.prepare_park();
     expect_empty(rt, &parker, "nobody has put a node");
-    take_a_commit(rt, &parker, owners_node(alloc, UnparkToken(42))?);
-    let second = owners_node(alloc, UnparkToken(43))?;
-    let third = owners_node(alloc, UnparkToken(44))?;
+    take_a_commit(rt, &parker, owners_node(rt, alloc, 42));
+    let second = owners_node(rt, alloc, 43);
+    let third = owners_node(rt, alloc, 44);
     take_two_commits(rt, &parker, second, third);
-    Ok(())
 }
 
 // No node comes until the deadline, for this cause.
@@ -121,87 +132,60 @@ fn expect_none<P: ThreadParkerT, R: Wait + Clock + Abort>(
 }
 
 // A node with this token is there at a deadline that passes at once.
-fn expect_found<P: ThreadParkerT, R: Wait + Clock + Abort>(
-    rt: &R,
-    parker: &P,
-    token: UnparkToken,
-) -> Result<(), Fail> {
-    let node = parker.park_until(rt, Instant::now(rt)?);
+fn expect_found<P: ThreadParkerT, R: Wait + Clock + Abort>(rt: &R, parker: &P, token: UnparkToken) {
+    let node = parker.park_until(rt, now(rt));
     let found = node.expect(rt, "the node was put before");
     expect_equal(rt, found.unpark_token, token);
-    Ok(())
 }
 
 // No clause says when a timed wait ends. With a `park_until` that looks at no clock, this does not
 // end.
-fn waits_to_the_deadline<P: ThreadParkerT, R: Wait + Clock + Abort>(
-    rt: &R,
-    alloc: Global,
-) -> Result<(), Fail> {
-    let parker = P::new(alloc, OWNER)?;
-    let soon = from_now(rt, Duration::from_millis(20))?;
+fn waits_to_the_deadline<P: ThreadParkerT, R: Wait + Clock + Abort>(rt: &R, alloc: Global) {
+    let parker: P = new_parker(rt, alloc);
+    let soon = from_now(rt, Duration::from_millis(20));
     expect_none(rt, &parker, soon, "nobody puts a node");
-    assert!(rt; soon <= Instant::now(rt)?, "the deadline has passed");
+    assert!(rt; soon <= now(rt), "the deadline has passed");
     expect_none(rt, &parker, soon, "the deadline passed before");
     expect_empty(rt, &parker, "nobody has put a node");
-    Ok(())
 }
 
 // No clause says what a wait without a clock does. With one that goes on, this takes an hour.
-fn waits_for_no_clock<P: ThreadParkerT, R: Wait + Clock + Abort>(
-    rt: &R,
-    alloc: Global,
-) -> Result<(), Fail> {
-    let parker = P::new(alloc, OWNER)?;
-    let in_an_hour = from_now(rt, Duration::from_hours(1))?;
+fn waits_for_no_clock<P: ThreadParkerT, R: Wait + Clock + Abort>(rt: &R, alloc: Global) {
+    let parker: P = new_parker(rt, alloc);
+    let in_an_hour = from_now(rt, Duration::from_hours(1));
     let clockless = Clockless(rt);
     assert!(rt; parker.park_until(&clockless, in_an_hour).is_none());
-    Ok(())
 }
 
 // No clause says that a node in the slot is found. This refuses a `park_until` that answers `None`
 // at a deadline without a look, or gives the second of two nodes first.
-fn looks_after_the_deadline<P: ThreadParkerT, R: Wait + Clock + Abort>(
-    rt: &R,
-    alloc: Global,
-) -> Result<(), Fail> {
-    let parker = P::new(alloc, OWNER)?;
-    let late = parker.unpark_lock(rt, owners_node(alloc, UnparkToken(42))?);
-    drop(parker.unpark_lock(rt, owners_node(alloc, UnparkToken(43))?));
-    expect_found(rt, &parker, UnparkToken(42))?;
-    expect_found(rt, &parker, UnparkToken(43))?;
+fn looks_after_the_deadline<P: ThreadParkerT, R: Wait + Clock + Abort>(rt: &R, alloc: Global) {
+    let parker: P = new_parker(rt, alloc);
+    let late = parker.unpark_lock(rt, owners_node(rt, alloc, 42));
+    drop(parker.unpark_lock(rt, owners_node(rt, alloc, 43)));
+    expect_found(rt, &parker, UnparkToken(42));
+    expect_found(rt, &parker, UnparkToken(43));
     late.unpark(&parker);
     expect_empty(rt, &parker, "a late unpark fills no slot");
-    Ok(())
 }
 
 // Waits in vain for a while, and takes a node that is put after that. It prepares to park between
-// the two, or not.
+// the two, or not. No clause says what a wait that ended at its deadline leaves. This refuses a
+// parker that takes it for a node, or that loses the next one.
 fn takes_a_commit_after_a_timeout<P: ThreadParkerT, R: Wait + Clock + Abort>(
     rt: &R,
     alloc: Global,
     prepares: bool,
-) -> Result<(), Fail> {
-    let parker = P::new(alloc, OWNER)?;
-    let soon = from_now(rt, Duration::from_millis(5))?;
+) {
+    let parker: P = new_parker(rt, alloc);
+    let soon = from_now(rt, Duration::from_millis(5));
     expect_none(rt, &parker, soon, "nobody puts a node");
     if prepares {
         parker.prepare_park();
         expect_empty(rt, &parker, "nobody has put a node");
     }
-    take_a_commit(rt, &parker, owners_node(alloc, UnparkToken(42))?);
+    take_a_commit(rt, &parker, owners_node(rt, alloc, 42));
     expect_none(rt, &parker, soon, "the node was taken");
-    Ok(())
-}
-
-// No clause says what a wait that ended at its deadline leaves. This refuses a parker that takes it
-// for a node, or that loses the next one.
-fn a_timeout_leaves_nothing<P: ThreadParkerT, R: Wait + Clock + Abort>(
-    rt: &R,
-    alloc: Global,
-) -> Result<(), Fail> {
-    takes_a_commit_after_a_timeout::<P, _>(rt, alloc, false)?;
-    takes_a_commit_after_a_timeout::<P, _>(rt, alloc, true)
 }
 
 fn wait_until(started: &AtomicBool) {
@@ -269,191 +253,85 @@ fn node_between_threads<P: ThreadParkerT + Sync, R: Threads + Wait + Clock + Syn
 
 // No clause says that a wake reaches anybody. With an `unpark` that notifies nobody, this ends no
 // sooner than the deadline where the owner slept before the commit, and not without one.
-fn token_between_threads<P: ThreadParkerT + Sync, R: Threads + Wait + Clock + Sync>(
-    rt: &R,
-    alloc: Global,
-    token: UnparkToken,
-    deadline: Option<Instant>,
-) -> Result<Option<UnparkToken>, NoMemory> {
-    let parker = P::new(alloc, OWNER)?;
-    let node = owners_node(alloc, token)?;
-    let node = node_between_threads(rt, &parker, node, deadline, None);
-    Ok(node.map(|node| node.unpark_token))
-}
-
 fn wakes_its_thread<P: ThreadParkerT + Sync, R: Threads + Wait + Clock + Sync + Abort>(
     rt: &R,
     alloc: Global,
     deadline: Option<Instant>,
-) -> Result<(), NoMemory> {
+) {
     for round in 0..100 {
-        let token = UnparkToken(round);
-        let came = token_between_threads::<P, _>(rt, alloc, token, deadline)?;
-        expect_equal(rt, came, Some(token));
+        let parker: P = new_parker(rt, alloc);
+        let node = owners_node(rt, alloc, round);
+        let node = node_between_threads(rt, &parker, node, deadline, None);
+        expect_token_of(rt, node, UnparkToken(round));
     }
-    Ok(())
 }
 
-fn wakes_its_thread_in_time<P: ThreadParkerT + Sync, R: Threads + Wait + Clock + Sync + Abort>(
-    rt: &R,
-    alloc: Global,
-) -> Result<(), Fail> {
-    let deadline = from_now(rt, Duration::from_secs(30))?;
-    wakes_its_thread::<P, _>(rt, alloc, Some(deadline))?;
-    assert!(rt;
-        Instant::now(rt)? < deadline,
-        "no wait lasted to the deadline"
-    );
-    Ok(())
-}
-
-// The owner sleeps in vain first, and again until its node is put.
-fn token_to_a_sleeper<P: ThreadParkerT + Sync, R: Threads + Wait + Clock + Sync + Abort>(
-    rt: &R,
-    alloc: Global,
-    deadline: Option<Instant>,
-) -> Result<Option<UnparkToken>, Fail> {
-    let parker = P::new(alloc, OWNER)?;
-    let soon = from_now(rt, Duration::from_millis(2))?;
-    expect_none(rt, &parker, soon, "nobody puts a node");
-    let node = owners_node(alloc, UnparkToken(42))?;
-    let pause = Some(Duration::from_millis(5));
-    let node = node_between_threads(rt, &parker, node, deadline, pause);
-    Ok(node.map(|node| node.unpark_token))
-}
-
-// No clause says that a sleeper is woken. With a commit that takes the owner for awake, this does
-// not end, or ends at the deadline.
+// The owner sleeps in vain first, and again until its node is put. No clause says that a sleeper is
+// woken. With a commit that takes the owner for awake, this does not end, or ends at the deadline.
 fn wakes_a_sleeper<P: ThreadParkerT + Sync, R: Threads + Wait + Clock + Sync + Abort>(
     rt: &R,
     alloc: Global,
-) -> Result<(), Fail> {
-    let late = from_now(rt, Duration::from_secs(30))?;
+    deadline: Option<Instant>,
+) {
+    let parker: P = new_parker(rt, alloc);
+    let soon = from_now(rt, Duration::from_millis(2));
+    expect_none(rt, &parker, soon, "nobody puts a node");
+    let node = owners_node(rt, alloc, 42);
+    let pause = Some(Duration::from_millis(5));
+    let node = node_between_threads(rt, &parker, node, deadline, pause);
+    expect_token_of(rt, node, UnparkToken(42));
+}
+
+// Without a deadline, and with one that no wake is to reach.
+fn wakes<P: ThreadParkerT + Sync, R: Threads + Wait + Clock + Sync + Abort>(rt: &R, alloc: Global) {
+    let late = from_now(rt, Duration::from_secs(30));
     for deadline in [None, Some(late)] {
-        let came = token_to_a_sleeper::<P, _>(rt, alloc, deadline)?;
-        expect_equal(rt, came, Some(UnparkToken(42)));
+        wakes_its_thread::<P, _>(rt, alloc, deadline);
+        wakes_a_sleeper::<P, _>(rt, alloc, deadline);
     }
-    assert!(rt; Instant::now(rt)? < late, "no sleep lasted to the deadline");
-    Ok(())
+    assert!(rt; now(rt) < late, "no wait lasted to the deadline");
+}
+
+fn waits<P: ThreadParkerT, R: Wait + Clock + Abort>(rt: &R, alloc: Global) {
+    waits_to_the_deadline::<P, _>(rt, alloc);
+    waits_for_no_clock::<P, _>(rt, alloc);
+    looks_after_the_deadline::<P, _>(rt, alloc);
+    takes_a_commit_after_a_timeout::<P, _>(rt, alloc, false);
+    takes_a_commit_after_a_timeout::<P, _>(rt, alloc, true);
 }
 
 #[test]
-fn thread_parker_commits_take_turns(rt: HostRuntime) -> Result<(), Fail> {
+fn thread_parker_takes_turns_waits_and_wakes_its_thread(rt: HostRuntime) {
     assert!(rt; !ThreadParker::IS_CHEAP_TO_CONSTRUCT);
-    Ok(commits_take_turns::<ThreadParker, _>(&rt, rt.alloc())?)
+    commits_take_turns::<ThreadParker, _>(&rt, rt.alloc());
+    waits::<ThreadParker, _>(&rt, rt.alloc());
+    wakes::<ThreadParker, _>(&rt, rt.alloc());
 }
 
 #[test]
-fn thread_parker_wakes_its_thread(rt: HostRuntime) -> Result<(), Fail> {
-    Ok(wakes_its_thread::<ThreadParker, _>(&rt, rt.alloc(), None)?)
-}
-
-#[test]
-fn thread_parker_wakes_its_thread_in_time(rt: HostRuntime) -> Result<(), Fail> {
-    wakes_its_thread_in_time::<ThreadParker, _>(&rt, rt.alloc())
-}
-
-#[test]
-fn thread_parker_waits_to_the_deadline(rt: HostRuntime) -> Result<(), Fail> {
-    waits_to_the_deadline::<ThreadParker, _>(&rt, rt.alloc())
-}
-
-#[test]
-fn thread_parker_waits_for_no_clock(rt: HostRuntime) -> Result<(), Fail> {
-    waits_for_no_clock::<ThreadParker, _>(&rt, rt.alloc())
-}
-
-#[test]
-fn thread_parker_looks_after_the_deadline(rt: HostRuntime) -> Result<(), Fail> {
-    looks_after_the_deadline::<ThreadParker, _>(&rt, rt.alloc())
-}
-
-#[test]
-fn yield_parker_commits_take_turns(rt: HostRuntime) -> Result<(), Fail> {
+fn yield_parker_takes_turns_waits_and_finds_its_node(rt: HostRuntime) {
     assert!(rt; YieldParker::IS_CHEAP_TO_CONSTRUCT);
-    Ok(commits_take_turns::<YieldParker, _>(&rt, rt.alloc())?)
+    commits_take_turns::<YieldParker, _>(&rt, rt.alloc());
+    waits::<YieldParker, _>(&rt, rt.alloc());
+    wakes::<YieldParker, _>(&rt, rt.alloc());
 }
 
 #[test]
-fn yield_parker_finds_its_node(rt: HostRuntime) -> Result<(), Fail> {
-    Ok(wakes_its_thread::<YieldParker, _>(&rt, rt.alloc(), None)?)
-}
-
-#[test]
-fn yield_parker_finds_its_node_in_time(rt: HostRuntime) -> Result<(), Fail> {
-    wakes_its_thread_in_time::<YieldParker, _>(&rt, rt.alloc())
-}
-
-#[test]
-fn yield_parker_waits_to_the_deadline(rt: HostRuntime) -> Result<(), Fail> {
-    waits_to_the_deadline::<YieldParker, _>(&rt, rt.alloc())
-}
-
-#[test]
-fn yield_parker_waits_for_no_clock(rt: HostRuntime) -> Result<(), Fail> {
-    waits_for_no_clock::<YieldParker, _>(&rt, rt.alloc())
-}
-
-#[test]
-fn yield_parker_looks_after_the_deadline(rt: HostRuntime) -> Result<(), Fail> {
-    looks_after_the_deadline::<YieldParker, _>(&rt, rt.alloc())
-}
-
-#[test]
-fn word_parker_commits_take_turns(rt: HostRuntime) -> Result<(), Fail> {
+fn word_parker_takes_turns_waits_and_wakes_its_thread(rt: HostRuntime) {
     assert!(rt; !WordParker::IS_CHEAP_TO_CONSTRUCT);
-    Ok(commits_take_turns::<WordParker, _>(&rt, rt.alloc())?)
-}
-
-#[test]
-fn word_parker_wakes_its_thread(rt: HostRuntime) -> Result<(), Fail> {
-    Ok(wakes_its_thread::<WordParker, _>(&rt, rt.alloc(), None)?)
-}
-
-#[test]
-fn word_parker_wakes_its_thread_in_time(rt: HostRuntime) -> Result<(), Fail> {
-    wakes_its_thread_in_time::<WordParker, _>(&rt, rt.alloc())
-}
-
-#[test]
-fn word_parker_waits_to_the_deadline(rt: HostRuntime) -> Result<(), Fail> {
-    waits_to_the_deadline::<WordParker, _>(&rt, rt.alloc())
-}
-
-#[test]
-fn word_parker_waits_for_no_clock(rt: HostRuntime) -> Result<(), Fail> {
-    waits_for_no_clock::<WordParker, _>(&rt, rt.alloc())
-}
-
-#[test]
-fn word_parker_looks_after_the_deadline(rt: HostRuntime) -> Result<(), Fail> {
-    looks_after_the_deadline::<WordParker, _>(&rt, rt.alloc())
-}
-
-// A timeout leaves nothing that the next wait, or the next commit, finds.
-#[test]
-fn a_timeout_leaves_no_trace(rt: HostRuntime) -> Result<(), Fail> {
-    a_timeout_leaves_nothing::<ThreadParker, _>(&rt, rt.alloc())?;
-    a_timeout_leaves_nothing::<YieldParker, _>(&rt, rt.alloc())?;
-    a_timeout_leaves_nothing::<WordParker, _>(&rt, rt.alloc())
-}
-
-#[test]
-fn a_sleeper_is_woken(rt: HostRuntime) -> Result<(), Fail> {
-    wakes_a_sleeper::<ThreadParker, _>(&rt, rt.alloc())?;
-    wakes_a_sleeper::<YieldParker, _>(&rt, rt.alloc())?;
-    wakes_a_sleeper::<WordParker, _>(&rt, rt.alloc())
+    commits_take_turns::<WordParker, _>(&rt, rt.alloc());
+    waits::<WordParker, _>(&rt, rt.alloc());
+    wakes::<WordParker, _>(&rt, rt.alloc());
 }
 
 // Puts a node that waits on the key.
-fn put(alloc: Global, slot: &mut Slot, key: usize) -> Result<(), NoMemory>
+fn put(rt: &impl Abort, alloc: Global, slot: &mut Slot, key: usize)
     requires { slot.old.owner ≡ OWNER }
     ensures { slot.new.owner ≡ OWNER }
 {
-    let mut node = Node::new(alloc, OWNER)?;
+    let mut node = owners_node(rt, alloc, 42);
     node.prepare(key, DEFAULT_PARK_TOKEN, false);
     slot.put(node);
-    Ok(())
 }
 
 // Takes the first node, and tells its key.
@@ -462,13 +340,12 @@ fn take(slot: &mut Slot) -> Option<usize> {
 }
 
 #[test]
-fn a_slot_gives_its_nodes_in_the_order_of_the_puts(rt: HostRuntime) -> Result<(), Fail> {
+fn a_slot_gives_its_nodes_in_the_order_of_the_puts(rt: HostRuntime) {
     let mut slot = Slot::new(OWNER);
-    put(rt.alloc(), &mut slot, 1)?;
-    put(rt.alloc(), &mut slot, 2)?;
+    put(&rt, rt.alloc(), &mut slot, 1);
+    put(&rt, rt.alloc(), &mut slot, 2);
     let taken = [take(&mut slot), take(&mut slot), take(&mut slot)];
     expect_equal(&rt, taken, [Some(1), Some(2), None]);
-    Ok(())
 }
 
 #[test]

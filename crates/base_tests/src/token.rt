@@ -8,33 +8,23 @@ use lot_base::token::{
 use std::alloc::Global;
 use std::fmt::Display;
 use std::process::Abort;
-use std::test::Fail;
 
-fn expect_text(
-    rt: &impl Abort,
-    alloc: Global,
-    refusal: impl Display + Drop,
-    expected: &str,
-) -> Result<(), Fail> {
-    expect_equal(rt, refusal.to_string(alloc)?.as_str(), expected);
-    Ok(())
+fn expect_text(rt: &impl Abort, alloc: Global, refusal: impl Display + Drop, expected: &str) {
+    let text = refusal.to_string(alloc).expect(rt, "memory");
+    expect_equal(rt, text.as_str(), expected);
 }
 
 // No clause says what a refusal prints: an empty text, or that of another one, would be proved.
 #[test]
-fn each_refusal_has_its_text(rt: HostRuntime) -> Result<(), Fail> {
+fn each_refusal_has_its_text(rt: HostRuntime) {
     let alloc = rt.alloc();
-    expect_text(&rt, alloc, LotError::TooManyThreads, "too many threads")?;
-    expect_text(&rt, alloc, LotError::Full, "no free thread number")?;
-    expect_text(&rt, alloc, LotError::NoMemory, "no memory")?;
-    expect_text(&rt, alloc, NoMemory, "no memory")?;
-    expect_text(&rt, alloc, Misfit, "step does not fit")
-}
-
-#[test]
-fn a_step_is_refused_with_the_texts_of_its_causes(rt: HostRuntime) -> Result<(), Fail> {
-    expect_text(&rt, rt.alloc(), StepError::Misfit, "step does not fit")?;
-    expect_text(&rt, rt.alloc(), StepError::NoMemory, "no memory")
+    expect_text(&rt, alloc, LotError::TooManyThreads, "too many threads");
+    expect_text(&rt, alloc, LotError::Full, "no free thread number");
+    expect_text(&rt, alloc, LotError::NoMemory, "no memory");
+    expect_text(&rt, alloc, NoMemory, "no memory");
+    expect_text(&rt, alloc, Misfit, "step does not fit");
+    expect_text(&rt, alloc, StepError::Misfit, "step does not fit");
+    expect_text(&rt, alloc, StepError::NoMemory, "no memory");
 }
 
 #[test]

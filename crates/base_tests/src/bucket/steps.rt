@@ -1,13 +1,13 @@
 //! Each step with closures that note what they were handed.
 #![tactic(auto, using(crate::proofs::TableSizes::is_table_size_16))]
 
-ghost use Rattle.std.specs.Prelude.{◌≡◌, IfOk};
+ghost use Rattle.std.specs.Prelude.{◌≡◌};
 ghost use Rattle.lot_base.specs.Node.{fields};
 ghost use Rattle.lot_base.specs.Place.{place_of};
 
 use lot_base::bucket::{Bucket, place};
 use lot_base::queue::{Node, Queue};
-use lot_base::token::{FilterOp, NoMemory, ParkToken, RequeueOp, UnparkResult, UnparkToken};
+use lot_base::token::{FilterOp, ParkToken, RequeueOp, UnparkResult, UnparkToken};
 use std::alloc::Global;
 use std::cell::Cell;
 use std::process::Abort;
@@ -27,12 +27,12 @@ fn is_timed(number: usize) -> bool {
 }
 
 // The node of a thread that is about to wait on the key, with its number for a park token.
-fn node(alloc: Global, number: usize, key: usize) -> Result<Box<Node>, NoMemory>
-    ensures { IfOk result (λ node. (fields node.value).key ≡ key) }
+fn node(rt: &impl Abort, alloc: Global, number: usize, key: usize) -> Box<Node>
+    ensures { (fields result.value).key ≡ key }
 {
-    let mut node = Node::new(alloc, number)?;
+    let mut node = Node::new(alloc, number).expect(rt, "memory");
     node.prepare(key, ParkToken(number), is_timed(number));
-    Ok(node)
+    node
 }
 
 // The key has the bucket's place, as a step asks of a key that it puts nodes on.
@@ -43,17 +43,10 @@ fn expect_place(rt: &impl Abort, bucket: &Bucket, key: usize)
 }
 
 /// Enters the thread on the key.
-pub fn enter(
-    rt: &impl Abort,
-    alloc: Global,
-    bucket: &mut Bucket,
-    number: usize,
-    key: usize,
-) -> Result<(), NoMemory> {
-    let node = node(alloc, number, key)?;
+pub fn enter(rt: &impl Abort, alloc: Global, bucket: &mut Bucket, number: usize, key: usize) {
+    let node = node(rt, alloc, number, key);
     expect_place(rt, bucket, key);
     assert!(rt; bucket.enter(node, || true).is_ok());
-    Ok(())
 }
 
 /// Enters the thread on the key with a `validate` that answers false, and tells what comes back.
@@ -63,10 +56,10 @@ pub fn refused(
     bucket: &mut Bucket,
     number: usize,
     key: usize,
-) -> Result<Box<Node>, NoMemory> {
-    let node = node(alloc, number, key)?;
+) -> Box<Node> {
+    let node = node(rt, alloc, number, key);
     expect_place(rt, bucket, key);
-    Ok(bucket.enter(node, || false).expect_err(rt, "the node"))
+    bucket.enter(node, || false).expect_err(rt, "the node")
 }
 
 /// A bucket of this place of 16 with these threads, each on its key, the first in front.
@@ -75,26 +68,26 @@ pub fn bucket_of(
     alloc: Global,
     place: usize,
     waiters: &[(usize, usize)],
-) -> Result<Bucket, NoMemory> {
+) -> Bucket {
     assert!(rt; place < 16);
     let mut bucket = Bucket::new(place, 16);
     for (number, key) in waiters {
-        enter(rt, alloc, &mut bucket, *number, *key)?;
+        enter(rt, alloc, &mut bucket, *number, *key);
     }
-    Ok(bucket)
+    bucket
 }
 
 /// The numbers of the threads that wait on the key.
-pub fn list(alloc: Global, bucket: &Bucket, key: usize) -> Result<Vec<usize>, NoMemory> {
-    bucket.list(alloc, key)
+pub fn list(rt: &impl Abort, alloc: Global, bucket: &Bucket, key: usize) -> Vec<usize> {
+    bucket.list(alloc, key).expect(rt, "memory")
 }
 
 // The number and the token of each node.
-fn threads(alloc: Global, nodes: &Queue) -> Result<Vec<(usize, usize)>, NoMemory> {
-    nodes.fold(Ok(Vec::new(alloc)), |seen, node| {
-        let mut seen = seen?;
-        seen.push((node.number, node.unpark_token.0))?;
-        Ok(seen)
+fn threads(rt: &impl Abort, alloc: Global, nodes: &Queue) -> Vec<(usize, usize)> {
+    nodes.fold(Vec::new(alloc), |mut seen, node| {
+        seen.push((node.number, node.unpark_token.0))
+            .expect(rt, "memory");
+        seen
     })
 }
 
@@ -108,40 +101,43 @@ pub struct Taken {
 }
 
 pub fn take_one(
+    rt: &impl Abort,
     alloc: Global,
     bucket: &mut Bucket,
     key: usize,
     token: usize,
-) -> Result<Taken, NoMemory> {
+) -> Taken {
     let mut told = None;
     let (result, taken) = bucket.take_one(key, |handed| {
         told = Some(handed);
         UnparkToken(token)
     });
-    Ok(Taken {
+    Taken {
         result,
         told,
-        threads: threads(alloc, &taken)?,
-    })
+        threads: threads(rt, alloc, &taken),
+    }
 }
 
 pub fn take_all(
+    rt: &impl Abort,
     alloc: Global,
     bucket: &mut Bucket,
     key: usize,
     token: usize,
-) -> Result<(usize, Vec<(usize, usize)>), NoMemory> {
+) -> (usize, Vec<(usize, usize)>) {
     let (count, taken) = bucket.take_all(key, UnparkToken(token));
-    Ok((count, threads(alloc, &taken)?))
+    (count, threads(rt, alloc, &taken))
 }
 
 fn filter<F: FnMut(ParkToken) -> FilterOp>(
+    rt: &impl Abort,
     alloc: Global,
     bucket: &mut Bucket,
     key: usize,
     filter: F,
     token: usize,
-) -> Result<Taken, NoMemory>
+) -> Taken
     requires { (state : F) (park_token : _) → F.pre state park_token }
 {
     let mut told = None;
@@ -149,23 +145,23 @@ fn filter<F: FnMut(ParkToken) -> FilterOp>(
         told = Some(handed);
         UnparkToken(token)
     });
-    Ok(Taken {
+    Taken {
         result,
         told,
-        threads: threads(alloc, &taken)?,
-    })
+        threads: threads(rt, alloc, &taken),
+    }
 }
 
 // A filter: the decisions that are still to come, and the park tokens that it was asked about.
 #[derive(Drop)]
 struct Chosen<'a> {
     decisions: &'a [FilterOp],
-    asked: Result<Vec<usize>, NoMemory>,
+    asked: Vec<usize>,
 }
 
 impl Chosen<'_> {
-    fn decide(&mut self, token: ParkToken) -> FilterOp {
-        note(&mut self.asked, token.0);
+    fn decide(&mut self, rt: &impl Abort, token: ParkToken) -> FilterOp {
+        note(rt, &mut self.asked, token.0);
         let Some((decision, rest)) = self.decisions.split_first() else {
             return FilterOp::Skip;
         };
@@ -177,18 +173,20 @@ impl Chosen<'_> {
 /// A filter with these decisions, which skips all others: what it took, and the park tokens that
 /// it was asked about.
 pub fn take_chosen(
+    rt: &impl Abort,
     alloc: Global,
     bucket: &mut Bucket,
     key: usize,
     decisions: &[FilterOp],
     token: usize,
-) -> Result<(Taken, Vec<usize>), NoMemory> {
+) -> (Taken, Vec<usize>) {
     let mut chosen = Chosen {
         decisions,
-        asked: Ok(Vec::new(alloc)),
+        asked: Vec::new(alloc),
     };
-    let taken = filter(alloc, bucket, key, |token| chosen.decide(token), token)?;
-    Ok((taken, chosen.asked?))
+    let decide = |token| chosen.decide(rt, token);
+    let taken = filter(rt, alloc, bucket, key, decide, token);
+    (taken, chosen.asked)
 }
 
 /// What a requeue answered, what its callback was handed, how many calls of `moved` came before it,
@@ -234,7 +232,7 @@ impl<'a> Callback<'a> {
 #[derive(Drop)]
 struct Moved<'a> {
     moves: &'a Cell<usize>,
-    numbers: Result<Vec<usize>, NoMemory>,
+    numbers: Vec<usize>,
     told_otherwise: usize,
 }
 
@@ -242,17 +240,17 @@ impl<'a> Moved<'a> {
     fn new(alloc: Global, moves: &'a Cell<usize>) -> Moved<'a> {
         Moved {
             moves,
-            numbers: Ok(Vec::new(alloc)),
+            numbers: Vec::new(alloc),
             told_otherwise: 0,
         }
     }
 
-    fn call(&mut self, number: usize, timed: bool) {
+    fn call(&mut self, rt: &impl Abort, number: usize, timed: bool) {
         self.moves.set(self.moves.get().wrapping_add(1));
         if timed != is_timed(number) {
             self.told_otherwise = self.told_otherwise.wrapping_add(1);
         }
-        note(&mut self.numbers, number);
+        note(rt, &mut self.numbers, number);
     }
 }
 
@@ -267,7 +265,7 @@ fn requeue_one(
     expect_place(rt, bucket, from);
     expect_place(rt, bucket, to);
     let told = |op, handed| callback.call(op, handed);
-    let note_moved = &mut |number, timed| moved.call(number, timed);
+    let note_moved = &mut |number, timed| moved.call(rt, number, timed);
     bucket.requeue_one(from, to, || op, told, note_moved)
 }
 
@@ -285,24 +283,25 @@ fn requeue_two(
     assert!(rt; target.size() == bucket.size());
     assert!(rt; target.place() != bucket.place());
     let told = |op, handed| callback.call(op, handed);
-    let note_moved = &mut |number, timed| moved.call(number, timed);
+    let note_moved = &mut |number, timed| moved.call(rt, number, timed);
     bucket.requeue_two(target, from, to, || op, told, note_moved)
 }
 
 fn collect(
+    rt: &impl Abort,
     alloc: Global,
     (answered, taken): (UnparkResult, Queue),
     callback: Callback<'_>,
     moved: Moved<'_>,
-) -> Result<Done, NoMemory> {
-    Ok(Done {
+) -> Done {
+    Done {
         result: answered,
         told: callback.told,
         moved_before: callback.moved_before,
-        threads: threads(alloc, &taken)?,
-        moved: moved.numbers?,
+        threads: threads(rt, alloc, &taken),
+        moved: moved.numbers,
         told_otherwise: moved.told_otherwise,
-    })
+    }
 }
 
 /// A requeue from the first key to the second, within the bucket.
@@ -313,12 +312,12 @@ pub fn requeue_within(
     keys: (usize, usize),
     op: RequeueOp,
     token: usize,
-) -> Result<Done, NoMemory> {
+) -> Done {
     let moves = Cell::new(0usize);
     let mut callback = Callback::new(&moves, token);
     let mut moved = Moved::new(alloc, &moves);
     let answered = requeue_one(rt, bucket, keys, op, &mut callback, &mut moved);
-    collect(alloc, answered, callback, moved)
+    collect(rt, alloc, answered, callback, moved)
 }
 
 /// A requeue from the first key to the second, which stands in the target.
@@ -330,23 +329,17 @@ pub fn requeue_beyond(
     keys: (usize, usize),
     op: RequeueOp,
     token: usize,
-) -> Result<Done, NoMemory> {
+) -> Done {
     let moves = Cell::new(0usize);
     let mut callback = Callback::new(&moves, token);
     let mut moved = Moved::new(alloc, &moves);
     let answered = requeue_two(rt, bucket, target, keys, op, &mut callback, &mut moved);
-    collect(alloc, answered, callback, moved)
+    collect(rt, alloc, answered, callback, moved)
 }
 
-// Puts the number behind the others.
-fn note(numbers: &mut Result<Vec<usize>, NoMemory>, number: usize) {
-    let noted = match numbers {
-        Ok(numbers) => numbers.push(number).is_ok(),
-        Err(NoMemory) => false,
-    };
-    if !noted {
-        *numbers = Err(NoMemory);
-    }
+/// Puts the number behind the others.
+pub fn note(rt: &impl Abort, numbers: &mut Vec<usize>, number: usize) {
+    numbers.push(number).expect(rt, "memory");
 }
 
 /// The number of the node that was removed, what `timed_out` answered, and what it was handed.

@@ -5,15 +5,14 @@
 ghost use Rattle.std.specs.Prelude.{◌<◌};
 
 use crate::bucket::steps::{
-    Done, Taken, answer, enter, list, requeue_beyond, requeue_within, take_all, take_chosen,
+    Done, Taken, answer, enter, list, note, requeue_beyond, requeue_within, take_all, take_chosen,
     take_one,
 };
 use crate::expect_equal;
 use lot_base::bucket::Bucket;
-use lot_base::token::{FilterOp, NoMemory, RequeueOp, UnparkResult};
+use lot_base::token::{FilterOp, RequeueOp, UnparkResult};
 use std::alloc::Global;
 use std::process::Abort;
-use std::test::Fail;
 
 // Of a table of 16, the first two have place 0 and the last has place 5.
 const KEYS: [usize; 3] = [0, 13, 7];
@@ -54,16 +53,17 @@ impl Code {
     }
 
     // The kinds as decisions.
-    fn decisions(mut self, alloc: Global) -> Result<Vec<FilterOp>, NoMemory> {
+    fn decisions(mut self, rt: &impl Abort, alloc: Global) -> Vec<FilterOp> {
         let mut decisions = Vec::new(alloc);
         for _ in 0..self.length {
-            decisions.push(match self.next() {
+            let decision = match self.next() {
                 0 => FilterOp::Unpark,
                 1 => FilterOp::Stop,
                 _ => FilterOp::Skip,
-            })?;
+            };
+            decisions.push(decision).expect(rt, "memory");
         }
-        Ok(decisions)
+        decisions
     }
 }
 
@@ -103,7 +103,7 @@ impl Table {
 }
 
 // Puts the threads 0, 1, .. in this order on the keys of the code.
-fn fill(rt: &impl Abort, alloc: Global, filling: Code) -> Result<Table, NoMemory> {
+fn fill(rt: &impl Abort, alloc: Global, filling: Code) -> Table {
     let mut table = Table {
         of_place_0: Bucket::new(0, 16),
         of_place_5: Bucket::new(5, 16),
@@ -116,19 +116,18 @@ fn fill(rt: &impl Abort, alloc: Global, filling: Code) -> Result<Table, NoMemory
     let mut keys = filling;
     for number in 0..filling.length {
         let key = KEYS[keys.next()];
-        enter(rt, alloc, table.bucket(key), number, key)?;
-        table.waiting.on(key).push(number)?;
+        enter(rt, alloc, table.bucket(key), number, key);
+        note(rt, table.waiting.on(key), number);
     }
-    Ok(table)
+    table
 }
 
 // Compares the lists of all keys.
-fn compare_lists(rt: &impl Abort, alloc: Global, table: &mut Table) -> Result<(), NoMemory> {
+fn compare_lists(rt: &impl Abort, alloc: Global, table: &mut Table) {
     for key in KEYS {
-        let found = list(alloc, table.bucket(key), key)?;
+        let found = list(rt, alloc, table.bucket(key), key);
         expect_equal(rt, found.as_slice(), table.waiting.on(key).as_slice());
     }
-    Ok(())
 }
 
 // Compares the threads that were taken, each with the token.
@@ -162,7 +161,7 @@ impl Parts {
 }
 
 // Which part of a requeue a waiter belongs to depends on whether it is the first.
-fn parts_of_requeue(alloc: Global, op: RequeueOp, waiters: &[usize]) -> Result<Parts, NoMemory> {
+fn parts_of_requeue(rt: &impl Abort, alloc: Global, op: RequeueOp, waiters: &[usize]) -> Parts {
     let mut parts = Parts::new(alloc);
     for (index, number) in waiters.iter().enumerate() {
         let part = match (op, index) {
@@ -171,9 +170,9 @@ fn parts_of_requeue(alloc: Global, op: RequeueOp, waiters: &[usize]) -> Result<P
             (RequeueOp::UnparkOneRequeueRest | RequeueOp::RequeueAll, _) => &mut parts.moved,
             (RequeueOp::UnparkOne | RequeueOp::RequeueOne | RequeueOp::Abort, _) => &mut parts.left,
         };
-        part.push(*number)?;
+        note(rt, part, *number);
     }
-    Ok(parts)
+    parts
 }
 
 // What a requeue answers and hands to its callback.
@@ -188,16 +187,11 @@ fn answers_of_requeue(
 }
 
 // Leaves on the first key what is left, and then puts those that moved last on the second.
-fn move_parts(
-    waiting: &mut Waiting,
-    (from, to): (usize, usize),
-    parts: Parts,
-) -> Result<(), NoMemory> {
+fn move_parts(rt: &impl Abort, waiting: &mut Waiting, (from, to): (usize, usize), parts: Parts) {
     *waiting.on(from) = parts.left;
     for number in &parts.moved {
-        waiting.on(to).push(*number)?;
+        note(rt, waiting.on(to), *number);
     }
-    Ok(())
 }
 
 // A requeue from the first key to the second, wherever they stand.
@@ -207,7 +201,7 @@ fn requeue_in(
     table: &mut Table,
     keys: (usize, usize),
     op: RequeueOp,
-) -> Result<Done, NoMemory> {
+) -> Done {
     let low = &mut table.of_place_0;
     let high = &mut table.of_place_5;
     match keys {
@@ -231,62 +225,51 @@ fn check_requeue(
     filling: Code,
     keys: (usize, usize),
     op: RequeueOp,
-) -> Result<(), NoMemory> {
-    let mut table = fill(rt, alloc, filling)?;
-    let done = requeue_in(rt, alloc, &mut table, keys, op)?;
-    let parts = parts_of_requeue(alloc, op, table.waiting.on(keys.0).as_slice())?;
+) {
+    let mut table = fill(rt, alloc, filling);
+    let done = requeue_in(rt, alloc, &mut table, keys, op);
+    let parts = parts_of_requeue(rt, alloc, op, table.waiting.on(keys.0).as_slice());
     compare_done(rt, &done, op, &parts);
-    move_parts(&mut table.waiting, keys, parts)?;
-    compare_lists(rt, alloc, &mut table)
+    move_parts(rt, &mut table.waiting, keys, parts);
+    compare_lists(rt, alloc, &mut table);
 }
 
 // Every pair of keys and every operation: it tells how many cases there were.
-fn check_requeues(rt: &impl Abort, alloc: Global, filling: Code) -> Result<usize, NoMemory> {
+fn check_requeues(rt: &impl Abort, alloc: Global, filling: Code) -> usize {
     let mut cases = 0usize;
     for from in KEYS {
         for to in KEYS {
             for op in OPS {
-                check_requeue(rt, alloc, filling, (from, to), op)?;
+                check_requeue(rt, alloc, filling, (from, to), op);
                 cases = cases.wrapping_add(1);
             }
         }
     }
-    Ok(cases)
-}
-
-#[test]
-fn requeues_are_those_of_plain_lists(rt: HostRuntime) -> Result<(), Fail> {
-    let mut cases = 0usize;
-    for (length, count) in LISTS {
-        for digits in 0..count {
-            let filling = Code { length, digits };
-            cases = cases.wrapping_add(check_requeues(&rt, rt.alloc(), filling)?);
-        }
-    }
-    expect_equal(&rt, cases, 121 * 9 * 5);
-    Ok(())
+    cases
 }
 
 // A filter decides on the waiters in order. From its first stop on, all are left.
 fn parts_of_filter(
+    rt: &impl Abort,
     alloc: Global,
     decisions: &[FilterOp],
     waiters: &[usize],
-) -> Result<(Parts, Vec<usize>), NoMemory> {
+) -> (Parts, Vec<usize>) {
     let mut parts = Parts::new(alloc);
     let mut asked = Vec::new(alloc);
     let mut last = FilterOp::Skip;
     for (index, number) in waiters.iter().enumerate() {
         if last != FilterOp::Stop {
-            asked.push(*number)?;
+            note(rt, &mut asked, *number);
             last = decisions.get(index).copied().unwrap_or(FilterOp::Skip);
         }
-        match last {
-            FilterOp::Unpark => parts.taken.push(*number)?,
-            FilterOp::Skip | FilterOp::Stop => parts.left.push(*number)?,
-        }
+        let part = match last {
+            FilterOp::Unpark => &mut parts.taken,
+            FilterOp::Skip | FilterOp::Stop => &mut parts.left,
+        };
+        note(rt, part, *number);
     }
-    Ok((parts, asked))
+    (parts, asked)
 }
 
 // Compares what was taken of a key with the parts, and leaves on the key what is left.
@@ -297,7 +280,7 @@ fn compare(
     key: usize,
     taken: Taken,
     parts: Parts,
-) -> Result<(), NoMemory> {
+) {
     expect_equal(
         rt,
         (taken.result, taken.told),
@@ -305,92 +288,85 @@ fn compare(
     );
     compare_taken(rt, taken.threads.as_slice(), parts.taken.as_slice());
     *table.waiting.on(key) = parts.left;
-    compare_lists(rt, alloc, table)
+    compare_lists(rt, alloc, table);
 }
 
-fn check_filter(
-    rt: &impl Abort,
-    alloc: Global,
-    filling: Code,
-    key: usize,
-    decisions: &[FilterOp],
-) -> Result<(), NoMemory> {
-    let mut table = fill(rt, alloc, filling)?;
-    let (taken, asked) = take_chosen(alloc, table.bucket(key), key, decisions, TOKEN)?;
-    let (parts, expected) = parts_of_filter(alloc, decisions, table.waiting.on(key).as_slice())?;
+fn check_filter(rt: &impl Abort, alloc: Global, filling: Code, key: usize, decisions: &[FilterOp]) {
+    let mut table = fill(rt, alloc, filling);
+    let (taken, asked) = take_chosen(rt, alloc, table.bucket(key), key, decisions, TOKEN);
+    let waiters = table.waiting.on(key).as_slice();
+    let (parts, expected) = parts_of_filter(rt, alloc, decisions, waiters);
     expect_equal(rt, asked.as_slice(), expected.as_slice());
-    compare(rt, alloc, &mut table, key, taken, parts)
+    compare(rt, alloc, &mut table, key, taken, parts);
 }
 
 // Every key and every list of up to three decisions: it tells how many cases there were.
-fn check_filters(rt: &impl Abort, alloc: Global, filling: Code) -> Result<usize, NoMemory> {
+fn check_filters(rt: &impl Abort, alloc: Global, filling: Code) -> usize {
     let mut cases = 0usize;
     for key in KEYS {
         for (length, count) in [(0, 1), (1, 3), (2, 9), (3, 27)] {
             for digits in 0..count {
-                let decisions = Code { length, digits }.decisions(alloc)?;
-                check_filter(rt, alloc, filling, key, decisions.as_slice())?;
+                let decisions = Code { length, digits }.decisions(rt, alloc);
+                check_filter(rt, alloc, filling, key, decisions.as_slice());
                 cases = cases.wrapping_add(1);
             }
         }
     }
-    Ok(cases)
-}
-
-#[test]
-fn filters_are_those_of_plain_lists(rt: HostRuntime) -> Result<(), Fail> {
-    let mut cases = 0usize;
-    for (length, count) in LISTS {
-        for digits in 0..count {
-            let filling = Code { length, digits };
-            cases = cases.wrapping_add(check_filters(&rt, rt.alloc(), filling)?);
-        }
-    }
-    expect_equal(&rt, cases, 121 * 3 * 40);
-    Ok(())
+    cases
 }
 
 // The first of the waiters is taken, the others are left.
-fn parts_of_one(alloc: Global, waiters: &[usize]) -> Result<Parts, NoMemory> {
+fn parts_of_one(rt: &impl Abort, alloc: Global, waiters: &[usize]) -> Parts {
     let mut parts = Parts::new(alloc);
     for (index, number) in waiters.iter().enumerate() {
-        match index {
-            0 => parts.taken.push(*number)?,
-            _ => parts.left.push(*number)?,
-        }
+        let part = match index {
+            0 => &mut parts.taken,
+            _ => &mut parts.left,
+        };
+        note(rt, part, *number);
     }
-    Ok(parts)
+    parts
 }
 
-fn check_one(rt: &impl Abort, alloc: Global, filling: Code, key: usize) -> Result<(), NoMemory> {
-    let mut table = fill(rt, alloc, filling)?;
-    let taken = take_one(alloc, table.bucket(key), key, TOKEN)?;
-    let parts = parts_of_one(alloc, table.waiting.on(key).as_slice())?;
-    compare(rt, alloc, &mut table, key, taken, parts)
+fn check_one(rt: &impl Abort, alloc: Global, filling: Code, key: usize) {
+    let mut table = fill(rt, alloc, filling);
+    let taken = take_one(rt, alloc, table.bucket(key), key, TOKEN);
+    let parts = parts_of_one(rt, alloc, table.waiting.on(key).as_slice());
+    compare(rt, alloc, &mut table, key, taken, parts);
 }
 
-fn check_all(rt: &impl Abort, alloc: Global, filling: Code, key: usize) -> Result<(), NoMemory> {
-    let mut table = fill(rt, alloc, filling)?;
-    let (count, threads) = take_all(alloc, table.bucket(key), key, TOKEN)?;
+fn check_all(rt: &impl Abort, alloc: Global, filling: Code, key: usize) {
+    let mut table = fill(rt, alloc, filling);
+    let (count, threads) = take_all(rt, alloc, table.bucket(key), key, TOKEN);
     let expected = std::mem::replace(table.waiting.on(key), Vec::new(alloc));
     expect_equal(rt, count, expected.len());
     compare_taken(rt, threads.as_slice(), expected.as_slice());
-    compare_lists(rt, alloc, &mut table)
+    compare_lists(rt, alloc, &mut table);
+}
+
+// Every key: it tells how many cases there were.
+fn check_takes(rt: &impl Abort, alloc: Global, filling: Code) -> usize {
+    let mut cases = 0usize;
+    for key in KEYS {
+        check_one(rt, alloc, filling, key);
+        check_all(rt, alloc, filling, key);
+        cases = cases.wrapping_add(2);
+    }
+    cases
 }
 
 #[test]
-fn takes_of_one_and_of_all_are_those_of_plain_lists(rt: HostRuntime) -> Result<(), Fail> {
-    let mut cases = 0usize;
+fn takes_filters_and_requeues_are_those_of_plain_lists(rt: HostRuntime) {
+    let (mut takes, mut filters, mut requeues) = (0usize, 0usize, 0usize);
     for (length, count) in LISTS {
         for digits in 0..count {
-            for key in KEYS {
-                let filling = Code { length, digits };
-                check_one(&rt, rt.alloc(), filling, key)?;
-                check_all(&rt, rt.alloc(), filling, key)?;
-                cases = cases.wrapping_add(2);
-            }
+            let filling = Code { length, digits };
+            takes = takes.wrapping_add(check_takes(&rt, rt.alloc(), filling));
+            filters = filters.wrapping_add(check_filters(&rt, rt.alloc(), filling));
+            requeues = requeues.wrapping_add(check_requeues(&rt, rt.alloc(), filling));
         }
     }
-    expect_equal(&rt, cases, 121 * 3 * 2);
-    Ok(())
+    expect_equal(&rt, takes, 121 * 3 * 2);
+    expect_equal(&rt, filters, 121 * 3 * 40);
+    expect_equal(&rt, requeues, 121 * 9 * 5);
 }
