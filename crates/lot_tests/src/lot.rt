@@ -3,8 +3,7 @@
 use crate::bare::{BareLot, TOKEN};
 use crate::expect_equal;
 use lot_base::token::{
-    FilterOp, LotError, Misfit, NoMemory, ParkResult, RequeueOp, StepError, UnparkResult,
-    UnparkToken,
+    FilterOp, LotError, Misfit, ParkResult, RequeueOp, StepError, UnparkResult, UnparkToken,
 };
 use lot_exclusive::lot::Status;
 use std::alloc::Global;
@@ -27,13 +26,21 @@ fn requeued(requeued_threads: usize) -> UnparkResult {
     }
 }
 
+pub fn new_lot(rt: &impl Abort, alloc: Global, max_threads: usize) -> BareLot {
+    BareLot::new(alloc, max_threads).expect(rt, "memory")
+}
+
+pub fn register(rt: &impl Abort, lot: &mut BareLot) -> usize {
+    lot.register().expect(rt, "a number and memory")
+}
+
 // A lot for six threads, the first `count` of which are registered.
-fn lot_with(alloc: Global, count: usize) -> Result<BareLot, LotError> {
-    let mut lot = BareLot::new(alloc, 6)?;
+fn lot_with(rt: &impl Abort, alloc: Global, count: usize) -> BareLot {
+    let mut lot = new_lot(rt, alloc, 6);
     for _ in 0..count {
-        lot.register()?;
+        register(rt, &mut lot);
     }
-    Ok(lot)
+    lot
 }
 
 fn enter(rt: &impl Abort, lot: &mut BareLot, waiter: (usize, usize), timed: bool) {
@@ -48,24 +55,24 @@ fn lot_where(
     count: usize,
     waiters: &[(usize, usize)],
     timed: bool,
-) -> Result<BareLot, LotError> {
-    let mut lot = lot_with(alloc, count)?;
+) -> BareLot {
+    let mut lot = lot_with(rt, alloc, count);
     for waiter in waiters {
         enter(rt, &mut lot, *waiter, timed);
     }
-    Ok(lot)
+    lot
 }
 
 // Compares the list of each of these keys.
-fn expect_lists(
-    rt: &impl Abort,
-    lot: &BareLot,
-    rows: &[(usize, &[usize])],
-) -> Result<(), NoMemory> {
+fn expect_lists(rt: &impl Abort, lot: &BareLot, rows: &[(usize, &[usize])]) {
     for (key, numbers) in rows {
-        expect_equal(rt, (key, lot.list(*key)?.as_slice()), (key, *numbers));
+        expect_list(rt, lot, *key, numbers);
     }
-    Ok(())
+}
+
+pub fn expect_list(rt: &impl Abort, lot: &BareLot, key: usize, numbers: &[usize]) {
+    let found = lot.list(key).expect(rt, "memory");
+    expect_equal(rt, (key, found.as_slice()), (key, numbers));
 }
 
 fn expect_status(rt: &impl Abort, lot: &BareLot, number: usize, expected: Status) {
@@ -95,23 +102,22 @@ fn expect_timed_out(rt: &impl Abort, lot: &mut BareLot, number: usize, told: (us
 
 // It refuses a `new` or a `register` that answers `NoMemory` at each call.
 #[test]
-fn six_threads_register_by_number_and_the_seventh_is_refused(rt: HostRuntime) -> Result<(), Fail> {
-    let mut lot = BareLot::new(rt.alloc(), 6)?;
+fn six_threads_register_by_number_and_the_seventh_is_refused(rt: HostRuntime) {
+    let mut lot = new_lot(&rt, rt.alloc(), 6);
     expect_counts(&rt, &lot, (0, 16));
     for (number, size) in [16, 16, 16, 16, 16, 32].iter().enumerate() {
-        expect_equal(&rt, lot.register()?, number);
+        expect_equal(&rt, register(&rt, &mut lot), number);
         expect_status(&rt, &lot, number, Status::Running);
         expect_counts(&rt, &lot, (number.wrapping_add(1), *size));
     }
     expect_equal(&rt, lot.register(), Err(LotError::Full));
     expect_counts(&rt, &lot, (6, 32));
     expect_status(&rt, &lot, 6, Status::Free);
-    Ok(())
 }
 
 #[test]
-fn a_retired_number_is_given_again(rt: HostRuntime) -> Result<(), Fail> {
-    let mut lot = lot_with(rt.alloc(), 3)?;
+fn a_retired_number_is_given_again(rt: HostRuntime) {
+    let mut lot = lot_with(&rt, rt.alloc(), 3);
     expect_equal(&rt, lot.retire(1), Ok(()));
     expect_status(&rt, &lot, 1, Status::Free);
     expect_equal(&rt, lot.retire(1), Err(Misfit));
@@ -119,7 +125,6 @@ fn a_retired_number_is_given_again(rt: HostRuntime) -> Result<(), Fail> {
     expect_equal(&rt, lot.register(), Ok(1));
     enter(&rt, &mut lot, (1, 7), false);
     expect_equal(&rt, lot.retire(1), Err(Misfit));
-    Ok(())
 }
 
 // It refuses a `new` that answers `NoMemory` for 16,384 threads.
@@ -132,33 +137,31 @@ fn a_lot_is_for_at_most_16384_threads(rt: HostRuntime) -> Result<(), Fail> {
 }
 
 #[test]
-fn a_lot_for_nobody_is_full(rt: HostRuntime) -> Result<(), Fail> {
-    let mut lot = BareLot::new(rt.alloc(), 0)?;
+fn a_lot_for_nobody_is_full(rt: HostRuntime) {
+    let mut lot = new_lot(&rt, rt.alloc(), 0);
     expect_equal(&rt, lot.register(), Err(LotError::Full));
     expect_equal(&rt, lot.unpark_one(7), UnparkResult::default());
     expect_equal(&rt, lot.unpark_all(7, TOKEN), 0);
-    Ok(())
 }
 
 // Five have registered and the sixth makes the table grow: 0 and 13 have the same place of 16, and
 // not of 32.
 #[test]
-fn growth_keeps_the_waiters_of_each_key(rt: HostRuntime) -> Result<(), Fail> {
+fn growth_keeps_the_waiters_of_each_key(rt: HostRuntime) {
     let waiters = [(0, 0), (1, 13), (2, 0)];
-    let mut lot = lot_where(&rt, rt.alloc(), 5, &waiters, false)?;
+    let mut lot = lot_where(&rt, rt.alloc(), 5, &waiters, false);
     expect_equal(&rt, lot.register(), Ok(5));
     expect_equal(&rt, lot.size(), 32);
     let lists = [(0, [0, 2].as_slice()), (13, [1].as_slice())];
-    expect_lists(&rt, &lot, &lists)?;
-    Ok(())
+    expect_lists(&rt, &lot, &lists);
 }
 
 // Five of six are left, for whom 16 buckets are enough: there 0 and 13 have the same place. It
 // refuses a `trim` that answers `NoMemory` at each call.
 #[test]
-fn a_trim_keeps_the_waiters_of_each_key(rt: HostRuntime) -> Result<(), Fail> {
+fn a_trim_keeps_the_waiters_of_each_key(rt: HostRuntime) {
     let waiters = [(0, 0), (1, 13), (2, 0)];
-    let mut lot = lot_where(&rt, rt.alloc(), 6, &waiters, false)?;
+    let mut lot = lot_where(&rt, rt.alloc(), 6, &waiters, false);
     expect_equal(&rt, lot.trim(), Ok(()));
     expect_counts(&rt, &lot, (6, 32));
     expect_equal(&rt, lot.retire(5), Ok(()));
@@ -167,38 +170,35 @@ fn a_trim_keeps_the_waiters_of_each_key(rt: HostRuntime) -> Result<(), Fail> {
     for _ in 0..2 {
         expect_equal(&rt, lot.trim(), Ok(()));
         expect_counts(&rt, &lot, (5, 16));
-        expect_lists(&rt, &lot, &lists)?;
+        expect_lists(&rt, &lot, &lists);
     }
     expect_equal(&rt, lot.register(), Ok(5));
     expect_counts(&rt, &lot, (6, 32));
-    expect_lists(&rt, &lot, &lists)?;
-    Ok(())
+    expect_lists(&rt, &lot, &lists);
 }
 
 #[test]
-fn all_waiters_of_a_key_get_the_token(rt: HostRuntime) -> Result<(), Fail> {
+fn all_waiters_of_a_key_get_the_token(rt: HostRuntime) {
     let waiters = [(0, 0), (1, 13), (2, 0)];
-    let mut lot = lot_where(&rt, rt.alloc(), 3, &waiters, false)?;
+    let mut lot = lot_where(&rt, rt.alloc(), 3, &waiters, false);
     let token = UnparkToken(usize::MAX);
     expect_equal(&rt, lot.unpark_all(0, token), 2);
     for number in [0, 2] {
         expect_equal(&rt, lot.give_back(number), Ok(token));
     }
     let lists = [(0, [].as_slice()), (13, [1].as_slice())];
-    expect_lists(&rt, &lot, &lists)?;
+    expect_lists(&rt, &lot, &lists);
     expect_equal(&rt, lot.unpark_all(0, token), 0);
-    Ok(())
 }
 
 #[test]
-fn an_untimed_waiter_has_no_deadline(rt: HostRuntime) -> Result<(), Fail> {
-    let mut lot = lot_where(&rt, rt.alloc(), 2, &[(0, 1)], false)?;
+fn an_untimed_waiter_has_no_deadline(rt: HostRuntime) {
+    let mut lot = lot_where(&rt, rt.alloc(), 2, &[(0, 1)], false);
     for number in 0..2 {
         expect_equal(&rt, lot.deadline(number), Err(Misfit));
     }
     expect_equal(&rt, lot.retire(0), Err(Misfit));
     expect_status(&rt, &lot, 0, Status::Waiting { timed: false });
-    Ok(())
 }
 
 // Unparks one where these threads wait, and compares whether one is left, who was taken, and the
@@ -210,42 +210,39 @@ fn expect_unpark_one(
     (key, more): (usize, bool),
     taken: usize,
     lists: &[(usize, &[usize])],
-) -> Result<BareLot, LotError> {
-    let mut lot = lot_where(rt, alloc, 3, waiters, false)?;
+) -> BareLot {
+    let mut lot = lot_where(rt, alloc, 3, waiters, false);
     let result = lot.unpark_one(key);
     expect_equal(rt, result, unparked(1, more));
     expect_status(rt, &lot, taken, Status::Taken(TOKEN));
-    expect_lists(rt, &lot, lists)?;
-    Ok(lot)
+    expect_lists(rt, &lot, lists);
+    lot
 }
 
 #[test]
-fn a_parked_thread_gets_the_token_of_its_unpark(rt: HostRuntime) -> Result<(), Fail> {
-    let waiting = lot_where(&rt, rt.alloc(), 1, &[(0, 7)], false)?;
+fn a_parked_thread_gets_the_token_of_its_unpark(rt: HostRuntime) {
+    let waiting = lot_where(&rt, rt.alloc(), 1, &[(0, 7)], false);
     expect_status(&rt, &waiting, 0, Status::Waiting { timed: false });
     let lists = [(7, [].as_slice())];
-    let mut lot = expect_unpark_one(&rt, rt.alloc(), &[(0, 7)], (7, false), 0, &lists)?;
+    let mut lot = expect_unpark_one(&rt, rt.alloc(), &[(0, 7)], (7, false), 0, &lists);
     expect_equal(&rt, lot.give_back(0), Ok(TOKEN));
     expect_status(&rt, &lot, 0, Status::Running);
-    Ok(())
 }
 
 #[test]
-fn a_bucket_that_is_not_empty_may_have_no_waiter_of_the_key(rt: HostRuntime) -> Result<(), Fail> {
+fn a_bucket_that_is_not_empty_may_have_no_waiter_of_the_key(rt: HostRuntime) {
     let lists = [(0, [].as_slice()), (13, [1].as_slice())];
-    expect_unpark_one(&rt, rt.alloc(), &[(0, 0), (1, 13)], (0, false), 0, &lists)?;
-    Ok(())
+    expect_unpark_one(&rt, rt.alloc(), &[(0, 0), (1, 13)], (0, false), 0, &lists);
 }
 
 // It refuses a `list` that answers `NoMemory` where anybody waits.
 #[test]
-fn waiters_of_a_key_are_taken_in_order(rt: HostRuntime) -> Result<(), Fail> {
+fn waiters_of_a_key_are_taken_in_order(rt: HostRuntime) {
     let waiters = [(2, 7), (0, 7), (1, 7)];
-    let waiting = lot_where(&rt, rt.alloc(), 3, &waiters, false)?;
-    expect_lists(&rt, &waiting, &[(7, [2, 0, 1].as_slice())])?;
+    let waiting = lot_where(&rt, rt.alloc(), 3, &waiters, false);
+    expect_list(&rt, &waiting, 7, &[2, 0, 1]);
     let lists = [(7, [0, 1].as_slice())];
-    expect_unpark_one(&rt, rt.alloc(), &waiters, (7, true), 2, &lists)?;
-    Ok(())
+    expect_unpark_one(&rt, rt.alloc(), &waiters, (7, true), 2, &lists);
 }
 
 // Three wait on the key 1. Unparks by a filter that counts its calls and gives these decisions, and
@@ -257,97 +254,87 @@ fn expect_filter(
     calls: usize,
     answer: UnparkResult,
     left: &[usize],
-) -> Result<BareLot, LotError> {
+) -> BareLot {
     let waiters = [(0, 1), (1, 1), (2, 1)];
-    let mut lot = lot_where(rt, alloc, 3, &waiters, false)?;
+    let mut lot = lot_where(rt, alloc, 3, &waiters, false);
     let answered = lot.unpark_filter(key, decisions);
     expect_equal(rt, answered, (answer, Some(answer), calls));
-    expect_lists(rt, &lot, &[(1, left)])?;
-    Ok(lot)
+    expect_list(rt, &lot, 1, left);
+    lot
 }
 
 #[test]
-fn a_filter_takes_the_second_of_three_and_stops_at_the_last(rt: HostRuntime) -> Result<(), Fail> {
+fn a_filter_takes_the_second_of_three_and_stops_at_the_last(rt: HostRuntime) {
     let filter = [FilterOp::Skip, FilterOp::Unpark, FilterOp::Stop];
     let asked = (1, filter.as_slice());
-    let lot = expect_filter(&rt, rt.alloc(), asked, 3, unparked(1, true), &[0, 2])?;
+    let lot = expect_filter(&rt, rt.alloc(), asked, 3, unparked(1, true), &[0, 2]);
     expect_status(&rt, &lot, 1, Status::Taken(TOKEN));
-    Ok(())
 }
 
 #[test]
-fn a_filter_is_not_asked_again_after_stop(rt: HostRuntime) -> Result<(), Fail> {
+fn a_filter_is_not_asked_again_after_stop(rt: HostRuntime) {
     let filter = [FilterOp::Stop];
     let asked = (1, filter.as_slice());
-    expect_filter(&rt, rt.alloc(), asked, 1, unparked(0, true), &[0, 1, 2])?;
-    Ok(())
+    expect_filter(&rt, rt.alloc(), asked, 1, unparked(0, true), &[0, 1, 2]);
 }
 
 // A filter that counts its calls, and unparks the first that it sees.
 #[test]
-fn a_filter_that_counts_is_called_up_to_its_stop_and_not_for_nobody(
-    rt: HostRuntime,
-) -> Result<(), Fail> {
+fn a_filter_that_counts_is_called_up_to_its_stop_and_not_for_nobody(rt: HostRuntime) {
     let filter = [FilterOp::Unpark, FilterOp::Stop];
     for (key, calls, answer, left) in [
         (1, 2, unparked(1, true), [1, 2].as_slice()),
         (2, 0, unparked(0, false), [0, 1, 2].as_slice()),
     ] {
         let asked = (key, filter.as_slice());
-        expect_filter(&rt, rt.alloc(), asked, calls, answer, left)?;
+        expect_filter(&rt, rt.alloc(), asked, calls, answer, left);
     }
-    Ok(())
 }
 
 #[test]
-fn a_late_thread_times_out_and_is_not_unparked_then(rt: HostRuntime) -> Result<(), Fail> {
-    let mut lot = lot_where(&rt, rt.alloc(), 1, &[(0, 1)], true)?;
+fn a_late_thread_times_out_and_is_not_unparked_then(rt: HostRuntime) {
+    let mut lot = lot_where(&rt, rt.alloc(), 1, &[(0, 1)], true);
     expect_equal(&rt, lot.resolve(0), (Err(Misfit), None));
     expect_timed_out(&rt, &mut lot, 0, (1, true));
     expect_status(&rt, &lot, 0, Status::Running);
     expect_equal(&rt, lot.unpark_all(1, TOKEN), 0);
-    Ok(())
 }
 
 #[test]
-fn a_late_thread_that_was_unparked_gets_the_token(rt: HostRuntime) -> Result<(), Fail> {
-    let mut lot = lot_where(&rt, rt.alloc(), 1, &[(0, 1)], true)?;
+fn a_late_thread_that_was_unparked_gets_the_token(rt: HostRuntime) {
+    let mut lot = lot_where(&rt, rt.alloc(), 1, &[(0, 1)], true);
     expect_equal(&rt, lot.deadline(0), Ok(()));
     expect_equal(&rt, lot.unpark_one(1), unparked(1, false));
     for expected in [(Ok(ParkResult::Unparked(TOKEN)), None), (Err(Misfit), None)] {
         expect_equal(&rt, lot.resolve(0), expected);
     }
-    Ok(())
 }
 
 #[test]
-fn a_thread_that_times_out_leaves_the_others_of_its_key(rt: HostRuntime) -> Result<(), Fail> {
-    let mut lot = lot_where(&rt, rt.alloc(), 2, &[(0, 1), (1, 1)], true)?;
+fn a_thread_that_times_out_leaves_the_others_of_its_key(rt: HostRuntime) {
+    let mut lot = lot_where(&rt, rt.alloc(), 2, &[(0, 1), (1, 1)], true);
     expect_timed_out(&rt, &mut lot, 0, (1, false));
-    expect_lists(&rt, &lot, &[(1, [1].as_slice())])?;
-    Ok(())
+    expect_list(&rt, &lot, 1, &[1]);
 }
 
 #[test]
-fn an_entry_that_is_not_valid_changes_nothing(rt: HostRuntime) -> Result<(), Fail> {
-    let mut lot = lot_with(rt.alloc(), 1)?;
+fn an_entry_that_is_not_valid_changes_nothing(rt: HostRuntime) {
+    let mut lot = lot_with(&rt, rt.alloc(), 1);
     expect_equal(&rt, lot.enter((0, 7), false, true), (Ok(false), true));
     expect_status(&rt, &lot, 0, Status::Running);
-    expect_lists(&rt, &lot, &[(7, [].as_slice())])?;
-    Ok(())
+    expect_list(&rt, &lot, 7, &[]);
 }
 
 #[test]
-fn a_step_that_does_not_fit_calls_no_closure(rt: HostRuntime) -> Result<(), Fail> {
-    let mut lot = lot_with(rt.alloc(), 1)?;
+fn a_step_that_does_not_fit_calls_no_closure(rt: HostRuntime) {
+    let mut lot = lot_with(&rt, rt.alloc(), 1);
     for number in 0..2 {
         expect_equal(&rt, lot.give_back(number), Err(Misfit));
     }
     enter(&rt, &mut lot, (0, 7), false);
     let entered = lot.enter((0, 7), true, false);
     expect_equal(&rt, entered, (Err(Misfit), false));
-    expect_lists(&rt, &lot, &[(7, [0].as_slice())])?;
-    Ok(())
+    expect_list(&rt, &lot, 7, &[0]);
 }
 
 // It ends well whichever one of its requests for memory is refused, as `rt try --test --fail-alloc
@@ -371,7 +358,7 @@ fn a_refused_request_for_memory_changes_nothing(rt: HostRuntime) {
 
 // The keys 1 and 2 have places of their own in a table of 16.
 #[test]
-fn a_requeue_calls_back_with_its_answer_unless_it_aborts(rt: HostRuntime) -> Result<(), Fail> {
+fn a_requeue_calls_back_with_its_answer_unless_it_aborts(rt: HostRuntime) {
     let nobody = requeued(0);
     let both = requeued(2);
     let all = RequeueOp::RequeueAll;
@@ -382,61 +369,57 @@ fn a_requeue_calls_back_with_its_answer_unless_it_aborts(rt: HostRuntime) -> Res
         (1, all, (both, Some((all, both))), none, two),
     ] {
         let waiters = [(0, key), (1, key)];
-        let mut lot = lot_where(&rt, rt.alloc(), 2, &waiters, false)?;
+        let mut lot = lot_where(&rt, rt.alloc(), 2, &waiters, false);
         expect_equal(&rt, (op, lot.requeue(op)), (op, expected));
-        expect_lists(&rt, &lot, &[(1, on_1), (2, on_2)])?;
+        expect_lists(&rt, &lot, &[(1, on_1), (2, on_2)]);
     }
-    Ok(())
 }
 
 #[test]
-fn a_requeued_thread_times_out_on_its_new_key(rt: HostRuntime) -> Result<(), Fail> {
-    let mut lot = lot_where(&rt, rt.alloc(), 2, &[(0, 1), (1, 1)], true)?;
+fn a_requeued_thread_times_out_on_its_new_key(rt: HostRuntime) {
+    let mut lot = lot_where(&rt, rt.alloc(), 2, &[(0, 1), (1, 1)], true);
     let (answer, _) = lot.requeue(RequeueOp::RequeueAll);
     expect_equal(&rt, answer, requeued(2));
     expect_timed_out(&rt, &mut lot, 0, (2, false));
-    expect_lists(&rt, &lot, &[(2, [1].as_slice())])?;
-    Ok(())
+    expect_list(&rt, &lot, 2, &[1]);
 }
 
 // The sixth registration makes the table grow, and `rt try --test --fail-alloc N` refuses it for
 // want of memory; the seventh is refused for want of a number.
 #[test]
-fn a_refused_registration_leaves_the_list_of_each_key(rt: HostRuntime) -> Result<(), Fail> {
-    let mut lot = lot_where(&rt, rt.alloc(), 5, &[(0, 1)], false)?;
+fn a_refused_registration_leaves_the_list_of_each_key(rt: HostRuntime) {
+    let mut lot = lot_where(&rt, rt.alloc(), 5, &[(0, 1)], false);
     let lists = [(1, [0].as_slice())];
     if let Err(refused) = lot.register() {
         expect_equal(&rt, refused, LotError::NoMemory);
         expect_counts(&rt, &lot, (5, 16));
-        expect_lists(&rt, &lot, &lists)?;
+        expect_lists(&rt, &lot, &lists);
         expect_equal(&rt, lot.register(), Ok(5));
     }
     expect_equal(&rt, lot.register(), Err(LotError::Full));
     expect_counts(&rt, &lot, (6, 32));
-    expect_lists(&rt, &lot, &lists)?;
-    Ok(())
+    expect_lists(&rt, &lot, &lists);
 }
 
 // `rt try --test --fail-alloc N` refuses the memory for the smaller row of buckets.
 #[test]
-fn a_refused_trim_leaves_the_list_of_each_key(rt: HostRuntime) -> Result<(), Fail> {
-    let mut lot = lot_where(&rt, rt.alloc(), 6, &[(0, 0), (1, 13)], false)?;
+fn a_refused_trim_leaves_the_list_of_each_key(rt: HostRuntime) {
+    let mut lot = lot_where(&rt, rt.alloc(), 6, &[(0, 0), (1, 13)], false);
     expect_equal(&rt, lot.retire(5), Ok(()));
     let lists = [(0, [0].as_slice()), (13, [1].as_slice())];
     if lot.trim().is_err() {
         expect_counts(&rt, &lot, (5, 32));
-        expect_lists(&rt, &lot, &lists)?;
+        expect_lists(&rt, &lot, &lists);
         expect_equal(&rt, lot.trim(), Ok(()));
     }
     expect_counts(&rt, &lot, (5, 16));
-    expect_lists(&rt, &lot, &lists)?;
-    Ok(())
+    expect_lists(&rt, &lot, &lists);
 }
 
 // It refuses an `acquire` that answers `NoMemory` at each call.
 #[test]
-fn a_thread_has_records_of_what_it_holds(rt: HostRuntime) -> Result<(), Fail> {
-    let mut lot = lot_with(rt.alloc(), 1)?;
+fn a_thread_has_records_of_what_it_holds(rt: HostRuntime) {
+    let mut lot = lot_with(&rt, rt.alloc(), 1);
     for key in [5, 5, 7] {
         expect_equal(&rt, lot.acquire(0, key), Ok(()));
     }
@@ -452,38 +435,33 @@ fn a_thread_has_records_of_what_it_holds(rt: HostRuntime) -> Result<(), Fail> {
     for (thread, key, times) in [(0, 5, 1), (0, 7, 1), (0, 9, 0), (6, 5, 0)] {
         expect_records(&rt, &lot, (thread, key), times);
     }
-    Ok(())
 }
 
 // It refuses an `acquire_and_release` that answers `NoMemory` at each call.
 #[test]
-fn a_record_that_is_released_again_leaves_the_others(rt: HostRuntime) -> Result<(), Fail> {
-    let mut lot = lot_with(rt.alloc(), 1)?;
+fn a_record_that_is_released_again_leaves_the_others(rt: HostRuntime) {
+    let mut lot = lot_with(&rt, rt.alloc(), 1);
     expect_equal(&rt, lot.acquire(0, 5), Ok(()));
     expect_equal(&rt, lot.acquire_and_release(0, 5), Ok(()));
     expect_records(&rt, &lot, (0, 5), 1);
     expect_equal(&rt, lot.acquire_and_release(1, 5), Err(StepError::Misfit));
-    Ok(())
 }
 
 #[test]
-fn all_waiters_are_requeued_to_their_own_key_and_unparked_by_a_filter(
-    rt: HostRuntime,
-) -> Result<(), Fail> {
-    let mut lot = lot_where(&rt, rt.alloc(), 2, &[(0, 1), (1, 1)], false)?;
+fn all_waiters_are_requeued_to_their_own_key_and_unparked_by_a_filter(rt: HostRuntime) {
+    let mut lot = lot_where(&rt, rt.alloc(), 2, &[(0, 1), (1, 1)], false);
     expect_equal(&rt, lot.requeue_all_to_itself(1), requeued(2));
-    expect_lists(&rt, &lot, &[(1, [0, 1].as_slice())])?;
+    expect_list(&rt, &lot, 1, &[0, 1]);
     expect_equal(&rt, lot.unpark_all_by_filter(1, TOKEN), unparked(2, false));
     for number in 0..2 {
         expect_status(&rt, &lot, number, Status::Taken(TOKEN));
     }
-    Ok(())
 }
 
 // It refuses a `retire` that leaves its records to the next thread of the number.
 #[test]
-fn records_go_when_the_thread_retires(rt: HostRuntime) -> Result<(), Fail> {
-    let mut lot = lot_with(rt.alloc(), 2)?;
+fn records_go_when_the_thread_retires(rt: HostRuntime) {
+    let mut lot = lot_with(&rt, rt.alloc(), 2);
     for number in 0..2 {
         expect_equal(&rt, lot.acquire(number, 5), Ok(()));
     }
@@ -493,16 +471,18 @@ fn records_go_when_the_thread_retires(rt: HostRuntime) -> Result<(), Fail> {
     expect_equal(&rt, lot.register(), Ok(0));
     expect_records(&rt, &lot, (0, 5), 0);
     expect_records(&rt, &lot, (1, 5), 1);
-    Ok(())
 }
 
 // It ends well whichever one of its requests for memory is refused, as `rt try --test --fail-alloc
 // N` refuses the Nth: a recording that is refused leaves the records, and a release asks for none.
 #[test]
 fn a_refused_recording_changes_no_records(rt: HostRuntime) {
-    let Ok(mut lot) = lot_with(rt.alloc(), 1) else {
+    let Ok(mut lot) = BareLot::new(rt.alloc(), 1) else {
         return;
     };
+    if lot.register().is_err() {
+        return;
+    }
     let mut times: usize = 0;
     for _ in 0..20 {
         match lot.acquire(0, 5) {

@@ -4,14 +4,14 @@ mod compare;
 
 use crate::bare::BareLot;
 use crate::expect_equal;
-use lot_base::token::{FilterOp, LotError, NoMemory, RequeueOp, UnparkToken};
+use crate::lot::{expect_list, new_lot, register};
+use lot_base::token::{FilterOp, RequeueOp, UnparkToken};
 use lot_exclusive::lot::Status;
 use lot_exclusive::schedule::{Answer, Step};
 use plain_machines::ops::{all, filter, one, requeue};
 use plain_machines::steps::{acquire, enter, enter_invalid, release, unpark, unparked};
 use std::alloc::Global;
 use std::process::Abort;
-use std::test::Fail;
 
 const A: usize = 0;
 
@@ -25,50 +25,42 @@ const WAITS: Status = Status::Waiting { timed: false };
 
 // A lot for six threads, four of which are registered, where these threads have entered, each on
 // its key and untimed.
-fn lot_of(alloc: Global, waiters: &[(usize, usize)]) -> Result<BareLot, LotError> {
-    let mut lot = BareLot::new(alloc, 6)?;
+fn lot_of(rt: &impl Abort, alloc: Global, waiters: &[(usize, usize)]) -> BareLot {
+    let mut lot = new_lot(rt, alloc, 6);
     for _ in 0..4 {
-        lot.register()?;
+        register(rt, &mut lot);
     }
     for (number, key) in waiters {
         lot.apply(&enter(*number, *key, false));
     }
-    Ok(lot)
+    lot
+}
+
+// It refuses a `run` that answers `NoMemory` at each call.
+fn run(rt: &impl Abort, lot: &mut BareLot, steps: &[Step], answers: &mut Vec<Answer>) {
+    lot.run(steps, answers).expect(rt, "memory");
 }
 
 // Runs the steps, and compares the answers.
-fn expect(
-    rt: &impl Abort,
-    alloc: Global,
-    lot: &mut BareLot,
-    steps: &[Step],
-    expected: &[Answer],
-) -> Result<(), NoMemory> {
+fn expect(rt: &impl Abort, alloc: Global, lot: &mut BareLot, steps: &[Step], expected: &[Answer]) {
     let mut answers = Vec::new(alloc);
-    lot.run(steps, &mut answers)?;
+    run(rt, lot, steps, &mut answers);
     expect_equal(rt, answers.as_slice(), expected);
-    Ok(())
 }
 
 // Compares the lists of the keys 1 and 2.
-fn expect_lists(
-    rt: &impl Abort,
-    lot: &BareLot,
-    on_1: &[usize],
-    on_2: &[usize],
-) -> Result<(), NoMemory> {
-    expect_equal(rt, lot.list(1)?.as_slice(), on_1);
-    expect_equal(rt, lot.list(2)?.as_slice(), on_2);
-    Ok(())
+fn expect_lists(rt: &impl Abort, lot: &BareLot, on_1: &[usize], on_2: &[usize]) {
+    expect_list(rt, lot, 1, on_1);
+    expect_list(rt, lot, 2, on_2);
 }
 
 // It refuses an `apply` that answers `NoMemory` to each registration.
 #[test]
-fn six_threads_are_registered_and_the_seventh_is_refused(rt: HostRuntime) -> Result<(), Fail> {
-    let mut lot = BareLot::new(rt.alloc(), 6)?;
+fn six_threads_are_registered_and_the_seventh_is_refused(rt: HostRuntime) {
+    let mut lot = new_lot(&rt, rt.alloc(), 6);
     for number in 0..6 {
         let answers = [Answer::Registered(number)];
-        expect(&rt, rt.alloc(), &mut lot, &[Step::Register], &answers)?;
+        expect(&rt, rt.alloc(), &mut lot, &[Step::Register], &answers);
     }
     expect(
         &rt,
@@ -76,9 +68,8 @@ fn six_threads_are_registered_and_the_seventh_is_refused(rt: HostRuntime) -> Res
         &mut lot,
         &[Step::Register],
         &[Answer::Full],
-    )?;
+    );
     expect_equal(&rt, lot.size(), 32);
-    Ok(())
 }
 
 // Requeues from the key 1 to this one, and compares the answer, who was taken, and the lists.
@@ -90,32 +81,29 @@ fn expect_requeue(
     answer: Answer,
     taken: &[usize],
     (on_1, on_2): (&[usize], &[usize]),
-) -> Result<BareLot, LotError> {
-    let mut lot = lot_of(alloc, waiters)?;
+) -> BareLot {
+    let mut lot = lot_of(rt, alloc, waiters);
     let steps = [unpark(requeue((1, to), op, 9))];
-    expect(rt, alloc, &mut lot, &steps, &[answer])?;
+    expect(rt, alloc, &mut lot, &steps, &[answer]);
     for number in taken {
         expect_equal(rt, lot.status(*number), Status::Taken(UnparkToken(9)));
     }
-    expect_lists(rt, &lot, on_1, on_2)?;
-    Ok(lot)
+    expect_lists(rt, &lot, on_1, on_2);
+    lot
 }
 
 #[test]
-fn the_first_is_unparked_and_the_rest_stand_behind_the_second_key(
-    rt: HostRuntime,
-) -> Result<(), Fail> {
+fn the_first_is_unparked_and_the_rest_stand_behind_the_second_key(rt: HostRuntime) {
     let waiters = [(A, 1), (B, 1), (C, 1), (D, 2)];
     let moves = (2, RequeueOp::UnparkOneRequeueRest);
     let lists = ([].as_slice(), [D, B, C].as_slice());
     let answer = unparked(1, 2, false);
-    let lot = expect_requeue(&rt, rt.alloc(), &waiters, moves, answer, &[A], lists)?;
+    let lot = expect_requeue(&rt, rt.alloc(), &waiters, moves, answer, &[A], lists);
     expect_equal(&rt, lot.status(B), WAITS);
-    Ok(())
 }
 
 #[test]
-fn a_requeue_to_the_same_key_puts_the_moved_behind_the_left(rt: HostRuntime) -> Result<(), Fail> {
+fn a_requeue_to_the_same_key_puts_the_moved_behind_the_left(rt: HostRuntime) {
     for (waiters, op, answer, left) in [
         (
             [(A, 1), (B, 1), (C, 1)].as_slice(),
@@ -137,13 +125,12 @@ fn a_requeue_to_the_same_key_puts_the_moved_behind_the_left(rt: HostRuntime) -> 
         ),
     ] {
         let lists = (left, [].as_slice());
-        expect_requeue(&rt, rt.alloc(), waiters, (1, op), answer, &[], lists)?;
+        expect_requeue(&rt, rt.alloc(), waiters, (1, op), answer, &[], lists);
     }
-    Ok(())
 }
 
 #[test]
-fn an_abort_and_a_requeue_of_nobody_change_nothing(rt: HostRuntime) -> Result<(), Fail> {
+fn an_abort_and_a_requeue_of_nobody_change_nothing(rt: HostRuntime) {
     for (waiters, op, on_1) in [
         (
             [(A, 1), (B, 1), (D, 2)].as_slice(),
@@ -154,9 +141,8 @@ fn an_abort_and_a_requeue_of_nobody_change_nothing(rt: HostRuntime) -> Result<()
     ] {
         let lists = (on_1, [D].as_slice());
         let answer = unparked(0, 0, false);
-        expect_requeue(&rt, rt.alloc(), waiters, (2, op), answer, &[], lists)?;
+        expect_requeue(&rt, rt.alloc(), waiters, (2, op), answer, &[], lists);
     }
-    Ok(())
 }
 
 // Unparks by a filter with these decisions, and compares the answer, who was taken, and who is
@@ -169,19 +155,19 @@ fn expect_filter(
     answer: Answer,
     taken: &[usize],
     left: &[usize],
-) -> Result<(), LotError> {
-    let mut lot = lot_of(alloc, waiters)?;
-    let steps = [unpark(filter(alloc, 1, decisions, 9)?)];
-    expect(rt, alloc, &mut lot, &steps, &[answer])?;
+) {
+    let mut lot = lot_of(rt, alloc, waiters);
+    let op = filter(alloc, 1, decisions, 9).expect(rt, "memory");
+    let steps = [unpark(op)];
+    expect(rt, alloc, &mut lot, &steps, &[answer]);
     for number in taken {
         expect_equal(rt, lot.status(*number), Status::Taken(UnparkToken(9)));
     }
-    expect_lists(rt, &lot, left, &[])?;
-    Ok(())
+    expect_lists(rt, &lot, left, &[]);
 }
 
 #[test]
-fn a_filter_leaves_whom_it_skips_and_whom_it_does_not_see(rt: HostRuntime) -> Result<(), Fail> {
+fn a_filter_leaves_whom_it_skips_and_whom_it_does_not_see(rt: HostRuntime) {
     for (waiters, decisions, answer, taken, left) in [
         (
             [(A, 1), (B, 1), (C, 1)].as_slice(),
@@ -205,14 +191,13 @@ fn a_filter_leaves_whom_it_skips_and_whom_it_does_not_see(rt: HostRuntime) -> Re
             [B, C].as_slice(),
         ),
     ] {
-        expect_filter(&rt, rt.alloc(), waiters, decisions, answer, taken, left)?;
+        expect_filter(&rt, rt.alloc(), waiters, decisions, answer, taken, left);
     }
-    Ok(())
 }
 
 #[test]
-fn a_late_thread_times_out(rt: HostRuntime) -> Result<(), Fail> {
-    let mut lot = lot_of(rt.alloc(), &[])?;
+fn a_late_thread_times_out(rt: HostRuntime) {
+    let mut lot = lot_of(&rt, rt.alloc(), &[]);
     let steps = [
         enter(A, 1, true),
         Step::Deadline { thread: A },
@@ -225,13 +210,12 @@ fn a_late_thread_times_out(rt: HostRuntime) -> Result<(), Fail> {
         Answer::TimedOut { key: 1, last: true },
         Answer::Count(0),
     ];
-    expect(&rt, rt.alloc(), &mut lot, &steps, &answers)?;
-    Ok(())
+    expect(&rt, rt.alloc(), &mut lot, &steps, &answers);
 }
 
 #[test]
-fn a_late_thread_gets_the_token_that_overtook_it(rt: HostRuntime) -> Result<(), Fail> {
-    let mut lot = lot_of(rt.alloc(), &[])?;
+fn a_late_thread_gets_the_token_that_overtook_it(rt: HostRuntime) {
+    let mut lot = lot_of(&rt, rt.alloc(), &[]);
     let steps = [
         enter(A, 1, true),
         Step::Deadline { thread: A },
@@ -246,13 +230,12 @@ fn a_late_thread_gets_the_token_that_overtook_it(rt: HostRuntime) -> Result<(), 
         Answer::Unparked(UnparkToken(42)),
         Answer::Misfit,
     ];
-    expect(&rt, rt.alloc(), &mut lot, &steps, &answers)?;
-    Ok(())
+    expect(&rt, rt.alloc(), &mut lot, &steps, &answers);
 }
 
 #[test]
-fn a_requeued_thread_times_out_on_its_new_key(rt: HostRuntime) -> Result<(), Fail> {
-    let mut lot = lot_of(rt.alloc(), &[])?;
+fn a_requeued_thread_times_out_on_its_new_key(rt: HostRuntime) {
+    let mut lot = lot_of(&rt, rt.alloc(), &[]);
     let steps = [
         enter(A, 1, true),
         enter(B, 1, true),
@@ -270,14 +253,13 @@ fn a_requeued_thread_times_out_on_its_new_key(rt: HostRuntime) -> Result<(), Fai
             last: false,
         },
     ];
-    expect(&rt, rt.alloc(), &mut lot, &steps, &answers)?;
-    expect_lists(&rt, &lot, &[], &[B])?;
-    Ok(())
+    expect(&rt, rt.alloc(), &mut lot, &steps, &answers);
+    expect_lists(&rt, &lot, &[], &[B]);
 }
 
 #[test]
-fn an_untimed_waiter_stays_until_it_is_handed_a_token(rt: HostRuntime) -> Result<(), Fail> {
-    let mut lot = lot_of(rt.alloc(), &[])?;
+fn an_untimed_waiter_stays_until_it_is_handed_a_token(rt: HostRuntime) {
+    let mut lot = lot_of(&rt, rt.alloc(), &[]);
     let steps = [
         enter(A, 1, false),
         Step::Deadline { thread: A },
@@ -292,15 +274,14 @@ fn an_untimed_waiter_stays_until_it_is_handed_a_token(rt: HostRuntime) -> Result
         Answer::Count(1),
         Answer::Unparked(UnparkToken(usize::MAX)),
     ];
-    expect(&rt, rt.alloc(), &mut lot, &steps, &answers)?;
+    expect(&rt, rt.alloc(), &mut lot, &steps, &answers);
     expect_equal(&rt, lot.status(A), Status::Running);
-    Ok(())
 }
 
 // The number 4 could be registered, and 9 could not.
 #[test]
-fn no_step_fits_a_free_number(rt: HostRuntime) -> Result<(), Fail> {
-    let mut lot = lot_of(rt.alloc(), &[])?;
+fn no_step_fits_a_free_number(rt: HostRuntime) {
+    let mut lot = lot_of(&rt, rt.alloc(), &[]);
     for thread in [4, 9] {
         let steps = [
             Step::Retire { thread },
@@ -312,17 +293,16 @@ fn no_step_fits_a_free_number(rt: HostRuntime) -> Result<(), Fail> {
             acquire(thread, 1),
             release(thread, 1),
         ];
-        expect(&rt, rt.alloc(), &mut lot, &steps, &[Answer::Misfit; 8])?;
+        expect(&rt, rt.alloc(), &mut lot, &steps, &[Answer::Misfit; 8]);
         expect_equal(&rt, lot.status(thread), Status::Free);
     }
-    expect_lists(&rt, &lot, &[], &[])?;
-    Ok(())
+    expect_lists(&rt, &lot, &[], &[]);
 }
 
 // It refuses an `apply` that answers `NoMemory` to each acquire.
 #[test]
-fn records_are_counted_while_the_thread_runs(rt: HostRuntime) -> Result<(), Fail> {
-    let mut lot = lot_of(rt.alloc(), &[])?;
+fn records_are_counted_while_the_thread_runs(rt: HostRuntime) {
+    let mut lot = lot_of(&rt, rt.alloc(), &[]);
     let steps = [
         acquire(A, 5),
         acquire(A, 5),
@@ -345,18 +325,17 @@ fn records_are_counted_while_the_thread_runs(rt: HostRuntime) -> Result<(), Fail
         Answer::Misfit,
         Answer::Misfit,
     ];
-    expect(&rt, rt.alloc(), &mut lot, &steps, &answers)?;
+    expect(&rt, rt.alloc(), &mut lot, &steps, &answers);
     for (key, times) in [(5, 1), (7, 1), (9, 0)] {
         expect_equal(&rt, (key, lot.records(A, key)), (key, times));
     }
-    Ok(())
 }
 
 // Six threads need 32 buckets, and five 16. It refuses an `apply` that answers `NoMemory` to each
 // trim.
 #[test]
-fn a_trim_makes_the_table_smaller_and_leaves_the_lists(rt: HostRuntime) -> Result<(), Fail> {
-    let mut lot = lot_of(rt.alloc(), &[(A, 0), (B, 13), (C, 0)])?;
+fn a_trim_makes_the_table_smaller_and_leaves_the_lists(rt: HostRuntime) {
+    let mut lot = lot_of(&rt, rt.alloc(), &[(A, 0), (B, 13), (C, 0)]);
     let mut answers = Vec::new(rt.alloc());
     for (steps, size) in [
         ([Step::Register, Step::Register, Step::Trim].as_slice(), 32),
@@ -364,10 +343,10 @@ fn a_trim_makes_the_table_smaller_and_leaves_the_lists(rt: HostRuntime) -> Resul
         ([Step::Trim, Step::Trim].as_slice(), 16),
         ([Step::Register].as_slice(), 32),
     ] {
-        lot.run(steps, &mut answers)?;
+        run(&rt, &mut lot, steps, &mut answers);
         expect_equal(&rt, (answers.len(), lot.size()), (answers.len(), size));
-        expect_equal(&rt, lot.list(0)?.as_slice(), [A, C].as_slice());
-        expect_equal(&rt, lot.list(13)?.as_slice(), [B].as_slice());
+        expect_list(&rt, &lot, 0, &[A, C]);
+        expect_list(&rt, &lot, 13, &[B]);
     }
     let expected = [
         Answer::Registered(4),
@@ -379,24 +358,22 @@ fn a_trim_makes_the_table_smaller_and_leaves_the_lists(rt: HostRuntime) -> Resul
         Answer::Registered(5),
     ];
     expect_equal(&rt, answers.as_slice(), expected.as_slice());
-    Ok(())
 }
 
 // It refuses a `run` that does nothing and answers `NoMemory`.
 #[test]
-fn answers_stand_behind_those_that_are_there(rt: HostRuntime) -> Result<(), Fail> {
-    let mut lot = lot_of(rt.alloc(), &[])?;
+fn answers_stand_behind_those_that_are_there(rt: HostRuntime) {
+    let mut lot = lot_of(&rt, rt.alloc(), &[]);
     let mut answers = Vec::new(rt.alloc());
-    lot.run(&[], &mut answers)?;
+    run(&rt, &mut lot, &[], &mut answers);
     expect_equal(&rt, answers.len(), 0);
 
     let steps = [enter_invalid(A, 1), unpark(all(1, 9))];
-    lot.run(&steps, &mut answers)?;
-    lot.run(&[], &mut answers)?;
-    lot.run(&[Step::Retire { thread: D }], &mut answers)?;
+    run(&rt, &mut lot, &steps, &mut answers);
+    run(&rt, &mut lot, &[], &mut answers);
+    run(&rt, &mut lot, &[Step::Retire { thread: D }], &mut answers);
     let expected = [Answer::Invalid, Answer::Count(0), Answer::Retired];
     expect_equal(&rt, answers.as_slice(), expected.as_slice());
-    Ok(())
 }
 
 // What a registration, a recording and an entry answer, and what the thread does then, where so many

@@ -3,7 +3,7 @@
 
 use crate::expect_equal;
 use lot_base::queue::Node;
-use lot_base::token::{LotError, NoMemory, ParkToken};
+use lot_base::token::{LotError, ParkToken};
 use lot_exclusive::table::Table;
 use std::alloc::Global;
 use std::process::Abort;
@@ -30,32 +30,33 @@ fn bucket_of(table: &Table, key: usize) -> (usize, usize) {
     (bucket.place(), bucket.size())
 }
 
-fn list(alloc: Global, table: &Table, key: usize) -> Result<Vec<usize>, NoMemory> {
-    table.bucket(key).list(alloc, key)
-}
-
 // Lets a thread wait on a key.
-fn enter(alloc: Global, table: &mut Table, number: usize, key: usize) -> Result<(), Fail> {
-    let mut node = Node::new(alloc, number)?;
+fn enter(rt: &impl Abort, alloc: Global, table: &mut Table, number: usize, key: usize) {
+    let mut node = Node::new(alloc, number).expect(rt, "memory");
     node.prepare(key, ParkToken(number), false);
     let mut bucket = table.take(key);
     let _ = bucket.enter(node, || true);
     table.put(bucket);
-    Ok(())
 }
 
-// Compares the numbers of the threads that wait on each of these keys.
-fn expect_lists(
-    rt: &impl Abort,
-    alloc: Global,
-    table: &Table,
-    rows: &[(usize, &[usize])],
-) -> Result<(), NoMemory> {
-    for (key, numbers) in rows {
-        let found = list(alloc, table, *key)?;
-        expect_equal(rt, (key, found.as_slice()), (key, *numbers));
+// The same for the threads 0 and 2 on the key 0, and for 1 on 13.
+fn enter_three(rt: &impl Abort, alloc: Global, table: &mut Table) {
+    for (number, key) in [(0, 0), (1, 13), (2, 0)] {
+        enter(rt, alloc, table, number, key);
     }
-    Ok(())
+}
+
+// Compares the numbers of the threads that wait on the key.
+fn expect_list(rt: &impl Abort, alloc: Global, table: &Table, key: usize, numbers: &[usize]) {
+    let bucket = table.bucket(key);
+    let found = bucket.list(alloc, key).expect(rt, "memory");
+    expect_equal(rt, (key, found.as_slice()), (key, numbers));
+}
+
+// Those three still wait, in order.
+fn expect_three(rt: &impl Abort, alloc: Global, table: &Table) {
+    expect_list(rt, alloc, table, 0, &[0, 2]);
+    expect_list(rt, alloc, table, 13, &[1]);
 }
 
 // A table with so many registered threads.
@@ -68,20 +69,19 @@ fn table_of(alloc: Global, max: usize, threads: usize) -> Result<Table, LotError
 }
 
 // Registers a thread, and compares its number and then the count and the size.
-fn expect_number(
-    rt: &impl Abort,
-    table: &mut Table,
-    number: usize,
-    expected: (usize, usize),
-) -> Result<(), LotError> {
-    expect_equal(rt, register(table)?, number);
+fn expect_number(rt: &impl Abort, table: &mut Table, number: usize, expected: (usize, usize)) {
+    expect_equal(rt, register(table), Ok(number));
     expect_equal(rt, (number, counts(table)), (number, expected));
-    Ok(())
+}
+
+// Such a table, for tests that do not ask why it is refused.
+fn new_table(rt: &impl Abort, alloc: Global, max: usize, threads: usize) -> Table {
+    table_of(alloc, max, threads).expect(rt, "memory")
 }
 
 #[test]
-fn numbers_are_given_from_the_least_free_one_on(rt: HostRuntime) -> Result<(), Fail> {
-    let mut table = Table::new(rt.alloc(), 40)?;
+fn numbers_are_given_from_the_least_free_one_on(rt: HostRuntime) {
+    let mut table = new_table(&rt, rt.alloc(), 40, 0);
     expect_equal(&rt, counts(&table), (0, 16));
     for number in 0..11 {
         let size = match number {
@@ -89,19 +89,18 @@ fn numbers_are_given_from_the_least_free_one_on(rt: HostRuntime) -> Result<(), F
             5..=9 => 32,
             _ => 64,
         };
-        expect_number(&rt, &mut table, number, (number.wrapping_add(1), size))?;
+        expect_number(&rt, &mut table, number, (number.wrapping_add(1), size));
     }
     for number in [2, 2, 30] {
         release(&mut table, number);
         expect_equal(&rt, counts(&table), (10, 64));
     }
-    expect_number(&rt, &mut table, 2, (11, 64))?;
+    expect_number(&rt, &mut table, 2, (11, 64));
 
     for number in 0..50 {
         release(&mut table, number);
     }
     expect_equal(&rt, counts(&table), (0, 64));
-    Ok(())
 }
 
 #[test]
@@ -113,42 +112,37 @@ fn a_table_is_for_at_most_16384_threads(rt: HostRuntime) {
 }
 
 #[test]
-fn a_full_table_refuses_a_registration(rt: HostRuntime) -> Result<(), Fail> {
-    let mut none = table_of(rt.alloc(), 0, 0)?;
+fn a_full_table_refuses_a_registration(rt: HostRuntime) {
+    let mut none = new_table(&rt, rt.alloc(), 0, 0);
     expect_equal(&rt, register(&mut none), Err(LotError::Full));
 
-    let mut table = table_of(rt.alloc(), 5, 5)?;
+    let mut table = new_table(&rt, rt.alloc(), 5, 5);
     expect_equal(&rt, register(&mut table), Err(LotError::Full));
     expect_equal(&rt, counts(&table), (5, 16));
     release(&mut table, 3);
     expect_equal(&rt, register(&mut table), Ok(3));
-    Ok(())
 }
 
 #[test]
-fn growth_keeps_the_list_of_each_key(rt: HostRuntime) -> Result<(), Fail> {
+fn growth_keeps_the_list_of_each_key(rt: HostRuntime) {
     let alloc = rt.alloc();
-    let mut table = table_of(alloc, 6, 5)?;
-    for (number, key) in [(0, 0), (1, 13), (2, 0)] {
-        enter(alloc, &mut table, number, key)?;
-    }
+    let mut table = new_table(&rt, alloc, 6, 5);
+    enter_three(&rt, alloc, &mut table);
     for key in [0, 13] {
         expect_equal(&rt, (key, bucket_of(&table, key)), (key, (0, 16)));
     }
-    let lists = [(0, [0, 2].as_slice()), (13, [1].as_slice())];
 
     let mut registered = register(&mut table);
     if registered == Err(LotError::NoMemory) {
         expect_equal(&rt, counts(&table), (5, 16));
-        expect_lists(&rt, alloc, &table, &lists)?;
+        expect_three(&rt, alloc, &table);
         registered = register(&mut table);
     }
-    expect_equal(&rt, (registered?, counts(&table)), (5, (6, 32)));
-    expect_lists(&rt, alloc, &table, &lists)?;
+    expect_equal(&rt, (registered, counts(&table)), (Ok(5), (6, 32)));
+    expect_three(&rt, alloc, &table);
     for (key, place) in [(0, 0), (13, 1)] {
         expect_equal(&rt, (key, bucket_of(&table, key)), (key, (place, 32)));
     }
-    Ok(())
 }
 
 #[test]
@@ -233,19 +227,15 @@ fn trims_bring_the_size_down_with_the_number_of_threads(rt: HostRuntime) -> Resu
 
 // A trim may pass over sizes.
 #[test]
-fn a_trim_brings_a_table_down_to_the_first_size(rt: HostRuntime) -> Result<(), Fail> {
+fn a_trim_brings_a_table_down_to_the_first_size(rt: HostRuntime) {
     let alloc = rt.alloc();
-    let mut table = table_of(alloc, 43, 43)?;
-    for (number, key) in [(0, 0), (1, 13), (2, 0)] {
-        enter(alloc, &mut table, number, key)?;
-    }
+    let mut table = new_table(&rt, alloc, 43, 43);
+    enter_three(&rt, alloc, &mut table);
     for number in 3..43 {
-        table.release(number);
+        release(&mut table, number);
     }
-    expect_equal(&rt, (table.registered(), table.size()), (3, 256));
-    table.trim()?;
-    expect_equal(&rt, (table.registered(), table.size()), (3, 16));
-    let lists = [(0, [0, 2].as_slice()), (13, [1].as_slice())];
-    expect_lists(&rt, alloc, &table, &lists)?;
-    Ok(())
+    expect_equal(&rt, counts(&table), (3, 256));
+    table.trim().expect(&rt, "memory");
+    expect_equal(&rt, counts(&table), (3, 16));
+    expect_three(&rt, alloc, &table);
 }

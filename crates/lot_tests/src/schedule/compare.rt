@@ -1,8 +1,10 @@
 //! The lot beside the plain machine: all short lists of steps, and long lists of arbitrary ones.
 
+use super::run;
 use crate::bare::BareLot;
 use crate::expect_equal;
-use lot_base::token::{FilterOp, LotError, NoMemory, RequeueOp};
+use crate::lot::{expect_list, new_lot};
+use lot_base::token::{FilterOp, RequeueOp};
 use lot_exclusive::schedule::{Answer, Step};
 use plain_machines::arbitrary::{Arbitrary, KEYS};
 use plain_machines::exclusive::Plain;
@@ -10,7 +12,6 @@ use plain_machines::ops::{all, filter, one, requeue};
 use plain_machines::steps::{acquire, enter, enter_invalid, release, unpark};
 use std::alloc::Global;
 use std::process::Abort;
-use std::test::Fail;
 
 // How many steps the longest of the short lists has.
 const LONGEST: usize = 4;
@@ -18,20 +19,23 @@ const LONGEST: usize = 4;
 // The steps that the short lists are made of. The keys 0 and 13 have place 0 of 16.
 const KINDS: usize = 29;
 
-fn push_parks(steps: &mut Vec<Step>) -> Result<(), NoMemory> {
-    for thread in 0..2 {
-        for key in [0, 13] {
-            steps.push(enter(thread, key, false))?;
-            steps.push(enter(thread, key, true))?;
-        }
-        steps.push(Step::Deadline { thread })?;
-        steps.push(Step::Resolve { thread })?;
-        steps.push(Step::Return { thread })?;
-    }
-    Ok(())
+fn push(rt: &impl Abort, steps: &mut Vec<Step>, step: Step) {
+    steps.push(step).expect(rt, "memory");
 }
 
-fn push_requeues(steps: &mut Vec<Step>) -> Result<(), NoMemory> {
+fn push_parks(rt: &impl Abort, steps: &mut Vec<Step>) {
+    for thread in 0..2 {
+        for key in [0, 13] {
+            push(rt, steps, enter(thread, key, false));
+            push(rt, steps, enter(thread, key, true));
+        }
+        push(rt, steps, Step::Deadline { thread });
+        push(rt, steps, Step::Resolve { thread });
+        push(rt, steps, Step::Return { thread });
+    }
+}
+
+fn push_requeues(rt: &impl Abort, steps: &mut Vec<Step>) {
     for (keys, op, token) in [
         ((0, 13), RequeueOp::Abort, 100),
         ((0, 13), RequeueOp::UnparkOneRequeueRest, 101),
@@ -40,18 +44,18 @@ fn push_requeues(steps: &mut Vec<Step>) -> Result<(), NoMemory> {
         ((0, 13), RequeueOp::RequeueOne, 104),
         ((13, 13), RequeueOp::RequeueAll, 105),
     ] {
-        steps.push(unpark(requeue(keys, op, token)))?;
+        push(rt, steps, unpark(requeue(keys, op, token)));
     }
-    Ok(())
 }
 
-fn alphabet(alloc: Global) -> Result<Vec<Step>, NoMemory> {
+fn alphabet(rt: &impl Abort, alloc: Global) -> Vec<Step> {
     let mut steps = Vec::new(alloc);
-    push_parks(&mut steps)?;
-    push_requeues(&mut steps)?;
+    push_parks(rt, &mut steps);
+    push_requeues(rt, &mut steps);
     let decisions = [FilterOp::Skip, FilterOp::Unpark];
+    let skip_and_unpark = filter(alloc, 0, decisions.as_slice(), 106).expect(rt, "memory");
     for step in [
-        unpark(filter(alloc, 0, decisions.as_slice(), 106)?),
+        unpark(skip_and_unpark),
         unpark(one(0, 107)),
         unpark(one(13, 108)),
         unpark(all(13, 109)),
@@ -61,9 +65,9 @@ fn alphabet(alloc: Global) -> Result<Vec<Step>, NoMemory> {
         Step::Retire { thread: 1 },
         Step::Register,
     ] {
-        steps.push(step)?;
+        push(rt, &mut steps, step);
     }
-    Ok(steps)
+    steps
 }
 
 // A lot and the plain machine, for as many threads.
@@ -74,31 +78,34 @@ struct Pair {
 }
 
 impl Pair {
-    fn new(alloc: Global, max_threads: usize) -> Result<Pair, LotError> {
-        Ok(Pair {
-            lot: BareLot::new(alloc, max_threads)?,
-            plain: Plain::new(alloc, max_threads)?,
-        })
+    fn new(rt: &impl Abort, alloc: Global, max_threads: usize) -> Pair {
+        Pair {
+            lot: new_lot(rt, alloc, max_threads),
+            plain: Plain::new(alloc, max_threads).expect(rt, "memory"),
+        }
     }
 
     // Does the step in both, and compares the answers. The code names the list that it is in.
-    fn step(&mut self, rt: &impl Abort, code: usize, step: &Step) -> Result<(), NoMemory> {
+    fn step(&mut self, rt: &impl Abort, code: usize, step: &Step) {
         let answer = self.lot.apply(step);
-        expect_equal(rt, (code, answer), (code, self.plain.step(step)?));
-        Ok(())
+        self.compare_answer(rt, code, step, answer);
+    }
+
+    // Does the step in the plain machine alone, and compares the answer.
+    fn compare_answer(&mut self, rt: &impl Abort, code: usize, step: &Step, answer: Answer) {
+        let expected = self.plain.step(step).expect(rt, "memory");
+        expect_equal(rt, (code, answer), (code, expected));
     }
 
     // Compares the sizes, the threads whose numbers are below the bound, and the lists of the keys.
-    fn compare(&self, rt: &impl Abort, bound: usize, keys: &[usize]) -> Result<(), NoMemory> {
+    fn compare(&self, rt: &impl Abort, bound: usize, keys: &[usize]) {
         expect_equal(rt, self.lot.size(), self.plain.size());
         for number in 0..bound {
             self.compare_thread(rt, number, keys);
         }
         for key in keys {
-            let found = self.lot.list(*key)?;
-            expect_equal(rt, (key, found.as_slice()), (key, self.plain.list(*key)));
+            expect_list(rt, &self.lot, *key, self.plain.list(*key));
         }
-        Ok(())
     }
 
     // Compares the status of the number, and its records of the keys.
@@ -118,43 +125,35 @@ impl Pair {
 
 // Does the list of so many steps whose kinds are the digits of the code. What is compared at its
 // end is compared at the end of each of its beginnings too: they are lists themselves.
-fn check_list(
-    rt: &impl Abort,
-    alloc: Global,
-    steps: &[Step],
-    length: usize,
-    code: usize,
-) -> Result<(), LotError> {
-    let mut pair = Pair::new(alloc, 2)?;
-    pair.step(rt, code, &Step::Register)?;
-    pair.step(rt, code, &Step::Register)?;
+fn check_list(rt: &impl Abort, alloc: Global, steps: &[Step], length: usize, code: usize) {
+    let mut pair = Pair::new(rt, alloc, 2);
+    pair.step(rt, code, &Step::Register);
+    pair.step(rt, code, &Step::Register);
     let mut kinds = code;
     for _ in 0..length {
         let step = steps.get(kinds % KINDS).expect(rt, "a step");
-        pair.step(rt, code, step)?;
+        pair.step(rt, code, step);
         kinds /= KINDS;
     }
     expect_equal(rt, (pair.lot.size(), kinds), (16, 0));
-    pair.compare(rt, 3, [0, 13].as_slice())?;
-    Ok(())
+    pair.compare(rt, 3, [0, 13].as_slice());
 }
 
 // There are 1 + 29 + 841 + 24_389 + 707_281 = 732_541 lists of up to four steps of 29 kinds.
 #[test]
-fn short_lists_of_steps_are_those_of_the_plain_machine(rt: HostRuntime) -> Result<(), Fail> {
-    let steps = alphabet(rt.alloc())?;
+fn short_lists_of_steps_are_those_of_the_plain_machine(rt: HostRuntime) {
+    let steps = alphabet(&rt, rt.alloc());
     expect_equal(&rt, steps.len(), KINDS);
     let mut lists: usize = 0;
     let mut count: usize = 1;
     for length in 0..=LONGEST {
         for code in 0..count {
-            check_list(&rt, rt.alloc(), steps.as_slice(), length, code)?;
+            check_list(&rt, rt.alloc(), steps.as_slice(), length, code);
             lists = lists.wrapping_add(1);
         }
         count = count.wrapping_mul(KINDS);
     }
     expect_equal(&rt, lists, 732_541);
-    Ok(())
 }
 
 // Notes that an answer of this kind was given. There are fourteen kinds beside a refusal of memory.
@@ -186,27 +185,26 @@ fn check_run(
     pair: &mut Pair,
     steps: &[Step],
     seen: &mut [bool; 15],
-) -> Result<(), NoMemory> {
+) {
     let mut answers = Vec::new(alloc);
-    pair.lot.run(steps, &mut answers)?;
+    run(rt, &mut pair.lot, steps, &mut answers);
     expect_equal(rt, answers.len(), steps.len());
     for (index, (step, answer)) in steps.iter().zip(&answers).enumerate() {
-        expect_equal(rt, (index, *answer), (index, pair.plain.step(step)?));
+        pair.compare_answer(rt, index, step, *answer);
         note(seen, *answer);
     }
-    Ok(())
 }
 
 // Every thread whose park may end has its outcome, those that run then retire, and the table is
 // trimmed.
-fn leave(alloc: Global, threads: usize) -> Result<Vec<Step>, NoMemory> {
+fn leave(rt: &impl Abort, alloc: Global, threads: usize) -> Vec<Step> {
     let mut steps = Vec::new(alloc);
     for thread in 0..threads {
-        steps.push(Step::Resolve { thread })?;
-        steps.push(Step::Retire { thread })?;
+        push(rt, &mut steps, Step::Resolve { thread });
+        push(rt, &mut steps, Step::Retire { thread });
     }
-    steps.push(Step::Trim)?;
-    Ok(steps)
+    push(rt, &mut steps, Step::Trim);
+    steps
 }
 
 fn check_steps(
@@ -215,9 +213,9 @@ fn check_steps(
     pair: &mut Pair,
     steps: &[Step],
     seen: &mut [bool; 15],
-) -> Result<(), LotError> {
-    check_run(rt, alloc, pair, steps, seen)?;
-    Ok(pair.compare(rt, 41, KEYS.as_slice())?)
+) {
+    check_run(rt, alloc, pair, steps, seen);
+    pair.compare(rt, 41, KEYS.as_slice());
 }
 
 // A lot for 40 threads grows to 64 or 128 buckets; then most of its threads leave, and a trim makes
@@ -228,31 +226,29 @@ fn grow_and_trim(
     arbitrary: &mut Arbitrary,
     pair: &mut Pair,
     seen: &mut [bool; 15],
-) -> Result<(), LotError> {
+) {
     for _ in 0..20 {
-        let steps = arbitrary.steps(alloc, 40, 50)?;
-        check_steps(rt, alloc, pair, steps.as_slice(), seen)?;
+        let steps = arbitrary.steps(alloc, 40, 50).expect(rt, "memory");
+        check_steps(rt, alloc, pair, steps.as_slice(), seen);
     }
     let grown = pair.lot.size();
-    let leaving = leave(alloc, 40)?;
-    check_steps(rt, alloc, pair, leaving.as_slice(), seen)?;
+    let leaving = leave(rt, alloc, 40);
+    check_steps(rt, alloc, pair, leaving.as_slice(), seen);
     expect_equal(rt, pair.lot.size() < grown, true);
-    Ok(())
 }
 
 // Five times three lists of 1000 steps. Every kind of answer comes up but that of no memory.
 #[test]
-fn long_lists_of_steps_are_those_of_the_plain_machine(rt: HostRuntime) -> Result<(), Fail> {
+fn long_lists_of_steps_are_those_of_the_plain_machine(rt: HostRuntime) {
     let mut expected = [true; 15];
     expected[14] = false;
     let mut seen = [false; 15];
     for seed in [1, 2, 3, 4, 5] {
         let mut arbitrary = Arbitrary::new(seed);
-        let mut pair = Pair::new(rt.alloc(), 40)?;
+        let mut pair = Pair::new(&rt, rt.alloc(), 40);
         for _ in 0..3 {
-            grow_and_trim(&rt, rt.alloc(), &mut arbitrary, &mut pair, &mut seen)?;
+            grow_and_trim(&rt, rt.alloc(), &mut arbitrary, &mut pair, &mut seen);
         }
     }
     expect_equal(&rt, seen, expected);
-    Ok(())
 }
