@@ -1,0 +1,4 @@
+pub mod EventLemmas
+pub mod PieceLemmas
+pub mod RuleLemmas
+pub mod StepLemmas

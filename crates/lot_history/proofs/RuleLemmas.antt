@@ -1,0 +1,349 @@
+-- What keeps the rule of a history.
+use Rattle.std.proofs.Common.{◌≡◌, ◌≢◌, ◌⊎◌, ℕ, zero, suc, ◌+◌, ◌<◌, ◌≤◌, ◌==◌, List, [], ◌∷◌, ◌++◌, length, set, cond, refl, sym, ap, ◌∙◌, subst, inl, inr, ⊎_elim, arith, length-append, append-nil}
+use Rattle.std.proofs.lemmas.Bool.{cases_eq, eq-eqb, ne_eqb, cond-true, cond-false}
+use Rattle.std.proofs.Math.ListN.{length-set}
+use mathlib.Core.List.{IsPrefix}
+use mathlib.Core.Option.{some, some-injective, some-ne-none}
+use lib.ListN.{get_elem?}
+use Rattle.atomic_table.proofs.Lists.{at_set}
+use Rattle.lot_exclusive.specs.declared.schedule.Answer.{Answer}
+use Rattle.lot_exclusive.specs.declared.schedule.Step.{Step}
+use Rattle.lot_exclusive.proofs.StepLemmas.{IsConsistent-step}
+use Rattle.lot_history.specs.declared.event.Event.{Event}
+use Rattle.lot_history.specs.declared.view.Piece.{Piece}
+use Rattle.lot_history.specs.declared.view.View.{View}
+use Rattle.lot_history.specs.History.{events_by}
+use Rattle.lot_history.specs.Pieces.{Name, cover, AllSo}
+use Rattle.lot_history.specs.Moves.{Step-from, Moves, Regroups}
+use Rattle.lot_history.specs.Rule.{Knows, Kept}
+use Rattle.lot_history.specs.Views.{spent_view}
+use Rattle.lot_history.specs.Tells.{event, Adds, Looks}
+use Rattle.lot_history.proofs.EventLemmas.{prefix_self, prefix_nil, prefix_longer, events_by-own, events_by-other, LeadsTo-push}
+use Rattle.lot_history.proofs.PieceLemmas.{AlikeWhere, AllSo-alike, AllSo-append, cover-append}
+
+-- places in a list
+
+in_range : {A : Type 0} (l : List A) (i : ℕ) (a : A) → get_elem? l i ≡ some a → i < length l
+in_range [] i a at = absurd (some-ne-none a (sym at))
+in_range (x ∷ xs) zero a at = omega arith
+in_range (x ∷ xs) (suc i) a at = omega (arith, in_range xs i a at)
+
+at_end : {A : Type 0} (l : List A) (a b : A) (j : ℕ) → get_elem? (l ++ a ∷ []) j ≡ some b
+    → (get_elem? l j ≡ some b) ⊎ ((j ≡ length l) × (a ≡ b))
+at_end [] a b zero at = inr (refl, some-injective a b at)
+at_end [] a b (suc j) at = absurd (some-ne-none b (sym at))
+at_end (x ∷ xs) a b zero at = inl at
+at_end (x ∷ xs) a b (suc j) at = ⊎_elim inl (λ t. inr (ap suc t.0, t.1)) (at_end xs a b j at)
+
+module _ (max_threads : ℕ) (views : List View) (kept : Kept max_threads views) (id : ℕ) (v : View)
+    (at : get_elem? views id ≡ some v) where
+  abbrev own : Knows kept.events kept.machine kept.owner id v
+  own = kept.each id v at
+
+  below : id < length views
+  below = in_range views id v at
+
+  -- a seat knows otherwise of the same history
+  pub with_view : (w : View) → Knows kept.events kept.machine kept.owner id w → Kept max_threads (set views id w)
+  with_view w knows = record {
+    events = kept.events;
+    machine = kept.machine;
+    owner = kept.owner;
+    run = kept.run;
+    consistent = kept.consistent;
+    each = λ j u there. ⊎_elim
+        (λ t. subst (λ i. Knows kept.events kept.machine kept.owner i u) (sym t.0)
+        (subst (Knows kept.events kept.machine kept.owner id) t.1 knows))
+        (λ t. kept.each j u t.1) (at_set views id j w u there);
+    others = λ j high. kept.others j (subst (λ n. n ≤ j) (length-set views id w) high);
+  }
+
+  -- a look
+  pub looks : (w : View) × Kept max_threads (set views id w) × Looks max_threads id v w × IsPrefix v.heard w.seen
+  looks =
+      let w : View = record { seen = kept.events; heard = []; mine = v.mine; pieces = v.pieces } in (
+        w,
+        with_view w (record {
+          seen = prefix_self kept.events;
+          heard = prefix_nil kept.events;
+          mine = own.mine;
+          owns = own.owns;
+          once = own.once;
+          pieces = own.pieces;
+        }),
+        record {
+          machine = kept.machine;
+          seen = own.seen;
+          mine = refl;
+          all_mine = own.mine;
+          history = kept.run;
+          so = own.pieces;
+          pieces = refl;
+        },
+        own.heard,
+      )
+
+  -- the same parts in other pieces
+  pub regroups : (after : List Piece) → Regroups v.pieces after → Kept max_threads (set views id (record v { pieces = after }))
+  regroups after same = with_view (record v { pieces = after }) (record {
+    seen = own.seen;
+    heard = own.heard;
+    mine = own.mine;
+    owns = λ name covered. own.owns name (subst (λ n. 0 < n) (same.cover name) covered);
+    once = λ name. subst (λ n. n ≤ 1) (sym (same.cover name)) (own.once name);
+    pieces = same.pieces kept.machine own.pieces;
+  })
+
+  -- a step
+  module _ (said : Step → Answer → Type 0) (after : List Piece) (moves : Moves said v.pieces after) where
+    abbrev from : Step-from said kept.machine after
+    from = moves.step kept.machine kept.consistent own.pieces
+
+    abbrev added : Event
+    added = event max_threads id from.step from.answer
+
+    abbrev new_view : View
+    new_view =
+        record { seen = kept.events ++ added ∷ []; heard = []; mine = v.mine ++ added ∷ []; pieces = after }
+
+    own_knows : Knows (kept.events ++ added ∷ []) from.next kept.owner id new_view
+    own_knows = record {
+      seen = prefix_self (kept.events ++ added ∷ []);
+      heard = prefix_nil (kept.events ++ added ∷ []);
+      mine = events_by-own id kept.events added refl ∙ ap (λ es. es ++ added ∷ []) own.mine;
+      owns = λ name covered. own.owns name (subst (λ n. 0 < n) (moves.cover name) covered);
+      once = λ name. subst (λ n. n ≤ 1) (sym (moves.cover name)) (own.once name);
+      pieces = from.pieces;
+    }
+
+    alike : (j : ℕ) (u : View) → j ≢ id → Knows kept.events kept.machine kept.owner j u
+        → AlikeWhere kept.machine from.next (λ name. cover name u.pieces)
+    alike j u other knows name covered =
+        ⊎_elim (from.others name)
+        (λ (any : cover name after ≢ 0). let c = moves.cover name in
+        let more : 0 < cover name v.pieces = omega arith in
+        absurd (other (sym (knows.owns name covered) ∙ own.owns name more)))
+        (cases_eq (cover name after) 0)
+
+    other_knows : (j : ℕ) (u : View) → j ≢ id → Knows kept.events kept.machine kept.owner j u
+        → Knows (kept.events ++ added ∷ []) from.next kept.owner j u
+    other_knows j u other knows = record {
+      seen = prefix_longer u.seen kept.events (added ∷ []) knows.seen;
+      heard = prefix_longer u.heard kept.events (added ∷ []) knows.heard;
+      mine = events_by-other j kept.events added (λ e. other (sym e)) ∙ knows.mine;
+      owns = knows.owns;
+      once = knows.once;
+      pieces = AllSo-alike kept.machine from.next u.pieces (alike j u other knows) knows.pieces;
+    }
+
+    stepped : Kept max_threads (set views id new_view)
+    stepped = record {
+      events = kept.events ++ added ∷ [];
+      machine = from.next;
+      owner = kept.owner;
+      run = LeadsTo-push max_threads kept.events added kept.machine from.next kept.run from.does;
+      consistent = IsConsistent-step kept.machine from.step from.answer from.next kept.consistent from.does;
+      each = λ j u there. ⊎_elim
+          (λ t. subst (λ i. Knows (kept.events ++ added ∷ []) from.next kept.owner i u) (sym t.0)
+          (subst (Knows (kept.events ++ added ∷ []) from.next kept.owner id) t.1 own_knows))
+          (λ t. other_knows j u t.0 (kept.each j u t.1)) (at_set views id j new_view u there);
+      others = λ j high. let far : length views ≤ j = subst (λ n. n ≤ j) (length-set views id new_view) high in
+          events_by-other j kept.events added (λ e. absurd (let b = below in omega arith)) ∙ kept.others j far;
+    }
+
+    pub adds : (w : View) × Kept max_threads (set views id w) × Adds max_threads id said v w × (w.pieces ≡ after)
+    adds = (
+      new_view,
+      stepped,
+      record {
+        step = from.step;
+        answer = from.answer;
+        is_said = from.is_said;
+        extends = record {
+          between = own.seen.0;
+          seen = ap (λ es. es ++ added ∷ []) (sym own.seen.1);
+          mine = refl;
+          all_mine = own_knows.mine;
+          history = (from.next, LeadsTo-push max_threads kept.events added kept.machine from.next kept.run from.does);
+        };
+      },
+      refl,
+    )
+
+  -- a new seat is given some pieces of this one, and has seen this much
+  module _ (seen : List Event) (begins : IsPrefix seen kept.events) (ps qs : List Piece)
+      (parts : (name : Name) → cover name ps + cover name qs ≡ cover name v.pieces)
+      (left_so : AllSo kept.machine ps) (right_so : AllSo kept.machine qs) where
+    abbrev left : View
+    left = record v { pieces = ps }
+
+    abbrev right : View
+    right = record { seen = seen; heard = []; mine = []; pieces = qs }
+
+    abbrev new : ℕ
+    new = length views
+
+    abbrev owner : Name → ℕ
+    owner name = cond (cover name qs == 0) (kept.owner name) new
+
+    owner-kept : (name : Name) → cover name qs ≡ 0 → owner name ≡ kept.owner name
+    owner-kept name none = cond-true (cover name qs == 0) (kept.owner name) new (eq-eqb (cover name qs) 0 none)
+
+    owner-new : (name : Name) → cover name qs ≢ 0 → owner name ≡ new
+    owner-new name any = cond-false (cover name qs == 0) (kept.owner name) new (ne_eqb (cover name qs) 0 any)
+
+    left_knows : Knows kept.events kept.machine owner id left
+    left_knows = record {
+      seen = own.seen;
+      heard = own.heard;
+      mine = own.mine;
+      owns = λ name covered. let p = parts name in let o = own.once name in
+          owner-kept name (omega arith) ∙ own.owns name (omega arith);
+      once = λ name. let p = parts name in let o = own.once name in omega arith;
+      pieces = left_so;
+    }
+
+    right_knows : Knows kept.events kept.machine owner new right
+    right_knows = record {
+      seen = begins;
+      heard = prefix_nil kept.events;
+      mine = kept.others new (omega arith);
+      owns = λ name covered. owner-new name (λ none. absurd (omega arith));
+      once = λ name. let p = parts name in let o = own.once name in omega arith;
+      pieces = right_so;
+    }
+
+    rest_knows : (j : ℕ) (u : View) → j ≢ id → Knows kept.events kept.machine kept.owner j u
+        → Knows kept.events kept.machine owner j u
+    rest_knows j u other knows = record {
+      seen = knows.seen;
+      heard = knows.heard;
+      mine = knows.mine;
+      owns = λ name covered. ⊎_elim
+          (λ (none : cover name qs ≡ 0). owner-kept name none ∙ knows.owns name covered)
+          (λ (any : cover name qs ≢ 0). let p = parts name in let more : 0 < cover name v.pieces = omega arith in
+          absurd (other (sym (knows.owns name covered) ∙ own.owns name more)))
+          (cases_eq (cover name qs) 0);
+      once = knows.once;
+      pieces = knows.pieces;
+    }
+
+    pub splits : Kept max_threads (set views id left ++ right ∷ [])
+    splits = record {
+      events = kept.events;
+      machine = kept.machine;
+      owner = owner;
+      run = kept.run;
+      consistent = kept.consistent;
+      each = λ j u there. ⊎_elim
+          (λ here. ⊎_elim
+          (λ t. subst (λ i. Knows kept.events kept.machine owner i u) (sym t.0)
+          (subst (Knows kept.events kept.machine owner id) t.1 left_knows))
+          (λ t. rest_knows j u t.0 (kept.each j u t.1)) (at_set views id j left u here))
+          (λ t. subst (λ i. Knows kept.events kept.machine owner i u) (sym (t.0 ∙ length-set views id left))
+          (subst (Knows kept.events kept.machine owner new) t.1 right_knows))
+          (at_end (set views id left) right u j there);
+      others = λ j high. kept.others j (let l = length-set views id left in let a = length-append (set views id left) (right ∷ []) in omega arith);
+    }
+
+  -- another seat, which has added nothing, gives its pieces to this one, and tells what it has seen
+  module _ (other : ℕ) (w : View) (apart : other ≢ id) (there : get_elem? views other ≡ some w) (quiet : w.mine ≡ []) where
+    abbrev their : Knows kept.events kept.machine kept.owner other w
+    their = kept.each other w there
+
+    abbrev both : View
+    both = record { seen = v.seen; heard = w.seen; mine = v.mine; pieces = v.pieces ++ w.pieces }
+
+    abbrev new_owner : Name → ℕ
+    new_owner name = cond (cover name w.pieces == 0) (kept.owner name) id
+
+    new_owner-kept : (name : Name) → cover name w.pieces ≡ 0 → new_owner name ≡ kept.owner name
+    new_owner-kept name none =
+        cond-true (cover name w.pieces == 0) (kept.owner name) id (eq-eqb (cover name w.pieces) 0 none)
+
+    new_owner-own : (name : Name) → cover name w.pieces ≢ 0 → new_owner name ≡ id
+    new_owner-own name any =
+        cond-false (cover name w.pieces == 0) (kept.owner name) id (ne_eqb (cover name w.pieces) 0 any)
+
+    -- no name is covered by both
+    disjoint : (name : Name) → 0 < cover name w.pieces → cover name v.pieces ≡ 0
+    disjoint name covered =
+        ⊎_elim (λ (none : cover name v.pieces ≡ 0). none)
+        (λ (any : cover name v.pieces ≢ 0). let more : 0 < cover name v.pieces = omega arith in
+        absurd (apart (sym (their.owns name covered) ∙ own.owns name more)))
+        (cases_eq (cover name v.pieces) 0)
+
+    both_knows : Knows kept.events kept.machine new_owner id both
+    both_knows = record {
+      seen = own.seen;
+      heard = their.seen;
+      mine = own.mine;
+      owns = λ name covered. ⊎_elim
+          (λ (none : cover name w.pieces ≡ 0). new_owner-kept name none
+          ∙ own.owns name (let c = cover-append name v.pieces w.pieces in omega arith))
+          (new_owner-own name)
+          (cases_eq (cover name w.pieces) 0);
+      once = λ name. let c = cover-append name v.pieces w.pieces in let o = own.once name in let t = their.once name in
+          ⊎_elim (λ (none : cover name w.pieces ≡ 0). let z = none in omega arith)
+          (λ (any : cover name w.pieces ≢ 0). let d = disjoint name (omega arith) in omega arith)
+          (cases_eq (cover name w.pieces) 0);
+      pieces = AllSo-append kept.machine v.pieces w.pieces own.pieces their.pieces;
+    }
+
+    spent_knows : Knows kept.events kept.machine new_owner other spent_view
+    spent_knows = record {
+      seen = prefix_nil kept.events;
+      heard = prefix_nil kept.events;
+      mine = their.mine ∙ quiet;
+      owns = λ name covered. absurd (omega arith);
+      once = λ name. omega arith;
+      pieces = tt;
+    }
+
+    third_knows : (j : ℕ) (u : View) → j ≢ other → Knows kept.events kept.machine kept.owner j u
+        → Knows kept.events kept.machine new_owner j u
+    third_knows j u else knows = record {
+      seen = knows.seen;
+      heard = knows.heard;
+      mine = knows.mine;
+      owns = λ name covered. ⊎_elim
+          (λ (none : cover name w.pieces ≡ 0). new_owner-kept name none ∙ knows.owns name covered)
+          (λ (any : cover name w.pieces ≢ 0). let more : 0 < cover name w.pieces = omega arith in
+          absurd (else (sym (knows.owns name covered) ∙ their.owns name more)))
+          (cases_eq (cover name w.pieces) 0);
+      once = knows.once;
+      pieces = knows.pieces;
+    }
+
+    pub joins : Kept max_threads (set (set views id both) other spent_view)
+    joins = record {
+      events = kept.events;
+      machine = kept.machine;
+      owner = new_owner;
+      run = kept.run;
+      consistent = kept.consistent;
+      each = λ j u now. ⊎_elim
+          (λ t. subst (λ i. Knows kept.events kept.machine new_owner i u) (sym t.0)
+          (subst (Knows kept.events kept.machine new_owner other) t.1 spent_knows))
+          (λ t. ⊎_elim
+          (λ s. subst (λ i. Knows kept.events kept.machine new_owner i u) (sym s.0)
+          (subst (Knows kept.events kept.machine new_owner id) s.1 both_knows))
+          (λ s. third_knows j u t.0 (kept.each j u s.1)) (at_set views id j both u t.1))
+          (at_set (set views id both) other j spent_view u now);
+      others = λ j high. kept.others j (let a = length-set views id both in let b = length-set (set views id both) other spent_view in omega arith);
+    }
+
+-- what a seat learns by a look, once another without pieces was joined to it
+pub looks-joined : (max_threads number same_number : ℕ) (old joined new : View) (heard : List Event)
+    (pieces : List Piece) → same_number ≡ number → joined ≡ record old { heard = heard; pieces = old.pieces ++ pieces }
+    → pieces ≡ [] → Looks max_threads same_number joined new → Looks max_threads number old new
+looks-joined max_threads number same_number old joined new heard pieces same is none looks = record {
+  machine = looks.machine;
+  seen = subst (λ es. IsPrefix es new.seen) (ap (λ (v : View). v.seen) is) looks.seen;
+  mine = looks.mine ∙ ap (λ (v : View). v.mine) is;
+  all_mine = subst (λ n. events_by n new.seen ≡ new.mine) same looks.all_mine;
+  history = looks.history;
+  so = looks.so;
+  pieces = looks.pieces ∙ (ap (λ (v : View). v.pieces) is
+      ∙ (ap (λ ps. old.pieces ++ ps) none ∙ append-nil old.pieces));
+}

@@ -1,0 +1,111 @@
+-- The rule allows what a seat does at the history's word.
+use Rattle.std.proofs.Common.{◌≡◌, ℕ, zero, suc, ◌≤◌, ◌==◌, Bool, true, false, cond, List, [], ◌∷◌, ◌++◌, ◌+◌, ◌∙◌, refl, sym, subst, arith}
+use mathlib.Core.List.{IsPrefix}
+use mathlib.Core.Option.{some, some-injective, some-ne-none}
+use lib.ListN.{get_elem?}
+use Rattle.atomic_table.specs.Table.{State, Me, keeps, Allows, Splits, Joins}
+use Rattle.atomic_table.proofs.Lists.{set_else}
+use Rattle.lot_exclusive.specs.declared.schedule.Answer.{Answer}
+use Rattle.lot_exclusive.specs.declared.schedule.Step.{Step}
+use Rattle.lot_history.specs.declared.view.Piece.{Piece}
+use Rattle.lot_history.specs.declared.view.View.{View}
+use Rattle.lot_history.specs.Moves.{Moves, Regroups}
+use Rattle.lot_base.specs.Place.{place_of}
+use Rattle.lot_exclusive.specs.Machine.{Machine, new_machine}
+use Rattle.lot_exclusive.proofs.StepLemmas.{IsConsistent-new}
+use Rattle.lot_history.specs.Pieces.{Name, list, thread, records, numbers, cover, AllSo}
+use Rattle.lot_history.specs.Rule.{Knows, Kept}
+use Rattle.lot_history.specs.Views.{all_pieces, first_view, told_view, spent_view, first_of, rest_of, part_view}
+use Rattle.lot_history.proofs.EventLemmas.{prefix_nil}
+use Rattle.lot_history.specs.Tells.{Adds, Looks}
+use Rattle.lot_history.proofs.RuleLemmas.{adds, looks, regroups, splits, joins}
+
+-- the rule, as the table of a history has it
+abbrev pub Holds : ℕ → State (Unit {0}) View → Type 0
+Holds max_threads s = Kept max_threads s.views
+
+module _ (max_threads slots id : ℕ) (me : Me (Unit {0}) View) where
+  pub adds_allowed : (said : Step → Answer → Type 0) (after : List Piece) → Moves said me.0.pieces after
+      → Allows (Holds max_threads) slots id me 0 (λ n. n)
+      (λ r n. Adds max_threads id said me.0 n.0 × (n.0.pieces ≡ after) × (n.1 ≡ me.1))
+  adds_allowed said after moves s kept sized at wide =
+      let next = adds max_threads s.views kept id me.0 at said after moves in
+      (next.0, keeps, tt, next.1, (next.2, next.3, refl))
+
+  pub looks_allowed : Allows (Holds max_threads) slots id me 0 (λ n. n)
+      (λ r n. Looks max_threads id me.0 n.0 × IsPrefix me.0.heard n.0.seen × (n.1 ≡ me.1))
+  looks_allowed s kept sized at wide =
+      let next = looks max_threads s.views kept id me.0 at in (next.0, keeps, tt, next.1, (next.2, next.3, refl))
+
+  pub regroups_allowed : (after : List Piece) → Regroups me.0.pieces after
+      → Allows (Holds max_threads) slots id me 0 (λ n. n) (λ r n. n ≡ (record me.0 { pieces = after }, me.1))
+  regroups_allowed after same s kept sized at wide =
+      (record me.0 { pieces = after }, keeps, tt, regroups max_threads s.views kept id me.0 at after same, refl)
+
+module _ (max_threads id : ℕ) (v : View) where
+  pub tells_allowed : Splits (Holds max_threads) id v v (told_view v.seen)
+  tells_allowed s kept at =
+      let own = kept.each id v at in
+      splits max_threads s.views kept id v at v.seen own.seen v.pieces [] (λ name. omega arith) own.pieces tt
+
+  pub gives_allowed : Splits (Holds max_threads) id v (record v { pieces = rest_of v.pieces }) (part_view (first_of v.pieces))
+  gives_allowed s kept at =
+      let own = kept.each id v at in
+      splits max_threads s.views kept id v at [] (prefix_nil kept.events) (rest_of v.pieces) (first_of v.pieces)
+      (parts v.pieces) (AllSo-rest kept.machine v.pieces own.pieces) (AllSo-first kept.machine v.pieces own.pieces)
+    where
+      parts : (pieces : List Piece) (name : Name) → cover name (rest_of pieces) + cover name (first_of pieces) ≡ cover name pieces
+      parts [] name = omega arith
+      parts (piece ∷ pieces) name = omega arith
+
+      AllSo-rest : (m : Machine) (pieces : List Piece) → AllSo m pieces → AllSo m (rest_of pieces)
+      AllSo-rest m [] so = so
+      AllSo-rest m (piece ∷ pieces) so = so.1
+
+      AllSo-first : (m : Machine) (pieces : List Piece) → AllSo m pieces → AllSo m (first_of pieces)
+      AllSo-first m [] so = so
+      AllSo-first m (piece ∷ pieces) so = (so.0, tt)
+
+  pub takes_allowed : (other : ℕ) (w : View) → w.mine ≡ []
+      → Joins (Holds max_threads) id v other w (record v { heard = w.seen; pieces = v.pieces ++ w.pieces }) spent_view
+  takes_allowed other w quiet s kept at apart there =
+      let both : View = record v { heard = w.seen; pieces = v.pieces ++ w.pieces } in
+      joins max_threads s.views kept id v at other w apart (sym (set_else s.views id other both apart) ∙ there) quiet
+
+-- a new history
+
+first_once : (name : Name) → cover name all_pieces ≤ 1
+first_once (list key) = at_most_one (place_of key 1 == 0)
+  where
+    at_most_one : (b : Bool) → cond b 1 0 + 0 ≤ 1
+    at_most_one true = omega arith
+    at_most_one false = omega arith
+first_once (thread number) = omega arith
+first_once (records number) = omega arith
+first_once numbers = omega arith
+
+pub opens : (max_threads : ℕ) → Kept max_threads (first_view ∷ [])
+opens max_threads = record {
+  events = [];
+  machine = new_machine max_threads;
+  owner = λ _. 0;
+  run = refl;
+  consistent = IsConsistent-new max_threads;
+  each = each;
+  others = λ id high. refl;
+}
+  where
+    knows : Knows [] (new_machine max_threads) (λ _. 0) 0 first_view
+    knows = record {
+      seen = prefix_nil [];
+      heard = prefix_nil [];
+      mine = refl;
+      owns = λ name covered. refl;
+      once = first_once;
+      pieces = ((λ key here. refl, tt), ((λ number. refl, λ number free. refl), tt));
+    }
+
+    each : (id : ℕ) (view : View) → get_elem? (first_view ∷ []) id ≡ some view
+        → Knows [] (new_machine max_threads) (λ _. 0) id view
+    each zero view at = subst (Knows [] (new_machine max_threads) (λ _. 0) 0) (some-injective first_view view at) knows
+    each (suc id) view at = absurd (some-ne-none view (sym at))

@@ -1,0 +1,13 @@
+use Rattle.std.proofs.Common.{rules}
+use Rattle.lot_history.proofs.StepLemmas.{looks_allowed}
+use Rattle.lot_history.proofs.history.History.look_as.Goals as goal
+
+pub load-requires : goal.load-requires
+load-requires g c =
+    let shared = c.args.self.now.table.shared in
+    let seat = c.args.me.now.seat in (
+      c.requires.witness.table,
+      search rules,
+      rw (c.requires.max_threads, c.requires.number)
+          (looks_allowed shared.key shared.table_id.slots seat.id seat.me),
+    )

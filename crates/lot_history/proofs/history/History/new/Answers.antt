@@ -1,0 +1,5 @@
+use Rattle.lot_history.proofs.StepLemmas.{opens}
+use Rattle.lot_history.proofs.history.History.new.Goals as goal
+
+pub of_words-requires : goal.of_words-requires
+of_words-requires c = opens c.args.max_threads

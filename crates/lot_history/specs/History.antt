@@ -1,0 +1,20 @@
+-- Histories: events, each a step of the machine with its answer and who added it.
+use Rattle.std.specs.Prelude.{ℕ, ◌==◌, List, map, filter}
+use Rattle.lot_exclusive.specs.Machine.{Machine, new_machine}
+use Rattle.lot_exclusive.specs.Run.{IsRun}
+use Rattle.lot_exclusive.specs.Steps.{IsStep}
+use Rattle.lot_history.specs.declared.event.Event.{Event}
+
+-- the steps of these events, one after another, lead from a new machine for so many threads to this one, and each
+-- answers as its event says
+abbrev pub LeadsTo : ℕ → List Event → Machine → Type 0
+LeadsTo max_threads events last =
+    IsRun IsStep (new_machine max_threads) (map (λ event. event.step) events) (map (λ event. event.answer) events) last
+
+-- the events are a run of the machine with one list for each key, from a new one
+abbrev pub IsHistory : ℕ → List Event → Type 0
+IsHistory max_threads events = (last : Machine) × LeadsTo max_threads events last
+
+-- the events that one witness added
+abbrev pub events_by : ℕ → List Event → List Event
+events_by witness events = filter (λ event. event.by == witness) events

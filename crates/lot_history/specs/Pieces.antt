@@ -1,0 +1,81 @@
+-- The parts of the machine that one seat alone may change, its pieces.
+use Rattle.std.specs.Prelude.{◌≡◌, ℕ, ◌+◌, ◌==◌, Bool, false, if◌then◌else◌, cond, ⊤, List, [], ◌∷◌, map, filter, slice_index_or}
+use Rattle.lot_base.specs.Place.{place_of}
+use Rattle.lot_exclusive.specs.declared.lot.Status.{Status}
+use Rattle.lot_exclusive.specs.declared.lot.Status.TheVariants as status
+use Rattle.lot_exclusive.specs.Machine.{Machine, Waiter}
+use Rattle.lot_exclusive.specs.Records.{times_recorded}
+use Rattle.lot_exclusive.specs.Status.{is_registered}
+use Rattle.lot_history.specs.declared.view.Standing.{Standing}
+use Rattle.lot_history.specs.declared.view.Piece.{Piece}
+use Rattle.lot_history.specs.declared.view.Piece.TheVariants.{Lists, Thread, Records, Numbers}
+
+-- what a piece may be about: the list of a key, the status of a thread, its records, and which numbers are registered
+pub data Name : Type 0 where
+  list : ℕ → Name
+  thread : ℕ → Name
+  records : ℕ → Name
+  numbers : Name
+
+-- whether a number is registered
+abbrev pub has_number : List Bool → ℕ → Bool
+has_number uses number = slice_index_or uses number false
+
+-- how often a thread stands there
+abbrev pub times_standing : ℕ → List Standing → ℕ
+times_standing number [] = 0
+times_standing number (each ∷ standing) = cond (each.number == number) 1 0 + times_standing number standing
+
+-- how often a piece covers a name
+abbrev pub covers : Name → Piece → ℕ
+covers (list key) (Lists size place standing) = cond (place_of key size == place) 1 0
+covers (thread number) (Lists size place standing) = times_standing number standing
+covers (thread number) (Thread other status) = cond (number == other) 1 0
+covers (records number) (Records other keys) = cond (number == other) 1 0
+covers (thread number) (Numbers uses) = cond (has_number uses number) 0 1
+covers (records number) (Numbers uses) = cond (has_number uses number) 0 1
+covers numbers (Numbers uses) = 1
+covers _ _ = 0
+
+-- and how often several do
+abbrev pub cover : Name → List Piece → ℕ
+cover name [] = 0
+cover name (piece ∷ pieces) = covers name piece + cover name pieces
+
+-- two machines are alike in what a name is about
+abbrev pub Alike : Machine → Machine → Name → Type 0
+Alike m other (list key) = m.lists key ≡ other.lists key
+Alike m other (thread number) = m.status number ≡ other.status number
+Alike m other (records number) = m.records number ≡ other.records number
+Alike m other numbers = (number : ℕ) → is_registered (m.status number) ≡ is_registered (other.status number)
+
+-- a thread in a list as the machine has it, and its status
+abbrev pub waiter_of : Standing → Waiter
+waiter_of each = record { number = each.number; park_token = each.park_token; timed = each.timed }
+
+abbrev pub status_of : Standing → Status
+status_of each = if each.late then status.Late else status.Waiting each.timed
+
+-- the list of a key, among those of its place
+abbrev pub list_of : ℕ → List Standing → List Waiter
+list_of key standing = map waiter_of (filter (λ each. each.key == key) standing)
+
+-- each of these threads has the status that it has there
+abbrev pub AllStand : Machine → List Standing → Type 0
+AllStand m [] = ⊤
+AllStand m (each ∷ standing) = (m.status each.number ≡ status_of each) × AllStand m standing
+
+-- the machine is as the piece says
+abbrev pub IsSo : Machine → Piece → Type 0
+IsSo m (Lists size place standing) =
+    ((key : ℕ) → place_of key size ≡ place → m.lists key ≡ list_of key standing) × AllStand m standing
+IsSo m (Thread number status) = m.status number ≡ status
+IsSo m (Records number keys) = m.records number ≡ times_recorded keys
+IsSo m (Numbers uses) =
+    ((number : ℕ) → is_registered (m.status number) ≡ has_number uses number)
+    × ((number : ℕ) → has_number uses number ≡ false → m.records number ≡ times_recorded [])
+
+-- and as all of these say
+abbrev pub AllSo : Machine → List Piece → Type 0
+AllSo m [] = ⊤
+AllSo m (piece ∷ pieces) = IsSo m piece × AllSo m pieces

@@ -1,0 +1,30 @@
+-- What holds of the history and of all seats between any two steps.
+use Rattle.std.specs.Prelude.{◌≡◌, ℕ, ◌<◌, ◌≤◌, List, [], length}
+use mathlib.Core.List.{IsPrefix}
+use mathlib.Core.Option.{some}
+use lib.ListN.{get_elem?}
+use Rattle.lot_exclusive.specs.Machine.{Machine, IsConsistent}
+use Rattle.lot_history.specs.declared.event.Event.{Event}
+use Rattle.lot_history.specs.declared.view.View.{View}
+use Rattle.lot_history.specs.History.{LeadsTo, events_by}
+use Rattle.lot_history.specs.Pieces.{Name, cover, AllSo}
+
+-- what a seat knows is so, of the events so far and the machine that they lead to, where each name has one owner
+pub record Knows (events : List Event) (m : Machine) (owner : Name → ℕ) (id : ℕ) (view : View) : Type 0 where
+  pub seen : IsPrefix view.seen events
+  pub heard : IsPrefix view.heard events
+  pub mine : events_by id events ≡ view.mine
+  pub owns : (name : Name) → 0 < cover name view.pieces → owner name ≡ id
+  pub once : (name : Name) → cover name view.pieces ≤ 1
+  pub pieces : AllSo m view.pieces
+
+-- there are events, a run of the machine for so many threads from a new one, of which all that the seats know is so; and
+-- no other has added any
+pub record Kept (max_threads : ℕ) (views : List View) : Type 0 where
+  pub events : List Event
+  pub machine : Machine
+  pub owner : Name → ℕ
+  pub run : LeadsTo max_threads events machine
+  pub consistent : IsConsistent machine
+  pub each : (id : ℕ) (view : View) → get_elem? views id ≡ some view → Knows events machine owner id view
+  pub others : (id : ℕ) → length views ≤ id → events_by id events ≡ []

@@ -1,0 +1,43 @@
+-- What a call tells: of what its caller knew before, and knows then. All of these are of the history for so many threads,
+-- and of the seat with this number.
+use Rattle.std.specs.Prelude.{◌≡◌, ℕ, List, [], ◌∷◌, ◌++◌}
+use mathlib.Core.List.{IsPrefix}
+use Rattle.lot_exclusive.specs.declared.schedule.Answer.{Answer}
+use Rattle.lot_exclusive.specs.declared.schedule.Step.{Step}
+use Rattle.lot_exclusive.specs.Machine.{Machine}
+use Rattle.lot_history.specs.declared.event.Event.{Event}
+use Rattle.lot_history.specs.declared.view.View.{View}
+use Rattle.lot_history.specs.History.{IsHistory, LeadsTo, events_by}
+use Rattle.lot_history.specs.Pieces.{AllSo}
+
+module _ (max_threads number : ℕ) where
+  -- a step with its answer, added by the seat
+  abbrev pub event : Step → Answer → Event
+  event step answer = record { by = number; step = step; answer = answer }
+
+  -- the call made this step: what is seen then begins with all that was seen before, ends with the step, and is a
+  -- history; and of the seat's own events it has those before, this one, and no others
+  pub record Extends (old : View) (step : Step) (answer : Answer) (new : View) : Type 0 where
+    pub between : List Event
+    pub seen : new.seen ≡ (old.seen ++ between) ++ event step answer ∷ []
+    pub mine : new.mine ≡ old.mine ++ event step answer ∷ []
+    pub all_mine : events_by number new.seen ≡ new.mine
+    pub history : IsHistory max_threads new.seen
+
+  -- the call made one step, of which this is said
+  pub record Adds (said : Step → Answer → Type 0) (old new : View) : Type 0 where
+    pub step : Step
+    pub answer : Answer
+    pub is_said : said step answer
+    pub extends : Extends old step answer new
+
+  -- the call made no step: what is seen then is a history, and begins with all that was seen before; it leads to a
+  -- machine which is as the pieces say; and of the seat's own events it has those before and no others
+  pub record Looks (old new : View) : Type 0 where
+    pub machine : Machine
+    pub seen : IsPrefix old.seen new.seen
+    pub mine : new.mine ≡ old.mine
+    pub all_mine : events_by number new.seen ≡ new.mine
+    pub history : LeadsTo max_threads new.seen machine
+    pub so : AllSo machine new.pieces
+    pub pieces : new.pieces ≡ old.pieces

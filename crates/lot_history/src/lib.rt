@@ -1,0 +1,8 @@
+//! One history of what threads do to a parking lot. It exists in the proofs alone: at run time it
+//! is a word that never changes.
+#![tactic(auto)]
+
+pub mod event;
+pub mod history;
+pub mod plays;
+pub mod view;

@@ -1,0 +1,129 @@
+//! The rule of a history's table, and what its steps tell. These types are for the proofs alone.
+
+use crate::view::View;
+use atomic_table::{Join, Play, Split, TableRule};
+use std::marker::{Brand, PhantomData};
+
+/// What holds of the history and of all seats between any two steps.
+pub struct OneHistory;
+
+impl TableRule<(), View, usize> for OneHistory {
+    ghost use Rattle.lot_history.specs.Rule.{Kept};
+    ghost use Rattle.lot_history.specs.Views.{first_view};
+
+    ghost holds = { λ max_threads s. Kept max_threads s.views };
+
+    ghost first = { λ max_threads. first_view };
+}
+
+/// Which step `History::add` makes, by what is said of it and of its answer. Whoever calls a
+/// function that is generic in it picks that, and may name what a closure answers.
+pub trait Told {
+    ghost use Rattle.lot_exclusive.specs.declared.schedule.Answer.{Answer};
+    ghost use Rattle.lot_exclusive.specs.declared.schedule.Step.{Step};
+
+    ghost said: { Step → Answer → Type 0 };
+}
+
+/// Where a call picks nothing, it is a trim.
+impl Told for Brand {
+    ghost use Rattle.std.specs.Prelude.{◌≡◌};
+    ghost use Rattle.lot_exclusive.specs.declared.schedule.Step.TheVariants.{Trim};
+
+    ghost said = { λ step _. step ≡ Trim };
+}
+
+/// Of which history a step is, by which seat, and which pieces it leaves. Each call in this crate
+/// picks it.
+pub(crate) trait Seated {
+    ghost use Rattle.std.specs.Prelude.{ℕ, List};
+    ghost use Rattle.lot_history.specs.declared.view.Piece.{Piece};
+
+    ghost max_threads: { ℕ };
+
+    ghost number: { ℕ };
+
+    ghost after: { List Piece };
+}
+
+impl Seated for Brand {
+    ghost use Rattle.std.specs.Prelude.{[]};
+
+    ghost max_threads = { 0 };
+
+    ghost number = { 0 };
+
+    ghost after = { [] };
+}
+
+/// A step of the machine is made.
+pub(crate) struct Add<E, C> {
+    of: PhantomData<(E, C)>,
+}
+
+impl<E: Told, C: Seated> Play<(), View> for Add<E, C> {
+    ghost use Rattle.std.specs.Prelude.{◌≡◌};
+    ghost use Rattle.lot_history.specs.Tells.{Adds};
+
+    ghost then = { λ _ m _ n.
+        Adds C.max_threads C.number E.said m.0 n.0 × (n.0.pieces ≡ C.after) × (n.1 ≡ m.1) };
+}
+
+/// The history is seen as it is. What was heard of it begins it.
+pub(crate) struct Look<C> {
+    of: PhantomData<C>,
+}
+
+impl<C: Seated> Play<(), View> for Look<C> {
+    ghost use Rattle.std.specs.Prelude.{◌≡◌};
+    ghost use mathlib.Core.List.{IsPrefix};
+    ghost use Rattle.lot_history.specs.Tells.{Looks};
+
+    ghost then = { λ _ m _ n.
+        Looks C.max_threads C.number m.0 n.0 × IsPrefix m.0.heard n.0.seen × (n.1 ≡ m.1) };
+}
+
+/// The pieces of a seat are put together otherwise.
+pub(crate) struct Regroup<C> {
+    of: PhantomData<C>,
+}
+
+impl<C: Seated> Play<(), View> for Regroup<C> {
+    ghost use Rattle.std.specs.Prelude.{◌≡◌};
+
+    ghost then = { λ _ m _ n. n ≡ (record m.0 { pieces = C.after }, m.1) };
+}
+
+/// A seat tells a new one what it has seen.
+pub(crate) struct Telling;
+
+impl Split<View> for Telling {
+    ghost use Rattle.lot_history.specs.Views.{told_view};
+
+    ghost left = { λ v. v };
+
+    ghost right = { λ v. told_view v.seen };
+}
+
+/// A seat gives a new one its first piece.
+pub(crate) struct Giving;
+
+impl Split<View> for Giving {
+    ghost use Rattle.lot_history.specs.Views.{first_of, part_view, rest_of};
+
+    ghost left = { λ v. record v { pieces = rest_of v.pieces } };
+
+    ghost right = { λ v. part_view (first_of v.pieces) };
+}
+
+/// A seat takes in what another has seen, and its pieces.
+pub(crate) struct Taking;
+
+impl Join<View> for Taking {
+    ghost use Rattle.std.specs.Prelude.{◌++◌};
+    ghost use Rattle.lot_history.specs.Views.{spent_view};
+
+    ghost both = { λ v w. record v { heard = w.seen; pieces = v.pieces ++ w.pieces } };
+
+    ghost spent = { spent_view };
+}
