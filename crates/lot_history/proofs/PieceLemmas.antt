@@ -1,12 +1,15 @@
 -- What pieces cover, and that they stay so where a machine is alike in that.
-use Rattle.std.proofs.Common.{◌≡◌, ℕ, ◌+◌, ◌<◌, List, [], ◌∷◌, ◌++◌, refl, sym, ◌∙◌, arith}
-use Rattle.std.proofs.lemmas.Bool.{eq-eqb}
+use Rattle.std.proofs.Common.{◌≡◌, ◌≢◌, ℕ, ◌+◌, ◌<◌, ◌≤◌, ◌==◌, Bool, true, false, cond, filter, map, List, [], ◌∷◌, ◌++◌, length, refl, sym, ap, ◌∙◌, ⊎_elim, arith}
+use Rattle.std.proofs.lemmas.Bool.{cases_eq, eq-eqb, ne_eqb, cond-true}
 use Rattle.lot_base.specs.Place.{place_of}
-use Rattle.lot_exclusive.specs.Machine.{Machine}
+use Rattle.lot_exclusive.specs.declared.lot.Status.{Status}
+use Rattle.lot_exclusive.specs.declared.lot.Status.TheVariants as status
+use Rattle.lot_exclusive.specs.Machine.{Machine, Waiter, times_in, entries_of}
+use Rattle.lot_exclusive.specs.Status.{is_registered}
 use Rattle.lot_history.specs.declared.view.Standing.{Standing}
 use Rattle.lot_history.specs.declared.view.Piece.{Piece}
 use Rattle.lot_history.specs.declared.view.Piece.TheVariants.{Lists, Thread, Records, Numbers}
-use Rattle.lot_history.specs.Pieces.{Name, list, thread, records, numbers, covers, cover, times_standing, Alike, AllStand, IsSo, AllSo}
+use Rattle.lot_history.specs.Pieces.{Name, list, thread, records, numbers, covers, cover, times_standing, Alike, waiter_of, AllStand, IsList, at_key, IsSo, AllSo}
 
 pub cover-append : (name : Name) (ps qs : List Piece) → cover name (ps ++ qs) ≡ cover name ps + cover name qs
 cover-append name [] qs = omega arith
@@ -16,6 +19,15 @@ pub AllSo-append : (m : Machine) (ps qs : List Piece) → AllSo m ps → AllSo m
 AllSo-append m [] qs _ others = others
 AllSo-append m (p ∷ ps) qs (first, rest) others = (first, AllSo-append m ps qs rest others)
 
+-- what a piece is about
+
+pub own_thread : (number other : ℕ) (s : Status) → number ≡ other → covers (thread number) (Thread other s) ≡ 1
+own_thread number other s same = cond-true (other == number) 1 0 (eq-eqb other number (sym same))
+
+pub own_list : (key size place : ℕ) (standing : List Standing) → place_of key size ≡ place
+    → covers (list key) (Lists size place standing) ≡ 1
+own_list key size place standing here = cond-true (place_of key size == place) 1 0 (eq-eqb (place_of key size) place here)
+
 -- two machines that are alike in each name which is covered
 abbrev pub AlikeWhere : Machine → Machine → (Name → ℕ) → Type 0
 AlikeWhere m next count = (name : Name) → 0 < count name → Alike m next name
@@ -23,27 +35,36 @@ AlikeWhere m next count = (name : Name) → 0 < count name → Alike m next name
 stands-first : (each : Standing) (standing : List Standing) → 0 < times_standing each.number (each ∷ standing)
 stands-first each standing = rw (eq-eqb each.number each.number refl) (omega arith)
 
-stands-alike : (m next : Machine) (standing : List Standing) (size place : ℕ)
-    → AlikeWhere m next (λ name. covers name (Lists size place standing)) → AllStand m standing → AllStand next standing
-stands-alike m next [] size place alike _ = tt
-stands-alike m next (each ∷ standing) size place alike (first, rest) = (
-  sym (alike (thread each.number) (stands-first each standing)) ∙ first,
-  stands-alike m next standing size place (λ name. within name) rest,
+pub stands-alike : (m next : Machine) (standing : List Standing)
+    → ((number : ℕ) → 0 < times_standing number standing → m.status number ≡ next.status number)
+    → AllStand m standing → AllStand next standing
+stands-alike m next [] alike _ = tt
+stands-alike m next (each ∷ standing) alike (first, rest) = (
+  sym (alike each.number (stands-first each standing)) ∙ first,
+  stands-alike m next standing (λ number more. alike number (omega arith)) rest,
 )
+
+-- those of a key are among all
+pub times-at_key : (number key : ℕ) (standing : List Standing)
+    → times_standing number (at_key key standing) ≤ times_standing number standing
+times-at_key number key [] = omega arith
+times-at_key number key (each ∷ standing) = either (each.key == key) (times-at_key number key standing)
   where
-    within : (name : Name) → 0 < covers name (Lists size place standing) → Alike m next name
-    within (list key) some = alike (list key) some
-    within (thread number) some = alike (thread number) (omega arith)
-    within (records number) some = absurd (omega arith)
-    within numbers some = absurd (omega arith)
+    either : (b : Bool) → times_standing number (at_key key standing) ≤ times_standing number standing
+        → times_standing number (cond b (each ∷ at_key key standing) (at_key key standing))
+        ≤ times_standing number (each ∷ standing)
+    either true less = omega arith
+    either false less = omega arith
 
 -- a piece stays so
 pub IsSo-alike : (m next : Machine) (piece : Piece) → AlikeWhere m next (λ name. covers name piece) → IsSo m piece
     → IsSo next piece
-IsSo-alike m next (Lists size place standing) alike (lists, stand) = (
-  λ key here. sym (alike (list key) (rw (eq-eqb (place_of key size) place here) (omega arith))) ∙ lists key here,
-  stands-alike m next standing size place alike stand,
-)
+IsSo-alike m next (Lists size place standing) alike is = λ key here.
+    let was : IsList m key (at_key key standing) = is key here in record {
+      waiters = sym (alike (list key) (rw (eq-eqb (place_of key size) place here) (omega arith))) ∙ was.waiters;
+      wait = stands-alike m next (at_key key standing)
+          (λ number more. let less = times-at_key number key standing in alike (thread number) (omega arith)) was.wait;
+    }
 IsSo-alike m next (Thread number status) alike is =
     sym (alike (thread number) (rw (eq-eqb number number refl) (omega arith))) ∙ is
 IsSo-alike m next (Records number keys) alike is =
@@ -60,3 +81,45 @@ AllSo-alike m next (p ∷ ps) alike (first, rest) = (
   IsSo-alike m next p (λ name some. alike name (omega arith)) first,
   AllSo-alike m next ps (λ name some. alike name (omega arith)) rest,
 )
+
+-- threads in a list that goes on
+
+pub times-append : (number : ℕ) (xs ys : List Standing)
+    → times_standing number (xs ++ ys) ≡ times_standing number xs + times_standing number ys
+times-append number [] ys = omega arith
+times-append number (x ∷ xs) ys = omega (arith, times-append number xs ys)
+
+pub AllStand-append : (m : Machine) (xs ys : List Standing) → AllStand m xs → AllStand m ys → AllStand m (xs ++ ys)
+AllStand-append m [] ys _ others = others
+AllStand-append m (x ∷ xs) ys (first, rest) others = (first, AllStand-append m xs ys rest others)
+
+-- how often a thread stands in a list, by its machine's waiters
+pub times_in-waiters : (number : ℕ) (standing : List Standing)
+    → times_in number (map waiter_of standing) ≡ times_standing number standing
+times_in-waiters number [] = refl
+times_in-waiters number (each ∷ standing) = either (each.number == number) (times_in-waiters number standing)
+  where
+    either : (b : Bool) → times_in number (map waiter_of standing) ≡ times_standing number standing
+        → length (cond b (waiter_of each ∷ entries_of number (map waiter_of standing)) (entries_of number (map waiter_of standing)))
+        ≡ cond b 1 0 + times_standing number standing
+    either true same = omega arith
+    either false same = omega arith
+
+-- threads that stand in a list are registered
+pub stands-registered : (m : Machine) (number : ℕ) (standing : List Standing) → AllStand m standing
+    → 0 < times_standing number standing → is_registered (m.status number) ≡ true
+stands-registered m number [] _ some = absurd (omega arith)
+stands-registered m number (each ∷ standing) (first, rest) more =
+    ⊎_elim
+    (λ (same : each.number ≡ number). ap (λ n. is_registered (m.status n)) (sym same)
+    ∙ (ap is_registered first ∙ registered each.late))
+    (λ (other : each.number ≢ number). stands-registered m number standing rest
+    (behind other more))
+    (cases_eq each.number number)
+  where
+    behind : each.number ≢ number → 0 < times_standing number (each ∷ standing) → 0 < times_standing number standing
+    behind other = rw (ne_eqb each.number number other) (λ some. omega arith)
+
+    registered : (late : Bool) → is_registered (cond late status.Late (status.Waiting each.timed)) ≡ true
+    registered true = refl
+    registered false = refl

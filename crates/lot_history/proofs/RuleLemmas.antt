@@ -9,12 +9,13 @@ use Rattle.atomic_table.proofs.Lists.{at_set}
 use Rattle.lot_exclusive.specs.declared.schedule.Answer.{Answer}
 use Rattle.lot_exclusive.specs.declared.schedule.Step.{Step}
 use Rattle.lot_exclusive.proofs.StepLemmas.{IsConsistent-step}
+use Rattle.lot_history.proofs.MachineLemmas.{max_threads-step}
 use Rattle.lot_history.specs.declared.event.Event.{Event}
 use Rattle.lot_history.specs.declared.view.Piece.{Piece}
 use Rattle.lot_history.specs.declared.view.View.{View}
 use Rattle.lot_history.specs.History.{events_by}
 use Rattle.lot_history.specs.Pieces.{Name, cover, AllSo}
-use Rattle.lot_history.specs.Moves.{Step-from, Moves, Regroups}
+use Rattle.lot_history.specs.Moves.{Finds, Reaches, Moves, Regroups}
 use Rattle.lot_history.specs.Rule.{Knows, Kept}
 use Rattle.lot_history.specs.Views.{spent_view}
 use Rattle.lot_history.specs.Tells.{event, Adds, Looks}
@@ -40,6 +41,9 @@ module _ (max_threads : ℕ) (views : List View) (kept : Kept max_threads views)
   abbrev own : Knows kept.events kept.machine kept.owner id v
   own = kept.each id v at
 
+  found : Finds max_threads v.pieces kept.machine
+  found = record { threads = kept.threads; consistent = kept.consistent; once = own.once; so = own.pieces }
+
   below : id < length views
   below = in_range views id v at
 
@@ -50,6 +54,7 @@ module _ (max_threads : ℕ) (views : List View) (kept : Kept max_threads views)
     machine = kept.machine;
     owner = kept.owner;
     run = kept.run;
+    threads = kept.threads;
     consistent = kept.consistent;
     each = λ j u there. ⊎_elim
         (λ t. subst (λ i. Knows kept.events kept.machine kept.owner i u) (sym t.0)
@@ -84,20 +89,20 @@ module _ (max_threads : ℕ) (views : List View) (kept : Kept max_threads views)
       )
 
   -- the same parts in other pieces
-  pub regroups : (after : List Piece) → Regroups v.pieces after → Kept max_threads (set views id (record v { pieces = after }))
+  pub regroups : (after : List Piece) → Regroups max_threads v.pieces after → Kept max_threads (set views id (record v { pieces = after }))
   regroups after same = with_view (record v { pieces = after }) (record {
     seen = own.seen;
     heard = own.heard;
     mine = own.mine;
     owns = λ name covered. own.owns name (subst (λ n. 0 < n) (same.cover name) covered);
     once = λ name. subst (λ n. n ≤ 1) (sym (same.cover name)) (own.once name);
-    pieces = same.pieces kept.machine own.pieces;
+    pieces = same.so kept.machine found;
   })
 
   -- a step
-  module _ (said : Step → Answer → Type 0) (after : List Piece) (moves : Moves said v.pieces after) where
-    abbrev from : Step-from said kept.machine after
-    from = moves.step kept.machine kept.consistent own.pieces
+  module _ (said : Step → Answer → Type 0) (after : List Piece) (moves : Moves max_threads said v.pieces after) where
+    abbrev from : Reaches kept.machine said after
+    from = moves.step kept.machine found
 
     abbrev added : Event
     added = event max_threads id from.step from.answer
@@ -113,7 +118,7 @@ module _ (max_threads : ℕ) (views : List View) (kept : Kept max_threads views)
       mine = events_by-own id kept.events added refl ∙ ap (λ es. es ++ added ∷ []) own.mine;
       owns = λ name covered. own.owns name (subst (λ n. 0 < n) (moves.cover name) covered);
       once = λ name. subst (λ n. n ≤ 1) (sym (moves.cover name)) (own.once name);
-      pieces = from.pieces;
+      pieces = from.so;
     }
 
     alike : (j : ℕ) (u : View) → j ≢ id → Knows kept.events kept.machine kept.owner j u
@@ -142,6 +147,7 @@ module _ (max_threads : ℕ) (views : List View) (kept : Kept max_threads views)
       machine = from.next;
       owner = kept.owner;
       run = LeadsTo-push max_threads kept.events added kept.machine from.next kept.run from.does;
+      threads = max_threads-step kept.machine from.step from.answer from.next from.does ∙ kept.threads;
       consistent = IsConsistent-step kept.machine from.step from.answer from.next kept.consistent from.does;
       each = λ j u there. ⊎_elim
           (λ t. subst (λ i. Knows (kept.events ++ added ∷ []) from.next kept.owner i u) (sym t.0)
@@ -234,6 +240,7 @@ module _ (max_threads : ℕ) (views : List View) (kept : Kept max_threads views)
       machine = kept.machine;
       owner = owner;
       run = kept.run;
+      threads = kept.threads;
       consistent = kept.consistent;
       each = λ j u there. ⊎_elim
           (λ here. ⊎_elim
@@ -321,6 +328,7 @@ module _ (max_threads : ℕ) (views : List View) (kept : Kept max_threads views)
       machine = kept.machine;
       owner = new_owner;
       run = kept.run;
+      threads = kept.threads;
       consistent = kept.consistent;
       each = λ j u now. ⊎_elim
           (λ t. subst (λ i. Knows kept.events kept.machine new_owner i u) (sym t.0)

@@ -25,7 +25,7 @@ abbrev pub Holds : ℕ → State (Unit {0}) View → Type 0
 Holds max_threads s = Kept max_threads s.views
 
 module _ (max_threads slots id : ℕ) (me : Me (Unit {0}) View) where
-  pub adds_allowed : (said : Step → Answer → Type 0) (after : List Piece) → Moves said me.0.pieces after
+  pub adds_allowed : (said : Step → Answer → Type 0) (after : List Piece) → Moves max_threads said me.0.pieces after
       → Allows (Holds max_threads) slots id me 0 (λ n. n)
       (λ r n. Adds max_threads id said me.0 n.0 × (n.0.pieces ≡ after) × (n.1 ≡ me.1))
   adds_allowed said after moves s kept sized at wide =
@@ -37,7 +37,7 @@ module _ (max_threads slots id : ℕ) (me : Me (Unit {0}) View) where
   looks_allowed s kept sized at wide =
       let next = looks max_threads s.views kept id me.0 at in (next.0, keeps, tt, next.1, (next.2, next.3, refl))
 
-  pub regroups_allowed : (after : List Piece) → Regroups me.0.pieces after
+  pub regroups_allowed : (after : List Piece) → Regroups max_threads me.0.pieces after
       → Allows (Holds max_threads) slots id me 0 (λ n. n) (λ r n. n ≡ (record me.0 { pieces = after }, me.1))
   regroups_allowed after same s kept sized at wide =
       (record me.0 { pieces = after }, keeps, tt, regroups max_threads s.views kept id me.0 at after same, refl)
@@ -90,6 +90,7 @@ opens max_threads = record {
   machine = new_machine max_threads;
   owner = λ _. 0;
   run = refl;
+  threads = refl;
   consistent = IsConsistent-new max_threads;
   each = each;
   others = λ id high. refl;
@@ -102,7 +103,7 @@ opens max_threads = record {
       mine = refl;
       owns = λ name covered. refl;
       once = first_once;
-      pieces = ((λ key here. refl, tt), ((λ number. refl, λ number free. refl), tt));
+      pieces = (λ key here. record { waiters = refl; wait = tt }, ((λ number. refl, λ number free. refl), tt));
     }
 
     each : (id : ℕ) (view : View) → get_elem? (first_view ∷ []) id ≡ some view

@@ -1,17 +1,25 @@
 -- Histories: events, each a step of the machine with its answer and who added it.
 use Rattle.std.specs.Prelude.{ℕ, ◌==◌, List, map, filter}
+use Rattle.lot_exclusive.specs.declared.schedule.Answer.{Answer}
+use Rattle.lot_exclusive.specs.declared.schedule.Step.{Step}
 use Rattle.lot_exclusive.specs.Machine.{Machine, new_machine}
 use Rattle.lot_exclusive.specs.Run.{IsRun}
 use Rattle.lot_exclusive.specs.Steps.{IsStep}
 use Rattle.lot_history.specs.declared.event.Event.{Event}
 
+-- the steps of events, and their answers
+abbrev pub steps_of : List Event → List Step
+steps_of events = map (λ event. event.step) events
+
+abbrev pub answers_of : List Event → List Answer
+answers_of events = map (λ event. event.answer) events
+
 -- the steps of these events, one after another, lead from a new machine for so many threads to this one, and each
 -- answers as its event says
 abbrev pub LeadsTo : ℕ → List Event → Machine → Type 0
-LeadsTo max_threads events last =
-    IsRun IsStep (new_machine max_threads) (map (λ event. event.step) events) (map (λ event. event.answer) events) last
+LeadsTo max_threads events last = IsRun IsStep (new_machine max_threads) (steps_of events) (answers_of events) last
 
--- the events are a run of the machine with one list for each key, from a new one
+-- a history: a run, from a new one, of the machine with one list for each key
 abbrev pub IsHistory : ℕ → List Event → Type 0
 IsHistory max_threads events = (last : Machine) × LeadsTo max_threads events last
 

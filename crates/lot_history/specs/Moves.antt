@@ -1,5 +1,5 @@
--- What a step of a seat is that has these pieces.
-use Rattle.std.specs.Prelude.{◌≡◌, List}
+-- What a step of a seat is that has pieces.
+use Rattle.std.specs.Prelude.{◌≡◌, ℕ, ◌≤◌, List}
 use Rattle.lot_exclusive.specs.declared.schedule.Answer.{Answer}
 use Rattle.lot_exclusive.specs.declared.schedule.Step.{Step}
 use Rattle.lot_exclusive.specs.Machine.{Machine, IsConsistent}
@@ -7,27 +7,34 @@ use Rattle.lot_exclusive.specs.Steps.{IsStep}
 use Rattle.lot_history.specs.declared.view.Piece.{Piece}
 use Rattle.lot_history.specs.Pieces.{Name, cover, Alike, AllSo}
 
--- the pieces cover what these cover
+-- two lists of pieces cover the same
 abbrev pub SameCover : List Piece → List Piece → Type 0
 SameCover pieces others = (name : Name) → cover name others ≡ cover name pieces
 
--- a step of which `said` holds, from a machine to one that has these pieces, and is as the first in all that they do not
--- cover
-pub record Step-from (said : Step → Answer → Type 0) (m : Machine) (after : List Piece) : Type 0 where
+-- the machine is one, for so many threads, that a seat with these pieces may find
+pub record Finds (max_threads : ℕ) (pieces : List Piece) (m : Machine) : Type 0 where
+  pub threads : m.max_threads ≡ max_threads
+  pub consistent : IsConsistent m
+  pub once : (name : Name) → cover name pieces ≤ 1
+  pub so : AllSo m pieces
+
+-- a step of which this is said leads from the machine to one that is as these pieces say, and like it in all that they
+-- do not cover
+pub record Reaches (m : Machine) (said : Step → Answer → Type 0) (pieces : List Piece) : Type 0 where
   pub step : Step
   pub answer : Answer
   pub is_said : said step answer
   pub next : Machine
   pub does : IsStep m step answer next
-  pub pieces : AllSo next after
-  pub others : (name : Name) → cover name after ≡ 0 → Alike m next name
+  pub so : AllSo next pieces
+  pub others : (name : Name) → cover name pieces ≡ 0 → Alike m next name
 
--- whatever the machine is, where it has the pieces `before`, there is such a step
-pub record Moves (said : Step → Answer → Type 0) (before after : List Piece) : Type 0 where
+-- a seat with the pieces `before` may make a step of which this is said, and has the pieces `after` then
+pub record Moves (max_threads : ℕ) (said : Step → Answer → Type 0) (before after : List Piece) : Type 0 where
   pub cover : SameCover before after
-  pub step : (m : Machine) → IsConsistent m → AllSo m before → Step-from said m after
+  pub step : (m : Machine) → Finds max_threads before m → Reaches m said after
 
--- the same parts in other pieces
-pub record Regroups (before after : List Piece) : Type 0 where
+-- the same parts of the machine in other pieces
+pub record Regroups (max_threads : ℕ) (before after : List Piece) : Type 0 where
   pub cover : SameCover before after
-  pub pieces : (m : Machine) → AllSo m before → AllSo m after
+  pub so : (m : Machine) → Finds max_threads before m → AllSo m after

@@ -30,8 +30,8 @@ times_standing number (each ∷ standing) = cond (each.number == number) 1 0 + t
 abbrev pub covers : Name → Piece → ℕ
 covers (list key) (Lists size place standing) = cond (place_of key size == place) 1 0
 covers (thread number) (Lists size place standing) = times_standing number standing
-covers (thread number) (Thread other status) = cond (number == other) 1 0
-covers (records number) (Records other keys) = cond (number == other) 1 0
+covers (thread number) (Thread other status) = cond (other == number) 1 0
+covers (records number) (Records other keys) = cond (other == number) 1 0
 covers (thread number) (Numbers uses) = cond (has_number uses number) 0 1
 covers (records number) (Numbers uses) = cond (has_number uses number) 0 1
 covers numbers (Numbers uses) = 1
@@ -56,19 +56,24 @@ waiter_of each = record { number = each.number; park_token = each.park_token; ti
 abbrev pub status_of : Standing → Status
 status_of each = if each.late then status.Late else status.Waiting each.timed
 
--- the list of a key, among those of its place
-abbrev pub list_of : ℕ → List Standing → List Waiter
-list_of key standing = map waiter_of (filter (λ each. each.key == key) standing)
+-- those of one key, in order
+abbrev pub at_key : ℕ → List Standing → List Standing
+at_key key standing = filter (λ each. each.key == key) standing
 
 -- each of these threads has the status that it has there
 abbrev pub AllStand : Machine → List Standing → Type 0
 AllStand m [] = ⊤
 AllStand m (each ∷ standing) = (m.status each.number ≡ status_of each) × AllStand m standing
 
+-- the list of the key has these waiters, and they wait
+pub record IsList (m : Machine) (key : ℕ) (standing : List Standing) : Type 0 where
+  pub waiters : m.lists key ≡ map waiter_of standing
+  pub wait : AllStand m standing
+
 -- the machine is as the piece says
 abbrev pub IsSo : Machine → Piece → Type 0
 IsSo m (Lists size place standing) =
-    ((key : ℕ) → place_of key size ≡ place → m.lists key ≡ list_of key standing) × AllStand m standing
+    (key : ℕ) → place_of key size ≡ place → IsList m key (at_key key standing)
 IsSo m (Thread number status) = m.status number ≡ status
 IsSo m (Records number keys) = m.records number ≡ times_recorded keys
 IsSo m (Numbers uses) =

@@ -25,6 +25,7 @@ pub record Kept (max_threads : ℕ) (views : List View) : Type 0 where
   pub machine : Machine
   pub owner : Name → ℕ
   pub run : LeadsTo max_threads events machine
+  pub threads : machine.max_threads ≡ max_threads
   pub consistent : IsConsistent machine
   pub each : (id : ℕ) (view : View) → get_elem? views id ≡ some view → Knows events machine owner id view
   pub others : (id : ℕ) → length views ≤ id → events_by id events ≡ []

@@ -123,7 +123,7 @@ impl History {
     pub fn add<E: Told, T>(&self, me: &mut Witness, about: &T)
         ghost after: { List Piece }
         requires witness { IsWitnessOf self.now me.old }
-        requires moves { Moves E.said (pieces_of me.old) after }
+        requires moves { Moves (max_threads_of self.now) E.said (pieces_of me.old) after }
         ensures still { IsStill self.now me.old me.new }
         ensures adds { Adds self.now me.old E.said me.new }
         ensures pieces { pieces_of me.new ≡ after }
@@ -137,7 +137,7 @@ impl History {
     pub fn regroup<T>(&self, me: &mut Witness, about: &T)
         ghost after: { List Piece }
         requires witness { IsWitnessOf self.now me.old }
-        requires regroups { Regroups (pieces_of me.old) after }
+        requires regroups { Regroups (max_threads_of self.now) (pieces_of me.old) after }
         ensures still { IsStill self.now me.old me.new }
         ensures seen { seen_by me.new ≡ seen_by me.old }
         ensures nothing_added { events_of me.new ≡ events_of me.old }
@@ -214,7 +214,7 @@ impl History {
         requires witness { IsWitnessOf self.now me.old }
         requires max_threads { C.max_threads ≡ max_threads_of self.now }
         requires number { C.number ≡ number_of me.old }
-        requires moves { Moves E.said (pieces_of me.old) C.after }
+        requires moves { Moves (max_threads_of self.now) E.said (pieces_of me.old) C.after }
         ensures still { IsStill self.now me.old me.new }
         ensures adds { Adds self.now me.old E.said me.new }
         ensures pieces { pieces_of me.new ≡ C.after }
@@ -225,7 +225,7 @@ impl History {
     #[inline]
     fn regroup_as<C: Seated>(&self, me: &mut Witness)
         requires witness { IsWitnessOf self.now me.old }
-        requires regroups { Regroups (pieces_of me.old) C.after }
+        requires regroups { Regroups (max_threads_of self.now) (pieces_of me.old) C.after }
         ensures still { IsStill self.now me.old me.new }
         ensures view { view_of me.new ≡ record (view_of me.old) { pieces = C.after } }
     {

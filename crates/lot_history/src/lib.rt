@@ -4,5 +4,6 @@
 
 pub mod event;
 pub mod history;
+pub mod laws;
 pub mod plays;
 pub mod view;

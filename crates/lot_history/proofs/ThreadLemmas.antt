@@ -1,0 +1,138 @@
+-- Steps that concern one thread alone, or none.
+use Rattle.std.proofs.Common.{◌≡◌, ◌≢◌, ℕ, ◌+◌, ◌-◌, ◌<◌, ◌≤◌, ◌==◌, Bool, true, false, cond, List, [], ◌∷◌, ◌++◌, refl, sym, ap, ◌∙◌, subst, ⊎_elim, arith}
+use Rattle.std.proofs.lemmas.Bool.{cases_eq, eq-eqb, ne_eqb, cond-true}
+use Rattle.lot_base.specs.declared.token.UnparkToken.{UnparkToken}
+use Rattle.lot_base.specs.Waiting.{with_value}
+use Rattle.lot_base.proofs.ValueLemmas.{with_value-same, with_value-other}
+use Rattle.lot_exclusive.specs.declared.lot.Status.{Status}
+use Rattle.lot_exclusive.specs.declared.lot.Status.TheVariants as status
+use Rattle.lot_exclusive.specs.declared.schedule.Answer.{Answer}
+use Rattle.lot_exclusive.specs.declared.schedule.Answer.TheVariants as answer
+use Rattle.lot_exclusive.specs.declared.schedule.Step.{Step}
+use Rattle.lot_exclusive.specs.declared.schedule.Step.TheVariants as step
+use Rattle.lot_exclusive.specs.Machine.{Machine, with_status}
+use Rattle.lot_exclusive.specs.Status.{is_registered}
+use Rattle.lot_exclusive.specs.Steps.{IsStep, IsReturn, IsResolve}
+use Rattle.lot_history.specs.declared.view.Piece.{Piece}
+use Rattle.lot_history.specs.declared.view.Piece.TheVariants.{Lists, Thread, Records, Numbers}
+use Rattle.lot_history.specs.Moves.{Finds, Reaches, Moves}
+use Rattle.lot_history.specs.Pieces.{Name, list, thread, records, numbers, covers, cover, Alike, AllSo}
+use Rattle.lot_history.proofs.PieceLemmas.{own_thread, AlikeWhere, AllSo-alike}
+
+-- this step, with this answer
+abbrev pub Is : Step → Answer → Step → Answer → Type 0
+Is step answer s a = (s ≡ step) × (a ≡ answer)
+
+-- a step of which more is known
+pub says : (max_threads : ℕ) (said also : Step → Answer → Type 0) (before after : List Piece)
+    → ((s : Step) (a : Answer) → said s a → also s a) → Moves max_threads said before after
+    → Moves max_threads also before after
+says max_threads said also before after more moves = record {
+  cover = moves.cover;
+  step = λ m finds. let to : Reaches m said after = moves.step m finds in record {
+    step = to.step;
+    answer = to.answer;
+    is_said = more to.step to.answer to.is_said;
+    next = to.next;
+    does = to.does;
+    so = to.so;
+    others = to.others;
+  };
+}
+
+-- a step that leaves the machine as it is needs no piece, and leaves those that there are
+pub stays_moves : (max_threads : ℕ) (s : Step) (a : Answer) (pieces : List Piece)
+    → ((m : Machine) → Finds max_threads pieces m → IsStep m s a m) → Moves max_threads (Is s a) pieces pieces
+stays_moves max_threads s a pieces does = record {
+  cover = λ name. refl;
+  step = λ m finds. record {
+    step = s;
+    answer = a;
+    is_said = (refl, refl);
+    next = m;
+    does = does m finds;
+    so = finds.so;
+    others = λ name none. alike m name;
+  };
+}
+  where
+    alike : (m : Machine) (name : Name) → Alike m m name
+    alike m (list key) = refl
+    alike m (thread number) = refl
+    alike m (records number) = refl
+    alike m numbers = λ number. refl
+
+pub trims : (max_threads : ℕ) (pieces : List Piece) → Moves max_threads (Is step.Trim answer.Trimmed) pieces pieces
+trims max_threads pieces = stays_moves max_threads step.Trim answer.Trimmed pieces (λ m finds. refl)
+
+-- the status of a registered thread changes, and it stays registered
+module _ (m : Machine) (number : ℕ) (before after : Status) (is : m.status number ≡ before)
+    (was : is_registered before ≡ true) (still : is_registered after ≡ true) where
+  pub turned_alike : (rest : List Piece) (name : Name) → cover name (Thread number after ∷ rest) ≡ 0
+      → Alike m (with_status m number after) name
+  turned_alike rest (list key) none = refl
+  turned_alike rest (records other) none = refl
+  turned_alike rest (thread other) none =
+      ⊎_elim (λ (same : other ≡ number). let one = own_thread other number after same in
+      absurd (omega arith))
+      (λ (apart : other ≢ number). sym (with_value-other m.status number after other apart))
+      (cases_eq other number)
+  turned_alike rest numbers none = λ other.
+      ⊎_elim (λ (same : other ≡ number). ap (λ n. is_registered (m.status n)) same ∙ (ap is_registered is ∙ (was ∙ (sym still
+      ∙ ap is_registered (sym (with_value-same m.status number after other same))))))
+      (λ (apart : other ≢ number). ap is_registered (sym (with_value-other m.status number after other apart)))
+      (cases_eq other number)
+
+-- what the other pieces say stays so where one thread alone changes, which has a piece of its own
+pub rest_so : (m new : Machine) (first : Piece) (rest : List Piece)
+    → ((name : Name) → covers name first + cover name rest ≤ 1)
+    → ((name : Name) → covers name first ≡ 0 → Alike m new name) → AllSo m rest → AllSo new rest
+rest_so m new first rest once alike so =
+    AllSo-alike m new rest (λ name more. alike name (let o = once name in omega arith)) so
+
+-- a step by which a registered thread that stands in no list gets another status
+pub turns : (max_threads number : ℕ) (s : Step) (a : Answer) (before after : Status) (rest : List Piece)
+    → is_registered before ≡ true → is_registered after ≡ true
+    → ((m : Machine) → m.status number ≡ before → IsStep m s a (with_status m number after))
+    → Moves max_threads (Is s a) (Thread number before ∷ rest) (Thread number after ∷ rest)
+turns max_threads number s a before after rest was still does = record {
+  cover = same;
+  step = λ m finds. record {
+    step = s;
+    answer = a;
+    is_said = (refl, refl);
+    next = with_status m number after;
+    does = does m finds.so.0;
+    so = (
+      with_value-same m.status number after number refl,
+      rest_so m (with_status m number after) (Thread number after) rest
+          (λ name. let c = same name in let o = finds.once name in omega arith)
+          (λ name none. turned_alike m number before after finds.so.0 was still [] name (omega arith)) finds.so.1,
+    );
+    others = turned_alike m number before after finds.so.0 was still rest;
+  };
+}
+  where
+    same : (name : Name) → cover name (Thread number after ∷ rest) ≡ cover name (Thread number before ∷ rest)
+    same (list key) = refl
+    same (thread other) = refl
+    same (records other) = refl
+    same numbers = refl
+
+-- a thread that was taken comes back with its token, by `Return`, or by `Resolve` once its deadline has passed
+module _ (max_threads number : ℕ) (token : UnparkToken) (rest : List Piece) where
+  abbrev pub ComesBack : Step → Type 0
+  ComesBack s = Moves max_threads (Is s (answer.Unparked token)) (Thread number (status.Taken token) ∷ rest)
+      (Thread number status.Running ∷ rest)
+
+  pub returns : ComesBack (step.Return number)
+  returns = turns max_threads number (step.Return number) (answer.Unparked token) (status.Taken token) status.Running
+      rest refl refl
+      (λ m taken. subst (λ s. IsReturn m number s (answer.Unparked token) (with_status m number status.Running))
+      (sym taken) (refl, refl))
+
+  pub resolves : ComesBack (step.Resolve number)
+  resolves = turns max_threads number (step.Resolve number) (answer.Unparked token) (status.Taken token) status.Running
+      rest refl refl
+      (λ m taken. subst (λ s. IsResolve m number s (answer.Unparked token) (with_status m number status.Running))
+      (sym taken) (refl, refl))

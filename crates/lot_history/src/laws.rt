@@ -1,0 +1,29 @@
+//! Laws of every history. The functions do nothing: their contract is the law, over the
+//! definitions that the contracts of `History` cite.
+
+ghost use Rattle.lot_history.specs.Laws.{EachLeadsToOneMachine, BeginningsAreHistories, ParksAndOutcomesAlternate, UnparkedThreadsComeBack, TokensComeFromUnparks};
+
+/// A history leads to one machine, and each of its beginnings is a history.
+pub fn histories_lead_to_one_machine()
+    ensures one { EachLeadsToOneMachine }
+    ensures beginnings { BeginningsAreHistories }
+{}
+
+/// In a history each thread's parks and their outcomes take turns, and a park comes first: a park
+/// has at most one outcome, and no outcome comes without a park.
+pub fn parks_and_outcomes_alternate()
+    ensures { ParksAndOutcomesAlternate }
+{}
+
+/// The threads that the unparks of a history took are as many as the answers `Unparked` in it and
+/// those that are on their way.
+pub fn unparked_threads_come_back()
+    ensures { UnparkedThreadsComeBack }
+{}
+
+/// Where a park ends unparked with a token, an unpark before it in the history took the thread and
+/// handed it this token, and none of the thread's parks ended between. So each hand-over is
+/// answered once at most.
+pub fn tokens_come_from_unparks()
+    ensures { TokensComeFromUnparks }
+{}
