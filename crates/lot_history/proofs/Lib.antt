@@ -5,4 +5,7 @@ pub mod RuleLemmas
 pub mod StepLemmas
 pub mod ThreadLemmas
 pub mod EnterLemmas
+pub mod UnparkLemmas
+pub mod TakeLemmas
+pub mod NumberLemmas
 pub mod LawLemmas

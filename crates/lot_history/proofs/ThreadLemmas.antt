@@ -40,6 +40,16 @@ says max_threads said also before after more moves = record {
   };
 }
 
+-- one that is known, where pieces go by other names
+pub said_moves : (max_threads : ℕ) (step : Step) (answer : Answer) (said : Step → Answer → Type 0)
+    (before after old new : List Piece) → old ≡ before → new ≡ after → said step answer
+    → Moves max_threads (Is step answer) before after → Moves max_threads said old new
+said_moves max_threads step answer said before after old new is_before is_after is_said moves =
+    subst (λ (ps : List Piece). Moves max_threads said ps new) (sym is_before)
+    (subst (Moves max_threads said before) (sym is_after)
+    (says max_threads (Is step answer) said before after
+    (λ s a is. subst (λ t. said t a) (sym is.0) (subst (said step) (sym is.1) is_said)) moves))
+
 -- a step that leaves the machine as it is needs no piece, and leaves those that there are
 pub stays_moves : (max_threads : ℕ) (s : Step) (a : Answer) (pieces : List Piece)
     → ((m : Machine) → Finds max_threads pieces m → IsStep m s a m) → Moves max_threads (Is s a) pieces pieces

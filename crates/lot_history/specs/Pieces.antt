@@ -1,6 +1,7 @@
 -- The parts of the machine that one seat alone may change, its pieces.
 use Rattle.std.specs.Prelude.{◌≡◌, ℕ, ◌+◌, ◌==◌, Bool, false, if◌then◌else◌, cond, ⊤, List, [], ◌∷◌, map, filter, slice_index_or}
 use Rattle.lot_base.specs.Place.{place_of}
+use Rattle.lot_base.specs.declared.token.UnparkToken.{UnparkToken}
 use Rattle.lot_exclusive.specs.declared.lot.Status.{Status}
 use Rattle.lot_exclusive.specs.declared.lot.Status.TheVariants as status
 use Rattle.lot_exclusive.specs.Machine.{Machine, Waiter}
@@ -84,3 +85,8 @@ IsSo m (Numbers uses) =
 abbrev pub AllSo : Machine → List Piece → Type 0
 AllSo m [] = ⊤
 AllSo m (piece ∷ pieces) = IsSo m piece × AllSo m pieces
+
+-- threads that were taken out of their list, each a piece of its own
+abbrev pub threads_taken : UnparkToken → List Standing → List Piece
+threads_taken token [] = []
+threads_taken token (each ∷ taken) = Thread each.number (status.Taken token) ∷ threads_taken token taken

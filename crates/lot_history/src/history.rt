@@ -118,9 +118,11 @@ impl History {
     /// to the history, and leaves the pieces `after`. The caller proves that whatever the machine is
     /// where the pieces of the witness are so, there is such a step which changes nothing else.
     ///
-    /// The caller picks `after`, and a pick may name what `about` refers to. It costs a load.
+    /// The caller picks `after`, and `E` where that is `Brand`, from what the witness knows. Where
+    /// they depend on more, a function between has that for arguments, and a `ghost after` of its
+    /// own, as the one behind `give_back`. It costs a load.
     #[inline]
-    pub fn add<E: Told, T>(&self, me: &mut Witness, about: &T)
+    pub fn add<E: Told>(&self, me: &mut Witness)
         ghost after: { List Piece }
         requires witness { IsWitnessOf self.now me.old }
         requires moves { Moves (max_threads_of self.now) E.said (pieces_of me.old) after }
@@ -131,10 +133,10 @@ impl History {
         self.add_as::<E, Brand>(me);
     }
 
-    /// Puts the pieces of the witness together otherwise. It adds nothing to the history. The caller
-    /// picks `after` as in `add`. It costs a load.
+    /// Puts the pieces of the witness together otherwise, as where a table grows. It adds nothing to
+    /// the history. The caller picks `after`, as in `add`. It costs a load.
     #[inline]
-    pub fn regroup<T>(&self, me: &mut Witness, about: &T)
+    pub fn regroup(&self, me: &mut Witness)
         ghost after: { List Piece }
         requires witness { IsWitnessOf self.now me.old }
         requires regroups { Regroups (max_threads_of self.now) (pieces_of me.old) after }

@@ -6,4 +6,8 @@ pub mod event;
 pub mod history;
 pub mod laws;
 pub mod plays;
+pub mod steps;
 pub mod view;
+
+#[cfg(test)]
+mod tests;
