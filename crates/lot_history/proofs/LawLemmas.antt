@@ -1,10 +1,10 @@
 -- The laws of `specs/Laws`.
-use Rattle.std.proofs.Common.{◌≡◌, ◌≢◌, ◌⊎◌, ℕ, zero, suc, ◌+◌, ◌==◌, Bool, true, false, ◌&&◌, MatchBool, if◌then◌else◌, List, [], ◌∷◌, ◌++◌, map, length, refl, sym, ap, ◌∙◌, subst, inl, inr, ⊎_elim, arith, cond}
-use Rattle.std.specs.List.{sum_by, count_by, range_with_len}
+use Rattle.std.proofs.Common.{◌≡◌, ◌≢◌, ◌⊎◌, ℕ, zero, suc, ◌+◌, ◌==◌, Bool, true, false, ◌&&◌, List, [], ◌∷◌, ◌++◌, refl, sym, ap, ◌∙◌, subst, inl, inr, ⊎_elim, arith}
+use Rattle.std.specs.List.{count_by, range_with_len}
 use Rattle.std.proofs.lemmas.Bool.{cases_eq, cases_Bool, ne_eqb, and_right, cond-true, cond-false, false≢true, and_parts, eqb-true}
 use Rattle.std.proofs.lemmas.List.Elements.{All-nil, All-cons}
 use Rattle.lot_base.specs.declared.token.UnparkToken.{UnparkToken}
-use Rattle.lot_base.specs.Waiting.{with_value, has_any, Split}
+use Rattle.lot_base.specs.Waiting.{with_value, has_any}
 use Rattle.lot_base.proofs.ValueLemmas.{with_value-same, with_value-other}
 use Rattle.lot_exclusive.specs.declared.lot.Status.{Status}
 use Rattle.lot_exclusive.specs.declared.lot.Status.TheVariants as status
@@ -15,17 +15,17 @@ use Rattle.lot_exclusive.specs.declared.schedule.Op.TheVariants.{One, All, Filte
 use Rattle.lot_exclusive.specs.declared.schedule.Step.{Step}
 use Rattle.lot_exclusive.specs.declared.schedule.Step.TheVariants.{Register, Retire, Enter, Unpark, Deadline}
 use Rattle.lot_exclusive.specs.declared.schedule.Step.TheVariants.{Resolve, Return, Acquire, Release, Trim}
-use Rattle.lot_exclusive.specs.Machine.{Machine, Waiter, new_machine, entries_of, statuses_with_taken}
+use Rattle.lot_exclusive.specs.Machine.{Machine, new_machine, entries_of, statuses_with_taken}
 use Rattle.lot_exclusive.specs.Run.{IsRun}
 use Rattle.lot_exclusive.specs.Status.{is_running, awaits_deadline, is_taken}
-use Rattle.lot_exclusive.specs.Steps.{Gives, IsRegister, IsUnpark, IsReturn, IsResolve, IsAcquire, IsTrim, IsStep, is_outcome, ends_park}
-use Rattle.lot_exclusive.specs.Totals.{taken_threads_of, unparked_by, returned_by}
+use Rattle.lot_exclusive.specs.Steps.{IsRegister, IsUnpark, IsReturn, IsResolve, IsAcquire, IsStep, is_outcome, ends_park}
+use Rattle.lot_exclusive.specs.Totals.{taken_threads_of}
 use Rattle.lot_exclusive.proofs.StepLemmas.{IsConsistent-new, MatchBool-either, IsTrim-unchanged}
 use Rattle.lot_exclusive.proofs.LawLemmas.{IsRun-fixes, OutcomesAlternate-run}
 use Rattle.lot_exclusive.proofs.TotalLemmas.{IsRun-balances}
 use Rattle.lot_history.specs.declared.event.Event.{Event}
-use Rattle.lot_history.specs.History.{LeadsTo, IsHistory, steps_of, answers_of}
-use Rattle.lot_history.specs.Laws.{EachLeadsToOneMachine, BeginningsAreHistories, ParksAndOutcomesAlternate, UnparkedThreadsComeBack, TokensComeFromUnparks, token_of, split_of, Hands, HaveNoOutcome, WasHanded}
+use Rattle.lot_history.specs.History.{steps_of, answers_of}
+use Rattle.lot_history.specs.Laws.{EachLeadsToOneMachine, BeginningsAreHistories, ParksAndOutcomesAlternate, UnparkedThreadsComeBack, TokensComeFromUnparks, token_of, split_of, Hands, HaveNoOutcome}
 
 pub one_machine : EachLeadsToOneMachine
 one_machine max_threads events machine other run ran =
@@ -200,8 +200,10 @@ module _ (number : ℕ) (token : UnparkToken) where
   find m (event ∷ events) last (next, does, rest) taken =
       ⊎_elim
       (λ (was : IsTaken next × HaveNoOutcome number events). ⊎_elim
-      (λ before. inl (before.0,
-      All-cons (λ (e : Event). ends_park number e.step e.answer ≡ false) event events before.1 was.1))
+      (λ before. inl (
+        before.0,
+        All-cons (λ (e : Event). ends_park number e.step e.answer ≡ false) event events before.1 was.1,
+      ))
       (λ handed. inr (record {
         before = [];
         unpark = event;

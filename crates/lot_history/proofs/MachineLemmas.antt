@@ -1,5 +1,5 @@
 -- What each step leaves of a machine.
-use Rattle.std.proofs.Common.{◌≡◌, ℕ, MatchBool, refl, ap}
+use Rattle.std.proofs.Common.{◌≡◌, ℕ, ap}
 use Rattle.lot_exclusive.specs.declared.lot.Status.{Status}
 use Rattle.lot_exclusive.specs.declared.lot.Status.TheVariants as status
 use Rattle.lot_exclusive.specs.declared.schedule.Answer.{Answer}

@@ -1,14 +1,12 @@
 -- The unparks of one waiter and of all.
-use Rattle.std.proofs.Common.{◌≡◌, ℕ, ◌+◌, List, [], ◌∷◌, ◌++◌, map, length, take, drop, refl, sym, ap, ◌∙◌, subst, arith}
-use Rattle.lot_base.specs.declared.token.UnparkResult.{UnparkResult}
+use Rattle.std.proofs.Common.{◌≡◌, ℕ, ◌+◌, List, [], ◌∷◌, ◌++◌, map, length, refl, sym, ap, ◌∙◌, arith}
 use Rattle.lot_base.specs.declared.token.UnparkToken.{UnparkToken}
 use Rattle.lot_base.specs.Place.{place_of}
-use Rattle.lot_base.specs.Waiting.{with_value, Split, split_first, split_all, result_of, has_any}
+use Rattle.lot_base.specs.Waiting.{with_value, Split, split_first, split_all, result_of}
 use Rattle.lot_exclusive.specs.declared.schedule.Answer.TheVariants as answer
 use Rattle.lot_exclusive.specs.declared.schedule.Op.TheVariants as op
 use Rattle.lot_exclusive.specs.declared.schedule.Step.TheVariants as step
-use Rattle.lot_exclusive.specs.Machine.{Machine, Waiter, after_unpark}
-use Rattle.lot_exclusive.specs.Steps.{IsUnpark}
+use Rattle.lot_exclusive.specs.Machine.{Waiter, after_unpark}
 use Rattle.lot_history.specs.declared.view.Standing.{Standing}
 use Rattle.lot_history.specs.declared.view.Piece.{Piece}
 use Rattle.lot_history.specs.declared.view.Piece.TheVariants.{Lists}

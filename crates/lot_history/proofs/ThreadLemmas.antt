@@ -1,8 +1,7 @@
 -- Steps that concern one thread alone, or none.
-use Rattle.std.proofs.Common.{◌≡◌, ◌≢◌, ℕ, ◌+◌, ◌-◌, ◌<◌, ◌≤◌, ◌==◌, Bool, true, false, cond, List, [], ◌∷◌, ◌++◌, refl, sym, ap, ◌∙◌, subst, ⊎_elim, arith}
-use Rattle.std.proofs.lemmas.Bool.{cases_eq, eq-eqb, ne_eqb, cond-true}
+use Rattle.std.proofs.Common.{◌≡◌, ◌≢◌, ℕ, ◌+◌, ◌≤◌, true, List, [], ◌∷◌, refl, sym, ap, ◌∙◌, subst, ⊎_elim, arith}
+use Rattle.std.proofs.lemmas.Bool.{cases_eq}
 use Rattle.lot_base.specs.declared.token.UnparkToken.{UnparkToken}
-use Rattle.lot_base.specs.Waiting.{with_value}
 use Rattle.lot_base.proofs.ValueLemmas.{with_value-same, with_value-other}
 use Rattle.lot_exclusive.specs.declared.lot.Status.{Status}
 use Rattle.lot_exclusive.specs.declared.lot.Status.TheVariants as status
@@ -14,10 +13,10 @@ use Rattle.lot_exclusive.specs.Machine.{Machine, with_status}
 use Rattle.lot_exclusive.specs.Status.{is_registered}
 use Rattle.lot_exclusive.specs.Steps.{IsStep, IsReturn, IsResolve}
 use Rattle.lot_history.specs.declared.view.Piece.{Piece}
-use Rattle.lot_history.specs.declared.view.Piece.TheVariants.{Lists, Thread, Records, Numbers}
+use Rattle.lot_history.specs.declared.view.Piece.TheVariants.{Thread}
 use Rattle.lot_history.specs.Moves.{Finds, Reaches, Moves}
 use Rattle.lot_history.specs.Pieces.{Name, list, thread, records, numbers, covers, cover, Alike, AllSo}
-use Rattle.lot_history.proofs.PieceLemmas.{own_thread, AlikeWhere, AllSo-alike}
+use Rattle.lot_history.proofs.PieceLemmas.{own_thread, AllSo-alike}
 
 -- this step, with this answer
 abbrev pub Is : Step → Answer → Step → Answer → Type 0

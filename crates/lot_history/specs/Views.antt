@@ -31,3 +31,8 @@ first_of (piece ∷ pieces) = piece ∷ []
 abbrev pub rest_of : List Piece → List Piece
 rest_of [] = []
 rest_of (piece ∷ pieces) = pieces
+
+-- the pieces of a seat that has this view, or has none
+abbrev pub pieces_seen : List View → List Piece
+pieces_seen [] = []
+pieces_seen (view ∷ _) = view.pieces

@@ -9,7 +9,7 @@ use Rattle.lot_history.specs.declared.history.Part.{Part}
 use Rattle.lot_history.specs.declared.history.Witness.{Witness}
 use Rattle.lot_history.specs.declared.view.Piece.{Piece}
 use Rattle.lot_history.specs.declared.view.View.{View}
-use Rattle.lot_history.specs.Views.{part_view}
+use Rattle.lot_history.specs.Views.{part_view, pieces_seen}
 use Rattle.lot_history.specs.Tells as tells
 
 -- which history it is, and for how many threads
@@ -49,10 +49,18 @@ pub record IsStill (history : History) (old new : Witness) : Type 0 where
   pub witness : IsWitnessOf history new
   pub number : number_of new ≡ number_of old
 
--- the part is one of this history, and has these pieces
-pub record IsPartOf (history : TableId) (part : Part) (pieces : List Piece) : Type 0 where
+-- the pieces of a part
+abbrev pub pieces_in : Part → List Piece
+pieces_in part = pieces_seen part.badge.views
+
+-- it is a part of this history: a seat that knows of its pieces alone
+pub record IsPartOf (history : TableId) (part : Part) : Type 0 where
   pub table : part.badge.table_id ≡ history
-  pub view : part.badge.views ≡ part_view pieces ∷ []
+  pub view : part.badge.views ≡ part_view (pieces_in part) ∷ []
+
+-- a step with its answer, as the witness with this number added it
+abbrev pub event : ℕ → Step → Answer → Event
+event number step answer = record { by = number; step = step; answer = answer }
 
 -- what a call told its witness: that it made this step, or one of which this is said, or none
 abbrev pub Extends : History → Witness → Step → Answer → Witness → Type 0

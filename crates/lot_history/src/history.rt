@@ -51,7 +51,7 @@ impl Part {
 }
 
 impl History {
-    ghost use Rattle.lot_history.specs.Witness.{Adds, IsPartOf, IsStill, IsWitnessOf, Looks, events_of, id_of, max_threads_of, number_of, pieces_of, seen_by, view_of};
+    ghost use Rattle.lot_history.specs.Witness.{Adds, IsPartOf, IsStill, IsWitnessOf, Looks, events_of, id_of, max_threads_of, number_of, pieces_in, pieces_of, seen_by, view_of};
 
     /// A history of a lot for at most this many threads, in which nothing was done, and its first
     /// witness, which has all pieces of the machine.
@@ -151,13 +151,12 @@ impl History {
     /// The witness takes the pieces of a part, behind its own. It costs a load.
     #[inline]
     pub fn take(&self, me: &mut Witness, part: Part)
-        ghost pieces: { List Piece }
         requires witness { IsWitnessOf self.now me.old }
-        requires part { IsPartOf (id_of self.now) part pieces }
+        requires part { IsPartOf (id_of self.now) part }
         ensures still { IsStill self.now me.old me.new }
         ensures seen { seen_by me.new ≡ seen_by me.old }
         ensures nothing_added { events_of me.new ≡ events_of me.old }
-        ensures pieces { pieces_of me.new ≡ pieces_of me.old ++ pieces }
+        ensures pieces { pieces_of me.new ≡ pieces_of me.old ++ pieces_in part }
     {
         let Part { badge } = part;
         self.join(
@@ -176,7 +175,8 @@ impl History {
         ensures seen { seen_by me.new ≡ seen_by me.old }
         ensures nothing_added { events_of me.new ≡ events_of me.old }
         ensures rest { pieces_of me.new ≡ rest_of (pieces_of me.old) }
-        ensures part { IsPartOf (id_of self.now) result (first_of (pieces_of me.old)) }
+        ensures part { IsPartOf (id_of self.now) result }
+        ensures first { pieces_in result ≡ first_of (pieces_of me.old) }
     {
         Part {
             badge: self

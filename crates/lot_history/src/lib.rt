@@ -7,7 +7,6 @@ pub mod history;
 pub mod laws;
 pub mod plays;
 pub mod steps;
-pub mod view;
-
 #[cfg(test)]
 mod tests;
+pub mod view;

@@ -1,12 +1,9 @@
-use Rattle.std.proofs.Common.{◌∷◌, List, refl, sym, ap, ◌∙◌, subst}
+use Rattle.std.proofs.Common.{◌∷◌, List}
 use Rattle.lot_exclusive.specs.declared.lot.Status.TheVariants as status
-use Rattle.lot_exclusive.specs.declared.schedule.Answer.{Answer}
 use Rattle.lot_exclusive.specs.declared.schedule.Answer.TheVariants as answer
-use Rattle.lot_exclusive.specs.declared.schedule.Step.{Step}
 use Rattle.lot_exclusive.specs.declared.schedule.Step.TheVariants as step
 use Rattle.lot_history.specs.declared.view.Piece.{Piece}
 use Rattle.lot_history.specs.declared.view.Piece.TheVariants.{Thread}
-use Rattle.lot_history.specs.Moves.{Moves}
 use Rattle.lot_history.specs.Views.{rest_of}
 use Rattle.lot_history.proofs.ThreadLemmas.{said_moves, returns}
 use Rattle.lot_history.proofs.history.History.give_back_as.Goals as goal

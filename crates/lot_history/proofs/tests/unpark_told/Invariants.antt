@@ -1,0 +1,5 @@
+use Rattle.lot_history.proofs.tests.unpark_told.Given as goal
+
+-- nobody is taken
+abbrev pub ghost-add : goal.ghost-add
+ghost-add g a = a.me.now.seat.me.0.pieces
