@@ -1,5 +1,6 @@
 -- A running thread enters the list of a key.
-use Rattle.std.proofs.Common.{◌≡◌, ◌≢◌, ℕ, ◌==◌, Bool, true, false, MatchBool, cond, List, [], ◌∷◌, ◌++◌, append-nil, refl, sym, ap, ◌∙◌, subst, ⊎_elim, arith}
+use Rattle.std.proofs.Common.{◌≡◌, ◌≢◌, ℕ, ◌==◌, Bool, true, false, MatchBool, cond, List, [], ◌∷◌, ◌++◌, append-nil}
+use Rattle.std.proofs.Common.{refl, sym, ap, ◌∙◌, subst, ⊎_elim, arith}
 use Rattle.std.proofs.lemmas.Bool.{cases_eq, eq-eqb, ne_eqb}
 use Rattle.std.proofs.lemmas.List.{map-append}
 use Rattle.std.proofs.lemmas.List.Elements.{filter-append}
@@ -16,8 +17,10 @@ use Rattle.lot_history.specs.declared.view.Standing.{Standing}
 use Rattle.lot_history.specs.declared.view.Piece.{Piece}
 use Rattle.lot_history.specs.declared.view.Piece.TheVariants.{Lists, Thread}
 use Rattle.lot_history.specs.Moves.{Finds, Moves}
-use Rattle.lot_history.specs.Pieces.{Name, list, thread, records, numbers, times_standing, cover, Alike, at_key, waiter_of, AllStand, IsList, AllSo}
-use Rattle.lot_history.proofs.PieceLemmas.{own_thread, own_list, AllSo-alike, stands-alike, times-at_key, times-append, AllStand-append}
+use Rattle.lot_history.specs.Pieces.{Name, list, thread, records, numbers, times_standing, cover, Alike, at_key}
+use Rattle.lot_history.specs.Pieces.{waiter_of, AllStand, IsList, AllSo}
+use Rattle.lot_history.proofs.PieceLemmas.{own_thread, own_list, AllSo-alike, stands-alike, times-at_key, times-append}
+use Rattle.lot_history.proofs.PieceLemmas.{AllStand-append}
 use Rattle.lot_history.proofs.ThreadLemmas.{Is, stays_moves, turned_alike}
 
 module _ (max_threads size place : ℕ) (standing : List Standing) (number key : ℕ) (park_token : ParkToken) (timed : Bool)

@@ -1,7 +1,9 @@
 -- The laws of `specs/Laws`.
-use Rattle.std.proofs.Common.{◌≡◌, ◌≢◌, ◌⊎◌, ℕ, zero, suc, ◌+◌, ◌==◌, Bool, true, false, ◌&&◌, List, [], ◌∷◌, ◌++◌, refl, sym, ap, ◌∙◌, subst, inl, inr, ⊎_elim, arith}
+use Rattle.std.proofs.Common.{◌≡◌, ◌≢◌, ◌⊎◌, ℕ, zero, suc, ◌+◌, ◌==◌, Bool, true, false, ◌&&◌, List, [], ◌∷◌, ◌++◌}
+use Rattle.std.proofs.Common.{refl, sym, ap, ◌∙◌, subst, inl, inr, ⊎_elim, arith}
 use Rattle.std.specs.List.{count_by, range_with_len}
-use Rattle.std.proofs.lemmas.Bool.{cases_eq, cases_Bool, ne_eqb, and_right, cond-true, cond-false, false≢true, and_parts, eqb-true}
+use Rattle.std.proofs.lemmas.Bool.{cases_eq, cases_Bool, ne_eqb, and_right, cond-true, cond-false, false≢true}
+use Rattle.std.proofs.lemmas.Bool.{and_parts, eqb-true}
 use Rattle.std.proofs.lemmas.List.Elements.{All-nil, All-cons}
 use Rattle.lot_base.specs.declared.token.UnparkToken.{UnparkToken}
 use Rattle.lot_base.specs.Waiting.{with_value, has_any}
@@ -18,14 +20,17 @@ use Rattle.lot_exclusive.specs.declared.schedule.Step.TheVariants.{Resolve, Retu
 use Rattle.lot_exclusive.specs.Machine.{Machine, new_machine, entries_of, statuses_with_taken}
 use Rattle.lot_exclusive.specs.Run.{IsRun}
 use Rattle.lot_exclusive.specs.Status.{is_running, awaits_deadline, is_taken}
-use Rattle.lot_exclusive.specs.Steps.{IsRegister, IsUnpark, IsReturn, IsResolve, IsAcquire, IsStep, is_outcome, ends_park}
+use Rattle.lot_exclusive.specs.Steps.{IsRegister, IsUnpark, IsReturn, IsResolve, IsAcquire, IsStep, is_outcome}
+use Rattle.lot_exclusive.specs.Steps.{ends_park}
 use Rattle.lot_exclusive.specs.Totals.{taken_threads_of}
 use Rattle.lot_exclusive.proofs.StepLemmas.{IsConsistent-new, MatchBool-either, IsTrim-unchanged}
 use Rattle.lot_exclusive.proofs.LawLemmas.{IsRun-fixes, OutcomesAlternate-run}
 use Rattle.lot_exclusive.proofs.TotalLemmas.{IsRun-balances}
 use Rattle.lot_history.specs.declared.event.Event.{Event}
 use Rattle.lot_history.specs.History.{steps_of, answers_of}
-use Rattle.lot_history.specs.Laws.{EachLeadsToOneMachine, BeginningsAreHistories, ParksAndOutcomesAlternate, UnparkedThreadsComeBack, TokensComeFromUnparks, token_of, split_of, Hands, HaveNoOutcome}
+use Rattle.lot_history.specs.Laws.{EachLeadsToOneMachine, BeginningsAreHistories, ParksAndOutcomesAlternate}
+use Rattle.lot_history.specs.Laws.{UnparkedThreadsComeBack, TokensComeFromUnparks, token_of, split_of, Hands}
+use Rattle.lot_history.specs.Laws.{HaveNoOutcome}
 
 pub one_machine : EachLeadsToOneMachine
 one_machine max_threads events machine other run ran =

@@ -1,5 +1,6 @@
 -- What pieces cover, and that they stay so where a machine is alike in that.
-use Rattle.std.proofs.Common.{◌≡◌, ◌≢◌, ℕ, ◌+◌, ◌<◌, ◌≤◌, ◌==◌, Bool, true, false, cond, map, List, [], ◌∷◌, ◌++◌, length, refl, sym, ap, ◌∙◌, ⊎_elim, arith}
+use Rattle.std.proofs.Common.{◌≡◌, ◌≢◌, ℕ, ◌+◌, ◌<◌, ◌≤◌, ◌==◌, Bool, true, false, cond, map, List, [], ◌∷◌, ◌++◌}
+use Rattle.std.proofs.Common.{length, refl, sym, ap, ◌∙◌, ⊎_elim, arith}
 use Rattle.std.proofs.lemmas.Bool.{cases_eq, eq-eqb, ne_eqb, cond-true}
 use Rattle.lot_base.specs.Place.{place_of}
 use Rattle.lot_exclusive.specs.declared.lot.Status.{Status}
@@ -9,7 +10,8 @@ use Rattle.lot_exclusive.specs.Status.{is_registered}
 use Rattle.lot_history.specs.declared.view.Standing.{Standing}
 use Rattle.lot_history.specs.declared.view.Piece.{Piece}
 use Rattle.lot_history.specs.declared.view.Piece.TheVariants.{Lists, Thread, Records, Numbers}
-use Rattle.lot_history.specs.Pieces.{Name, list, thread, records, numbers, covers, cover, times_standing, Alike, waiter_of, AllStand, IsList, at_key, IsSo, AllSo}
+use Rattle.lot_history.specs.Pieces.{Name, list, thread, records, numbers, covers, cover, times_standing, Alike}
+use Rattle.lot_history.specs.Pieces.{waiter_of, AllStand, IsList, at_key, IsSo, AllSo}
 
 pub cover-append : (name : Name) (ps qs : List Piece) → cover name (ps ++ qs) ≡ cover name ps + cover name qs
 cover-append name [] qs = omega arith

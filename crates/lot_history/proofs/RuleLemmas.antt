@@ -1,5 +1,6 @@
 -- What keeps the rule of a history.
-use Rattle.std.proofs.Common.{◌≡◌, ◌≢◌, ◌⊎◌, ℕ, zero, suc, ◌+◌, ◌<◌, ◌≤◌, ◌==◌, List, [], ◌∷◌, ◌++◌, length, set, cond, refl, sym, ap, ◌∙◌, subst, inl, inr, ⊎_elim, arith, length-append, append-nil}
+use Rattle.std.proofs.Common.{◌≡◌, ◌≢◌, ◌⊎◌, ℕ, zero, suc, ◌+◌, ◌<◌, ◌≤◌, ◌==◌, List, [], ◌∷◌, ◌++◌, length, set, cond}
+use Rattle.std.proofs.Common.{refl, sym, ap, ◌∙◌, subst, inl, inr, ⊎_elim, arith, length-append, append-nil}
 use Rattle.std.proofs.lemmas.Bool.{cases_eq, eq-eqb, ne_eqb, cond-true, cond-false}
 use Rattle.std.proofs.Math.ListN.{length-set}
 use mathlib.Core.List.{IsPrefix}
@@ -19,7 +20,8 @@ use Rattle.lot_history.specs.Moves.{Finds, Reaches, Moves, Regroups}
 use Rattle.lot_history.specs.Rule.{Knows, Kept}
 use Rattle.lot_history.specs.Views.{spent_view}
 use Rattle.lot_history.specs.Tells.{event, Adds, Looks}
-use Rattle.lot_history.proofs.EventLemmas.{prefix_self, prefix_nil, prefix_longer, events_by-own, events_by-other, LeadsTo-push}
+use Rattle.lot_history.proofs.EventLemmas.{prefix_self, prefix_nil, prefix_longer, events_by-own, events_by-other}
+use Rattle.lot_history.proofs.EventLemmas.{LeadsTo-push}
 use Rattle.lot_history.proofs.PieceLemmas.{AlikeWhere, AllSo-alike, AllSo-append, cover-append}
 
 -- places in a list
@@ -105,7 +107,7 @@ module _ (max_threads : ℕ) (views : List View) (kept : Kept max_threads views)
     from = moves.step kept.machine found
 
     abbrev added : Event
-    added = event max_threads id from.step from.answer
+    added = event id from.step from.answer
 
     abbrev new_view : View
     new_view =

@@ -1,5 +1,6 @@
 -- An unpark of waiters of one key, each of which is a piece of its own then.
-use Rattle.std.proofs.Common.{◌≡◌, ◌≢◌, ℕ, ◌+◌, ◌<◌, Bool, true, false, List, [], ◌∷◌, ◌++◌, map, refl, sym, ap, ◌∙◌, subst, ⊎_elim, arith}
+use Rattle.std.proofs.Common.{◌≡◌, ◌≢◌, ℕ, ◌+◌, ◌<◌, Bool, true, false, List, [], ◌∷◌, ◌++◌, map, refl, sym, ap, ◌∙◌}
+use Rattle.std.proofs.Common.{subst, ⊎_elim, arith}
 use Rattle.std.proofs.lemmas.Bool.{cases_eq}
 use Rattle.lot_base.specs.declared.token.UnparkToken.{UnparkToken}
 use Rattle.lot_base.specs.Place.{place_of}
@@ -17,8 +18,10 @@ use Rattle.lot_history.specs.declared.view.Standing.{Standing}
 use Rattle.lot_history.specs.declared.view.Piece.{Piece}
 use Rattle.lot_history.specs.declared.view.Piece.TheVariants.{Lists}
 use Rattle.lot_history.specs.Moves.{Finds, Moves}
-use Rattle.lot_history.specs.Pieces.{Name, list, thread, records, numbers, times_standing, cover, Alike, at_key, waiter_of, AllStand, IsList, AllSo, threads_taken}
-use Rattle.lot_history.proofs.PieceLemmas.{own_list, own_thread, AllSo-alike, AllSo-append, cover-append, stands-alike, stands-registered, times-at_key, times_in-waiters}
+use Rattle.lot_history.specs.Pieces.{Name, list, thread, records, numbers, times_standing, cover, Alike, at_key}
+use Rattle.lot_history.specs.Pieces.{waiter_of, AllStand, IsList, AllSo, threads_taken}
+use Rattle.lot_history.proofs.PieceLemmas.{own_list, own_thread, AllSo-alike, AllSo-append, cover-append, stands-alike}
+use Rattle.lot_history.proofs.PieceLemmas.{stands-registered, times-at_key, times_in-waiters}
 use Rattle.lot_history.proofs.ThreadLemmas.{Is}
 
 -- a split of threads, as the machine has it

@@ -1,5 +1,6 @@
 -- The parts of the machine that one seat alone may change, its pieces.
-use Rattle.std.specs.Prelude.{◌≡◌, ℕ, ◌+◌, ◌==◌, Bool, false, if◌then◌else◌, cond, ⊤, List, [], ◌∷◌, map, filter, slice_index_or}
+use Rattle.std.specs.Prelude.{◌≡◌, ℕ, ◌+◌, ◌==◌, Bool, false, if◌then◌else◌, cond, ⊤, List, [], ◌∷◌, map, filter}
+use Rattle.std.specs.Prelude.{slice_index_or}
 use Rattle.lot_base.specs.Place.{place_of}
 use Rattle.lot_base.specs.declared.token.UnparkToken.{UnparkToken}
 use Rattle.lot_exclusive.specs.declared.lot.Status.{Status}

@@ -18,8 +18,7 @@ pub record Knows (events : List Event) (m : Machine) (owner : Name → ℕ) (id 
   pub once : (name : Name) → cover name view.pieces ≤ 1
   pub pieces : AllSo m view.pieces
 
--- there are events, a run of the machine for so many threads from a new one, of which all that the seats know is so; and
--- no other has added any
+-- there is one history for so many threads, of which all that the seats know is so; and no other has added an event
 pub record Kept (max_threads : ℕ) (views : List View) : Type 0 where
   pub events : List Event
   pub machine : Machine

@@ -1,5 +1,5 @@
--- What a call tells: of what its caller knew before, and knows then. All of these are of the history for so many threads,
--- and of the seat with this number.
+-- What a call tells, of what its caller knew before and knows then. It is of the history for so many threads, and of the
+-- seat with this number.
 use Rattle.std.specs.Prelude.{◌≡◌, ℕ, List, [], ◌∷◌, ◌++◌}
 use mathlib.Core.List.{IsPrefix}
 use Rattle.lot_exclusive.specs.declared.schedule.Answer.{Answer}
@@ -10,17 +10,17 @@ use Rattle.lot_history.specs.declared.view.View.{View}
 use Rattle.lot_history.specs.History.{IsHistory, LeadsTo, events_by}
 use Rattle.lot_history.specs.Pieces.{AllSo}
 
-module _ (max_threads number : ℕ) where
-  -- a step with its answer, added by the seat
-  abbrev pub event : Step → Answer → Event
-  event step answer = record { by = number; step = step; answer = answer }
+-- a step with its answer, as the seat with this number added it
+abbrev pub event : ℕ → Step → Answer → Event
+event number step answer = record { by = number; step = step; answer = answer }
 
+module _ (max_threads number : ℕ) where
   -- the call made this step: what is seen then begins with all that was seen before, ends with the step, and is a
   -- history; and of the seat's own events it has those before, this one, and no others
   pub record Extends (old : View) (step : Step) (answer : Answer) (new : View) : Type 0 where
     pub between : List Event
-    pub seen : new.seen ≡ (old.seen ++ between) ++ event step answer ∷ []
-    pub mine : new.mine ≡ old.mine ++ event step answer ∷ []
+    pub seen : new.seen ≡ (old.seen ++ between) ++ event number step answer ∷ []
+    pub mine : new.mine ≡ old.mine ++ event number step answer ∷ []
     pub all_mine : events_by number new.seen ≡ new.mine
     pub history : IsHistory max_threads new.seen
 

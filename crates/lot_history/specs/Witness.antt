@@ -58,10 +58,6 @@ pub record IsPartOf (history : TableId) (part : Part) : Type 0 where
   pub table : part.badge.table_id ≡ history
   pub view : part.badge.views ≡ part_view (pieces_in part) ∷ []
 
--- a step with its answer, as the witness with this number added it
-abbrev pub event : ℕ → Step → Answer → Event
-event number step answer = record { by = number; step = step; answer = answer }
-
 -- what a call told its witness: that it made this step, or one of which this is said, or none
 abbrev pub Extends : History → Witness → Step → Answer → Witness → Type 0
 Extends history old step answer new =

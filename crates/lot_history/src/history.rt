@@ -114,9 +114,10 @@ impl History {
         self.look_as::<Brand>(me);
     }
 
-    /// Makes one step of the machine, of which `E` says which it is and what it answers. It is added
-    /// to the history, and leaves the pieces `after`. The caller proves that whatever the machine is
-    /// where the pieces of the witness are so, there is such a step which changes nothing else.
+    /// Makes one step of the machine, of which `E` says which it is and what it answers. It is
+    /// added to the history, and leaves the pieces `after`. The caller proves that whatever the
+    /// machine is where the pieces of the witness are so, there is such a step which changes
+    /// nothing else.
     ///
     /// The caller picks `after`, and `E` where that is `Brand`, from what the witness knows. Where
     /// they depend on more, a function between has that for arguments, and a `ghost after` of its
@@ -133,8 +134,8 @@ impl History {
         self.add_as::<E, Brand>(me);
     }
 
-    /// Puts the pieces of the witness together otherwise, as where a table grows. It adds nothing to
-    /// the history. The caller picks `after`, as in `add`. It costs a load.
+    /// Puts the pieces of the witness together otherwise, as where a table grows. It adds nothing
+    /// to the history. The caller picks `after`, as in `add`. It costs a load.
     #[inline]
     pub fn regroup(&self, me: &mut Witness)
         ghost after: { List Piece }
@@ -194,7 +195,10 @@ impl History {
         requires other { IsWitnessOf self.now other }
         requires quiet { events_of other ≡ [] }
         ensures still { IsStill self.now me.old me.new }
-        ensures view { view_of me.new ≡ record (view_of me.old) { heard = seen_by other; pieces = pieces_of me.old ++ pieces_of other } }
+        ensures view { view_of me.new ≡ record (view_of me.old) {
+          heard = seen_by other;
+          pieces = pieces_of me.old ++ pieces_of other;
+        } }
     {
         let Witness { seat } = other;
         self.table.shared.join_seat::<Taking>(&mut me.seat, seat);

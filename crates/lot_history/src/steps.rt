@@ -32,7 +32,8 @@ impl History {
         requires taken { pieces_of me.old
             ≡ Thread number (Status.Taken token) ∷ rest_of (pieces_of me.old) }
         ensures still { IsStill self.now me.old me.new }
-        ensures extends { Extends self.now me.old (Step.Return number) (Answer.Unparked token) me.new }
+        ensures extends { Extends self.now me.old
+            (Step.Return number) (Answer.Unparked token) me.new }
         ensures pieces { pieces_of me.new
             ≡ Thread number Status.Running ∷ rest_of (pieces_of me.old) }
     {

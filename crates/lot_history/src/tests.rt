@@ -4,7 +4,8 @@ ghost use Rattle.lot_base.specs.Place.{place_of};
 ghost use Rattle.lot_base.specs.declared.token.UnparkToken.{UnparkToken};
 ghost use Rattle.lot_history.specs.Views.{all_pieces, first_of, rest_of};
 ghost use Rattle.lot_history.specs.History.{events_by};
-ghost use Rattle.lot_history.specs.Witness.{event, Adds, Extends, IsStill, IsWitnessOf, events_of, number_of, pieces_of, seen_by};
+ghost use Rattle.lot_history.specs.Tells.{event};
+ghost use Rattle.lot_history.specs.Witness.{Adds, Extends, IsStill, IsWitnessOf, events_of, number_of, pieces_of, seen_by};
 
 use crate::history::{History, Part, Witness};
 use crate::plays::Told;
@@ -100,7 +101,8 @@ fn unpark_nobody<F: FnOnce(UnparkResult) -> UnparkToken>(
     requires callable { F.pre callback NOBODY }
     ensures still { IsStill history.now me.old me.new }
     ensures unparked { (token : UnparkToken) × F.post callback NOBODY token
-        × Extends history.now me.old (Step.Unpark (Op.One key token)) (Answer.Unpark NOBODY) me.new }
+        × Extends history.now me.old
+        (Step.Unpark (Op.One key token)) (Answer.Unpark NOBODY) me.new }
 {
     unpark_told::<Brand, F>(history, me, key, callback);
 }
