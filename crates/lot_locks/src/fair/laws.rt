@@ -1,7 +1,7 @@
 //! Laws of the machine of a fair mutex, for every state and every run. The functions do nothing:
 //! their contract is the law, over the definitions that the contract of `run_fair` cites.
 
-ghost use Rattle.lot_locks.specs.FairLaws.{NewStatesAreConsistent, FairStepsKeepConsistency, WaitersKeepTheirOrder, NotifiedThreadsKeepTheirPlace};
+ghost use Rattle.lot_locks.specs.FairLaws.{NewStatesAreConsistent, FairStepsKeepConsistency, WaitersKeepTheirOrder, NotifiedThreadsKeepTheirPlace, UnnotifiedThreadsSleep};
 
 /// The state of a new core is consistent, and each step keeps it so: at most one thread holds the
 /// mutex; nobody waits for it while nobody holds it; each thread that is queued or leaving stands
@@ -23,4 +23,11 @@ pub fn waiters_keep_their_order()
 /// those who slept before it, and no other thread ever comes to stand before it.
 pub fn notified_threads_keep_their_place()
     ensures { NotifiedThreadsKeepTheirPlace }
+{}
+
+/// A thread that has left the mutex and sleeps on the condition variable sleeps on, and its wait has
+/// no outcome, while there are no more notifies of one than others sleep before it, and none of
+/// all.
+pub fn unnotified_threads_sleep()
+    ensures { UnnotifiedThreadsSleep }
 {}
