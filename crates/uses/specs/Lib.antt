@@ -1,2 +1,3 @@
 pub mod SemaphoreState
 pub mod KeyedState
+pub mod BoundedQueueState

@@ -2,6 +2,8 @@
 #![tactic(auto)]
 
 #[cfg(test)]
+mod bounded_queue;
+#[cfg(test)]
 mod byte_mutex;
 #[cfg(test)]
 mod event;

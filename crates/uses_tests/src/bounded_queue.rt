@@ -1,0 +1,66 @@
+//! Tests of the queue of bounded length among threads.
+
+use crate::expect_equal;
+use crate::lots::register;
+use parking_lot_core::{ParkingLot, ThreadData, ThreadParkerT, WordParker};
+use std::sync::Wait;
+use std::test::Fail;
+use std::thread;
+use std::time::Clock;
+use uses::bounded_queue::BoundedQueue;
+
+const MUTEX_KEY: usize = 7;
+
+const CONDVAR_KEY: usize = 8;
+
+const CAPACITY: usize = 3;
+
+const ROUNDS: usize = 500;
+
+// A thread with its part: whether it produces.
+#[derive(Drop)]
+struct Worker {
+    data: ThreadData,
+    produces: bool,
+}
+
+// Puts the numbers from 1 to `ROUNDS`, or takes so many, and tells their sum. Data of another lot
+// answers 0.
+fn work<P: ThreadParkerT, R: Wait + Clock>(
+    rt: &R,
+    lot: &ParkingLot<P>,
+    queue: &BoundedQueue,
+    worker: Worker,
+) -> usize {
+    let mut data = worker.data;
+    let mut sum: usize = 0;
+    for number in 1..=ROUNDS {
+        if !lot.accepts(&data) {
+            return 0;
+        }
+        if worker.produces {
+            queue.put(rt, lot, &mut data, number);
+            sum = sum.wrapping_add(number);
+        } else {
+            sum = sum.wrapping_add(queue.take(rt, lot, &mut data));
+        }
+    }
+    sum
+}
+
+// It refuses a `put` that overwrites, and a `take` that takes a number twice. The numbers from 1 to
+// 500 have the sum 125_250, and two producers put each.
+#[test]
+fn consumers_take_what_producers_put(rt: HostRuntime) -> Result<(), Fail> {
+    let lot = ParkingLot::<WordParker>::new(rt.alloc(), 4)?;
+    let queue = BoundedQueue::new(rt.alloc(), MUTEX_KEY, CONDVAR_KEY, CAPACITY)?;
+    let mut workers = Vec::new(rt.alloc());
+    for produces in [true, false, true, false] {
+        let data = register(&rt, rt.alloc(), &lot)?;
+        workers.push(Worker { data, produces })?;
+    }
+    let sums = thread::map_vec(&rt, workers, &|worker| work(&rt, &lot, &queue, worker))?;
+    let all = sums.into_iter().fold(0usize, |all, sum| all.wrapping_add(sum));
+    expect_equal(&rt, all, 4 * 125_250);
+    Ok(())
+}
