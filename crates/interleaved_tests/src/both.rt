@@ -12,8 +12,8 @@ use std::alloc::Global;
 use std::process::Abort;
 use std::slice;
 
-/// `run_fine`, which promises nothing here: a proof carries what a call promises on to the end of the
-/// function that makes it, and a test has no use for it there.
+/// `run_fine`, which promises nothing here: a proof carries what a call promises on to the end of
+/// the function that makes it, and a test has no use for it there.
 pub fn run_bare(
     lot: &mut FineLot,
     steps: &[FineStep],

@@ -160,8 +160,8 @@ fn a_growth_waits_for_every_section(rt: HostRuntime) -> Result<(), Fail> {
     Ok(())
 }
 
-// Key 13 has place 0 of 16, and another of 32. It refuses a trim while a section holds a bucket, and
-// one that is blocked though the table is not too large.
+// Key 13 has place 0 of 16, and another of 32. It refuses a trim while a section holds a bucket,
+// and one that is blocked though the table is not too large.
 #[test]
 fn a_trim_waits_for_every_section(rt: HostRuntime) -> Result<(), Fail> {
     let mut both = both_of(&rt, rt.alloc(), 6, 1)?;
@@ -408,7 +408,10 @@ fn an_interleaved_lot_has_16384_threads_and_a_thread_records(rt: HostRuntime) ->
         expect_equal(&rt, answers.last(), Some(&registered(number)));
     }
     for key in 0..1_000 {
-        let acquire = FineStep::Acquire { thread: 16_383, key };
+        let acquire = FineStep::Acquire {
+            thread: 16_383,
+            key,
+        };
         run_bare(&mut lot, &[acquire], &mut answers, &mut sequential)?;
         expect_equal(&rt, answers.last(), Some(&answer(Answer::Recorded)));
     }

@@ -221,9 +221,10 @@ module _ (t : ℕ) (behind : List ℕ) where
       (omega (arith, length-drop (one_of step) before, few, one)) (omega (arith, none, all)) in
       let far : drop (count_by notifies_one steps) (drop (one_of step) before)
       ≡ drop (count_by notifies_one (step ∷ steps)) before =
-      drop-drop (count_by notifies_one steps) (one_of step) before ∙ ap (λ n. drop n before) (sym one) in
-      ((Step-never m next before right sleeps step given does, rest.0),
-      subst (λ xs. Sleeps t xs behind last) far rest.1)
+      drop-drop (count_by notifies_one steps) (one_of step) before ∙ ap (λ n. drop n before) (sym one) in (
+        (Step-never m next before right sleeps step given does, rest.0),
+        subst (λ xs. Sleeps t xs behind last) far rest.1,
+      )
 
 pub unnotified_threads_sleep : UnnotifiedThreadsSleep
 unnotified_threads_sleep m thread before behind steps answers last right queued stand ran few none =

@@ -1,5 +1,5 @@
-//! Scenarios with threads: what threads do on a threaded lot of their own, and whether it went as it
-//! should. The program runs them, and so do tests, with each parker.
+//! Scenarios with threads: what threads do on a threaded lot of their own, and whether it went as
+//! it should. The program runs them, and so do tests, with each parker.
 #![tactic(auto)]
 
 mod buckets;

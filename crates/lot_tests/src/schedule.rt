@@ -376,8 +376,8 @@ fn answers_stand_behind_those_that_are_there(rt: HostRuntime) {
     expect_equal(&rt, answers.as_slice(), expected.as_slice());
 }
 
-// What a registration, a recording and an entry answer, and what the thread does then, where so many
-// are registered and the thread has so many records.
+// What a registration, a recording and an entry answer, and what the thread does then, where so
+// many are registered and the thread has so many records.
 fn expected_with(registered: usize, records: usize) -> ([Answer; 3], Status) {
     let number = Answer::Registered(0);
     if registered == 0 {

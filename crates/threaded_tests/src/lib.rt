@@ -1,4 +1,5 @@
-//! Tests of the threaded lot, also by the scenarios of threads, and of recording lots, by their public calls alone.
+//! Tests of the threaded lot, also by the scenarios of threads, and of recording lots, by their
+//! public calls alone.
 #![tactic(auto)]
 
 #[cfg(test)]

@@ -84,8 +84,8 @@ impl ThreadSemaphore {
 
     /// Frees a permit, and wakes the thread that waits longest for one. Answers whether one waited.
     ///
-    /// It is one addition and one `unpark_one`. Where `usize::MAX` permits are free, one more leaves
-    /// none: no more are to be freed than were made or taken.
+    /// It is one addition and one `unpark_one`. Where `usize::MAX` permits are free, one more
+    /// leaves none: no more are to be freed than were made or taken.
     pub fn release<P: ThreadParkerT, R: Wait>(&self, rt: &R, lot: &ParkingLot<P>) -> bool {
         self.permits.fetch_add(1, Ordering::SeqCst);
         let result = unpark_one(rt, lot, self.key, |_| DEFAULT_UNPARK_TOKEN);

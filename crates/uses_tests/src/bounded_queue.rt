@@ -60,7 +60,9 @@ fn consumers_take_what_producers_put(rt: HostRuntime) -> Result<(), Fail> {
         workers.push(Worker { data, produces })?;
     }
     let sums = thread::map_vec(&rt, workers, &|worker| work(&rt, &lot, &queue, worker))?;
-    let all = sums.into_iter().fold(0usize, |all, sum| all.wrapping_add(sum));
+    let all = sums
+        .into_iter()
+        .fold(0usize, |all, sum| all.wrapping_add(sum));
     expect_equal(&rt, all, 4 * 125_250);
     Ok(())
 }

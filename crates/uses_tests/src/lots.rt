@@ -1,4 +1,5 @@
-//! Calls of lots. They have no clauses, so that a test's proof carries none of what it does not need.
+//! Calls of lots. They have no clauses, so that a test's proof carries none of what it does not
+//! need.
 
 use crate::expect_equal;
 use parking_lot_core::lot::Lot;

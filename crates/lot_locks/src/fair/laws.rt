@@ -25,8 +25,8 @@ pub fn notified_threads_keep_their_place()
     ensures { NotifiedThreadsKeepTheirPlace }
 {}
 
-/// A thread that has left the mutex and sleeps on the condition variable sleeps on, and its wait has
-/// no outcome, while there are no more notifies of one than others sleep before it, and none of
+/// A thread that has left the mutex and sleeps on the condition variable sleeps on, and its wait
+/// has no outcome, while there are no more notifies of one than others sleep before it, and none of
 /// all.
 pub fn unnotified_threads_sleep()
     ensures { UnnotifiedThreadsSleep }
