@@ -89,7 +89,15 @@ impl Written {
 fn answers_of_arbitrary_scripts_are_those_of_the_plain_machine(
     rt: HostRuntime,
 ) -> Result<(), Fail> {
-    for (max_threads, seed) in [(0, 1), (1, 2), (2, 3), (6, 4), (11, 5), (40, 6), (16_384, 7)] {
+    for (max_threads, seed) in [
+        (0, 1),
+        (1, 2),
+        (2, 3),
+        (6, 4),
+        (11, 5),
+        (40, 6),
+        (16_384, 7),
+    ] {
         let mut written = Written::new(rt.alloc(), max_threads, seed)?;
         written.add_lines()?;
         let mut output = Vec::new(rt.alloc());
