@@ -6,6 +6,7 @@ pub mod StepLemmas
 pub mod ThreadLemmas
 pub mod EnterLemmas
 pub mod UnparkLemmas
+pub mod TimesLemmas
 pub mod TakeLemmas
 pub mod NumberLemmas
 pub mod LawLemmas
