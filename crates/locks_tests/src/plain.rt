@@ -66,7 +66,10 @@ impl Plain {
         match step {
             FairStep::Register => Ok(self.register()),
             FairStep::NotifyOne => self.notify(1),
-            FairStep::NotifyAll => self.notify(self.sleepers.len()),
+            FairStep::NotifyAll => {
+                let count = self.sleepers().len();
+                self.notify(count)
+            }
             FairStep::Retire { thread } => Ok(self.retire(thread)),
             FairStep::Lock { thread } => self.lock(thread),
             FairStep::Unlock { thread } => {

@@ -9,6 +9,7 @@ mod locking;
 mod many_keys;
 mod program;
 mod row;
+mod sizes;
 mod thousand;
 mod together;
 mod turns;

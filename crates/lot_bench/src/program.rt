@@ -2,7 +2,7 @@
 
 use crate::cost::Cost;
 use crate::row::{ROWS, Row, row_named};
-use crate::{alone, crowd, locked, locking, many_keys, thousand, together, turns};
+use crate::{alone, crowd, locked, locking, many_keys, sizes, thousand, together, turns};
 use std::process::ExitCode;
 use std::rt::Env;
 use std::sync::Wait;
@@ -93,5 +93,10 @@ fn measure<R: AllocGlobal + Threads + Wait + Clock + Copy + Send + Sync + 'stati
         Row::StdMutex(threads, section) => locked::std_mutex(rt, alloc, threads, section),
         Row::ManyKeys => many_keys::many_keys(rt, alloc),
         Row::ThousandThreads => thousand::thousand_threads(rt, alloc),
+        Row::RegisterAll => sizes::register_all(rt, alloc),
+        Row::Trim => sizes::trim(rt, alloc),
+        Row::TrimExclusive => sizes::trim_exclusive(rt, alloc),
+        Row::UnparkInSmallTable => sizes::unpark_in_small_table(rt, alloc),
+        Row::UnparkInLargeTable => sizes::unpark_in_large_table(rt, alloc),
     }
 }

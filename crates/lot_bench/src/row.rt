@@ -45,10 +45,25 @@ pub enum Row {
 
     /// A thousand threads start, register, park, are woken and end.
     ThousandThreads,
+
+    /// As many threads as a lot can have are registered, and retired.
+    RegisterAll,
+
+    /// The table of a threaded lot is trimmed from 4,096 buckets to 16.
+    Trim,
+
+    /// That of an exclusive lot, while five threads wait.
+    TrimExclusive,
+
+    /// One thread unparks one on many keys where nobody waits, in a table of 16 buckets.
+    UnparkInSmallTable,
+
+    /// The same in a table of 65,536.
+    UnparkInLargeTable,
 }
 
 /// The rows by their names, in the order in which they are printed.
-pub const ROWS: [(&str, Row); 32] = [
+pub const ROWS: [(&str, Row); 37] = [
     ("unpark_one_nobody", Row::UnparkOneNobody),
     (
         "unpark_one_two_keys",
@@ -90,6 +105,11 @@ pub const ROWS: [(&str, Row); 32] = [
     ("std_mutex_four_longer", Row::StdMutex(4, Section::Longer)),
     ("many_keys", Row::ManyKeys),
     ("thousand_threads", Row::ThousandThreads),
+    ("register_all", Row::RegisterAll),
+    ("trim", Row::Trim),
+    ("trim_exclusive", Row::TrimExclusive),
+    ("unpark_in_small_table", Row::UnparkInSmallTable),
+    ("unpark_in_large_table", Row::UnparkInLargeTable),
 ];
 
 /// The row of this name.
