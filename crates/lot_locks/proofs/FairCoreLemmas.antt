@@ -13,7 +13,7 @@ use Rattle.lot_base.specs.declared.token.UnparkToken.{UnparkToken}
 use Rattle.lot_exclusive.specs.declared.lot.Status.{Status}
 use Rattle.lot_exclusive.specs.declared.lot.Status.TheVariants as status
 use Rattle.lot_exclusive.specs.Machine as lot
-use Rattle.lot_exclusive.specs.Machine.{Machine, Waiter, statuses_with_taken, entries_of, after_unpark, after_requeue}
+use Rattle.lot_exclusive.specs.Machine.{Machine, Waiter, statuses_with_taken, after_unpark, after_requeue}
 use Rattle.lot_exclusive.specs.Machine.{after_enter}
 use Rattle.lot_locks.specs.declared.fair.fair_core.FairStatus.{FairStatus}
 use Rattle.lot_locks.specs.declared.fair.fair_core.FairStatus.TheVariants.{Free, Idle, Holding, Queued, Leaving, Handed}

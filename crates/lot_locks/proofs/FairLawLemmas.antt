@@ -2,7 +2,7 @@
 use Rattle.std.proofs.Common.{◌≡◌, ◌≢◌, ℕ, ◌==◌, false, IsFalse, List}
 use Rattle.std.proofs.Common.{[], ◌∷◌, ◌++◌, take, drop, append-nil, append_assoc, refl, sym, ap, ◌∙◌, subst}
 use Rattle.std.proofs.Common.{⊎_elim, ◌⊎◌, inl, inr}
-use Rattle.std.proofs.lemmas.Bool.{cases_eq, eq-eqb, false≢true, true≢false}
+use Rattle.std.proofs.lemmas.Bool.{cases_eq, eq-eqb, true≢false}
 use Rattle.lot_base.proofs.ValueLemmas.{with_value-same, with_value-other}
 use Rattle.lot_base.specs.Waiting.{with_value, split_by}
 use Rattle.lot_base.specs.declared.token.RequeueOp.{RequeueOp}
@@ -194,13 +194,7 @@ waiters_keep_their_order m thread before behind steps answers last stands ran ne
     })) ran never
 
 pub notified_threads_keep_their_place : NotifiedThreadsKeepTheirPlace
-notified_threads_keep_their_place m given notified thread before behind steps answers last (holder, holding) sleeps
-    notify ran never =
-    waiters_keep_their_order notified thread (m.waiters ++ before) behind steps answers last waits ran never
-  where
-    waits : notified.waiters ≡ (m.waiters ++ before) ++ thread ∷ behind
-    waits =
-        ⊎_elim (λ (unlocked, _). absurd (false≢true (sym (unlocked holder) ∙ holding)))
-        (λ (_, (_, new_is)). ap (λ (state : FairState). state.waiters) new_is ∙ ap (λ xs. m.waiters ++ xs) sleeps
-        ∙ sym (append_assoc m.waiters before (thread ∷ behind)))
-        notify
+notified_threads_keep_their_place m op given notified thread before behind steps answers last (_, new_is) moved =
+    waiters_keep_their_order notified thread (m.waiters ++ before) behind steps answers last
+    (ap (λ (state : FairState). state.waiters) new_is ∙ ap (λ xs. m.waiters ++ xs) moved
+    ∙ sym (append_assoc m.waiters before (thread ∷ behind)))

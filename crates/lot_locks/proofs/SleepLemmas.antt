@@ -1,12 +1,12 @@
 -- Who sleeps on the condition variable and is not notified sleeps on.
-use Rattle.std.proofs.Common.{◌≡◌, ◌≢◌, ℕ, ◌+◌, ◌-◌, ◌<◌, ◌≤◌, ◌==◌, Bool, true, false, IsFalse, if◌then◌else◌, List}
+use Rattle.std.proofs.Common.{◌≡◌, ◌≢◌, ℕ, ◌+◌, ◌-◌, ◌<◌, ◌≤◌, Bool, true, false, IsFalse, if◌then◌else◌, List}
 use Rattle.std.proofs.Common.{[], ◌∷◌, ◌++◌, length, take, drop, append-nil, append_assoc, length-drop, refl, sym, ap}
 use Rattle.std.proofs.Common.{◌∙◌, subst, ⊎_elim, ◌⊎◌, count_by, zero-add, arith}
-use Rattle.std.proofs.lemmas.Bool.{cases_eq, ne_eqb}
+use Rattle.std.proofs.lemmas.Bool.{ne_eqb}
 use Rattle.std.proofs.lemmas.List.{drop-drop}
 use Rattle.std.proofs.lemmas.List.Sums.{sum_by-append}
 use Rattle.lot_base.proofs.ValueLemmas.{with_value-other}
-use Rattle.lot_base.specs.Waiting.{with_value, split_by}
+use Rattle.lot_base.specs.Waiting.{with_value}
 use Rattle.lot_exclusive.proofs.StepLemmas.{MatchBool-either}
 use Rattle.lot_exclusive.specs.Run.{IsRun}
 use Rattle.lot_locks.specs.declared.fair.fair_core.FairStatus.{FairStatus}

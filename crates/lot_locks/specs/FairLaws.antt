@@ -1,14 +1,16 @@
 -- What the definitions of `FairSteps` give for every state and every run.
 use Rattle.std.specs.Prelude.{◌≡◌, ℕ, ◌≤◌, Bool, true, false, ◌==◌, IsFalse, ⊤, List, ◌∷◌, ◌++◌}
 use Rattle.std.specs.Prelude.{length, drop, count_by, ◌⊎◌}
+use Rattle.lot_base.specs.declared.token.RequeueOp.{RequeueOp}
+use Rattle.lot_base.specs.Waiting.{split_by}
 use Rattle.lot_exclusive.specs.Run.{IsRun}
 use Rattle.lot_locks.specs.declared.fair.fair_core.FairStatus.TheVariants.{Queued, Handed}
 use Rattle.lot_locks.specs.declared.fair.schedule.FairAnswer.{FairAnswer}
 use Rattle.lot_locks.specs.declared.fair.schedule.FairAnswer.TheVariants.{Locked}
 use Rattle.lot_locks.specs.declared.fair.schedule.FairStep.{FairStep}
 use Rattle.lot_locks.specs.declared.fair.schedule.FairStep.TheVariants.{Return, NotifyOne, NotifyAll}
-use Rattle.lot_locks.specs.FairMachine.{FairState, IsLocked, IsFairConsistent, new_fair_state}
-use Rattle.lot_locks.specs.FairSteps.{IsFairStep}
+use Rattle.lot_locks.specs.FairMachine.{FairState, IsFairConsistent, new_fair_state}
+use Rattle.lot_locks.specs.FairSteps.{IsFairStep, IsNotifyBy}
 
 -- new states are consistent, and each step keeps that
 abbrev pub NewStatesAreConsistent : Type 0
@@ -45,12 +47,12 @@ WaitersKeepTheirOrder = (m : FairState) (thread : ℕ) (before behind : List ℕ
     → IsRun IsFairStep m steps answers last → NeverComesBack thread steps answers
     → (last.status thread ≡ Handed) ⊎ MovesUp thread before behind last.waiters
 
--- a thread that a notify moves stands behind those who waited, in the order in which they slept, and keeps that place
--- before all who come later; or it is the first of them and nobody held the mutex, so it was handed it
+-- a thread that a notify moves, of one or of all (`IsNotify` says by which operation each is), stands behind those who
+-- waited and those who were moved before it, and keeps that place before all who come later
 abbrev pub NotifiedThreadsKeepTheirPlace : Type 0
-NotifiedThreadsKeepTheirPlace = (m : FairState) (given : FairAnswer) (notified : FairState) (thread : ℕ)
-    (before behind : List ℕ) (steps : List FairStep) (answers : List FairAnswer) (last : FairState) → IsLocked m
-    → m.sleepers ≡ before ++ thread ∷ behind → IsFairStep m NotifyAll given notified
+NotifiedThreadsKeepTheirPlace = (m : FairState) (op : RequeueOp) (given : FairAnswer) (notified : FairState)
+    (thread : ℕ) (before behind : List ℕ) (steps : List FairStep) (answers : List FairAnswer) (last : FairState)
+    → IsNotifyBy m op given notified → (split_by op m.sleepers).moved ≡ before ++ thread ∷ behind
     → IsRun IsFairStep notified steps answers last → NeverComesBack thread steps answers
     → (last.status thread ≡ Handed) ⊎ MovesUp thread (m.waiters ++ before) behind last.waiters
 

@@ -19,8 +19,8 @@ pub fn waiters_keep_their_order()
     ensures { WaitersKeepTheirOrder }
 {}
 
-/// A thread that a notify of all moves, since the mutex is held, stands behind those who waited and
-/// those who slept before it, and no other thread ever comes to stand before it.
+/// A thread that a notify moves, of one or of all, stands behind those who waited for the mutex and
+/// those who were moved before it, and no other thread ever comes to stand before it.
 pub fn notified_threads_keep_their_place()
     ensures { NotifiedThreadsKeepTheirPlace }
 {}
