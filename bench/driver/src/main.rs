@@ -6,8 +6,8 @@
 
 use parking_lot_core::word_lock::WordLock;
 use parking_lot_core::{
-    DEFAULT_PARK_TOKEN, DEFAULT_UNPARK_TOKEN, ParkResult, RequeueOp, park, unpark_all, unpark_one,
-    unpark_requeue,
+    DEFAULT_PARK_TOKEN, DEFAULT_UNPARK_TOKEN, ParkResult, RequeueOp, UnparkResult, UnparkToken,
+    park, unpark_all, unpark_one, unpark_requeue,
 };
 use std::cell::UnsafeCell;
 use std::hint;
@@ -25,7 +25,7 @@ const TURNS: usize = 10_000_000;
 
 type Row = (&'static str, fn() -> Option<f64>);
 
-const ROWS: [Row; 32] = [
+const ROWS: [Row; 36] = [
     ("unpark_one_nobody", unpark_one_nobody),
     ("unpark_one_two_keys", || unpark_one_on_each(&KEYS[..2])),
     ("unpark_one_four_keys", || unpark_one_on_each(&KEYS)),
@@ -46,6 +46,10 @@ const ROWS: [Row; 32] = [
     ("mutex_two", || mutex(2)),
     ("mutex_four", || mutex(4)),
     ("mutex_sixteen", || mutex(16)),
+    ("fair_alone", || fair_mutex(1)),
+    ("fair_two", || fair_mutex(2)),
+    ("fair_four", || fair_mutex(4)),
+    ("fair_notify_all", fair_notify_all),
     ("word_lock_alone", || word_lock(1, SHORT)),
     ("word_lock_two", || word_lock(2, SHORT)),
     ("word_lock_four", || word_lock(4, SHORT)),
@@ -427,6 +431,9 @@ const CONTENDED: u8 = 3;
 const SPINS: u32 = 3;
 const YIELDS: u32 = 7;
 
+/// Who is unparked with it has the mutex.
+const HANDED_OVER: UnparkToken = UnparkToken(1);
+
 struct ByteMutex {
     state: AtomicU8,
 }
@@ -462,12 +469,11 @@ impl ByteMutex {
                 spun += 1;
                 spin(spun);
             } else if state == CONTENDED || self.exchange(LOCKED, CONTENDED).is_ok() {
-                park_with(
-                    KEYS[0],
-                    || self.state.load(SeqCst) == CONTENDED,
-                    || (),
-                    None,
-                );
+                let is_contended = || self.state.load(SeqCst) == CONTENDED;
+                let parked = park_with(KEYS[0], is_contended, || (), None);
+                if parked == ParkResult::Unparked(HANDED_OVER) {
+                    return true;
+                }
                 spun = 0;
             }
         }
@@ -476,7 +482,7 @@ impl ByteMutex {
 
     #[cold]
     fn unlock_slowly(&self) {
-        let callback = |answer: parking_lot_core::UnparkResult| {
+        let callback = |answer: UnparkResult| {
             let state = if answer.have_more_threads {
                 PARKED
             } else {
@@ -486,6 +492,42 @@ impl ByteMutex {
             DEFAULT_UNPARK_TOKEN
         };
         unsafe { unpark_one(KEYS[0], callback) };
+    }
+
+    /// Hands the mutex to the first that waits, if any does.
+    #[inline]
+    fn unlock_fair(&self) {
+        if self.exchange(LOCKED, FREE).is_err() {
+            self.unlock_fair_slowly();
+        }
+    }
+
+    #[cold]
+    fn unlock_fair_slowly(&self) {
+        let callback = |answer: UnparkResult| {
+            if answer.unparked_threads == 0 {
+                self.state.store(FREE, SeqCst);
+                return DEFAULT_UNPARK_TOKEN;
+            }
+            if !answer.have_more_threads {
+                self.state.store(LOCKED, SeqCst);
+            }
+            HANDED_OVER
+        };
+        unsafe { unpark_one(KEYS[0], callback) };
+    }
+
+    /// False says that it is not locked.
+    fn says_that_threads_wait(&self) -> bool {
+        loop {
+            let state = self.state.load(SeqCst);
+            if state == FREE || state == PARKED {
+                return false;
+            }
+            if self.exchange(state, CONTENDED).is_ok() {
+                return true;
+            }
+        }
     }
 }
 
@@ -499,41 +541,137 @@ fn spin(spun: u32) {
     }
 }
 
+/// A mutex whose unlock lets whoever runs have it next.
 fn mutex(threads: usize) -> Option<f64> {
-    const PAIRS: u64 = 300_000;
-    let pairs = PAIRS * threads as u64;
+    cost_of_mutex(threads, 300_000, ByteMutex::unlock)
+}
+
+/// One whose unlock hands it to the first that waits.
+fn fair_mutex(threads: usize) -> Option<f64> {
+    cost_of_mutex(threads, 20_000, ByteMutex::unlock_fair)
+}
+
+/// So many threads lock and unlock so often each.
+fn cost_of_mutex(
+    threads: usize,
+    pairs: u64,
+    unlock: impl Fn(&ByteMutex) + Copy + Sync,
+) -> Option<f64> {
+    let all_pairs = pairs * threads as u64;
     let count = AtomicU64::new(0);
     let mutex = ByteMutex {
         state: AtomicU8::new(FREE),
     };
     together(threads, |_| {
-        (0..PAIRS).all(|_| {
+        (0..pairs).all(|_| {
             let locked = mutex.lock();
             count.store(count.load(SeqCst) + 1, SeqCst);
-            mutex.unlock();
+            unlock(&mutex);
             locked
         })
     })?;
-    if count.load(SeqCst) != pairs {
+    if count.load(SeqCst) != all_pairs {
         return None;
     }
     median_of(7, || {
         let spent = together(threads, |_| {
             let mut locked = 0;
-            for _ in 0..PAIRS {
-                locked += u64::from(pair(&mutex));
+            for _ in 0..pairs {
+                locked += u64::from(mutex.lock());
+                unlock(&mutex);
             }
-            locked == PAIRS
+            locked == pairs
         })?;
-        Some(spent.as_nanos() as f64 / pairs as f64)
+        Some(spent.as_nanos() as f64 / all_pairs as f64)
     })
 }
 
-#[inline]
-fn pair(mutex: &ByteMutex) -> bool {
-    let locked = mutex.lock();
-    mutex.unlock();
-    locked
+/// A mutex that is handed over, with a condition variable whose sleepers stand on another key.
+/// Those who have the mutex count how many have come to sleep, and how many were notified.
+struct Room {
+    mutex: ByteMutex,
+    sleeping: AtomicU64,
+    awake: AtomicU64,
+    is_over: AtomicBool,
+}
+
+impl Room {
+    /// Sleeps once. False says that it did not.
+    fn sleep(&self) -> bool {
+        if !self.mutex.lock() {
+            return false;
+        }
+        let sleeps = !self.is_over.load(SeqCst);
+        if sleeps {
+            self.sleeping.fetch_add(1, SeqCst);
+            let notified = park_with(KEYS[1], || true, || self.mutex.unlock_fair(), None);
+            if notified != ParkResult::Unparked(HANDED_OVER) && !self.mutex.lock() {
+                return false;
+            }
+            self.awake.fetch_add(1, SeqCst);
+        }
+        self.mutex.unlock_fair();
+        sleeps
+    }
+
+    /// Notifies all who sleep, and tells how many queue for the mutex now. It is held.
+    fn notify_all(&self) -> usize {
+        let validate = || {
+            if self.mutex.says_that_threads_wait() {
+                RequeueOp::RequeueAll
+            } else {
+                RequeueOp::UnparkOneRequeueRest
+            }
+        };
+        let callback = |_, _| DEFAULT_UNPARK_TOKEN;
+        unsafe { unpark_requeue(KEYS[1], KEYS[0], validate, callback) }.requeued_threads
+    }
+
+    /// Notifies all once they have come and sleep. Who has the mutex knows that they have left it.
+    fn cost_of_notify(&self) -> Option<f64> {
+        if !comes_to(&self.sleeping, WAITERS) || !self.mutex.lock() {
+            return None;
+        }
+        thread::sleep(Duration::from_millis(20));
+        self.sleeping.store(0, SeqCst);
+        self.awake.store(0, SeqCst);
+        let start = Instant::now();
+        let notified = self.notify_all();
+        self.mutex.unlock_fair();
+        if notified as u64 != WAITERS || !comes_to(&self.awake, WAITERS) {
+            return None;
+        }
+        Some(since(start, 1))
+    }
+}
+
+fn fair_notify_all() -> Option<f64> {
+    const NOTIFIES: usize = 15;
+    let room = Room {
+        mutex: ByteMutex {
+            state: AtomicU8::new(FREE),
+        },
+        sleeping: AtomicU64::new(0),
+        awake: AtomicU64::new(0),
+        is_over: AtomicBool::new(false),
+    };
+    thread::scope(|scope| {
+        let room = &room;
+        let sleepers: Vec<_> = (0..WAITERS)
+            .map(|_| scope.spawn(move || (0..NOTIFIES).all(|_| room.sleep())))
+            .collect();
+        let costs: Option<Vec<f64>> = (0..NOTIFIES).map(|_| room.cost_of_notify()).collect();
+        if room.mutex.lock() {
+            room.is_over.store(true, SeqCst);
+            room.notify_all();
+            room.mutex.unlock_fair();
+        }
+        let mut slept = true;
+        for sleeper in sleepers {
+            slept &= sleeper.join().unwrap();
+        }
+        costs.filter(|_| slept).map(median)
+    })
 }
 
 // The word lock, and std's mutex beside it.

@@ -1,6 +1,7 @@
 //! The rows of threads that wait on one key.
 
 use crate::cost::{Cost, median};
+use crate::sizes;
 use crate::waiting::{KEYS, Lot, comes_to};
 use parking_lot_core::{
     DEFAULT_PARK_TOKEN, DEFAULT_UNPARK_TOKEN, ParkResult, RequeueOp, ThreadData, park, unpark_all,
@@ -57,11 +58,12 @@ pub enum Until {
     Awake,
 }
 
-// What a member of the crowd does.
+// What is done with the crowd.
 #[derive(Copy, Clone, Eq, PartialEq)]
 enum Work {
     Wake(Until),
     Move,
+    Trim,
 }
 
 /// A hundred threads wait, and one more unparks them all.
@@ -70,7 +72,8 @@ pub fn unpark_all_of_them<R: Threads + Wait + Clock + Sync>(
     alloc: Global,
     until: Until,
 ) -> Option<Cost> {
-    gather(rt, alloc, WAITERS, Work::Wake(until))
+    let lot = Lot::new(alloc, WAITERS).ok()?;
+    gather(rt, alloc, &lot, WAITERS, Work::Wake(until))
 }
 
 /// So many threads wait, and one more requeues them all to another key and back. The cost is that
@@ -80,22 +83,33 @@ pub fn requeue_all_of<R: Threads + Wait + Clock + Sync>(
     alloc: Global,
     waiters: usize,
 ) -> Option<Cost> {
-    gather(rt, alloc, waiters, Work::Move)
+    let lot = Lot::new(alloc, waiters).ok()?;
+    gather(rt, alloc, &lot, waiters, Work::Move)
+}
+
+/// So many threads wait while the table of the lot is trimmed. The cost is that of one trim.
+pub fn trim_beside<R: Threads + Wait + Clock + Sync>(
+    rt: &R,
+    alloc: Global,
+    lot: &Lot,
+    waiters: usize,
+) -> Option<Cost> {
+    gather(rt, alloc, lot, waiters, Work::Trim)
 }
 
 // Starts so many waiters and the one who leads, and answers what that one measured.
 fn gather<R: Threads + Wait + Clock + Sync>(
     rt: &R,
     alloc: Global,
+    lot: &Lot,
     waiters: usize,
     work: Work,
 ) -> Option<Cost> {
-    let lot = Lot::new(alloc, waiters).ok()?;
     let board = Board::new(waiters);
     let (cost, waited) = thread::join(
         rt,
-        || leads(rt, alloc, &lot, &board, work),
-        || wait_all(rt, alloc, &lot, &board, work),
+        || leads(rt, alloc, lot, &board, work),
+        || wait_all(rt, alloc, lot, &board, work),
     );
     if waited { cost } else { None }
 }
@@ -110,7 +124,7 @@ fn wait_all<R: Threads + Wait + Clock + Sync>(
 ) -> bool {
     let parks = match work {
         Work::Wake(_) => WAKES,
-        Work::Move => 1,
+        Work::Move | Work::Trim => 1,
     };
     let waited = thread::map_indices(
         rt,
@@ -124,7 +138,8 @@ fn wait_all<R: Threads + Wait + Clock + Sync>(
     }
 }
 
-fn all_true(answers: &[bool]) -> bool {
+/// Whether all answers are true.
+pub fn all_true(answers: &[bool]) -> bool {
     for answer in answers {
         if !answer {
             return false;
@@ -180,6 +195,7 @@ fn leads<R: Wait + Clock>(
     let cost = match work {
         Work::Wake(until) => costs_of_wakes(rt, alloc, lot, board, until),
         Work::Move => costs_of_moves(rt, alloc, lot, board),
+        Work::Trim => costs_of_trims(rt, alloc, lot, board),
     };
     board.is_over.store(true, Ordering::SeqCst);
     unpark_all(rt, lot, KEYS[0], DEFAULT_UNPARK_TOKEN);
@@ -239,6 +255,16 @@ fn costs_of_moves<R: Wait + Clock>(
         costs.push(cost_of_moves(rt, lot, board.waiters)?).ok()?;
     }
     median(costs)
+}
+
+fn costs_of_trims<R: Wait + Clock>(
+    rt: &R,
+    alloc: Global,
+    lot: &Lot,
+    board: &Board,
+) -> Option<Cost> {
+    await_sleepers(rt, board)?;
+    sizes::cost_of_trims(rt, alloc, lot)
 }
 
 // Moves all of them there and back so often.

@@ -79,11 +79,12 @@ trait TallyLock {
 }
 
 impl TallyLock for WordLock<Tally> {
+    // The tally stays in its place, as in the driver.
     #[inline]
     fn count_one<R: Wait>(&self, rt: &R, turns: u32) {
-        let mut held = self.lock(rt);
-        held.value.count_one(turns);
-        self.unlock(held);
+        let mut claim = self.claim(rt);
+        self.lend(&mut claim, |tally: &mut Tally| tally.count_one(turns));
+        self.release(claim);
     }
 
     fn count<R: Wait>(&self, rt: &R) -> u64 {

@@ -1,9 +1,10 @@
-//! The rows of the mutex of one word.
+//! The rows of mutexes whose threads wait in a lot.
 
 use crate::cost::{Cost, median_of};
 use crate::together::{Span, whole_time};
-use crate::waiting::Lot;
+use crate::waiting::{KEYS, Lot};
 use crate::word_mutex::WordMutex;
+use lot_locks::fair::FairMutex;
 use parking_lot_core::ThreadData;
 use std::alloc::Global;
 use std::sync::atomic::{AtomicU64, Ordering};
@@ -15,41 +16,73 @@ use std::time::{Clock, Instant};
 // Pairs of a lock and an unlock of each thread.
 const PAIRS: u64 = 300_000;
 
+// The same where each hand-over wakes a thread.
+const PAIRS_BY_WAKES: u64 = 20_000;
+
 const RUNS: usize = 7;
 
-/// So many threads lock and unlock one mutex. The cost is that of one pair among those of all
-/// threads. `None` says too that two threads had the mutex at one time.
-pub fn mutex<R: Threads + Wait + Clock + Sync>(
+/// A mutex whose threads wait in a lot.
+pub trait LotMutex {
+    /// Locks the mutex. False says that it could not be had.
+    fn acquire<R: Wait + Clock>(&self, rt: &R, lot: &Lot, data: &mut ThreadData) -> bool;
+
+    /// Unlocks the mutex, which this thread has locked.
+    fn release<R: Wait>(&self, rt: &R, lot: &Lot);
+}
+
+/// So many threads lock and unlock one mutex of one word. The cost is that of one pair among those
+/// of all threads. `None` says too that two threads had the mutex at one time.
+pub fn word_mutex<R: Threads + Wait + Clock + Sync>(
     rt: &R,
     alloc: Global,
     threads: usize,
 ) -> Option<Cost> {
+    cost_of_mutex(rt, alloc, &WordMutex::new(), threads, PAIRS)
+}
+
+/// The same with a fair mutex.
+pub fn fair_mutex<R: Threads + Wait + Clock + Sync>(
+    rt: &R,
+    alloc: Global,
+    threads: usize,
+) -> Option<Cost> {
+    cost_of_mutex(rt, alloc, &FairMutex::new(KEYS[0]), threads, PAIRS_BY_WAKES)
+}
+
+fn cost_of_mutex<R: Threads + Wait + Clock + Sync, M: LotMutex + Sync>(
+    rt: &R,
+    alloc: Global,
+    mutex: &M,
+    threads: usize,
+    pairs: u64,
+) -> Option<Cost> {
     let lot = Lot::new(alloc, threads).ok()?;
-    let pairs = PAIRS.checked_mul(u64::try_from(threads).ok()?)?;
-    if counted_by_all(rt, alloc, &lot, threads)? != pairs {
+    let all_pairs = pairs.checked_mul(u64::try_from(threads).ok()?)?;
+    if counted_by_all(rt, alloc, &lot, mutex, threads, pairs)? != all_pairs {
         return None;
     }
     median_of(
         alloc,
         RUNS,
-        || cost_of_pairs(rt, alloc, &lot, threads, pairs),
+        || cost_of_pairs(rt, alloc, &lot, mutex, threads, pairs),
     )
 }
 
 // What the threads count under the mutex, each as many as its pairs.
-fn counted_by_all<R: Threads + Wait + Clock + Sync>(
+fn counted_by_all<R: Threads + Wait + Clock + Sync, M: LotMutex + Sync>(
     rt: &R,
     alloc: Global,
     lot: &Lot,
+    mutex: &M,
     threads: usize,
+    pairs: u64,
 ) -> Option<u64> {
-    let mutex = WordMutex::new();
     let count = AtomicU64::new(0);
     let counted = thread::map_indices(
         rt,
         alloc,
         threads,
-        &|_| count_pairs(rt, alloc, lot, &mutex, &count),
+        &|_| count_pairs(rt, alloc, lot, mutex, pairs, &count),
     )
     .ok()?;
     for done in &counted {
@@ -58,15 +91,16 @@ fn counted_by_all<R: Threads + Wait + Clock + Sync>(
     Some(count.load(Ordering::SeqCst))
 }
 
-fn count_pairs<R: Wait + Clock>(
+fn count_pairs<R: Wait + Clock, M: LotMutex>(
     rt: &R,
     alloc: Global,
     lot: &Lot,
-    mutex: &WordMutex,
+    mutex: &M,
+    pairs: u64,
     count: &AtomicU64,
 ) -> Option<()> {
     let mut data = lot.thread_data(rt, alloc).ok()?;
-    for _ in 0..PAIRS {
+    for _ in 0..pairs {
         count_one(rt, lot, mutex, &mut data, count);
     }
     lot.retire(rt, data);
@@ -74,55 +108,57 @@ fn count_pairs<R: Wait + Clock>(
 }
 
 // Counts one if it has the mutex.
-fn count_one<R: Wait + Clock>(
+fn count_one<R: Wait + Clock, M: LotMutex>(
     rt: &R,
     lot: &Lot,
-    mutex: &WordMutex,
+    mutex: &M,
     data: &mut ThreadData,
     count: &AtomicU64,
 ) {
-    if mutex.lock(rt, lot, data) {
+    if mutex.acquire(rt, lot, data) {
         let before = count.load(Ordering::SeqCst);
         count.store(before.wrapping_add(1), Ordering::SeqCst);
-        mutex.unlock(rt, lot);
+        mutex.release(rt, lot);
     }
 }
 
-fn cost_of_pairs<R: Threads + Wait + Clock + Sync>(
+fn cost_of_pairs<R: Threads + Wait + Clock + Sync, M: LotMutex + Sync>(
     rt: &R,
     alloc: Global,
     lot: &Lot,
+    mutex: &M,
     threads: usize,
     pairs: u64,
 ) -> Option<Cost> {
-    let mutex = WordMutex::new();
+    let all_pairs = pairs.checked_mul(u64::try_from(threads).ok()?)?;
     let barrier = Barrier::new(threads);
     let spans = thread::map_indices(
         rt,
         alloc,
         threads,
-        &|_| time_of_pairs(rt, alloc, lot, &mutex, &barrier),
+        &|_| time_of_pairs(rt, alloc, lot, mutex, pairs, &barrier),
     )
     .ok()?;
-    Cost::of_each(whole_time(spans.as_slice())?, pairs)
+    Cost::of_each(whole_time(spans.as_slice())?, all_pairs)
 }
 
 // Registers before the barrier and retires after the end, so that neither counts.
-fn time_of_pairs<R: Wait + Clock>(
+fn time_of_pairs<R: Wait + Clock, M: LotMutex>(
     rt: &R,
     alloc: Global,
     lot: &Lot,
-    mutex: &WordMutex,
+    mutex: &M,
+    pairs: u64,
     barrier: &Barrier,
 ) -> Option<Span> {
     let data = lot.thread_data(rt, alloc).ok();
     barrier.wait(rt);
     let mut data = data?;
     let start = Instant::now(rt).ok()?;
-    let locked = lock_and_unlock(rt, lot, mutex, &mut data);
+    let locked = lock_and_unlock(rt, lot, mutex, pairs, &mut data);
     let end = Instant::now(rt).ok()?;
     lot.retire(rt, data);
-    if locked == PAIRS {
+    if locked == pairs {
         Some(Span { start, end })
     } else {
         None
@@ -130,14 +166,15 @@ fn time_of_pairs<R: Wait + Clock>(
 }
 
 // How many of the pairs locked the mutex.
-fn lock_and_unlock<R: Wait + Clock>(
+fn lock_and_unlock<R: Wait + Clock, M: LotMutex>(
     rt: &R,
     lot: &Lot,
-    mutex: &WordMutex,
+    mutex: &M,
+    pairs: u64,
     data: &mut ThreadData,
 ) -> u64 {
     let mut locked = 0u64;
-    for _ in 0..PAIRS {
+    for _ in 0..pairs {
         locked = locked.wrapping_add(pair(rt, lot, mutex, data));
     }
     locked
@@ -145,10 +182,10 @@ fn lock_and_unlock<R: Wait + Clock>(
 
 // 1 if it locked the mutex.
 #[inline]
-fn pair<R: Wait + Clock>(rt: &R, lot: &Lot, mutex: &WordMutex, data: &mut ThreadData) -> u64 {
-    if !mutex.lock(rt, lot, data) {
+fn pair<R: Wait + Clock, M: LotMutex>(rt: &R, lot: &Lot, mutex: &M, data: &mut ThreadData) -> u64 {
+    if !mutex.acquire(rt, lot, data) {
         return 0;
     }
-    mutex.unlock(rt, lot);
+    mutex.release(rt, lot);
     1
 }

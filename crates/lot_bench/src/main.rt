@@ -4,6 +4,7 @@
 mod alone;
 mod cost;
 mod crowd;
+mod fair;
 mod locked;
 mod locking;
 mod many_keys;

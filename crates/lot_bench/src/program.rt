@@ -2,7 +2,7 @@
 
 use crate::cost::Cost;
 use crate::row::{ROWS, Row, row_named};
-use crate::{alone, crowd, locked, locking, many_keys, sizes, thousand, together, turns};
+use crate::{alone, crowd, fair, locked, locking, many_keys, sizes, thousand, together, turns};
 use std::process::ExitCode;
 use std::rt::Env;
 use std::sync::Wait;
@@ -88,7 +88,9 @@ fn measure<R: AllocGlobal + Threads + Wait + Clock + Copy + Send + Sync + 'stati
         Row::TurnsByWord => turns::turns_by_word(rt, alloc),
         Row::UnparkAll(until) => crowd::unpark_all_of_them(rt, alloc, until),
         Row::RequeueAllOf(waiters) => crowd::requeue_all_of(rt, alloc, waiters),
-        Row::Mutex(threads) => locking::mutex(rt, alloc, threads),
+        Row::Mutex(threads) => locking::word_mutex(rt, alloc, threads),
+        Row::FairMutex(threads) => locking::fair_mutex(rt, alloc, threads),
+        Row::FairNotifyAll => fair::notify_all(rt, alloc),
         Row::WordLock(threads, section) => locked::word_lock(rt, alloc, threads, section),
         Row::StdMutex(threads, section) => locked::std_mutex(rt, alloc, threads, section),
         Row::ManyKeys => many_keys::many_keys(rt, alloc),

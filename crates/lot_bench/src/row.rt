@@ -34,6 +34,12 @@ pub enum Row {
     /// So many threads lock and unlock one mutex of one word.
     Mutex(usize),
 
+    /// The same with a fair mutex.
+    FairMutex(usize),
+
+    /// A hundred threads that sleep on the condition variable of a fair mutex are all notified.
+    FairNotifyAll,
+
     /// So many threads lock and unlock one word lock, and each does this meanwhile.
     WordLock(usize, Section),
 
@@ -49,10 +55,10 @@ pub enum Row {
     /// As many threads as a lot can have are registered, and retired.
     RegisterAll,
 
-    /// The table of a threaded lot is trimmed from 4,096 buckets to 16.
+    /// The table of a threaded lot is trimmed from 4,096 buckets to 16, while five threads wait.
     Trim,
 
-    /// That of an exclusive lot, while five threads wait.
+    /// The same of an exclusive lot.
     TrimExclusive,
 
     /// One thread unparks one on many keys where nobody waits, in a table of 16 buckets.
@@ -63,7 +69,7 @@ pub enum Row {
 }
 
 /// The rows by their names, in the order in which they are printed.
-pub const ROWS: [(&str, Row); 37] = [
+pub const ROWS: [(&str, Row); 41] = [
     ("unpark_one_nobody", Row::UnparkOneNobody),
     (
         "unpark_one_two_keys",
@@ -88,6 +94,10 @@ pub const ROWS: [(&str, Row); 37] = [
     ("mutex_two", Row::Mutex(2)),
     ("mutex_four", Row::Mutex(4)),
     ("mutex_sixteen", Row::Mutex(16)),
+    ("fair_alone", Row::FairMutex(1)),
+    ("fair_two", Row::FairMutex(2)),
+    ("fair_four", Row::FairMutex(4)),
+    ("fair_notify_all", Row::FairNotifyAll),
     ("word_lock_alone", Row::WordLock(1, Section::Short)),
     ("word_lock_two", Row::WordLock(2, Section::Short)),
     ("word_lock_four", Row::WordLock(4, Section::Short)),

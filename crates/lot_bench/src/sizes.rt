@@ -1,12 +1,14 @@
 //! The rows of lots for very many threads, and of tables that change their size.
 
 use crate::cost::{Cost, median_of};
+use crate::crowd;
 use crate::waiting::Lot;
 use parking_lot_core::lot::Lot as ExclusiveLot;
 use parking_lot_core::table::MAX_THREADS;
 use parking_lot_core::{DEFAULT_PARK_TOKEN, DEFAULT_UNPARK_TOKEN, ThreadData, unpark_one};
 use std::alloc::Global;
 use std::sync::Wait;
+use std::thread::Threads;
 use std::time::{Clock, Instant};
 
 // For so many threads a table has 4,096 buckets, and for so many 65,536.
@@ -34,14 +36,21 @@ fn cost_of_threads<R: Wait + Clock>(rt: &R, alloc: Global, lot: &Lot) -> Option<
     Cost::since(rt, start, MAX_THREADS as u64)
 }
 
-/// Trims the table of a threaded lot from 4,096 buckets to 16. The cost is that of one trim.
-pub fn trim<R: Wait + Clock>(rt: &R, alloc: Global) -> Option<Cost> {
+/// Trims the table of a threaded lot from 4,096 buckets to 16, while five threads wait. The cost is
+/// that of one trim.
+pub fn trim<R: Threads + Wait + Clock + Sync>(rt: &R, alloc: Global) -> Option<Cost> {
     let lot = Lot::new(alloc, MANY).ok()?;
-    median_of(alloc, RUNS, || cost_of_trim(rt, alloc, &lot))
+    crowd::trim_beside(rt, alloc, &lot, WAITERS)
+}
+
+/// The cost of one trim from 4,096 buckets to 16 of a lot with which those who wait are registered,
+/// and nobody else.
+pub fn cost_of_trims<R: Wait + Clock>(rt: &R, alloc: Global, lot: &Lot) -> Option<Cost> {
+    median_of(alloc, RUNS, || cost_of_trim(rt, alloc, lot))
 }
 
 fn cost_of_trim<R: Wait + Clock>(rt: &R, alloc: Global, lot: &Lot) -> Option<Cost> {
-    let registered = register(rt, alloc, lot, MANY)?;
+    let registered = register(rt, alloc, lot, MANY - WAITERS)?;
     retire(rt, lot, registered);
     let start = Instant::now(rt).ok()?;
     lot.trim(rt, alloc).ok()?;

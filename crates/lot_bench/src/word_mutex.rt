@@ -1,5 +1,6 @@
 //! A mutex of one word, whose threads wait in a lot.
 
+use crate::locking::LotMutex;
 use crate::waiting::{KEYS, Lot, TURNS};
 use parking_lot_core::{DEFAULT_PARK_TOKEN, DEFAULT_UNPARK_TOKEN, ThreadData, park, unpark_one};
 use std::sync::Wait;
@@ -35,20 +36,6 @@ impl WordMutex {
     pub fn new() -> WordMutex {
         WordMutex {
             state: AtomicU64::new(FREE),
-        }
-    }
-
-    /// Locks the mutex. False says that it was not free in all the turns that this thread waited.
-    #[inline]
-    pub fn lock<R: Wait + Clock>(&self, rt: &R, lot: &Lot, data: &mut ThreadData) -> bool {
-        self.exchange(FREE, LOCKED).is_ok() || self.lock_slowly(rt, lot, data)
-    }
-
-    /// Unlocks the mutex, which this thread has locked.
-    #[inline]
-    pub fn unlock<R: Wait>(&self, rt: &R, lot: &Lot) {
-        if self.exchange(LOCKED, FREE).is_err() {
-            self.unlock_slowly(rt, lot);
         }
     }
 
@@ -108,6 +95,21 @@ impl WordMutex {
             self.state.store(state, Ordering::SeqCst);
             DEFAULT_UNPARK_TOKEN
         });
+    }
+}
+
+impl LotMutex for WordMutex {
+    // False says that it was not free in all the turns that this thread waited.
+    #[inline]
+    fn acquire<R: Wait + Clock>(&self, rt: &R, lot: &Lot, data: &mut ThreadData) -> bool {
+        self.exchange(FREE, LOCKED).is_ok() || self.lock_slowly(rt, lot, data)
+    }
+
+    #[inline]
+    fn release<R: Wait>(&self, rt: &R, lot: &Lot) {
+        if self.exchange(LOCKED, FREE).is_err() {
+            self.unlock_slowly(rt, lot);
+        }
     }
 }
 

@@ -1,6 +1,7 @@
 //! The program: `lot_stress memory SCENARIO PARKER` does one scenario whose requests for memory are
-//! counted and refused from outside, `lot_stress parks COUNT` parks many times in one thread, and
-//! `lot_stress race SECONDS SEED` lets threads race.
+//! counted and refused from outside, `lot_stress parks COUNT` parks many times in one thread,
+//! `lot_stress rest MILLISECONDS` lets threads sleep, and `lot_stress race SECONDS SEED` lets them
+//! race.
 #![tactic(auto)]
 
 mod fault;
@@ -8,6 +9,7 @@ mod memory;
 mod parks;
 mod program;
 mod race;
+mod rest;
 mod turns;
 
 use std::process::ExitCode;

@@ -8,6 +8,9 @@
 mod base;
 mod crowd;
 mod exclusive;
+mod fair;
+mod fair_threads;
+mod gate;
 mod interleaved;
 mod marks;
 mod scenario;
@@ -82,6 +85,15 @@ fn tell_refused<R: Print>(rt: &R, refused: usize) -> Result<(), Fault> {
     Ok(())
 }
 
+fn are_all_true(answers: &[bool]) -> bool {
+    for answer in answers {
+        if !answer {
+            return false;
+        }
+    }
+    true
+}
+
 // Tells all of what could not be made.
 fn tell_unmade<R: Print>(rt: &R, error: LotError) -> Result<(), Fault> {
     tell_answer(rt, &Some(error))?;
@@ -123,6 +135,11 @@ where
         Scenario::Registrations => threaded::register::<P, _>(rt, alloc, 0, threaded::MOST),
         Scenario::ParkingLotList => threaded::list::<P, _>(rt, alloc),
         Scenario::AcquireResource => threaded::acquire::<P, _>(rt, alloc),
+        Scenario::FairCoreNew => fair::new(rt, alloc),
+        Scenario::FairRegister => fair::register(rt, alloc),
+        Scenario::FairWaiters => fair::waiters(rt, alloc),
+        Scenario::FairSleepers => fair::sleepers(rt, alloc),
+        Scenario::RunFair => fair::run_all(rt, alloc),
         Scenario::SpinWait => base::spin(rt, alloc),
         Scenario::Queue => base::use_queues(rt, alloc),
         Scenario::Bucket => base::use_bucket(rt, alloc),
@@ -133,5 +150,7 @@ where
         Scenario::Park => threaded::park_each_way::<P, _>(rt, alloc),
         Scenario::Threads => crowd::use_threads::<P, _>(rt, alloc),
         Scenario::WordLock => crowd::use_word_lock(rt, alloc),
+        Scenario::FairSteps => fair::use_steps(rt, alloc),
+        Scenario::FairThreads => fair_threads::use_threads::<P, _>(rt, alloc),
     }
 }

@@ -2,7 +2,7 @@
 
 use crate::fault::Fault;
 use crate::memory::{self, Scenario};
-use crate::{parks, race};
+use crate::{parks, race, rest};
 use parking_lot_core::{ThreadParker, WordParker, YieldParker};
 use std::process::ExitCode;
 use std::rt::Env;
@@ -25,6 +25,7 @@ enum Command {
     List,
     Memory(Scenario, Parker),
     Parks { count: usize },
+    Rest { milliseconds: u64 },
     Race { seconds: u64, seed: u64 },
 }
 
@@ -36,6 +37,7 @@ pub fn run<
     let Some(command) = chosen_command(rt) else {
         let _ = eprintln!(rt; "usage: lot_stress memory [SCENARIO word|thread|yield]");
         let _ = eprintln!(rt; "       lot_stress parks COUNT");
+        let _ = eprintln!(rt; "       lot_stress rest MILLISECONDS");
         let _ = eprintln!(rt; "       lot_stress race SECONDS SEED");
         return ExitCode::from(USAGE_STATUS);
     };
@@ -68,6 +70,9 @@ fn command_with_one(command: &str, word: &str) -> Option<Command> {
     match command {
         "parks" => Some(Command::Parks {
             count: word.parse().ok()?,
+        }),
+        "rest" => Some(Command::Rest {
+            milliseconds: word.parse().ok()?,
         }),
         _ => None,
     }
@@ -109,6 +114,7 @@ fn follow<R: Print + Eprint + AllocGlobal + Threads + Wait + Clock + Copy + Send
             memory::play::<YieldParker, _>(rt, rt.alloc(), scenario)
         }
         Command::Parks { count } => parks::run(rt, rt.alloc(), count),
+        Command::Rest { milliseconds } => rest::run(rt, rt.alloc(), milliseconds),
         Command::Race { seconds, seed } => race::run(rt, rt.alloc(), seconds, seed),
     }
 }

@@ -2,8 +2,9 @@
 
 ghost use Rattle.std.specs.Prelude.{⊤};
 
+use super::gate::Gate;
 use super::unparks::{requeue, unpark_by_filter};
-use super::{marks, tell_answer, tell_refused};
+use super::{are_all_true, tell_answer, tell_refused};
 use crate::fault::Fault;
 use crate::turns::comes_to;
 use lot_base::word_lock::{Fits, WordLock};
@@ -42,56 +43,6 @@ const TOKENS: usize = 131_211;
 const HELD: usize = 5;
 
 const FAR_SECONDS: u64 = 1_000;
-
-const OPEN: usize = 1;
-
-const OVER: usize = 2;
-
-// A gate before the part that is counted, which threads pass together once all have been started.
-#[derive(Drop)]
-struct Gate {
-    arrived: AtomicUsize,
-    state: AtomicUsize,
-    done: AtomicUsize,
-}
-
-impl Gate {
-    fn new() -> Gate {
-        Gate {
-            arrived: AtomicUsize::new(0),
-            state: AtomicUsize::new(0),
-            done: AtomicUsize::new(0),
-        }
-    }
-
-    // Arrives, and waits until the gate opens.
-    fn pass(&self) -> bool {
-        self.arrived.fetch_add(1, Ordering::SeqCst);
-        comes_to(&self.state, OPEN)
-    }
-
-    // Is done, and waits until nothing is counted any more.
-    fn leave(&self) -> bool {
-        self.done.fetch_add(1, Ordering::SeqCst);
-        comes_to(&self.state, OVER)
-    }
-
-    // Lets so many threads pass once they have arrived. From then on requests are counted.
-    fn open(&self, alloc: Global, threads: usize) -> bool {
-        let have_arrived = comes_to(&self.arrived, threads);
-        marks::begin(alloc);
-        self.state.store(OPEN, Ordering::SeqCst);
-        have_arrived
-    }
-
-    // Ends the count once so many threads are done.
-    fn close(&self, alloc: Global, threads: usize) -> bool {
-        let are_done = comes_to(&self.done, threads);
-        marks::end(alloc);
-        self.state.store(OVER, Ordering::SeqCst);
-        are_done
-    }
-}
 
 // A lot on which threads wait, and what they have seen.
 #[derive(Drop)]
@@ -265,15 +216,6 @@ where
         Ok(waited) => are_all_true(waited.as_slice()),
         Err(_) => false,
     }
-}
-
-fn are_all_true(answers: &[bool]) -> bool {
-    for answer in answers {
-        if !answer {
-            return false;
-        }
-    }
-    true
 }
 
 #[derive(Drop)]

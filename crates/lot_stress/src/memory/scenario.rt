@@ -84,6 +84,21 @@ pub enum Scenario {
     /// `acquire_resource`, 130 times.
     AcquireResource,
 
+    /// `FairCore::new`.
+    FairCoreNew,
+
+    /// `FairCore::apply` of a registration, where the table grows.
+    FairRegister,
+
+    /// `FairCore::waiters`.
+    FairWaiters,
+
+    /// `FairCore::sleepers`.
+    FairSleepers,
+
+    /// `run_fair` of steps of each kind.
+    RunFair,
+
     /// All of `SpinWait`.
     SpinWait,
 
@@ -105,7 +120,7 @@ pub enum Scenario {
     /// `ParkingLot::trim`, where the table becomes smaller.
     ParkingLotTrim,
 
-    /// `park` and the unparks in one thread, and `release_resource`.
+    /// `park` and the unparks in one thread, `release_resource`, and `list` where nobody waits.
     Park,
 
     /// `park` and the unparks with twelve threads, and `retire`.
@@ -113,6 +128,12 @@ pub enum Scenario {
 
     /// `WordLock::lock` and `unlock`, with eight threads.
     WordLock,
+
+    /// All steps of a `FairCore` but registrations.
+    FairSteps,
+
+    /// All of a `FairMutex` and a `FairCondvar`, with eight threads.
+    FairThreads,
 }
 
 /// A scenario. Then whether each request is refused in turn, or some of very many, or it is to ask
@@ -168,6 +189,11 @@ pub const ROWS: &[Row] = &[
         "acquire_resource",
         "each",
     ),
+    (Scenario::FairCoreNew, "each", "fair_core_new", "any"),
+    (Scenario::FairRegister, "each", "fair_register", "any"),
+    (Scenario::FairWaiters, "each", "fair_waiters", "any"),
+    (Scenario::FairSleepers, "each", "fair_sleepers", "any"),
+    (Scenario::RunFair, "each", "run_fair", "any"),
     (Scenario::SpinWait, "none", "spin_wait", "any"),
     (Scenario::Queue, "none", "queue", "any"),
     (Scenario::Bucket, "none", "bucket", "any"),
@@ -178,6 +204,8 @@ pub const ROWS: &[Row] = &[
     (Scenario::Park, "none", "park", "each"),
     (Scenario::Threads, "none", "threads", "each"),
     (Scenario::WordLock, "none", "word_lock", "any"),
+    (Scenario::FairSteps, "none", "fair_steps", "any"),
+    (Scenario::FairThreads, "none", "fair_threads", "each"),
 ];
 
 /// The scenario of this name.

@@ -75,7 +75,7 @@ pub(super) fn acquire<P: ThreadParkerT, R: Print + Wait + Clock>(
     threads.play_recordings(rt)
 }
 
-/// `park` with each way to end, each unpark, and `release_resource`.
+/// `park` with each way to end, each unpark, `release_resource`, and `list` where nobody waits.
 pub(super) fn park_each_way<P: ThreadParkerT, R: Print + Wait + Clock>(
     rt: &R,
     alloc: Global,
@@ -320,8 +320,10 @@ impl<P: ThreadParkerT> Parks<P> {
         marks::begin(self.threads.alloc);
         self.park_each_way(rt, past);
         self.release_twice();
+        // Nobody waits any more, and such a list needs no memory.
+        let listed = self.threads.lot.list(rt, self.threads.alloc, KEYS[0]);
         marks::end(self.threads.alloc);
-        tell_answer(rt, &())?;
+        tell_answer(rt, &listed)?;
         self.show(rt, Moment::After)?;
         self.threads.can_wait(rt)?;
         tell_refused(rt, 0)
