@@ -2,7 +2,7 @@
 
 use crate::common::{
     KEY, Left, TOKEN, come_by_turns, comes_to, late_on, move_all, new_lot, now, park_and,
-    raised_by_turns, register, wait,
+    raised_by_turns, register, wait, waiting,
 };
 use crate::expect_equal;
 use parking_lot_core::{
@@ -127,6 +127,87 @@ fn a_late_thread_that_is_moved_meanwhile_reads_its_key_again(rt: HostRuntime) {
         reads_its_key_again::<ThreadParker, _>(&rt, rt.alloc(), from, to);
         reads_its_key_again::<YieldParker, _>(&rt, rt.alloc(), from, to);
     }
+}
+
+// What a late thread and one that lists its key tell each other.
+#[derive(Drop)]
+struct Watch {
+    is_told: AtomicBool,
+    has_listed: AtomicBool,
+}
+
+impl Watch {
+    fn new() -> Watch {
+        Watch {
+            is_told: AtomicBool::new(false),
+            has_listed: AtomicBool::new(false),
+        }
+    }
+
+    // The late thread is told that it timed out. Answers whether the other could list meanwhile.
+    fn wait<R: Clock>(&self, rt: &R) -> bool {
+        self.is_told.store(true, Ordering::SeqCst);
+        thread::sleep(rt, Duration::from_millis(50));
+        self.has_listed.load(Ordering::SeqCst)
+    }
+}
+
+// Parks with a deadline that has passed. `None` says that it was not told.
+fn leave_watched<P: ThreadParkerT, R: Wait + Clock + Abort>(
+    rt: &R,
+    lot: &ParkingLot<P>,
+    mut data: ThreadData,
+    watch: &Watch,
+) -> Option<bool> {
+    assert!(rt; lot.accepts(&data), "data of this lot");
+    let mut listed = None;
+    park(
+        rt,
+        lot,
+        &mut data,
+        KEY,
+        || true,
+        || (),
+        |_, _| listed = Some(watch.wait(rt)),
+        DEFAULT_PARK_TOKEN,
+        Some(now(rt)),
+    );
+    listed
+}
+
+fn list_meanwhile<P: ThreadParkerT, R: Wait + Abort>(
+    rt: &R,
+    alloc: Global,
+    lot: &ParkingLot<P>,
+    watch: &Watch,
+) -> usize {
+    raised_by_turns(&watch.is_told);
+    let listed = waiting(rt, alloc, lot, KEY).len();
+    watch.has_listed.store(true, Ordering::SeqCst);
+    listed
+}
+
+fn is_told_in_its_section<P, R>(rt: &R, alloc: Global)
+where
+    P: ThreadParkerT + Send + Sync,
+    R: Threads + Wait + Clock + Abort + Sync,
+{
+    let lot = new_lot::<P, _>(rt, alloc, 1);
+    let data = register(rt, alloc, &lot);
+    let watch = Watch::new();
+    let told = thread::join(
+        rt,
+        || leave_watched(rt, &lot, data, &watch),
+        || list_meanwhile(rt, alloc, &lot, &watch),
+    );
+    expect_equal(rt, told, (Some(false), 0));
+}
+
+// It refuses a late thread that lets its bucket go before it is told, when others may have come.
+#[test]
+fn timed_out_comes_before_the_bucket_is_let_go(rt: HostRuntime) {
+    is_told_in_its_section::<ThreadParker, _>(&rt, rt.alloc());
+    is_told_in_its_section::<YieldParker, _>(&rt, rt.alloc());
 }
 
 // How far a thread that enters and one that requeues have come in their rounds.

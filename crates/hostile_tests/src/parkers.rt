@@ -311,3 +311,16 @@ fn a_late_wake_does_not_change_when_the_next_wait_ends(rt: HostRuntime) {
     outlasts_a_late_wake::<YieldParker, _>(&rt, rt.alloc());
     outlasts_a_late_wake::<WordParker, _>(&rt, rt.alloc());
 }
+
+fn ends_in_time<P: ThreadParkerT, R: Wait + Clock + Abort>(rt: &R, alloc: Global) {
+    let parker = owners_parker::<P, _>(rt, alloc);
+    wait_again(rt, &parker, &Meeting::new());
+}
+
+// It refuses a `park_until` that sleeps for longer than is left until its deadline.
+#[test]
+fn a_wait_without_a_wake_ends_soon_after_its_deadline(rt: HostRuntime) {
+    ends_in_time::<ThreadParker, _>(&rt, rt.alloc());
+    ends_in_time::<YieldParker, _>(&rt, rt.alloc());
+    ends_in_time::<WordParker, _>(&rt, rt.alloc());
+}
