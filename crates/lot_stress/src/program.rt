@@ -119,8 +119,8 @@ fn follow<R: Print + Eprint + AllocGlobal + Threads + Wait + Clock + Copy + Send
     }
 }
 
-// The scenarios by their names, each with how many of its requests are to be refused, and with which
-// parkers it is to be run.
+// The scenarios by their names, each with how many of its requests are to be refused, and with
+// which parkers it is to be run.
 fn print_names<R: Print>(rt: &R) -> io::Result<()> {
     for (_, kind, name, parkers) in memory::ROWS {
         println!(rt; "{kind} {name} {parkers}")?;

@@ -1,5 +1,5 @@
-//! `lot_stress rest`: threads that wait for a while, and should sleep meanwhile. Which processor time
-//! they take is measured from outside.
+//! `lot_stress rest`: threads that wait for a while, and should sleep meanwhile. What processor
+//! time they take is measured from outside.
 
 ghost use Rattle.std.specs.Prelude.{⊤};
 
@@ -33,8 +33,8 @@ impl Fits for Count {
     ghost fits = { λ _ _. ⊤ };
 }
 
-/// Eight threads wait for so many milliseconds: parked, over each parker whose threads sleep, half of
-/// them with a deadline far away, and then for a word lock.
+/// Eight threads wait for so many milliseconds: parked, over each parker whose threads sleep, half
+/// of them with a deadline far away, and then for a word lock.
 pub fn run<R: Print + Threads + Wait + Clock + Copy + Send + Sync + 'static>(
     rt: &R,
     alloc: Global,

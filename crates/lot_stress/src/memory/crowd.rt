@@ -36,8 +36,8 @@ const SECOND: usize = 34;
 
 const THIRD: usize = 89;
 
-// The sum of the tokens of all parks: one of 1 and eleven of 10, one of 100 and eleven of 1,000, and
-// twelve of 10,000.
+// The sum of the tokens of all parks: one of 1 and eleven of 10, one of 100 and eleven of 1,000,
+// and twelve of 10,000.
 const TOKENS: usize = 131_211;
 
 const HELD: usize = 5;
