@@ -18,7 +18,9 @@ pub mod Totals
 -- Then what a table keeps.
 pub mod TableState
 pub mod Table
--- Then what a filter answers that is a list of decisions, as in steps of either lot.
+-- Then, for the steps of either lot, what an operation makes of the waiters of its key, and what a filter answers that
+-- is a list of decisions.
+pub mod Operation
 pub mod Decisions
 -- Last what only private contracts cite.
 pub mod Private

@@ -15,7 +15,7 @@ use crate::lot::Lot;
 use lot_base::token::{FilterOp, NoMemory, ParkToken, RequeueOp, UnparkResult, UnparkToken};
 
 /// An unpark, with what its closures answer.
-#[derive(Drop)]
+#[derive(Debug, Drop)]
 pub enum Op {
     /// `Lot::unpark_one`.
     One {
@@ -57,7 +57,7 @@ pub enum Op {
 }
 
 /// A step of a lot, with what its closures answer.
-#[derive(Drop)]
+#[derive(Debug, Drop)]
 pub enum Step {
     /// `Lot::register`.
     Register,

@@ -29,7 +29,8 @@ use Rattle.lot_exclusive.proofs.TotalLemmas.{IsRun-balances}
 use Rattle.lot_history.specs.declared.event.Event.{Event}
 use Rattle.lot_history.specs.History.{steps_of, answers_of}
 use Rattle.lot_history.specs.Laws.{EachLeadsToOneMachine, BeginningsAreHistories, ParksAndOutcomesAlternate}
-use Rattle.lot_history.specs.Laws.{UnparkedThreadsComeBack, TokensComeFromUnparks, token_of, split_of, Hands}
+use Rattle.lot_history.specs.Laws.{UnparkedThreadsComeBack, TokensComeFromUnparks, Hands}
+use Rattle.lot_exclusive.specs.Operation.{split_of, token_of}
 use Rattle.lot_history.specs.Laws.{HaveNoOutcome}
 
 pub one_machine : EachLeadsToOneMachine
@@ -95,11 +96,11 @@ module _ (number : ℕ) (token : UnparkToken) where
     becomes : {left : Machine} → next ≡ left → IsTaken left
     becomes new_is = subst IsTaken new_is taken
 
-    by_token : (op : Op) → next.status ≡ statuses_with_taken (token_of op) (split_of m op).taken m.status
+    by_token : (op : Op) → next.status ≡ statuses_with_taken (token_of op) (split_of op m.lists).taken m.status
         → IsTaken m ⊎ Hands m op number token
     by_token op new_status =
-        let found : Bool = has_any (entries_of number (split_of m op).taken) in
-        let now : statuses_with_taken (token_of op) (split_of m op).taken m.status number ≡ status.Taken token =
+        let found : Bool = has_any (entries_of number (split_of op m.lists).taken) in
+        let now : statuses_with_taken (token_of op) (split_of op m.lists).taken m.status number ≡ status.Taken token =
         ap (λ (f : ℕ → Status). f number) (sym new_status) ∙ taken in
         ⊎_elim
         (λ (yes : found ≡ true).

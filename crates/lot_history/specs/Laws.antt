@@ -2,12 +2,12 @@
 use Rattle.std.specs.Prelude.{◌≡◌, ℕ, ◌+◌, true, false, List, [], ◌∷◌, ◌++◌, All}
 use Rattle.std.specs.List.{sum_by}
 use Rattle.lot_base.specs.declared.token.UnparkToken.{UnparkToken}
-use Rattle.lot_base.specs.Waiting.{Split, split_first, split_all, split_filter, split_by, has_any}
+use Rattle.lot_base.specs.Waiting.{has_any}
 use Rattle.lot_exclusive.specs.declared.schedule.Answer.TheVariants.{Unparked}
 use Rattle.lot_exclusive.specs.declared.schedule.Op.{Op}
-use Rattle.lot_exclusive.specs.declared.schedule.Op.TheVariants as op
 use Rattle.lot_exclusive.specs.declared.schedule.Step.TheVariants.{Unpark}
-use Rattle.lot_exclusive.specs.Machine.{Machine, Waiter, entries_of}
+use Rattle.lot_exclusive.specs.Machine.{Machine, entries_of}
+use Rattle.lot_exclusive.specs.Operation.{split_of, token_of}
 use Rattle.lot_exclusive.specs.Run.{OutcomesAlternate}
 use Rattle.lot_exclusive.specs.Steps.{parks, ends_park}
 use Rattle.lot_exclusive.specs.Totals.{unparked_by, returned_by, taken_threads_of}
@@ -29,28 +29,16 @@ abbrev pub ParksAndOutcomesAlternate : Type 0
 ParksAndOutcomesAlternate = (max_threads : ℕ) (events : List Event) → IsHistory max_threads events → (number : ℕ)
     → OutcomesAlternate (parks number) (ends_park number) false (steps_of events) (answers_of events)
 
--- those whom the unparks of a history took are those who came back, and those who are on their way
+-- the threads that the unparks of a history took are as many as those that came back and those that are still taken at
+-- its end
 abbrev pub UnparkedThreadsComeBack : Type 0
 UnparkedThreadsComeBack = (max_threads : ℕ) (events : List Event) (last : Machine) → LeadsTo max_threads events last
     → sum_by unparked_by (answers_of events) ≡ sum_by returned_by (answers_of events) + taken_threads_of last
 
--- the token of an unpark, and what becomes by it of the waiters that it finds
-abbrev pub token_of : Op → UnparkToken
-token_of (op.One key token) = token
-token_of (op.All key token) = token
-token_of (op.Filter key decisions token) = token
-token_of (op.Requeue from to which token) = token
-
-abbrev pub split_of : Machine → Op → Split Waiter
-split_of m (op.One key token) = split_first (m.lists key)
-split_of m (op.All key token) = split_all (m.lists key)
-split_of m (op.Filter key decisions token) = split_filter decisions.items (m.lists key)
-split_of m (op.Requeue from to which token) = split_by which (m.lists from)
-
 -- the unpark takes this thread, and hands it this token
 pub record Hands (m : Machine) (op : Op) (number : ℕ) (token : UnparkToken) : Type 0 where
   pub hands : token_of op ≡ token
-  pub takes : has_any (entries_of number (split_of m op).taken) ≡ true
+  pub takes : has_any (entries_of number (split_of op m.lists).taken) ≡ true
 
 -- none of these events is the outcome of a park of the thread
 abbrev pub HaveNoOutcome : ℕ → List Event → Type 0

@@ -25,8 +25,7 @@ use Rattle.lot_interleaved.specs.FineLot.{IsFineLot, fine_state, fine_thread_at,
 use Rattle.lot_interleaved.specs.FineLotState.{FineLotState, FineThreadState}
 use Rattle.lot_interleaved.specs.InterleavedState.{FineState, Caller}
 use Rattle.lot_interleaved.specs.InterleavedSteps.{IsFineStep, after_begin, can_begin, is_held, keys_of}
-use Rattle.lot_interleaved.specs.InterleavedSteps.{key_words_after}
-use Rattle.lot_interleaved.specs.InterleavedSteps.{split_of, token_of, with_key_words, with_tokens}
+use Rattle.lot_interleaved.specs.InterleavedSteps.{key_words_after, with_key_words, with_tokens}
 use Rattle.lot_interleaved.specs.InterleavedView.{sequential_view}
 use Rattle.lot_exclusive.specs.Lot.{machine, statuses, thread_at, thread_keys, thread_records, uses}
 use Rattle.lot_exclusive.specs.LotState.{ThreadState}
@@ -35,7 +34,8 @@ use Rattle.lot_exclusive.specs.Private.Commit.{threads_with_key, threads_with_ke
 use Rattle.lot_interleaved.specs.Private.FineCaller.{taken_threads}
 use Rattle.lot_interleaved.specs.Private.FineSection.{IsTakenBy, fine_threads_with_key}
 use Rattle.lot_interleaved.specs.Private.FineSection.{fine_threads_with_keys}
-use Rattle.lot_interleaved.specs.Private.FineSection.{node_split, threads_by}
+use Rattle.lot_interleaved.specs.Private.FineSection.{threads_by}
+use Rattle.lot_exclusive.specs.Operation.{split_of, token_of}
 use Rattle.lot_exclusive.specs.Represents.{Represents, nodes_in, waiter_of, waiters_in}
 use Rattle.lot_exclusive.specs.Steps.{IsUnpark}
 use Rattle.lot_exclusive.specs.Table.{IsRowStep}
@@ -274,8 +274,8 @@ module _ (lot : FineLotState) (is : IsFineLot lot) where
   pub few-taken : (op : Op) (row : List BucketState) (given : Answer) (taken : List NodeFields)
       → IsTakenBy op lot.buckets row given taken → length taken ≤ MAX_THREADS
   few-taken op row given taken done =
-      let short : length (node_split op (nodes_in lot.buckets)).taken ≤ length lot.threads = few-parted op in
-      let same = ap length done.nodes ∙ length-map (node_split op (nodes_in lot.buckets)).taken
+      let short : length (split_of op (nodes_in lot.buckets)).taken ≤ length lot.threads = few-parted op in
+      let same = ap length done.nodes ∙ length-map (split_of op (nodes_in lot.buckets)).taken
       (with_token (token_of op)) in
       omega (arith, short, same, is.count)
     where
@@ -286,7 +286,7 @@ module _ (lot : FineLotState) (is : IsFineLot lot) where
           ∙ ap (λ (sp : Split Waiter). length sp.taken) same in
           omega (arith, taken_are, parts.lengths, short_list key)
 
-      few-parted : (op : Op) → length (node_split op (nodes_in lot.buckets)).taken ≤ length lot.threads
+      few-parted : (op : Op) → length (split_of op (nodes_in lot.buckets)).taken ≤ length lot.threads
       few-parted (One key token) =
           part (split_first (nodes_in lot.buckets key)) (split_first (waiters key)) key
           (split_first-map (nodes_in lot.buckets key)) (AreParts-first (waiters key))
@@ -356,7 +356,7 @@ module _ (lot : FineLotState) (is : IsFineLot lot) where
         → DoneStep lot
         (record {
           buckets = row;
-          threads = threads_by op (node_split op (nodes_in lot.buckets)) lot.threads;
+          threads = threads_by op (split_of op (nodes_in lot.buckets)) lot.threads;
           callers = slice_set lot.callers caller opened;
         })
         (Begin caller op) (fine.Answer given)
@@ -407,7 +407,7 @@ module _ (lot : FineLotState) (is : IsFineLot lot) where
 
 -- the uses of the numbers do not change
 pub uses-begin : (lot : FineLotState) (op : Op)
-    → uses (plain_threads (threads_by op (node_split op (nodes_in lot.buckets)) lot.threads))
+    → uses (plain_threads (threads_by op (split_of op (nodes_in lot.buckets)) lot.threads))
     ≡ uses (plain_threads lot.threads)
 uses-begin lot (One key token) = refl
 uses-begin lot (AllOp key token) = refl

@@ -8,7 +8,7 @@ use Rattle.std.specs.Prelude.{List, ◌∷◌, [], map, if◌then◌else◌}
 use Rattle.std.specs.List.{list_any}
 use Rattle.std.specs.Option.{option_map_or}
 use Rattle.lot_base.specs.Place.{place_of}
-use Rattle.lot_base.specs.Waiting.{with_value, has_any, Split, split_first, split_all, split_filter, split_by}
+use Rattle.lot_base.specs.Waiting.{with_value, has_any, Split}
 use Rattle.lot_base.specs.declared.token.ParkToken.{ParkToken}
 use Rattle.lot_base.specs.declared.token.UnparkToken.{UnparkToken}
 use Rattle.lot_exclusive.specs.declared.lot.Status.{Status}
@@ -27,6 +27,7 @@ use Rattle.lot_interleaved.specs.declared.interleaved.FineStep.TheVariants.{Read
 use Rattle.lot_interleaved.specs.declared.interleaved.FineStep.TheVariants.{Retire, Acquire, Release, Trim}
 use Rattle.lot_interleaved.specs.InterleavedState.{FineState, Section, TakenThread}
 use Rattle.lot_exclusive.specs.Machine.{Machine, Waiter, entries_of, threads_of, with_status, after_timeout, is_last}
+use Rattle.lot_exclusive.specs.Operation.{split_of, token_of}
 use Rattle.lot_exclusive.specs.Size.{IsSizeAfter, IsTooLarge}
 use Rattle.lot_exclusive.specs.Status.{is_running, awaits_deadline}
 use Rattle.lot_exclusive.specs.Steps.{IsStep}
@@ -83,25 +84,12 @@ abbrev pub with_caller : FineState → ℕ → Option Section → ℕ → FineSt
 with_caller s caller section wakes =
     record s { callers = slice_set s.callers caller (record { section = section; wakes = wakes }) }
 
--- the keys of an operation, whose buckets it needs, a requeue with `Abort` too; and its token
+-- the keys of an operation, whose buckets it needs, a requeue with `Abort` too
 abbrev pub keys_of : Op → List ℕ
 keys_of (One key token) = key ∷ []
 keys_of (All key token) = key ∷ []
 keys_of (Filter key decisions token) = key ∷ []
 keys_of (Requeue from to op token) = from ∷ to ∷ []
-
-abbrev pub token_of : Op → UnparkToken
-token_of (One key token) = token
-token_of (All key token) = token
-token_of (Filter key decisions token) = token
-token_of (Requeue from to op token) = token
-
--- what an operation makes of the waiters of its key
-abbrev pub split_of : Op → (ℕ → List Waiter) → Split Waiter
-split_of (One key token) lists = split_first (lists key)
-split_of (All key token) lists = split_all (lists key)
-split_of (Filter key decisions token) lists = split_filter decisions.items (lists key)
-split_of (Requeue from to op token) lists = split_by op (lists from)
 
 -- the waiters that were taken, with their token
 abbrev pub with_tokens : UnparkToken → List Waiter → List TakenThread

@@ -38,7 +38,7 @@ use told::{copied_ops, push_if_any};
 ///
 /// Callers and threads go by their numbers. In the threaded lot a caller is a thread that is inside
 /// an unpark.
-#[derive(Drop)]
+#[derive(Debug, Drop)]
 pub enum FineStep {
     /// A caller without an open section, who has woken all whom it was to wake, locks the buckets
     /// of the operation's keys and does to their lists, and to the key words of those that it

@@ -4,27 +4,18 @@ use Rattle.lot_base.specs.BucketState.{BucketState}
 use Rattle.lot_base.specs.NodeFields.{NodeFields}
 use Rattle.lot_base.specs.NodeLists.{saturated, split_to, with_saturated_counts, with_token}
 use Rattle.lot_base.specs.Requeue.{numbers}
-use Rattle.lot_base.specs.Waiting.{Split, lists_after_requeue, requeue_result, result_of, split_all}
-use Rattle.lot_base.specs.Waiting.{split_by, with_value}
-use Rattle.lot_base.specs.Waiting.{split_filter, split_first}
+use Rattle.lot_base.specs.Waiting.{Split, lists_after_requeue, requeue_result, result_of, with_value}
 use Rattle.lot_exclusive.specs.declared.schedule.Answer.{Answer}
 use Rattle.lot_exclusive.specs.declared.schedule.Answer.TheVariants as answer
 use Rattle.lot_exclusive.specs.declared.schedule.Op.{Op}
 use Rattle.lot_exclusive.specs.declared.schedule.Op.TheVariants.{One, All, Filter, Requeue}
 use Rattle.lot_interleaved.specs.FineLot.{fine_thread_at}
 use Rattle.lot_interleaved.specs.FineLotState.{FineThreadState}
-use Rattle.lot_interleaved.specs.InterleavedSteps.{token_of}
+use Rattle.lot_exclusive.specs.Operation.{split_of, token_of}
 use Rattle.lot_exclusive.specs.Represents.{nodes_in}
 use Rattle.lot_exclusive.specs.Table.{IsRowStep}
 
--- what an operation makes of the nodes of its key
-abbrev pub node_split : Op → (ℕ → List NodeFields) → Split NodeFields
-node_split (One key token) lists = split_first (lists key)
-node_split (All key token) lists = split_all (lists key)
-node_split (Filter key decisions token) lists = split_filter decisions.items (lists key)
-node_split (Requeue from to op token) lists = split_by op (lists from)
-
--- the nodes of each key then
+-- the nodes of each key once this became of those of the operation's key
 abbrev pub lists_by : Op → (ℕ → List NodeFields) → Split NodeFields → ℕ → List NodeFields
 lists_by (Requeue from to op token) lists split = lists_after_requeue lists from to (split_to to split)
 lists_by (One key token) lists split = with_value lists key split.left
@@ -56,6 +47,6 @@ threads_by _ split threads = threads
 
 -- an operation on a row left this one, gave this answer and took these nodes
 pub record IsTakenBy (op : Op) (row new : List BucketState) (given : Answer) (taken : List NodeFields) : Type 0 where
-  pub rows : IsRowStep row new (lists_by op (nodes_in row) (node_split op (nodes_in row)))
-  pub answer : given ≡ answer_by op (node_split op (nodes_in row))
-  pub nodes : taken ≡ map (with_token (token_of op)) (node_split op (nodes_in row)).taken
+  pub rows : IsRowStep row new (lists_by op (nodes_in row) (split_of op (nodes_in row)))
+  pub answer : given ≡ answer_by op (split_of op (nodes_in row))
+  pub nodes : taken ≡ map (with_token (token_of op)) (split_of op (nodes_in row)).taken

@@ -5,7 +5,8 @@ ghost use Rattle.lot_base.specs.NodeLists.{saturated, split_to, with_saturated_c
 ghost use Rattle.lot_base.specs.Requeue.{numbers};
 ghost use Rattle.lot_base.specs.Waiting.{lists_after_requeue, requeue_result, result_of, split_all, split_by, split_filter, split_first};
 ghost use Rattle.lot_exclusive.specs.Decisions.{AnswersNext};
-ghost use Rattle.lot_interleaved.specs.Private.FineSection.{IsTakenBy, fine_threads_with_key, fine_threads_with_keys, node_split, threads_by};
+ghost use Rattle.lot_interleaved.specs.Private.FineSection.{IsTakenBy, fine_threads_with_key, fine_threads_with_keys, threads_by};
+ghost use Rattle.lot_exclusive.specs.Operation.{split_of};
 ghost use Rattle.lot_exclusive.specs.Represents.{Represents, nodes_in, waiters_in};
 ghost use Rattle.lot_exclusive.specs.Table.{IsRowStep, IsTakenFrom};
 
@@ -21,7 +22,7 @@ pub(super) fn unpark(table: &mut Table, threads: &mut Vec<FineThread>, op: &Op) 
     requires { Represents table.old.cells (waiters_in table.old.cells) }
     ensures numbers { table.new.numbers ≡ table.old.numbers }
     ensures threads { threads.new.items
-        ≡ threads_by op.now (node_split op.now (nodes_in table.old.cells)) threads.old.items }
+        ≡ threads_by op.now (split_of op.now (nodes_in table.old.cells)) threads.old.items }
     ensures taken { IsTakenBy op.now table.old.cells table.new.cells result.0 result.1 }
 {
     match op {
