@@ -180,7 +180,7 @@ fn unpark_by_filter<P: ThreadParkerT, R: Wait>(
 }
 
 // Requeues by this operation.
-fn requeue<P: ThreadParkerT, R: Wait>(
+pub fn requeue<P: ThreadParkerT, R: Wait>(
     rt: &R,
     lot: &ParkingLot<P>,
     from: usize,

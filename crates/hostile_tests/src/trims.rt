@@ -1,12 +1,12 @@
 //! Trims of the table, under threads that wait and beside sections.
 
 use crate::common::{
-    TOKEN, TURNS, UNPARKED, come_by_turns, from_now, new_lot, park_and, register, wait,
+    TOKEN, TURNS, UNPARKED, come_by_turns, from_now, new_lot, park_and, register, requeue, wait,
 };
 use crate::expect_equal;
 use parking_lot_core::{
-    ParkResult, ParkingLot, ThreadParker, ThreadParkerT, WordParker, YieldParker, unpark_all,
-    unpark_one,
+    ParkResult, ParkingLot, RequeueOp, ThreadParker, ThreadParkerT, WordParker, YieldParker,
+    unpark_all, unpark_one,
 };
 use std::alloc::Global;
 use std::process::Abort;
@@ -22,6 +22,8 @@ const WAITERS: usize = 100;
 const OTHERS: usize = 71;
 
 const PARKERS: usize = 3;
+
+const OTHER_KEY: usize = 13;
 
 const ROUNDS: usize = 1_000;
 
@@ -103,6 +105,15 @@ fn a_trim_keeps_each_of_a_hundred_waiters(rt: HostRuntime) {
     each_is_found::<WordParker, _>(&rt, rt.alloc());
 }
 
+// Unparks all on the key, or by a requeue within its bucket the one thread that is on the other.
+fn wake_on<P: ThreadParkerT, R: Wait>(rt: &R, lot: &ParkingLot<P>, key: usize) {
+    if key == OTHER_KEY {
+        requeue(rt, lot, key, key, RequeueOp::UnparkOneRequeueRest, TOKEN);
+    } else {
+        unpark_all(rt, lot, key, TOKEN);
+    }
+}
+
 // Parks over and over, and unparks all on its key before it sleeps.
 fn park_until_done<P: ThreadParkerT, R: Wait + Clock + Abort>(
     rt: &R,
@@ -116,10 +127,7 @@ fn park_until_done<P: ThreadParkerT, R: Wait + Clock + Abort>(
         if is_done.load(Ordering::SeqCst) {
             return;
         }
-        let wake = || {
-            unpark_all(rt, lot, key, TOKEN);
-        };
-        let left = park_and(rt, lot, &mut data, key, wake, None);
+        let left = park_and(rt, lot, &mut data, key, || wake_on(rt, lot, key), None);
         expect_equal(rt, left, UNPARKED);
     }
 }
@@ -133,7 +141,7 @@ fn race<P: ThreadParkerT, R: Wait + Clock + Abort>(
     index: usize,
 ) {
     if index < PARKERS {
-        let key = if index % 2 == 0 { 0 } else { 13 };
+        let key = if index % 2 == 0 { 0 } else { OTHER_KEY };
         return park_until_done(rt, alloc, lot, key, is_done);
     }
     for _ in 0..ROUNDS {

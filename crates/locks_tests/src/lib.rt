@@ -4,6 +4,10 @@
 #[cfg(test)]
 mod compare;
 #[cfg(test)]
+mod handed;
+#[cfg(test)]
+mod left;
+#[cfg(test)]
 mod plain;
 #[cfg(test)]
 mod rows;

@@ -24,6 +24,9 @@ const WORKERS: usize = 4;
 // How many steps each of the workers takes.
 const CALLS: usize = 1_000;
 
+// One entry more than 16 bits count.
+const LONG: usize = 65_537;
+
 fn enter(thread: usize, key: usize, timed: bool) -> Step {
     Step::Enter {
         thread,
@@ -178,6 +181,49 @@ fn fill_the_journal<C: Ledger, W: Ledger, U: Ledger, R: Wait + Abort>(
 fn a_full_journal_refuses_what_is_not_set_aside(rt: HostRuntime) -> Result<(), Fail> {
     let blanks = (Blank::new(1), Blank::new(1), Blank::new(1));
     fill_the_journal::<Brand, Brand, Brand, HostRuntime>(&rt, rt.alloc(), blanks)
+}
+
+// Unparks nobody so often, and tells how many of these steps were done.
+fn unpark_nobody<C: Ledger, W: Ledger, U: Ledger, R: Wait>(
+    rt: &R,
+    lot: &RecordingLot<C, W, U>,
+    ticket: &mut Ticket<C, W, U>,
+    steps: usize,
+) -> usize {
+    let mut done: usize = 0;
+    for _ in 0..steps {
+        if lot.step(rt, ticket, one(1, 0)).is_ok() {
+            done = done.wrapping_add(1);
+        }
+    }
+    done
+}
+
+fn fill_a_long_journal<C: Ledger, W: Ledger, U: Ledger, R: Wait + Abort>(
+    rt: &R,
+    alloc: Global,
+    blanks: (Blank, Blank, Blank),
+) -> Result<(), Fail>
+    requires names { (blanks.0.name ≡ C.name) × (blanks.1.name ≡ W.name)
+        × (blanks.2.name ≡ U.name) }
+    requires parts { (blanks.0.parts ≡ C.parts) × (blanks.1.parts ≡ W.parts)
+        × (blanks.2.parts ≡ U.parts) }
+    requires workers { (C.parts ≡ 1) × (W.parts ≡ 1) × (U.parts ≡ 1) }
+{
+    let (count, woken, wakes) = blanks;
+    let (lot, mut tickets) = RecordingLot::<C, W, U>::new(alloc, 1, LONG, 1, count, woken, wakes)?;
+    if let Some(ticket) = tickets.get_mut(0) {
+        expect_equal(rt, unpark_nobody(rt, &lot, ticket, LONG), LONG);
+        expect_equal(rt, unpark_nobody(rt, &lot, ticket, 1), 0);
+    }
+    expect_equal(rt, lot.close(tickets).journal().len(), LONG);
+    Ok(())
+}
+
+#[test]
+fn a_journal_has_room_for_all_that_it_was_made_for(rt: HostRuntime) -> Result<(), Fail> {
+    let blanks = (Blank::new(1), Blank::new(1), Blank::new(1));
+    fill_a_long_journal::<Brand, Brand, Brand, HostRuntime>(&rt, rt.alloc(), blanks)
 }
 
 // Does the journal's steps on a new lot for so many threads, and compares the answers.

@@ -3,6 +3,7 @@
 use crate::expect_equal;
 use crate::lots::register;
 use parking_lot_core::{ParkingLot, ThreadData, ThreadParkerT, WordParker};
+use std::process::Abort;
 use std::sync::Wait;
 use std::test::Fail;
 use std::thread;
@@ -64,5 +65,36 @@ fn consumers_take_what_producers_put(rt: HostRuntime) -> Result<(), Fail> {
         .into_iter()
         .fold(0usize, |all, sum| all.wrapping_add(sum));
     expect_equal(&rt, all, 4 * 125_250);
+    Ok(())
+}
+
+// Puts as many numbers as there are places, and takes them, one digit each.
+fn fill_and_empty<P: ThreadParkerT, R: Wait + Clock + Abort>(
+    rt: &R,
+    lot: &ParkingLot<P>,
+    queue: &BoundedQueue,
+    data: &mut ThreadData,
+) -> usize {
+    let mut taken: usize = 0;
+    for number in 1..=CAPACITY {
+        assert!(rt; lot.accepts(data), "data of this lot");
+        queue.put(rt, lot, data, number);
+    }
+    for _ in 0..CAPACITY {
+        assert!(rt; lot.accepts(data), "data of this lot");
+        taken = taken
+            .wrapping_mul(10)
+            .wrapping_add(queue.take(rt, lot, data));
+    }
+    taken
+}
+
+// It refuses a `put` that sleeps while a place is free, and a `take` in another order.
+#[test]
+fn a_queue_takes_as_many_as_it_has_places(rt: HostRuntime) -> Result<(), Fail> {
+    let lot = ParkingLot::<WordParker>::new(rt.alloc(), 1)?;
+    let queue = BoundedQueue::new(rt.alloc(), MUTEX_KEY, CONDVAR_KEY, CAPACITY)?;
+    let mut data = register(&rt, rt.alloc(), &lot)?;
+    expect_equal(&rt, fill_and_empty(&rt, &lot, &queue, &mut data), 123);
     Ok(())
 }

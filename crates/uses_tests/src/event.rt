@@ -8,7 +8,7 @@ use std::sync::{Arc, Wait};
 use std::test::Fail;
 use std::thread;
 use std::thread::{JoinHandle, Threads};
-use std::time::Clock;
+use std::time::{Clock, Instant};
 use uses::event::Event;
 
 const KEY: usize = 7;
@@ -28,11 +28,12 @@ fn see_it_set<P: ThreadParkerT, R: Wait + Clock>(
     rt: &R,
     shared: &Shared<P>,
     mut data: ThreadData,
+    timeout: Option<Instant>,
 ) -> bool {
     if !shared.lot.accepts(&data) {
         return false;
     }
-    shared.event.wait(rt, &shared.lot, &mut data, None) && shared.event.is_set()
+    shared.event.wait(rt, &shared.lot, &mut data, timeout) && shared.event.is_set()
 }
 
 // Starts a thread that waits for the event.
@@ -47,7 +48,7 @@ where
     R: Threads + Wait + Clock + Copy + Send + 'static,
 {
     let runtime = *rt;
-    thread::spawn(rt, move || see_it_set(&runtime, &shared, data)).ok()
+    thread::spawn(rt, move || see_it_set(&runtime, &shared, data, None)).ok()
 }
 
 // Waits until all threads wait for the event, and tells whether they came.
@@ -86,9 +87,9 @@ fn the_event_wakes_every_thread(rt: HostRuntime) -> Result<(), Fail> {
         assert!(rt; waiter.join(&rt));
     }
 
-    // Who comes after the event does not sleep.
+    // Who comes after the event does not sleep, and is not late.
     let data = register(&rt, rt.alloc(), &shared.lot)?;
-    assert!(rt; see_it_set(&rt, &shared, data));
+    assert!(rt; see_it_set(&rt, &shared, data, Some(Instant::now(&rt)?)));
     expect_equal(&rt, shared.event.set(&rt, &shared.lot), 0);
     Ok(())
 }
