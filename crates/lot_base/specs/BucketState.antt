@@ -3,7 +3,8 @@ use Rattle.std.specs.Prelude.{◌≡◌, ◌<◌, All, ℕ, List}
 use Rattle.lot_base.specs.NodeFields.{NodeFields}
 use Rattle.lot_base.specs.Place.{IsTableSize, place_of}
 
--- its place in a table of that many buckets, and the nodes in it; of their order only that within each key is promised
+-- its place in a table of that many buckets, and the nodes in it; of their order only that within each key is promised,
+-- but that the contracts of `enter` and `pop` tell all of it
 pub record BucketState : Type 0 where
   pub place : ℕ
   pub size : ℕ

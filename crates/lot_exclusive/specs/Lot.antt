@@ -11,7 +11,7 @@ use Rattle.lot_exclusive.specs.Records.{times_recorded}
 use Rattle.lot_exclusive.specs.declared.table.TheConstants.{MAX_THREADS}
 use Rattle.lot_exclusive.specs.Represents.{waiters_in, Represents}
 
--- a number that nobody has
+-- a number that nobody has had yet
 abbrev pub free_thread : ℕ → ThreadState
 free_thread number = record { number = number; key = 0; status = status.Free; records = [] }
 

@@ -43,8 +43,8 @@ IsUnpark m (Requeue from to op token) given new =
     let split : Split Waiter = split_by op (m.lists from) in
     Gives (after_requeue m from to split token) (answer.Unpark (requeue_result op split)) given new
 
--- Return, where the thread has this status: one that was taken runs again, with its token; it ends the park of a thread
--- that was woken
+-- Return, where the thread has this status: one that was taken runs again, with its token, also if its deadline had
+-- passed before
 abbrev pub IsReturn : Machine → ℕ → Status → Answer → Machine → Type 0
 IsReturn m thread (status.Taken token) given new =
     Gives (with_status m thread status.Running) (answer.Unparked token) given new

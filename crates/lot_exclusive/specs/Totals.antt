@@ -24,8 +24,8 @@ returned_by _ = 0
 abbrev pub taken_threads_of : Machine → ℕ
 taken_threads_of m = count_by (λ number. is_taken (m.status number)) (range_with_len 0 m.max_threads)
 
--- in every run those that were taken before, and those that its unparks took, are as many as those that come back and
--- those that are left
+-- in every run the threads that were taken before, and those that its unparks took, are as many as those that came back
+-- and those that are still taken at its end
 abbrev pub UnparkedThreadsComeBack : Type 0
 UnparkedThreadsComeBack = (m : Machine) (steps : List Step) (answers : List Answer) (last : Machine) → IsConsistent m
     → IsRun IsStep m steps answers last →

@@ -1,4 +1,4 @@
-//! The rule of a history's table, and what its steps tell. These types are for the proofs alone.
+//! The rule of a history's table, and what its steps tell. All but `Told` are for the proofs alone.
 
 use crate::view::View;
 use atomic_table::{Join, Play, Split, TableRule};

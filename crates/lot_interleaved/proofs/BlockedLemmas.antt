@@ -60,6 +60,10 @@ one_key_held s key some =
     (λ (free : is_held s key ≡ false). absurd (false≢true (sym (ap (λ b. b || false) free) ∙ some)))
     (cases_Bool (is_held s key))
 
+not_true : (b : Bool) → not b ≡ true → b ≡ false
+not_true false _ = refl
+not_true true none = absurd (false≢true none)
+
 module _ (s : FineState) (new : FineState) where
   -- a step that is blocked
   abbrev Blocks : FineStep → Type 0
@@ -129,9 +133,11 @@ module _ (s : FineState) (new : FineState) where
   blocking Register =
       MatchBool-either (not (is_full s) && is_growth_blocked s)
       (λ blocked (_, new_is).
-      let (_, grows_open) = and_parts (not (is_full s)) (is_growth_blocked s) blocked in
-      let (grows, some) = and_parts (nat_lt s.size (3 * (threads_of s.threads_view + 1))) (is_any_open s) grows_open in
-      (inr ((λ place. ltb-true s.size (3 * (threads_of s.threads_view + 1)) grows), some), new_is))
+      let (room, grows_open) = and_parts (not (is_full s)) (is_growth_blocked s) blocked in
+      let (grows, some) = and_parts (nat_lt s.size (3 * (threads_of s.threads_view + 1))) (is_any_open s) grows_open in (
+        inr ((λ place. (not_true (is_full s) room, ltb-true s.size (3 * (threads_of s.threads_view + 1)) grows)), some),
+        new_is,
+      ))
       (λ _ (by_rule, view, size, does, sized, gives). answered (λ same. cc) gives)
   blocking (Retire thread) = by_machine (machine.Retire thread) _
   blocking (Acquire thread key) = by_machine (machine.Acquire thread key) _

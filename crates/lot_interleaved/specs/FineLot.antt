@@ -8,7 +8,7 @@ use Rattle.lot_exclusive.specs.Lot.{free_thread, machine, thread_at, thread_keys
 use Rattle.lot_exclusive.specs.LotState.{LotState, ThreadState}
 use Rattle.lot_exclusive.specs.Represents.{Represents}
 
--- a number that nobody has
+-- a number that nobody has had yet
 abbrev pub free_fine_thread : ℕ → FineThreadState
 free_fine_thread number = record { thread = free_thread number; key_read = None; slot = None }
 

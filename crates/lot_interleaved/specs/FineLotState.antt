@@ -13,7 +13,8 @@ pub record FineThreadState : Type 0 where
   pub slot : Option UnparkToken
 
 -- the row of buckets, and the threads and the callers by their numbers. That a thread has its node exactly while it
--- runs, and a full slot just one node of its own number, the private types `Thread` and `Slot` keep
+-- runs, and a full slot just one node of its own number, the private type `FineThread` keeps, with `Thread` and `Slot`
+-- in it
 pub record FineLotState : Type 0 where
   pub buckets : List BucketState
   pub threads : List FineThreadState

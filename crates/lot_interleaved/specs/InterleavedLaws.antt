@@ -9,8 +9,8 @@ use Rattle.lot_interleaved.specs.declared.interleaved.FineAnswer.TheVariants as 
 use Rattle.lot_interleaved.specs.declared.interleaved.FineStep.{FineStep}
 use Rattle.lot_interleaved.specs.declared.interleaved.FineStep.TheVariants.{Begin, Look, Enter, Register, Acquire, Trim}
 use Rattle.lot_interleaved.specs.InterleavedState.{FineState, new_fine_state}
-use Rattle.lot_interleaved.specs.InterleavedSteps.{IsFineStep, holds, is_any_open, is_growth_blocked, keys_of}
-use Rattle.lot_interleaved.specs.InterleavedSteps.{section_of}
+use Rattle.lot_interleaved.specs.InterleavedSteps.{IsFineStep, holds, is_any_open, is_full, is_growth_blocked}
+use Rattle.lot_interleaved.specs.InterleavedSteps.{keys_of, section_of}
 use Rattle.lot_interleaved.specs.InterleavedView.{sequential_view, sequential_steps, steps_of, answers_of}
 use Rattle.lot_interleaved.specs.InterleavedView.{IsFineConsistent, taken_of, times_taken, once_if}
 use Rattle.lot_exclusive.specs.Machine.{IsFull, new_machine, threads_of, times_in}
@@ -77,13 +77,13 @@ abbrev pub OnlyFineMemoryIsOpen : Type 0
 OnlyFineMemoryIsOpen = (s : FineState) (step : FineStep) (new : FineState)
     → IsFineStep s step (fine.Answer NoMemory) new ↔ (MayWantFineMemory s step × (new ≡ s))
 
--- a step needs the bucket at this place: it is that of a key of the step; or it is any, where the table has to grow, or
--- is too large and is trimmed
+-- a step that fits needs the bucket at this place: it is that of a key of the step; or it is any, where a number is free
+-- and the table has to grow, or where it is too large and is trimmed
 abbrev pub NeedsBucket : FineState → FineStep → ℕ → Type 0
 NeedsBucket s (Begin caller op) place = IsTrue (list_any (λ key. place_of key s.size == place) (keys_of op))
 NeedsBucket s (Look thread) place = (key : ℕ) × (s.keys_read thread ≡ Some key) × (place_of key s.size ≡ place)
 NeedsBucket s (Enter thread key valid park_token timed) place = place_of key s.size ≡ place
-NeedsBucket s Register place = s.size < 3 * (threads_of s.threads_view + 1)
+NeedsBucket s Register place = (is_full s ≡ false) × (s.size < 3 * (threads_of s.threads_view + 1))
 NeedsBucket s Trim place = IsTooLarge (threads_of s.threads_view) s.size
 NeedsBucket s _ place = ⊥
 
@@ -113,8 +113,8 @@ InterleavedOutcomesAlternate = (s : FineState) (steps : List FineStep) (answers 
     OutcomesAlternate (parks_in number) (ends_park_in number) (is_parked ((sequential_view s).status number)) steps
     answers
 
--- those that were taken before, and those that its answers count as unparked, are as many as those that its answers
--- tell of as come back and those that are left
+-- the threads that were taken before, and those that its answers count as unparked, are as many as those that its answers
+-- tell of as come back and those that are still taken at its end
 abbrev pub InterleavedThreadsComeBack : Type 0
 InterleavedThreadsComeBack = (s : FineState) (steps : List FineStep) (answers : List FineAnswer) (last : FineState)
     → IsFineConsistent s → IsRun IsFineStep s steps answers last →

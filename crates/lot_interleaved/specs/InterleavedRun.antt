@@ -26,7 +26,7 @@ pub record AmountsTo (s last : FineState) (steps : List FineStep) (answers : Lis
   -- in its answers each thread's parks and their outcomes take turns
   pub outcomes : (number : ℕ) → OutcomesAlternate (parks_in number) (ends_park_in number)
       (is_parked ((sequential_view s).status number)) steps answers
-  -- and those that were taken before, and those that its answers count as unparked, are as many as those that its
-  -- answers tell of as come back and those that are left
+  -- and the threads that were taken before, and those that its answers count as unparked, are as many as those that its
+  -- answers tell of as come back and those that are still taken at its end
   pub come_back : taken_threads_of (sequential_view s) + sum_by unparked_in answers
       ≡ sum_by returned_in answers + taken_threads_of (sequential_view last)

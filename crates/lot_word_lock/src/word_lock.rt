@@ -22,7 +22,8 @@
 //! A lock has a key, which is fixed when it is made and tells proofs which lock it is: what a value
 //! has to fit may speak of it. Neither the lock nor a caller keeps a byte of it.
 //!
-//! What is proved is `WordLockInvariant`, and that a `lock` gives a value that fits the lock's key.
+//! What is proved is `WordLockInvariant`, and that a `lock` and a `lend` give a value that fits the
+//! lock's key.
 //! That whoever sleeps is woken is shown by tests.
 
 ghost use Rattle.std.specs.Prelude.{◌≡◌, ◌-◌, ◌%◌, ◌/◌, ◌+◌, ℕ, List, [], ◌∷◌, IfOk, IfSome, IfNone, Option, IsTrue};
@@ -54,7 +55,7 @@ use std::sync::Wait;
 pub const WORD_SLOTS: usize = 4;
 
 /// What a value behind a lock satisfies, given the lock's key. `WordLock::new` and `unlock` ask it,
-/// and `lock` gives it.
+/// and `lock` gives it; `lend` gives it to its closure and asks it back.
 ///
 /// It has `Drop` as its parent, so that a lock can be dropped with its value. Upstream's lock has
 /// no value.

@@ -1,7 +1,7 @@
-//! Callers of both lots, as a user would write them. Of the exclusive lot: a semaphore and a
-//! timeout for the tasks of a simulation, and simulations of two tasks. Of the threaded lot: a
-//! mutex, an event and a semaphore for threads, and a bounded queue by a fair mutex. Of the
-//! interleaved lot: what a schedule amounts to. Of both: a history of threads, and its replay.
+//! Callers of the lots, as a user would write them. Of the exclusive lot: a semaphore and a timeout
+//! for the tasks of a simulation, and simulations of two tasks. Of the threaded lot: a mutex, an
+//! event and a semaphore for threads, and a bounded queue by a fair mutex. Of the interleaved lot:
+//! what a schedule amounts to. Of a recording lot: a journal of threads, and its replay.
 #![tactic(auto)]
 
 pub mod bounded_queue;

@@ -30,7 +30,8 @@ const BUSY: u64 = 1;
 // The slot is empty, and the owner sleeps, or did until its deadline.
 const EMPTY_ASLEEP: u64 = 2;
 
-// The slot holds a node, and the owner does not sleep. The words below say that it holds none.
+// The slot holds a node, and the owner does not sleep. Of the words that are not busy those less
+// than this one say that the slot is empty.
 const FULL: u64 = 3;
 
 // The slot holds a node, and the owner may sleep still.

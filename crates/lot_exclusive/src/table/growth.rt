@@ -57,7 +57,7 @@ pub fn trimmed_size(threads: usize, size: usize) -> usize
 /// # Errors
 ///
 /// `NoMemory` if memory cannot be had.
-pub fn empty_buckets(alloc: Global, size: usize) -> Result<Vec<Bucket>, NoMemory>
+pub(super) fn empty_buckets(alloc: Global, size: usize) -> Result<Vec<Bucket>, NoMemory>
     requires { IsTableSize size }
     ensures count { IfOk result (λ row. length row.items ≡ size) }
     ensures empty { IfOk result (λ row. AreEmpty size row.items) }
@@ -71,7 +71,7 @@ pub fn empty_buckets(alloc: Global, size: usize) -> Result<Vec<Bucket>, NoMemory
 
 /// Moves the nodes of the bucket into the buckets of their keys, in order. It takes each node once
 /// and allocates nothing.
-pub fn rehash_bucket(bucket: &mut Bucket, row: &mut Vec<Bucket>)
+fn rehash_bucket(bucket: &mut Bucket, row: &mut Vec<Bucket>)
     requires size { IsTableSize (length row.old.items) }
     requires row { IsRowOf (length row.old.items) row.old.items }
     requires represents { Represents row.old.items (waiters_in row.old.items) }

@@ -91,8 +91,8 @@ pub enum FairAnswer {
     /// The thread stands last on the condition variable, and has still to leave the mutex.
     Waiting,
 
-    /// What a notify did: how many threads were handed the mutex, how many queue for it now, and
-    /// whether any still sleeps.
+    /// What a notify did: how many threads were handed the mutex, how many it moved behind those
+    /// who wait for it, and whether any still sleeps.
     Notified(UnparkResult),
 
     /// The step does not fit the status of its thread.

@@ -1,4 +1,4 @@
--- What a section of an unpark answered, and of which threads it gives the handles.
+-- What a section of an unpark answered, and of which threads, or of how many at least, it gives the handles.
 use Rattle.std.specs.Prelude.{◌≡◌, ◌≤◌, ℕ, length, min, Option}
 use Rattle.std.specs.Fn.{Once, Mut}
 use Rattle.lot_base.specs.declared.token.FilterOp.{FilterOp}

@@ -29,8 +29,9 @@ use std::array;
 use std::marker::Model;
 use std::sync::{Mutex, OnceLock, Wait};
 
-// A bucket that a section of two has locked, with its place in the row, and the place of the bucket
-// that the section had locked before, if there is one. It has no `Drop`: it ends in `unlock`.
+// A bucket that a requeue or a change of rows has locked and taken out, with its place in the row,
+// and the place of the bucket that it had locked before, if there is one. It has no `Drop`: it ends
+// in `unlock`.
 pub(super) struct Locked<'b> {
     cell: &'b WordLock<Bucket>,
     place: usize,

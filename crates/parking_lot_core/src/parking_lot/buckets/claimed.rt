@@ -1,4 +1,4 @@
-//! The bucket of a section that has only one.
+//! The bucket of a section other than a requeue's.
 
 ghost use Rattle.std.specs.Prelude.{◌≡◌};
 ghost use Rattle.std.specs.Fn.{FnOnceReturnsAtMut, FnOnceTakesAtMut};
@@ -9,7 +9,7 @@ use lot_base::bucket::Bucket;
 use lot_base::word_lock::{Claim, WordLock};
 use std::sync::Wait;
 
-/// The bucket of a section that has only one, which stays behind its lock. It has no `Drop`: it
+/// The bucket of a section other than a requeue's, which stays behind its lock. It has no `Drop`: it
 /// ends in `unlock`.
 pub struct Claimed<'b> {
     cell: &'b WordLock<Bucket>,
