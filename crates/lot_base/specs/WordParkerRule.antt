@@ -1,7 +1,7 @@
 -- The rule of a parker of one word, which its table keeps between any two steps, and what its steps tell. The table has
--- 15 words, of which the one of index 7 is used, one slot, and the owner's number as its key, which each view begins as
--- and keeps. The word is 0 with an empty slot and 3 with a full one where the owner is awake, 2 and 4 where it may sleep,
--- and 1 while somebody works on the slot.
+-- 15 words, of which the one of index 7 is used, and the owner's number as its key, which each view begins as. That it
+-- has one slot the type `WordParker` keeps. The word is 0 with an empty slot and 3 with a full one where the owner is
+-- awake, 2 and 4 where it may sleep, and 1 while somebody works on the slot.
 use Rattle.std.specs.Prelude.{◌≡◌, ◌≢◌, ◌⊎◌, ◌↔◌, ℕ, ◌<◌, [], ◌∷◌, length, slice_index}
 use mathlib.Core.Option.{some}
 use lib.ListN.{get_elem?}

@@ -72,7 +72,8 @@ pub record IsList (m : Machine) (key : ℕ) (standing : List Standing) : Type 0 
   pub waiters : m.lists key ≡ map waiter_of standing
   pub wait : AllStand m standing
 
--- the machine is as the piece says
+-- the machine is as the piece says; of a thread that `Lists` has with a key of another place that says nothing, though
+-- the piece covers the thread
 abbrev pub IsSo : Machine → Piece → Type 0
 IsSo m (Lists size place standing) =
     (key : ℕ) → place_of key size ≡ place → IsList m key (at_key key standing)

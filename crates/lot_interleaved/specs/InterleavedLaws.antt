@@ -77,8 +77,8 @@ abbrev pub OnlyFineMemoryIsOpen : Type 0
 OnlyFineMemoryIsOpen = (s : FineState) (step : FineStep) (new : FineState)
     → IsFineStep s step (fine.Answer NoMemory) new ↔ (MayWantFineMemory s step × (new ≡ s))
 
--- a step that fits needs the bucket at this place: it is that of a key of the step; or it is any, where a number is free
--- and the table has to grow, or where it is too large and is trimmed
+-- a step that fits needs the bucket at this place: it is that of a key of the step; or it is any, where a number is
+-- free and the table has to grow, or where it is too large and is trimmed
 abbrev pub NeedsBucket : FineState → FineStep → ℕ → Type 0
 NeedsBucket s (Begin caller op) place = IsTrue (list_any (λ key. place_of key s.size == place) (keys_of op))
 NeedsBucket s (Look thread) place = (key : ℕ) × (s.keys_read thread ≡ Some key) × (place_of key s.size ≡ place)
@@ -113,8 +113,8 @@ InterleavedOutcomesAlternate = (s : FineState) (steps : List FineStep) (answers 
     OutcomesAlternate (parks_in number) (ends_park_in number) (is_parked ((sequential_view s).status number)) steps
     answers
 
--- the threads that were taken before, and those that its answers count as unparked, are as many as those that its answers
--- tell of as come back and those that are still taken at its end
+-- the threads that were taken before, and those that its answers count as unparked, are as many as those that its
+-- answers tell of as come back and those that are still taken at its end
 abbrev pub InterleavedThreadsComeBack : Type 0
 InterleavedThreadsComeBack = (s : FineState) (steps : List FineStep) (answers : List FineAnswer) (last : FineState)
     → IsFineConsistent s → IsRun IsFineStep s steps answers last →

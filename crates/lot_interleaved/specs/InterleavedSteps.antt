@@ -230,8 +230,8 @@ IsFineRegister s given new =
     × IsSizeAfter machine.Register by_rule (threads_of view) s.size size
     × FineGives (record s { threads_view = view; size = size }) (fine.Answer by_rule) given new)
 
--- Trim: it is blocked where the table is too large for its threads and a section is open. Else it is the machine's, after
--- which the table's size is as its rule says, and where the table is too large no section is open
+-- Trim: it is blocked where the table is too large for its threads and a section is open. Else it is the machine's,
+-- after which the table's size is as its rule says, and where the table is too large no section is open
 abbrev pub IsFineTrim : FineState → FineAnswer → FineState → Type 0
 IsFineTrim s fine.Blocked new =
     IsTooLarge (threads_of s.threads_view) s.size × IsTrue (is_any_open s) × (new ≡ s)

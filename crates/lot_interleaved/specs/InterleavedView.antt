@@ -1,7 +1,7 @@
 -- What the interleaved machine amounts to: the state of the machine with one list for each key that an interleaved
--- state stands for, and the steps of that machine that a run stands for, with their answers. The first is an abstraction
--- function, and a sequential step stands in the run at its linearization point. `Fine` in a name means: of the
--- interleaved machine.
+-- state stands for, and the steps of that machine that a run stands for, with their answers. The first is an
+-- abstraction function, and a sequential step stands in the run at its linearization point. `Fine` in a name means: of
+-- the interleaved machine.
 use Rattle.std.specs.Prelude.{◌≡◌, ℕ, ◌+◌, ◌≤◌, ◌==◌, Bool, false, IsTrue, is_some, Option, Some, None, List, ◌∷◌, ◌++◌}
 use Rattle.std.specs.Prelude.{[]}
 use Rattle.std.specs.Prelude.{All, count_by, flat_map, map, if◌then◌else◌}
@@ -53,7 +53,7 @@ sequential_status s number = with_slot (s.slots number) (with_taken (taken_of s)
 abbrev pub sequential_view : FineState → Machine
 sequential_view s = record s.threads_view { status = sequential_status s }
 
--- what every state keeps
+-- what every consistent state keeps, as those of interleaved lots are
 
 -- how often a thread is among these
 abbrev pub times_taken : ℕ → List TakenThread → ℕ
@@ -80,8 +80,8 @@ EachHoldsAlone s = (place caller other : ℕ) → IsTrue (holds place (section_o
     → IsTrue (holds place (section_of s other)) → caller ≡ other
 
 pub record IsFineConsistent (s : FineState) : Type 0 where
-  -- the sequential view keeps what every machine keeps, and each thread that waits or is late in it stands at its key
-  -- word
+  -- the sequential view keeps what every consistent machine keeps, and each thread that waits or is late in it stands
+  -- at its key word
   pub view : MatchesStatus s.key_words (sequential_view s)
   -- a thread was taken once at most, and only one that waits or is late
   pub handed : (number : ℕ) → times_taken number (taken_of s) + once_if (is_some (s.slots number))

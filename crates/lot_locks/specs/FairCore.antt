@@ -44,7 +44,8 @@ keeps_hold Holding = true
 keeps_hold Leaving = true
 keeps_hold _ = false
 
--- who is noted as the holder holds the mutex
+-- the note of the holder is right: at `Nobody` nobody holds the mutex; at `Taken` a thread was handed it and has not
+-- returned; at `Thread` that thread is holding or leaving
 abbrev pub MatchesHolder : FairState → Holder → Type 0
 MatchesHolder m holder.Nobody = IsUnlocked m
 MatchesHolder m holder.Taken = (number : ℕ) × (m.status number ≡ Handed)

@@ -39,17 +39,18 @@ pub record MovesUp (thread : ℕ) (before behind : List ℕ) (now : List ℕ) : 
   pub leave : before ≡ gone ++ left
   pub stand : now ≡ left ++ thread ∷ (behind ++ came)
 
--- the mutex is handed over in the order of arrival: in every run in which a thread that waits for it does not come back,
--- it was handed the mutex by the end, or those before it have only become fewer, and whoever waited behind it or came
--- later stands behind it
+-- the mutex is handed over in the order of arrival: in every run in which a thread that waits for it does not come
+-- back, it was handed the mutex by the end, or those before it have only become fewer, and whoever waited behind it or
+-- came later stands behind it
 abbrev pub WaitersKeepTheirOrder : Type 0
 WaitersKeepTheirOrder = (m : FairState) (thread : ℕ) (before behind : List ℕ) (steps : List FairStep)
     (answers : List FairAnswer) (last : FairState) → m.waiters ≡ before ++ thread ∷ behind
     → IsRun IsFairStep m steps answers last → NeverComesBack thread steps answers
     → (last.status thread ≡ Handed) ⊎ MovesUp thread before behind last.waiters
 
--- a thread that a notify moves, of one or of all (`IsNotify` says by which operation each is), stands behind those who
--- waited and those who were moved before it, and keeps that place before all who come later, until it is handed the mutex
+-- a thread that a notify moves, by any operation (`IsFairStep` says by which two a notify of one or of all may be),
+-- stands behind those who waited and those who were moved before it, and keeps that place before all who come later,
+-- until it is handed the mutex
 abbrev pub NotifiedThreadsKeepTheirPlace : Type 0
 NotifiedThreadsKeepTheirPlace = (m : FairState) (op : RequeueOp) (given : FairAnswer) (notified : FairState)
     (thread : ℕ) (before behind : List ℕ) (steps : List FairStep) (answers : List FairAnswer) (last : FairState)

@@ -104,7 +104,8 @@ abbrev pub StandsByStatus : FairState → ℕ → Type 0
 StandsByStatus m number =
     times_in number m.waiters + times_in number m.sleepers ≡ (if stands (m.status number) then 1 else 0)
 
--- at most one thread holds the mutex, nobody waits for it while nobody holds it, and the lists match the statuses
+-- at most one thread holds the mutex, nobody waits for it while nobody holds it, and the lists match the statuses. Of
+-- numbers that are not below `max_threads` nothing is said here; those of a core are free
 pub record IsFairConsistent (m : FairState) : Type 0 where
   pub one_holder : (number other : ℕ) → IsTrue (holds (m.status number)) → IsTrue (holds (m.status other))
       → number ≡ other

@@ -87,7 +87,10 @@ FitsNotify m RequeueAll = IsLocked m
 FitsNotify m UnparkOne = IsUnlocked m
 FitsNotify m RequeueOne = IsLocked m
 
--- one step: the state before, the step, its answer and the state after
+-- one step: the state before, the step, its answer and the state after. A state is never both locked and unlocked, so a
+-- step has one answer at most, but that a registration where a number is free may be `NoMemory` too, and step and
+-- answer fix the state. That a step of a core has one is the contract of `FairCore::apply`; no law says it of every
+-- state
 abbrev pub IsFairStep : FairState → FairStep → FairAnswer → FairState → Type 0
 IsFairStep m Register given new = IsRegister m given new
 IsFairStep m (Retire thread) given new =

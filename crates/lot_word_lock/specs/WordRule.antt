@@ -1,6 +1,7 @@
--- The rule of a word lock, as its table keeps it: in the form in which each step is proved to keep it.
--- Word 0 is the lock's, word p the link of the place p, and word p + 4 its mark: 0 while nobody has the place, and else 1,
--- or 2 once somebody has asked to be woken when it is given back.
+-- The rule of a word lock, as its table keeps it: in the form in which each step is proved to keep it. Word 0 is the
+-- lock's, word p the link of the place p, and word p + 4 its mark: 0 while nobody has the place, and else 1, or 2 where
+-- another may sleep until it is given back: once one has asked to be woken then, and from the start where the caller
+-- that has it found no place free before.
 use Rattle.std.specs.Prelude.{◌≡◌, ◌≢◌, ◌⊎◌, ℕ, ◌+◌, ◌*◌, ◌<◌, ◌≤◌, List, [], ◌++◌, length, slice_index, true, Option}
 use mathlib.Core.Option.{some, none}
 use lib.ListN.{get_elem?}

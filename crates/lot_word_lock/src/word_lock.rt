@@ -133,8 +133,8 @@ impl<T: Fits> WordLock<T> {
     /// If nobody holds the lock or is in the list, it is one exchange of the word. If somebody
     /// holds it, it spins by a `SpinWait` while nobody is in the list, and then enters the list and
     /// sleeps until it was removed; then it tries again, like any other caller. Where no place is
-    /// free it sleeps until the one that entered the list last is given back, though others may be
-    /// before.
+    /// free it sleeps until the one that entered the list last is given back, or the first place
+    /// where the list is empty, though others may be before.
     ///
     /// Upstream's `lock` waits in the same way and gives nothing.
     #[inline]

@@ -1,6 +1,6 @@
 -- The threaded lot as contracts see it. What becomes of waiters stands in lot_base, what the lots without threads mean
--- in lot_exclusive and lot_interleaved, and what a word lock keeps in lot_word_lock; all of these are handed on. Buckets,
--- nodes and queues are cited in lot_base.
+-- in lot_exclusive and lot_interleaved, and what a word lock keeps in lot_word_lock; all of these are handed on.
+-- Buckets, nodes and queues are cited in lot_base.
 pub use Rattle.lot_base.specs.Waiting
 pub use Rattle.lot_word_lock.specs.WordKey
 pub use Rattle.lot_word_lock.specs.WordLock

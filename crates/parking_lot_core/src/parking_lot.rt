@@ -77,10 +77,10 @@ impl ThreadData {
 /// Whoever finds a bucket locked sleeps, once it has spun in vain. No order is kept among callers.
 ///
 /// What is proved of its calls is how their closures are called and what form their answers have;
-/// of private functions, that a node that was taken goes to no parker but its thread's, and that at
-/// least eight threads, or all where fewer were taken, are handed theirs to be woken. Which threads
-/// wait and are unparked, that each gets its token and wakes, and which numbers are given, is shown
-/// by tests.
+/// of private functions, that a node that was taken goes to no parker but its thread's, and that of
+/// those whose number is below `max_threads`, as every parked thread's is, at least eight, or all
+/// where fewer were taken, are handed theirs to be woken. Which threads wait and are unparked, that
+/// each gets its token and wakes, and which numbers are given, is shown by tests.
 ///
 /// Upstream has one lot for the process, in statics.
 #[derive(Drop)]
@@ -173,7 +173,7 @@ impl<P: ThreadParkerT> ParkingLot<P> {
     /// the table is too large does with that lock held what a growth does. It gives no memory back:
     /// the rows of all sizes that were ever in use stay to the lot's end, since a section may still
     /// look at one, and a growth finds its row there again. What becomes cheaper is the walk of the
-    /// next change. Upstream has no such call.
+    /// next change, and calls on many keys, which touch fewer buckets. Upstream has no such call.
     ///
     /// # Errors
     ///

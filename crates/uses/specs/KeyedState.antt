@@ -1,7 +1,8 @@
--- A thing for which threads wait, as contracts see it: what its atomic holds is not told, so no contract says that one
--- holder excludes another, or that an event was set.
+-- What goes by a key as contracts see it: a thing for which threads wait, or the right of who holds one. What an atomic
+-- holds is not told, so no contract says that one holder excludes another, that an event was set, or that a permit was
+-- free.
 use Rattle.std.specs.Prelude.{ℕ}
 
--- the key on which its waiters stand
+-- the key on which the waiters stand
 pub record KeyedState : Type 0 where
   pub key : ℕ

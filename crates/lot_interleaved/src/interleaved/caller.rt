@@ -71,8 +71,9 @@ impl Model for Section {
     } };
 }
 
-// A caller: its section, if one is open, and how many threads it is still to wake. It has taken no
-// more threads than a lot can have, so their number is one.
+// A caller: its section, if one is open, and how many threads it is still to wake. Those that its
+// section has and those that it is to wake are together no more than a lot can have, so `wakes`
+// never overflows.
 #[derive(Drop)]
 pub(super) struct Caller {
     section: Option<Section>,

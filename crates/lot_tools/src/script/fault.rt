@@ -18,7 +18,8 @@ pub enum Cause {
     #[error("too many threads")]
     TooManyThreads,
 
-    /// A request for memory was refused, while the lot was made or a line was read.
+    /// A request for memory was refused: for the lot, a line, a filter's decisions, or the buffers
+    /// of `buffered_script`.
     #[error("no memory")]
     NoMemory,
 
@@ -27,7 +28,7 @@ pub enum Cause {
     ReadFailed,
 
     /// The answer could not be written, since the writer told an error or took no byte; or the
-    /// writer could not be flushed behind the last line.
+    /// writer could not be flushed, behind the last line or, by `buffered_script`, before a read.
     #[error("write failed")]
     WriteFailed,
 }

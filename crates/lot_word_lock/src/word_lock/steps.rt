@@ -173,7 +173,7 @@ impl<T: Fits> WordLock<T> {
     }
 
     /// The place that a caller asks for who found none free: the newest of the list, as the word
-    /// told it.
+    /// told it, or the first place where the list is empty.
     pub(super) fn place_to_want(word: u64) -> usize
         ensures { IsPlace result }
     {
@@ -238,7 +238,8 @@ impl<T: Fits> WordLock<T> {
         }
     }
 
-    /// Writes into the link of the caller's place which place was entered before it, or 0.
+    /// Writes the link of the caller's place: 1 more than `newest`, the place that entered before
+    /// it, or 1 where `newest` is 0, since the list is empty.
     pub(super) fn write_link(&self, caller: &mut Caller<T>, place: usize, newest: u64)
         requires lock { IsCallerOf self.now caller.old }
         requires place { IsPlace place }

@@ -20,7 +20,8 @@ module _ {C : Type 0} (c : Once C (UnparkResult × Unit {0}) UnparkToken) {H : T
 
 module _ {F C : Type 0} (f : Mut F (ParkToken × Unit {0}) FilterOp) (c : Once C (UnparkResult × Unit {0}) UnparkToken)
     {H : Type 0} (max_threads : ℕ) where
-  -- an unpark by a filter, and as many handles as there is room for
+  -- an unpark by a filter, and at least one handle for each thread of the lot that it took, as far as there is room;
+  -- whose they are is not told
   pub record AreChosenCommitted (filter : F) (callback : C) (answer : UnparkResult × Pair (Pair (Pair (Option H)))) : Type 0 where
     pub unparked : IsUnparkByFilter f c filter callback answer.0
     pub handles : min HANDLES (length (thread_numbers max_threads

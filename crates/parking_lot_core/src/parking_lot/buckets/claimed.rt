@@ -9,8 +9,8 @@ use lot_base::bucket::Bucket;
 use lot_base::word_lock::{Claim, WordLock};
 use std::sync::Wait;
 
-/// The bucket of a section other than a requeue's, which stays behind its lock. It has no `Drop`: it
-/// ends in `unlock`.
+/// The bucket of a section other than a requeue's, which stays behind its lock. It has no `Drop`:
+/// it ends in `unlock`.
 pub struct Claimed<'b> {
     cell: &'b WordLock<Bucket>,
     claim: Claim<Bucket>,

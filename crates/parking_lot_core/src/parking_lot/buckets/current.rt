@@ -24,8 +24,8 @@ pub(super) struct Current {
     index: AtomicUsize,
 }
 
-/// The size of the row that was put in use last. Nothing but `Current` makes one, and does as it
-/// puts the row in use, so a registry that keeps one has the size of the row in use.
+/// The size of a row that was put in use. Nothing but `Current` makes one, as it puts the row in
+/// use. It can be copied, so that a registry keeps that of the last is read in the code.
 #[derive(Copy, Clone)]
 pub(super) struct RowInUse {
     size: usize,
