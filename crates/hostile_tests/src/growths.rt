@@ -1,7 +1,8 @@
 //! Sections that meet the growth of the table.
 
 use crate::common::{
-    TOKEN, TURNS, UNPARKED, new_lot, now, park_and, raised_by_turns, register, waiting,
+    TOKEN, TURNS, UNPARKED, late_on, move_all, new_lot, now, park_and, raised_by_turns, register,
+    waiting,
 };
 use crate::expect_equal;
 use parking_lot_core::{ParkingLot, ThreadParkerT, WordParker, unpark_all};
@@ -18,6 +19,9 @@ const THREADS: usize = 171;
 
 // The key has the first place in a table of any size, which is emptied first and filled last.
 const KEY: usize = 0;
+
+// It has a place of its own in a table of 32 buckets and in one of 16.
+const OTHER_KEY: usize = 1;
 
 const MOMENTS: u64 = 60;
 
@@ -103,4 +107,24 @@ fn a_waiter_is_seen_at_each_moment_of_a_growth(rt: HostRuntime) {
         let delay = Duration::from_micros(whole / MOMENTS * moment);
         is_seen_after::<WordParker, _>(&rt, rt.alloc(), delay);
     }
+}
+
+// Lets the table grow from 16 buckets to 32, as six threads need them, and moves the waiter.
+fn grow_and_move<P: ThreadParkerT, R: Wait + Abort>(rt: &R, alloc: Global, lot: &ParkingLot<P>) {
+    for _ in 0..5 {
+        drop(register(rt, alloc, lot));
+    }
+    expect_equal(rt, move_all(rt, lot, KEY, OTHER_KEY), 1);
+}
+
+// It refuses a growth after which a waiter counts as one without a timeout, so that a requeue does
+// not note where it went.
+#[test]
+fn a_late_thread_that_was_moved_after_a_growth_leaves_its_new_key(rt: HostRuntime) {
+    let lot = new_lot::<WordParker, _>(&rt, rt.alloc(), 6);
+    let mut data = register(&rt, rt.alloc(), &lot);
+    let passed = Some(now(&rt));
+    let moved = || grow_and_move(&rt, rt.alloc(), &lot);
+    let left = park_and(&rt, &lot, &mut data, KEY, moved, passed);
+    expect_equal(&rt, left, late_on(OTHER_KEY));
 }
