@@ -13,30 +13,30 @@ use std::thread;
 use std::thread::Threads;
 use std::time::Clock;
 
-const MUTEX_KEY: usize = 11;
+pub const MUTEX_KEY: usize = 11;
 
 const CONDVAR_KEY: usize = 12;
 
-const TURNS: usize = 10_000_000;
+pub const TURNS: usize = 10_000_000;
 
 #[derive(Copy, Clone)]
-enum Way {
+pub enum Way {
     One,
     All,
 }
 
 #[derive(Drop)]
-struct Shared<P: ThreadParkerT> {
-    lot: ParkingLot<P>,
-    mutex: FairMutex,
-    condvar: FairCondvar,
+pub struct Shared<P: ThreadParkerT> {
+    pub lot: ParkingLot<P>,
+    pub mutex: FairMutex,
+    pub condvar: FairCondvar,
 
     // Whether the first thread has locked the mutex.
-    is_begun: AtomicBool,
+    pub is_begun: AtomicBool,
 }
 
 impl<P: ThreadParkerT> Shared<P> {
-    fn new<R: Abort>(rt: &R, alloc: Global) -> Shared<P> {
+    pub fn new<R: Abort>(rt: &R, alloc: Global) -> Shared<P> {
         Shared {
             lot: ParkingLot::<P>::new(alloc, 2).expect(rt, "a lot"),
             mutex: FairMutex::new(MUTEX_KEY),
@@ -46,7 +46,7 @@ impl<P: ThreadParkerT> Shared<P> {
     }
 }
 
-fn register<P: ThreadParkerT, R: Wait + Abort>(
+pub fn register<P: ThreadParkerT, R: Wait + Abort>(
     rt: &R,
     alloc: Global,
     shared: &Shared<P>,
@@ -55,7 +55,7 @@ fn register<P: ThreadParkerT, R: Wait + Abort>(
 }
 
 // Waits until a thread stands on the key, and tells whether one came.
-fn one_comes<P: ThreadParkerT, R: Wait + Abort>(
+pub fn one_comes<P: ThreadParkerT, R: Wait + Abort>(
     rt: &R,
     alloc: Global,
     shared: &Shared<P>,
@@ -71,7 +71,7 @@ fn one_comes<P: ThreadParkerT, R: Wait + Abort>(
     false
 }
 
-fn begins<P: ThreadParkerT>(shared: &Shared<P>) -> bool {
+pub fn begins<P: ThreadParkerT>(shared: &Shared<P>) -> bool {
     for _ in 0..TURNS {
         if shared.is_begun.load(Ordering::SeqCst) {
             return true;
@@ -81,7 +81,7 @@ fn begins<P: ThreadParkerT>(shared: &Shared<P>) -> bool {
     false
 }
 
-fn lock<P: ThreadParkerT, R: Wait + Clock + Abort>(
+pub fn lock<P: ThreadParkerT, R: Wait + Clock + Abort>(
     rt: &R,
     shared: &Shared<P>,
     data: &mut ThreadData,
@@ -90,7 +90,7 @@ fn lock<P: ThreadParkerT, R: Wait + Clock + Abort>(
     shared.mutex.lock(rt, &shared.lot, data);
 }
 
-fn sleep<P: ThreadParkerT, R: Wait + Clock + Abort>(
+pub fn sleep<P: ThreadParkerT, R: Wait + Clock + Abort>(
     rt: &R,
     shared: &Shared<P>,
     data: &mut ThreadData,
@@ -100,7 +100,11 @@ fn sleep<P: ThreadParkerT, R: Wait + Clock + Abort>(
     shared.condvar.wait(rt, &shared.mutex, &shared.lot, data);
 }
 
-fn notify<P: ThreadParkerT, R: Wait + Abort>(rt: &R, shared: &Shared<P>, way: Way) -> UnparkResult {
+pub fn notify<P: ThreadParkerT, R: Wait + Abort>(
+    rt: &R,
+    shared: &Shared<P>,
+    way: Way,
+) -> UnparkResult {
     assert!(rt; shared.condvar.key() != shared.mutex.key(), "two keys");
     match way {
         Way::One => shared.condvar.notify_one(rt, &shared.mutex, &shared.lot),

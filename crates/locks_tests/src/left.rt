@@ -1,24 +1,18 @@
 //! A wait lets the mutex go once its thread stands on the condition variable's key.
 
 use crate::expect_equal;
+use crate::handed::{
+    MUTEX_KEY, Shared, TURNS, Way, begins, lock, notify, one_comes, register, sleep,
+};
 use lot_base::queue::Node;
 use lot_base::thread_parker::{ThreadParkerT, UnparkHandleT, YieldHandle, YieldParker};
 use lot_base::token::{NoMemory, UnparkResult};
-use lot_locks::fair::{FairCondvar, FairMutex};
-use parking_lot_core::{ParkingLot, ThreadData};
 use std::alloc::Global;
 use std::process::Abort;
 use std::sync::Wait;
-use std::sync::atomic::{AtomicBool, AtomicUsize, Ordering};
+use std::sync::atomic::{AtomicUsize, Ordering};
 use std::thread;
-use std::thread::Threads;
 use std::time::{Clock, Instant};
-
-const MUTEX_KEY: usize = 11;
-
-const CONDVAR_KEY: usize = 12;
-
-const TURNS: usize = 10_000_000;
 
 // A `YieldParker` whose wake ends once its thread has prepared to park twice.
 #[derive(Drop)]
@@ -86,68 +80,30 @@ impl UnparkHandleT<FollowedParker> for FollowedHandle {
     }
 }
 
-#[derive(Drop)]
-struct Shared {
-    lot: ParkingLot<FollowedParker>,
-    mutex: FairMutex,
-    condvar: FairCondvar,
-
-    // Whether the sleeper has locked the mutex.
-    is_begun: AtomicBool,
-}
-
-fn register<R: Wait + Abort>(rt: &R, alloc: Global, shared: &Shared) -> ThreadData {
-    shared.lot.thread_data(rt, alloc).expect(rt, "a number")
-}
-
-fn lock<R: Wait + Clock + Abort>(rt: &R, shared: &Shared, data: &mut ThreadData) {
-    assert!(rt; shared.lot.accepts(data), "data of this lot");
-    shared.mutex.lock(rt, &shared.lot, data);
-}
-
-// Waits until the other thread waits for the mutex, and tells whether it came.
-fn is_waited_for<R: Wait + Abort>(rt: &R, alloc: Global, shared: &Shared) -> bool {
-    for _ in 0..TURNS {
-        let waiting = shared.lot.list(rt, alloc, MUTEX_KEY).expect(rt, "memory");
-        if waiting.len() == 1 {
-            return true;
-        }
-        thread::yield_now();
-    }
-    false
-}
-
 // Sleeps on the condition variable once the other thread waits for the mutex.
-fn sleep<R: Wait + Clock + Abort>(rt: &R, alloc: Global, shared: &Shared) {
+fn wait_for_notify<R: Wait + Clock + Abort>(
+    rt: &R,
+    alloc: Global,
+    shared: &Shared<FollowedParker>,
+) {
     let mut data = register(rt, alloc, shared);
     lock(rt, shared, &mut data);
     shared.is_begun.store(true, Ordering::SeqCst);
-    expect_equal(rt, is_waited_for(rt, alloc, shared), true);
-    assert!(rt; shared.lot.accepts(&data), "data of this lot");
-    assert!(rt; shared.condvar.key() != shared.mutex.key(), "two keys");
-    shared
-        .condvar
-        .wait(rt, &shared.mutex, &shared.lot, &mut data);
+    expect_equal(rt, one_comes(rt, alloc, shared, MUTEX_KEY), true);
+    sleep(rt, shared, &mut data);
     shared.mutex.unlock(rt, &shared.lot);
 }
 
-// Notifies as soon as the sleeper has let the mutex go.
-fn notify<R: Wait + Clock + Abort>(rt: &R, alloc: Global, shared: &Shared) {
+// Notifies as soon as the sleeper has let the mutex go, and locks it again.
+fn notify_at_once<R: Wait + Clock + Abort>(rt: &R, alloc: Global, shared: &Shared<FollowedParker>) {
     let mut data = register(rt, alloc, shared);
-    for _ in 0..TURNS {
-        if shared.is_begun.load(Ordering::SeqCst) {
-            break;
-        }
-        thread::yield_now();
-    }
+    expect_equal(rt, begins(shared), true);
     lock(rt, shared, &mut data);
-    assert!(rt; shared.condvar.key() != shared.mutex.key(), "two keys");
     let moved = UnparkResult {
         requeued_threads: 1,
         ..UnparkResult::default()
     };
-    let notified = shared.condvar.notify_one(rt, &shared.mutex, &shared.lot);
-    expect_equal(rt, notified, moved);
+    expect_equal(rt, notify(rt, shared, Way::One), moved);
     shared.mutex.unlock(rt, &shared.lot);
     lock(rt, shared, &mut data);
     shared.mutex.unlock(rt, &shared.lot);
@@ -157,15 +113,10 @@ fn notify<R: Wait + Clock + Abort>(rt: &R, alloc: Global, shared: &Shared) {
 // and the sleeper is not woken.
 #[test]
 fn the_next_holder_finds_the_sleeper(rt: HostRuntime) {
-    let shared = Shared {
-        lot: ParkingLot::new(rt.alloc(), 2).expect(&rt, "a lot"),
-        mutex: FairMutex::new(MUTEX_KEY),
-        condvar: FairCondvar::new(CONDVAR_KEY),
-        is_begun: AtomicBool::new(false),
-    };
+    let shared = Shared::<FollowedParker>::new(&rt, rt.alloc());
     let play = |index: usize| match index {
-        0 => sleep(&rt, rt.alloc(), &shared),
-        _ => notify(&rt, rt.alloc(), &shared),
+        0 => wait_for_notify(&rt, rt.alloc(), &shared),
+        _ => notify_at_once(&rt, rt.alloc(), &shared),
     };
     thread::map_indices(&rt, rt.alloc(), 2, &play).expect(&rt, "threads");
 }
