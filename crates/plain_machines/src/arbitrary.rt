@@ -78,8 +78,8 @@ impl Arbitrary {
         }
     }
 
-    /// A step of one of so many threads. Three of 80 are registrations, one is a retirement, and one
-    /// a trim.
+    /// A step of one of so many threads. Three of 80 are registrations, one is a retirement, and
+    /// one a trim.
     pub fn step(&mut self, alloc: Global, threads: usize) -> Result<Step, NoMemory> {
         let thread = self.below(threads);
         match self.below(80) {

@@ -152,7 +152,8 @@ impl Table {
           lists : IsRowStep self.old.cells self.new.cells
               (lists_after_requeue (nodes_in self.old.cells) from to
               (split_to to (split_by op waiters)));
-          called : AreCalled C.FnOnce M.FnMut op waiters callback moved.old moved.new result.0 result.1;
+          called : AreCalled C.FnOnce M.FnMut op waiters callback moved.old moved.new
+              result.0 result.1;
         } }
     {
         let mut source = self.take(from);

@@ -72,8 +72,8 @@ impl FineLot {
     }
 
     fn begin(&mut self, caller: usize, op: &Op) -> Result<FineAnswer, Misfit>
-        ensures { IsFineStep (fine_state self.old) (FineStep.Begin caller op.now) (answer_for result)
-            (fine_state self.new) }
+        ensures { IsFineStep (fine_state self.old) (FineStep.Begin caller op.now)
+            (answer_for result) (fine_state self.new) }
     {
         let unparking = self.callers.get(caller).ok_or(Misfit)?;
         if !unparking.is_idle() {

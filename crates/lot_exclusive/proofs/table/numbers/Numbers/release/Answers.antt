@@ -10,7 +10,8 @@ pub invariant_of-self-in-Registered : goal.invariant_of-self-in-Registered
 invariant_of-self-in-Registered c = (
   grind (arith, common_steps),
   grind (arith, common_steps),
-  rw (c.replace.ensures.after, c.min-self-inside.ensures) (AreRegisteredBelow-freed c.self.inside.uses.items c.args.number c.self.inside.search_from c.self.invariant.2),
+  rw (c.replace.ensures.after, c.min-self-inside.ensures)
+      (AreRegisteredBelow-freed c.self.inside.uses.items c.args.number c.self.inside.search_from c.self.invariant.2),
 )
 
 pub invariant_of-self-in_default-replace : goal.invariant_of-self-in_default-replace
