@@ -2,8 +2,11 @@
 //
 // The program marks the part that is counted: a request of BEGIN bytes begins it, one of END bytes
 // ends it, and neither is counted itself. It may begin and end many times; the count goes on.
+// Requests of ENTER and LEAVE bytes are marks too, round all that the program makes and drops.
 // REFUSE_AT=N refuses the Nth request of the counted part, REFUSE_FROM=N that and all behind it.
-// Where a counted part ends, `requests N` is written to the error output, with the count so far.
+// Where a counted part ends, `requests N bytes M` is written to the error output: how many there
+// were so far, and how many bytes they asked for. At LEAVE it is `left N`: how many blocks made
+// since ENTER were not given back.
 #define _GNU_SOURCE
 #include <errno.h>
 #include <stdatomic.h>
@@ -13,15 +16,17 @@
 #include <stdlib.h>
 #include <unistd.h>
 
-enum { BEGIN = 77771, END = 77773 };
+enum { BEGIN = 77771, END = 77773, ENTER = 77775, LEAVE = 77777 };
 
 extern void *__libc_malloc(size_t);
 extern void *__libc_calloc(size_t, size_t);
 extern void *__libc_realloc(void *, size_t);
 extern void *__libc_memalign(size_t, size_t);
+extern void __libc_free(void *);
 
 static atomic_bool counting;
-static atomic_ulong requests;
+static atomic_ulong requests, bytes;
+static atomic_long blocks, blocks_before;
 static unsigned long refused_at, refused_from;
 
 static unsigned long number_in(const char *name) {
@@ -34,41 +39,82 @@ __attribute__((constructor)) static void start(void) {
     refused_from = number_in("REFUSE_FROM");
 }
 
-static void tell(void) {
-    char line[40];
-    int length = snprintf(line, sizeof line, "requests %lu\n", atomic_load(&requests));
+static void put(const char *line, int length) {
     if (write(STDERR_FILENO, line, (size_t)length) != length)
         _exit(3);
 }
 
-static bool is_refused(size_t size) {
-    if (size == BEGIN || size == END) {
-        atomic_store(&counting, size == BEGIN);
-        if (size == END)
-            tell();
+static void tell_requests(void) {
+    char line[80];
+    put(line, snprintf(line, sizeof line, "requests %lu bytes %lu\n", atomic_load(&requests),
+                       atomic_load(&bytes)));
+}
+
+static void tell_left(void) {
+    char line[40];
+    put(line, snprintf(line, sizeof line, "left %ld\n",
+                       atomic_load(&blocks) - atomic_load(&blocks_before)));
+}
+
+// Does what the mark says, if the request is one.
+static bool is_mark(size_t size) {
+    switch (size) {
+    case BEGIN:
+        atomic_store(&counting, true);
+        return true;
+    case END:
+        atomic_store(&counting, false);
+        tell_requests();
+        return true;
+    case ENTER:
+        atomic_store(&blocks_before, atomic_load(&blocks));
+        return true;
+    case LEAVE:
+        tell_left();
+        return true;
+    default:
         return false;
     }
-    if (!atomic_load(&counting))
+}
+
+static bool is_refused(size_t size) {
+    if (is_mark(size) || !atomic_load(&counting))
         return false;
     unsigned long number = atomic_fetch_add(&requests, 1) + 1;
+    atomic_fetch_add(&bytes, size);
     bool refused = number == refused_at || (refused_from != 0 && number >= refused_from);
     if (refused)
         errno = ENOMEM;
     return refused;
 }
 
-void *malloc(size_t size) { return is_refused(size) ? NULL : __libc_malloc(size); }
+static void *made(void *block) {
+    if (block != NULL)
+        atomic_fetch_add(&blocks, 1);
+    return block;
+}
+
+void *malloc(size_t size) { return is_refused(size) ? NULL : made(__libc_malloc(size)); }
 
 void *calloc(size_t count, size_t size) {
-    return is_refused(count * size) ? NULL : __libc_calloc(count, size);
+    return is_refused(count * size) ? NULL : made(__libc_calloc(count, size));
 }
 
 void *realloc(void *block, size_t size) {
-    return is_refused(size) ? NULL : __libc_realloc(block, size);
+    if (is_refused(size))
+        return NULL;
+    void *moved = __libc_realloc(block, size);
+    return block == NULL ? made(moved) : moved;
 }
 
 void *memalign(size_t alignment, size_t size) {
-    return is_refused(size) ? NULL : __libc_memalign(alignment, size);
+    return is_refused(size) ? NULL : made(__libc_memalign(alignment, size));
+}
+
+void free(void *block) {
+    if (block != NULL)
+        atomic_fetch_sub(&blocks, 1);
+    __libc_free(block);
 }
 
 void *aligned_alloc(size_t alignment, size_t size) { return memalign(alignment, size); }

@@ -1,8 +1,8 @@
 //! Sections that meet the growth of the table.
 
 use crate::common::{
-    TOKEN, TURNS, UNPARKED, late_on, move_all, new_lot, now, park_and, raised_by_turns, register,
-    waiting,
+    TOKEN, TURNS, UNPARKED, come_by_turns, expect_list, late_on, move_all, new_lot, now, park_and,
+    raised_by_turns, register, waiting,
 };
 use crate::expect_equal;
 use parking_lot_core::{ParkingLot, ThreadParkerT, WordParker, unpark_all};
@@ -24,6 +24,8 @@ const KEY: usize = 0;
 const OTHER_KEY: usize = 1;
 
 const MOMENTS: u64 = 60;
+
+const QUEUED: usize = 3;
 
 fn spin_for<R: Clock + Abort>(rt: &R, delay: Duration) {
     let start = now(rt);
@@ -127,4 +129,45 @@ fn a_late_thread_that_was_moved_after_a_growth_leaves_its_new_key(rt: HostRuntim
     let moved = || grow_and_move(&rt, rt.alloc(), &lot);
     let left = park_and(&rt, &lot, &mut data, KEY, moved, passed);
     expect_equal(&rt, left, late_on(OTHER_KEY));
+}
+
+// Parks behind all threads of a lower number.
+fn queue_up<P: ThreadParkerT, R: Wait + Clock + Abort>(
+    rt: &R,
+    alloc: Global,
+    lot: &ParkingLot<P>,
+    place: usize,
+) {
+    come_by_turns(rt, alloc, lot, KEY, place);
+    let mut data = register(rt, alloc, lot);
+    let left = park_and(rt, lot, &mut data, KEY, || (), None);
+    expect_equal(rt, left, UNPARKED);
+}
+
+// Lets the table grow to 32 buckets, trims it, and then unparks all.
+fn grow_and_trim<P: ThreadParkerT, R: Wait + Abort>(rt: &R, alloc: Global, lot: &ParkingLot<P>) {
+    come_by_turns(rt, alloc, lot, KEY, QUEUED);
+    let others = (
+        register(rt, alloc, lot),
+        register(rt, alloc, lot),
+        register(rt, alloc, lot),
+    );
+    expect_list(rt, alloc, lot, KEY, &[0, 1, 2]);
+    lot.retire(rt, others.0);
+    lot.retire(rt, others.1);
+    lot.retire(rt, others.2);
+    assert!(rt; lot.trim(rt, alloc).is_ok());
+    expect_list(rt, alloc, lot, KEY, &[0, 1, 2]);
+    expect_equal(rt, unpark_all(rt, lot, KEY, TOKEN), QUEUED);
+}
+
+// It refuses a growth and a trim that put those who wait on one key in another order.
+#[test]
+fn waiters_keep_their_order_through_a_growth_and_a_trim(rt: HostRuntime) {
+    let lot = new_lot::<WordParker, _>(&rt, rt.alloc(), 2 * QUEUED);
+    let play = |index: usize| match index {
+        QUEUED => grow_and_trim(&rt, rt.alloc(), &lot),
+        place => queue_up(&rt, rt.alloc(), &lot, place),
+    };
+    thread::map_indices(&rt, rt.alloc(), QUEUED + 1, &play).expect(&rt, "threads");
 }

@@ -159,6 +159,23 @@ fn a_node_that_comes_while_the_clock_is_read_is_found(rt: HostRuntime) {
     looks_after_the_clock::<WordParker, _>(&rt, rt.alloc());
 }
 
+// How a node is put: so long after the owner has started, and whether the owner is woken then.
+#[derive(Copy, Clone)]
+struct Commit {
+    pause: Duration,
+    wakes: bool,
+}
+
+impl Commit {
+    // While the owner sleeps.
+    fn soon(wakes: bool) -> Commit {
+        Commit {
+            pause: Duration::from_millis(10),
+            wakes,
+        }
+    }
+}
+
 // Waits until the deadline, and tells whether a node came.
 fn start_and_wait<P: ThreadParkerT, R: Wait + Clock>(
     rt: &R,
@@ -170,22 +187,21 @@ fn start_and_wait<P: ThreadParkerT, R: Wait + Clock>(
     parker.park_until(rt, deadline).is_some()
 }
 
-// Puts the node once the owner sleeps, and wakes it or not. It tells whether the deadline was still
-// to come.
+// Puts the node, and tells whether the deadline was still to come.
 fn commit_while_it_sleeps<P: ThreadParkerT, R: Wait + Clock>(
     rt: &R,
     parker: &P,
     node: Box<Node>,
     deadline: Instant,
-    wakes: bool,
+    commit: Commit,
     meeting: &Meeting,
 ) -> bool
     requires { (fields node.value).number ≡ P.owner parker.now }
 {
     raised_by_turns(&meeting.has_started);
-    thread::sleep(rt, Duration::from_millis(10));
+    thread::sleep(rt, commit.pause);
     let handle = parker.unpark_lock(rt, node);
-    if wakes {
+    if commit.wakes {
         handle.unpark(parker);
     }
     Instant::now(rt).is_ok_and(|now| now < deadline)
@@ -196,7 +212,7 @@ fn commit_in_time<P: ThreadParkerT + Sync, R: Threads + Wait + Clock + Sync>(
     parker: &P,
     node: Box<Node>,
     deadline: Instant,
-    wakes: bool,
+    commit: Commit,
 ) -> (bool, bool)
     requires { (fields node.value).number ≡ P.owner parker.now }
 {
@@ -206,7 +222,7 @@ fn commit_in_time<P: ThreadParkerT + Sync, R: Threads + Wait + Clock + Sync>(
         || start_and_wait(rt, parker, deadline, &meeting),
         ||
             requires { (fields node.value).number ≡ P.owner parker.now }
-        { commit_while_it_sleeps(rt, parker, node, deadline, wakes, &meeting) },
+        { commit_while_it_sleeps(rt, parker, node, deadline, commit, &meeting) },
     )
 }
 
@@ -215,11 +231,11 @@ fn comes_back<P: ThreadParkerT + Sync, R: Threads + Wait + Clock + Abort + Sync>
     rt: &R,
     alloc: Global,
     duration: Duration,
-    wakes: bool,
+    commit: Commit,
 ) {
     let parker = owners_parker::<P, _>(rt, alloc);
     let node = owners_node(rt, alloc);
-    let (came, in_time) = commit_in_time(rt, &parker, node, from_now(rt, duration), wakes);
+    let (came, in_time) = commit_in_time(rt, &parker, node, from_now(rt, duration), commit);
     expect_equal(rt, (duration, came || !in_time), (duration, true));
 }
 
@@ -227,20 +243,35 @@ fn comes_back<P: ThreadParkerT + Sync, R: Threads + Wait + Clock + Abort + Sync>
 #[test]
 fn a_node_that_nobody_woke_for_is_found_at_the_deadline(rt: HostRuntime) {
     let soon = Duration::from_millis(100);
-    comes_back::<ThreadParker, _>(&rt, rt.alloc(), soon, false);
-    comes_back::<YieldParker, _>(&rt, rt.alloc(), soon, false);
-    comes_back::<WordParker, _>(&rt, rt.alloc(), soon, false);
+    let commit = Commit::soon(false);
+    comes_back::<ThreadParker, _>(&rt, rt.alloc(), soon, commit);
+    comes_back::<YieldParker, _>(&rt, rt.alloc(), soon, commit);
+    comes_back::<WordParker, _>(&rt, rt.alloc(), soon, commit);
 }
 
 // It refuses a `park_until` that takes a deadline far away for one that has passed.
 #[test]
 fn a_deadline_far_away_has_not_passed(rt: HostRuntime) {
+    let commit = Commit::soon(true);
     for years in [1, 1_000, 100_000] {
         let duration = Duration::from_hours(24 * 365 * years);
-        comes_back::<ThreadParker, _>(&rt, rt.alloc(), duration, true);
-        comes_back::<YieldParker, _>(&rt, rt.alloc(), duration, true);
-        comes_back::<WordParker, _>(&rt, rt.alloc(), duration, true);
+        comes_back::<ThreadParker, _>(&rt, rt.alloc(), duration, commit);
+        comes_back::<YieldParker, _>(&rt, rt.alloc(), duration, commit);
+        comes_back::<WordParker, _>(&rt, rt.alloc(), duration, commit);
     }
+}
+
+// It refuses a `park_until` that ends after some number of looks or sleeps.
+#[test]
+fn a_long_wait_ends_at_its_deadline_alone(rt: HostRuntime) {
+    let hour = Duration::from_hours(1);
+    let commit = Commit {
+        pause: Duration::from_secs(2),
+        wakes: true,
+    };
+    comes_back::<ThreadParker, _>(&rt, rt.alloc(), hour, commit);
+    comes_back::<YieldParker, _>(&rt, rt.alloc(), hour, commit);
+    comes_back::<WordParker, _>(&rt, rt.alloc(), hour, commit);
 }
 
 // In milliseconds, how long the owner waits again, how long after its beginning it is woken, and

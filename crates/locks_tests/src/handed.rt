@@ -15,7 +15,7 @@ use std::time::Clock;
 
 pub const MUTEX_KEY: usize = 11;
 
-const CONDVAR_KEY: usize = 12;
+pub const CONDVAR_KEY: usize = 12;
 
 pub const TURNS: usize = 10_000_000;
 
@@ -38,7 +38,7 @@ pub struct Shared<P: ThreadParkerT> {
 impl<P: ThreadParkerT> Shared<P> {
     pub fn new<R: Abort>(rt: &R, alloc: Global) -> Shared<P> {
         Shared {
-            lot: ParkingLot::<P>::new(alloc, 2).expect(rt, "a lot"),
+            lot: ParkingLot::<P>::new(alloc, 3).expect(rt, "a lot"),
             mutex: FairMutex::new(MUTEX_KEY),
             condvar: FairCondvar::new(CONDVAR_KEY),
             is_begun: AtomicBool::new(false),
@@ -54,6 +54,33 @@ pub fn register<P: ThreadParkerT, R: Wait + Abort>(
     shared.lot.thread_data(rt, alloc).expect(rt, "a number")
 }
 
+// Who stands on the key.
+pub fn waiting<P: ThreadParkerT, R: Wait + Abort>(
+    rt: &R,
+    alloc: Global,
+    shared: &Shared<P>,
+    key: usize,
+) -> Vec<usize> {
+    shared.lot.list(rt, alloc, key).expect(rt, "memory")
+}
+
+// Waits until so many threads stand on the key, and tells whether they came.
+pub fn come<P: ThreadParkerT, R: Wait + Abort>(
+    rt: &R,
+    alloc: Global,
+    shared: &Shared<P>,
+    key: usize,
+    count: usize,
+) -> bool {
+    for _ in 0..TURNS {
+        if waiting(rt, alloc, shared, key).len() == count {
+            return true;
+        }
+        thread::yield_now();
+    }
+    false
+}
+
 // Waits until a thread stands on the key, and tells whether one came.
 pub fn one_comes<P: ThreadParkerT, R: Wait + Abort>(
     rt: &R,
@@ -61,14 +88,7 @@ pub fn one_comes<P: ThreadParkerT, R: Wait + Abort>(
     shared: &Shared<P>,
     key: usize,
 ) -> bool {
-    for _ in 0..TURNS {
-        let waiting = shared.lot.list(rt, alloc, key).expect(rt, "memory");
-        if waiting.len() == 1 {
-            return true;
-        }
-        thread::yield_now();
-    }
-    false
+    come(rt, alloc, shared, key, 1)
 }
 
 pub fn begins<P: ThreadParkerT>(shared: &Shared<P>) -> bool {

@@ -8,7 +8,11 @@ mod handed;
 #[cfg(test)]
 mod left;
 #[cfg(test)]
+mod moved;
+#[cfg(test)]
 mod plain;
+#[cfg(test)]
+mod raced;
 #[cfg(test)]
 mod rows;
 #[cfg(test)]

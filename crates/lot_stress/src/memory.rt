@@ -100,8 +100,21 @@ fn tell_unmade<R: Print>(rt: &R, error: LotError) -> Result<(), Fault> {
     tell_refused(rt, 0)
 }
 
-/// Does the scenario, with parkers of this type where it has any, and prints what it saw.
+/// Does the scenario, with parkers of this type where it has any, and prints what it saw. It gives
+/// back all memory that it had.
 pub fn play<P, R>(rt: &R, alloc: Global, scenario: Scenario) -> Result<(), Fault>
+where
+    P: ThreadParkerT + Send + Sync + 'static,
+    P::UnparkHandle: 'static,
+    R: Print + Threads + Wait + Clock + Copy + Send + Sync + 'static,
+{
+    marks::enter(alloc);
+    let played = play_marked::<P, R>(rt, alloc, scenario);
+    marks::leave(alloc);
+    played
+}
+
+fn play_marked<P, R>(rt: &R, alloc: Global, scenario: Scenario) -> Result<(), Fault>
 where
     P: ThreadParkerT + Send + Sync + 'static,
     P::UnparkHandle: 'static,

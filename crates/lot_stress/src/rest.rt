@@ -1,14 +1,16 @@
 //! `lot_stress rest`: threads that wait for a while, and should sleep meanwhile. What processor
 //! time they take is measured from outside.
 
+mod late_wake;
+
 ghost use Rattle.std.specs.Prelude.{⊤};
 
 use crate::fault::Fault;
 use crate::turns::comes_to;
 use lot_base::word_lock::{Fits, WordLock};
 use parking_lot_core::{
-    DEFAULT_PARK_TOKEN, DEFAULT_UNPARK_TOKEN, ParkingLot, ThreadParker, ThreadParkerT, WordParker,
-    park, unpark_all,
+    DEFAULT_PARK_TOKEN, DEFAULT_UNPARK_TOKEN, ParkResult, ParkingLot, ThreadData, ThreadParker,
+    ThreadParkerT, WordParker, park, unpark_all,
 };
 use std::alloc::Global;
 use std::sync::Wait;
@@ -22,6 +24,8 @@ const THREADS: usize = 8;
 
 const KEY: usize = 7;
 
+const SOON_MILLISECONDS: u64 = 20;
+
 const FAR_SECONDS: u64 = 3_600;
 
 #[derive(Drop)]
@@ -34,7 +38,8 @@ impl Fits for Count {
 }
 
 /// Eight threads wait for so many milliseconds: parked, over each parker whose threads sleep, half
-/// of them with a deadline far away, and then for a word lock.
+/// of them with a deadline far away, each after a park whose deadline passed; then for a word lock;
+/// and then one thread, over each of those parkers, after a wake that came late.
 pub fn run<R: Print + Threads + Wait + Clock + Copy + Send + Sync + 'static>(
     rt: &R,
     alloc: Global,
@@ -43,7 +48,9 @@ pub fn run<R: Print + Threads + Wait + Clock + Copy + Send + Sync + 'static>(
     let rest = Duration::from_millis(milliseconds);
     let are_woken = rest_parked::<WordParker, _>(rt, alloc, rest)?
         && rest_parked::<ThreadParker, _>(rt, alloc, rest)?
-        && rest_at_a_lock(rt, alloc, rest)?;
+        && rest_at_a_lock(rt, alloc, rest)?
+        && late_wake::rest::<WordParker, _>(rt, alloc, rest)?
+        && late_wake::rest::<ThreadParker, _>(rt, alloc, rest)?;
     if !are_woken {
         return Err(Fault::Unlike("how many threads came back"));
     }
@@ -75,7 +82,7 @@ fn wake_all<P: ThreadParkerT, R: Wait + Clock>(
     come: &AtomicUsize,
     rest: Duration,
 ) -> usize {
-    comes_to(come, THREADS);
+    comes_to(come, 2 * THREADS);
     thread::sleep(rt, rest);
     unpark_all(rt, lot, KEY, DEFAULT_UNPARK_TOKEN)
 }
@@ -109,7 +116,8 @@ where
     unparked.load(Ordering::SeqCst)
 }
 
-// Parks once, and tells whether it was unparked.
+// Parks until a deadline, which leaves nothing behind that keeps the thread awake, and then parks
+// once more. Tells whether it was unparked then.
 fn parks<P: ThreadParkerT, R: Wait + Clock>(
     rt: &R,
     alloc: Global,
@@ -120,13 +128,41 @@ fn parks<P: ThreadParkerT, R: Wait + Clock>(
     let Ok(mut data) = lot.thread_data(rt, alloc) else {
         return false;
     };
-    if !lot.accepts(&data) {
+    let is_late = is_late_soon(rt, lot, &mut data, come);
+    let ended = park_once(rt, lot, &mut data, come, timeout);
+    lot.retire(rt, data);
+    is_late && ended.is_some_and(|ended| ended.is_unparked())
+}
+
+// Parks for a moment, and tells whether the time was up.
+fn is_late_soon<P: ThreadParkerT, R: Wait + Clock>(
+    rt: &R,
+    lot: &ParkingLot<P>,
+    data: &mut ThreadData,
+    come: &AtomicUsize,
+) -> bool {
+    let Ok(now) = Instant::now(rt) else {
         return false;
+    };
+    let soon = now.checked_add(Duration::from_millis(SOON_MILLISECONDS));
+    soon.is_some() && park_once(rt, lot, data, come, soon) == Some(ParkResult::TimedOut)
+}
+
+// Parks, and counts that it came. `None` says that the data is of another lot.
+fn park_once<P: ThreadParkerT, R: Wait + Clock>(
+    rt: &R,
+    lot: &ParkingLot<P>,
+    data: &mut ThreadData,
+    come: &AtomicUsize,
+    timeout: Option<Instant>,
+) -> Option<ParkResult> {
+    if !lot.accepts(data) {
+        return None;
     }
-    let result = park(
+    Some(park(
         rt,
         lot,
-        &mut data,
+        data,
         KEY,
         || true,
         || {
@@ -135,9 +171,7 @@ fn parks<P: ThreadParkerT, R: Wait + Clock>(
         |_, _| (),
         DEFAULT_PARK_TOKEN,
         timeout,
-    );
-    lot.retire(rt, data);
-    result.is_unparked()
+    ))
 }
 
 fn rest_at_a_lock<R: Threads + Wait + Clock + Copy + Send + Sync + 'static>(

@@ -104,6 +104,7 @@ fn steps_of_two(alloc: Global) -> Result<Vec<Told>, NoMemory> {
             (s, Step::Return { thread: 0 }, Ok(Answer::Unparked(last))),
             (s, Step::Return { thread: 0 }, Ok(Answer::Misfit)),
             (t, stop(alloc, 1)?, Ok(unparked(0))),
+            (t, Step::Trim, Ok(Answer::Trimmed)),
         ],
     )?)
 }
@@ -125,8 +126,8 @@ fn use_two_tickets<C: Ledger, W: Ledger, U: Ledger, R: Wait + Abort>(
     let (count, woken, wakes) = blanks;
     let (lot, mut tickets) = RecordingLot::<C, W, U>::new(alloc, 2, 8, 2, count, woken, wakes)?;
     expect_answers(rt, &lot, tickets.as_mut_slice(), steps);
-    expect_totals(rt, tickets.as_slice(), &[(3, 1, 0), (3, 0, 1)]);
-    expect_equal(rt, lot.close(tickets).journal().len(), 6);
+    expect_totals(rt, tickets.as_slice(), &[(3, 1, 0), (4, 0, 1)]);
+    expect_equal(rt, lot.close(tickets).journal().len(), 7);
     Ok(())
 }
 

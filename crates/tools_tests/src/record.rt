@@ -9,7 +9,7 @@ use crate::expect_equal;
 use lot_base::token::{FilterOp, LotError, NoMemory, RequeueOp, UnparkToken};
 use lot_exclusive::lot::Lot;
 use lot_exclusive::schedule::{Answer, Step};
-use lot_tools::record::{Record, RecordError};
+use lot_tools::record::{MAX_JOURNAL, Record, RecordError};
 use plain::PlainRecord;
 use plain_machines::arbitrary::Arbitrary;
 use plain_machines::ops::{filter, one, requeue};
@@ -115,6 +115,8 @@ fn a_journal_without_room_takes_no_step_that_fits(rt: HostRuntime) -> Result<(),
         }
         expect_equal(&rt, record.journal().len(), 1);
     }
+    let mut greatest = Record::new(rt.alloc(), 0, MAX_JOURNAL)?;
+    expect_equal(&rt, greatest.step(Step::Trim), Ok(Answer::Trimmed));
     Ok(())
 }
 

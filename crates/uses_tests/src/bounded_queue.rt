@@ -68,33 +68,36 @@ fn consumers_take_what_producers_put(rt: HostRuntime) -> Result<(), Fail> {
     Ok(())
 }
 
-// Puts as many numbers as there are places, and takes them, one digit each.
+// Puts as many numbers as there are places, and takes them. Tells whether they came in order.
 fn fill_and_empty<P: ThreadParkerT, R: Wait + Clock + Abort>(
     rt: &R,
     lot: &ParkingLot<P>,
     queue: &BoundedQueue,
     data: &mut ThreadData,
-) -> usize {
-    let mut taken: usize = 0;
-    for number in 1..=CAPACITY {
+    capacity: usize,
+) -> bool {
+    let mut in_order = true;
+    for number in 0..capacity {
         assert!(rt; lot.accepts(data), "data of this lot");
         queue.put(rt, lot, data, number);
     }
-    for _ in 0..CAPACITY {
+    for number in 0..capacity {
         assert!(rt; lot.accepts(data), "data of this lot");
-        taken = taken
-            .wrapping_mul(10)
-            .wrapping_add(queue.take(rt, lot, data));
+        in_order = queue.take(rt, lot, data) == number && in_order;
     }
-    taken
+    in_order
 }
 
 // It refuses a `put` that sleeps while a place is free, and a `take` in another order.
 #[test]
 fn a_queue_takes_as_many_as_it_has_places(rt: HostRuntime) -> Result<(), Fail> {
     let lot = ParkingLot::<WordParker>::new(rt.alloc(), 1)?;
-    let queue = BoundedQueue::new(rt.alloc(), MUTEX_KEY, CONDVAR_KEY, CAPACITY)?;
     let mut data = register(&rt, rt.alloc(), &lot)?;
-    expect_equal(&rt, fill_and_empty(&rt, &lot, &queue, &mut data), 123);
+    for capacity in [1, CAPACITY, 3_000] {
+        let queue = BoundedQueue::new(rt.alloc(), MUTEX_KEY, CONDVAR_KEY, capacity)?;
+        for _ in 0..2 {
+            assert!(rt; fill_and_empty(&rt, &lot, &queue, &mut data, capacity));
+        }
+    }
     Ok(())
 }

@@ -2,6 +2,7 @@
 
 use crate::expect_equal;
 use crate::lots::register;
+use crate::slow_parker::SlowParker;
 use parking_lot_core::{ParkingLot, ThreadData, ThreadParkerT, WordParker};
 use std::alloc::Global;
 use std::sync::atomic::{AtomicUsize, Ordering};
@@ -9,8 +10,8 @@ use std::sync::{Arc, Wait};
 use std::test::Fail;
 use std::thread;
 use std::thread::{JoinHandle, Threads};
-use std::time::Clock;
-use uses::byte_mutex::ByteMutex;
+use std::time::{Clock, Duration};
+use uses::byte_mutex::{ByteMutex, Held};
 
 const KEY: usize = 7;
 
@@ -125,7 +126,25 @@ fn come_by_turns<P: ThreadParkerT, R: Wait>(rt: &R, alloc: Global, lot: &Parking
     false
 }
 
-// It refuses a `lock` that does not wait, and an `unlock` that wakes nobody.
+// Locks a mutex that nobody holds, and tries it once more meanwhile. Tells whether it was free the
+// first time alone, and was handed to nobody.
+fn is_locked_once<P: ThreadParkerT, R: Wait>(rt: &R, shared: &Shared<P>) -> bool {
+    let Some(held) = shared.mutex.try_lock() else {
+        return false;
+    };
+    let again = shared.mutex.try_lock();
+    let handed = shared.mutex.unlock(rt, &shared.lot, held);
+    match again {
+        None => !handed,
+        Some(other) => {
+            shared.mutex.unlock(rt, &shared.lot, other);
+            false
+        }
+    }
+}
+
+// It refuses a `lock` that does not wait, an `unlock` that wakes nobody, and a mutex that is not
+// free once its waiters had it.
 #[test]
 fn a_waiter_is_handed_the_mutex(rt: HostRuntime) -> Result<(), Fail> {
     let lot = ParkingLot::<WordParker>::new(rt.alloc(), 1)?;
@@ -138,6 +157,42 @@ fn a_waiter_is_handed_the_mutex(rt: HostRuntime) -> Result<(), Fail> {
     let counts = shared.counts();
     let handed = shared.mutex.unlock(&rt, &shared.lot, held);
     expect_equal(&rt, (came, counts, handed), (true, (0, 0), true));
+    assert!(rt; started.expect(&rt, "a thread").join(&rt));
+    expect_equal(&rt, shared.counts(), (ROUNDS, ROUNDS));
+    assert!(rt; is_locked_once(&rt, &shared));
+    Ok(())
+}
+
+// Unlocks the mutex and locks it again while the other thread prepares to park, and unlocks it once
+// that waits.
+fn lock_once_more<P: ThreadParkerT, R: Wait + Clock>(
+    rt: &R,
+    alloc: Global,
+    shared: &Shared<P>,
+    held: Held,
+)
+    requires { held.key ≡ shared.now.mutex.key }
+{
+    thread::sleep(rt, Duration::from_millis(20));
+    shared.mutex.unlock(rt, &shared.lot, held);
+    let again = shared.mutex.try_lock();
+    come_by_turns(rt, alloc, &shared.lot);
+    if let Some(held) = again {
+        shared.mutex.unlock(rt, &shared.lot, held);
+    }
+}
+
+// It refuses a `lock` that sleeps while the byte tells that nobody waits: whoever unlocks then looks
+// for no waiter.
+#[test]
+fn a_thread_sleeps_only_while_the_byte_tells_of_waiters(rt: HostRuntime) -> Result<(), Fail> {
+    let lot = ParkingLot::<SlowParker>::new(rt.alloc(), 1)?;
+    let shared = Arc::new(rt.alloc(), Shared::new(lot))?;
+    let data = register(&rt, rt.alloc(), &shared.lot)?;
+    let theirs = Arc::try_clone(&shared)?;
+    let held = shared.mutex.try_lock().expect(&rt, "nobody holds it");
+    let started = start_counting(&rt, theirs, data);
+    lock_once_more(&rt, rt.alloc(), &shared, held);
     assert!(rt; started.expect(&rt, "a thread").join(&rt));
     expect_equal(&rt, shared.counts(), (ROUNDS, ROUNDS));
     Ok(())

@@ -3,7 +3,7 @@
 use crate::expect_equal;
 use crate::lots::register;
 use parking_lot_core::{ParkingLot, ThreadData, ThreadParkerT, WordParker};
-use std::alloc::Global;
+use std::alloc::{AllocError, Global};
 use std::sync::{Arc, Wait};
 use std::test::Fail;
 use std::thread;
@@ -16,6 +16,9 @@ const KEY: usize = 7;
 const THREADS: usize = 3;
 
 const TURNS: usize = 10_000_000;
+
+// How many events two threads set for each other.
+const EVENTS: usize = 5_000;
 
 #[derive(Drop)]
 struct Shared<P: ThreadParkerT> {
@@ -91,5 +94,64 @@ fn the_event_wakes_every_thread(rt: HostRuntime) -> Result<(), Fail> {
     let data = register(&rt, rt.alloc(), &shared.lot)?;
     assert!(rt; see_it_set(&rt, &shared, data, Some(Instant::now(&rt)?)));
     expect_equal(&rt, shared.event.set(&rt, &shared.lot), 0);
+    Ok(())
+}
+
+// It refuses a `wait` that keeps no deadline, and one that answers that the event was set.
+#[test]
+fn a_wait_for_an_event_that_does_not_come_is_late(rt: HostRuntime) -> Result<(), Fail> {
+    let lot = ParkingLot::<WordParker>::new(rt.alloc(), 1)?;
+    let event = Event::new(KEY);
+    let mut data = register(&rt, rt.alloc(), &lot)?;
+    assert!(rt; lot.accepts(&data), "data of this lot");
+    let timeout = Some(Instant::now(&rt)?);
+    let was_set = event.wait(&rt, &lot, &mut data, timeout);
+    expect_equal(&rt, was_set, false);
+    Ok(())
+}
+
+// So many events, each with a key of its own from this one on.
+fn many_events(alloc: Global, first_key: usize) -> Result<Vec<Event>, AllocError> {
+    let mut events = Vec::new(alloc);
+    for number in 0..EVENTS {
+        events.push(Event::new(first_key.wrapping_add(number)))?;
+    }
+    Ok(events)
+}
+
+// Sets each event of the other thread and waits for its own, by turns. `None` says that the data is
+// of another lot.
+fn exchange<P: ThreadParkerT, R: Wait + Clock>(
+    rt: &R,
+    lot: &ParkingLot<P>,
+    mut data: ThreadData,
+    mine: &[Event],
+    theirs: &[Event],
+) -> Option<()> {
+    for turn in 0..EVENTS {
+        if !lot.accepts(&data) {
+            return None;
+        }
+        theirs.get(turn)?.set(rt, lot);
+        mine.get(turn)?.wait(rt, lot, &mut data, None);
+    }
+    Some(())
+}
+
+// It refuses a `set` that looks for waiters before the event is set: a thread that comes between
+// sleeps for ever.
+#[test]
+fn two_threads_set_events_for_each_other(rt: HostRuntime) -> Result<(), Fail> {
+    let lot = ParkingLot::<WordParker>::new(rt.alloc(), 2)?;
+    let one = many_events(rt.alloc(), 0)?;
+    let other = many_events(rt.alloc(), EVENTS)?;
+    let first = register(&rt, rt.alloc(), &lot)?;
+    let second = register(&rt, rt.alloc(), &lot)?;
+    let ended = thread::join(
+        &rt,
+        || exchange(&rt, &lot, first, one.as_slice(), other.as_slice()),
+        || exchange(&rt, &lot, second, other.as_slice(), one.as_slice()),
+    );
+    expect_equal(&rt, ended, (Some(()), Some(())));
     Ok(())
 }

@@ -18,6 +18,8 @@ mod semaphore;
 #[cfg(test)]
 mod simulation;
 #[cfg(test)]
+mod slow_parker;
+#[cfg(test)]
 mod thread_semaphore;
 #[cfg(test)]
 mod timeout;

@@ -14,11 +14,18 @@ use uses::thread_semaphore::ThreadSemaphore;
 
 const KEY: usize = 7;
 
+const OTHER_KEY: usize = 8;
+
 const PERMITS: usize = 2;
 
 const THREADS: usize = 4;
 
 const ROUNDS: usize = 1_000;
+
+const TURNS: usize = 10_000_000;
+
+// How often two threads go on by turns.
+const EXCHANGES: usize = 20_000;
 
 // How many threads are inside, and how many came.
 #[derive(Drop)]
@@ -30,6 +37,15 @@ struct Shared<P: ThreadParkerT> {
 }
 
 impl<P: ThreadParkerT> Shared<P> {
+    fn new(lot: ParkingLot<P>, permits: usize) -> Shared<P> {
+        Shared {
+            lot,
+            semaphore: ThreadSemaphore::new(KEY, permits),
+            inside: AtomicUsize::new(0),
+            came: AtomicUsize::new(0),
+        }
+    }
+
     // Goes inside and out again, and tells whether there was room.
     fn visit(&self) -> bool {
         let others = self.inside.fetch_add(1, Ordering::SeqCst);
@@ -91,12 +107,8 @@ fn free_permits<P: ThreadParkerT, R: Wait + Clock>(
 // It refuses an `acquire` that takes no permit, and a `release` that wakes nobody.
 #[test]
 fn as_many_threads_are_inside_as_there_are_permits(rt: HostRuntime) -> Result<(), Fail> {
-    let shared = Shared {
-        lot: ParkingLot::<WordParker>::new(rt.alloc(), THREADS + 1)?,
-        semaphore: ThreadSemaphore::new(KEY, PERMITS),
-        inside: AtomicUsize::new(0),
-        came: AtomicUsize::new(0),
-    };
+    let lot = ParkingLot::<WordParker>::new(rt.alloc(), THREADS + 1)?;
+    let shared = Shared::new(lot, PERMITS);
     let mut data = Vec::new(rt.alloc());
     for _ in 0..THREADS {
         data.push(register(&rt, rt.alloc(), &shared.lot)?)?;
@@ -107,5 +119,73 @@ fn as_many_threads_are_inside_as_there_are_permits(rt: HostRuntime) -> Result<()
     // All permits are free again.
     let free = free_permits(&rt, rt.alloc(), &shared)?;
     expect_equal(&rt, free, Some(PERMITS));
+    Ok(())
+}
+
+// Waits until a thread waits for a permit, and frees one. Answers what that told, or `None` if no
+// thread came.
+fn release_for_a_waiter<P: ThreadParkerT, R: Wait>(
+    rt: &R,
+    alloc: Global,
+    shared: &Shared<P>,
+) -> Option<bool> {
+    for _ in 0..TURNS {
+        if shared.lot.list(rt, alloc, KEY).ok()?.len() == 1 {
+            return Some(shared.semaphore.release(rt, &shared.lot));
+        }
+        thread::yield_now();
+    }
+    None
+}
+
+// It refuses a `release` that tells otherwise whether a thread waited.
+#[test]
+fn a_release_tells_whether_a_thread_waited(rt: HostRuntime) -> Result<(), Fail> {
+    let lot = ParkingLot::<WordParker>::new(rt.alloc(), 1)?;
+    let shared = Shared::new(lot, 0);
+    let play = |index: usize| match index {
+        0 => free_permits(&rt, rt.alloc(), &shared).is_ok_and(|free| free == Some(1)),
+        _ => release_for_a_waiter(&rt, rt.alloc(), &shared) == Some(true),
+    };
+    let told = thread::map_indices(&rt, rt.alloc(), 2, &play)?;
+    expect_equal(&rt, told.as_slice(), [true, true].as_slice());
+    expect_equal(&rt, shared.semaphore.release(&rt, &shared.lot), false);
+    Ok(())
+}
+
+// Frees a permit for the other thread and takes one that it frees, by turns. `None` says that the
+// data is of another lot.
+fn exchange<P: ThreadParkerT, R: Wait + Clock>(
+    rt: &R,
+    lot: &ParkingLot<P>,
+    mut data: ThreadData,
+    mine: &ThreadSemaphore,
+    theirs: &ThreadSemaphore,
+) -> Option<()> {
+    for _ in 0..EXCHANGES {
+        if !lot.accepts(&data) {
+            return None;
+        }
+        theirs.release(rt, lot);
+        mine.acquire(rt, lot, &mut data);
+    }
+    Some(())
+}
+
+// It refuses a `release` that looks for a waiter before the permit is free, and an `acquire` that
+// looks for a permit before it stands in the queue: a thread sleeps then while a permit is free.
+#[test]
+fn two_threads_free_permits_for_each_other(rt: HostRuntime) -> Result<(), Fail> {
+    let lot = ParkingLot::<WordParker>::new(rt.alloc(), 2)?;
+    let one = ThreadSemaphore::new(KEY, 0);
+    let other = ThreadSemaphore::new(OTHER_KEY, 0);
+    let first = register(&rt, rt.alloc(), &lot)?;
+    let second = register(&rt, rt.alloc(), &lot)?;
+    let ended = thread::join(
+        &rt,
+        || exchange(&rt, &lot, first, &one, &other),
+        || exchange(&rt, &lot, second, &other, &one),
+    );
+    expect_equal(&rt, ended, (Some(()), Some(())));
     Ok(())
 }

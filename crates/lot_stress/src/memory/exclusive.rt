@@ -71,10 +71,12 @@ pub(super) fn list<R: Print>(rt: &R, alloc: Global) -> Result<(), Fault> {
     finish(rt, &mut lot, &answer)
 }
 
-/// `Lot::acquire`, many times.
+/// `Lot::acquire`, many times, and once by a thread that comes after: the first has given the memory
+/// of its records back.
 pub(super) fn records<R: Print>(rt: &R, alloc: Global) -> Result<(), Fault> {
     let mut schedule = Schedule::new(alloc, 1, 1)?;
     add_many_recordings(&mut schedule.steps)?;
+    add_another_thread(&mut schedule.steps)?;
     schedule.play_each(rt, alloc)
 }
 
@@ -83,6 +85,17 @@ fn add_many_recordings(steps: &mut Vec<Step>) -> Result<(), Fault> {
         let key = KEYS[call % 3];
         steps.push(Step::Acquire { thread: 0, key })?;
     }
+    Ok(())
+}
+
+// A thread that records a key, in place of the one before.
+fn add_another_thread(steps: &mut Vec<Step>) -> Result<(), Fault> {
+    steps.push(Step::Retire { thread: 0 })?;
+    steps.push(Step::Register)?;
+    steps.push(Step::Acquire {
+        thread: 0,
+        key: KEYS[0],
+    })?;
     Ok(())
 }
 

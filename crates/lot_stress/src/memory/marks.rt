@@ -1,4 +1,4 @@
-//! Marks for the allocator that counts: requests of two sizes, which it does not count itself.
+//! Marks for the allocator that counts: requests of four sizes, which it does not count itself.
 
 use std::alloc::Global;
 
@@ -6,6 +6,10 @@ use std::alloc::Global;
 const BEGIN: usize = 77_771;
 
 const END: usize = 77_773;
+
+const ENTER: usize = 77_775;
+
+const LEAVE: usize = 77_777;
 
 /// From here on requests are counted, and may be refused.
 pub fn begin(alloc: Global) {
@@ -15,6 +19,16 @@ pub fn begin(alloc: Global) {
 /// From here on none is.
 pub fn end(alloc: Global) {
     let _ = block(alloc, END);
+}
+
+/// What is made from here on is given back until `leave`.
+pub fn enter(alloc: Global) {
+    let _ = block(alloc, ENTER);
+}
+
+/// All that was made since `enter` was given back.
+pub fn leave(alloc: Global) {
+    let _ = block(alloc, LEAVE);
 }
 
 // A compiler may leave out a request whose block it sees given back, so this is a call.

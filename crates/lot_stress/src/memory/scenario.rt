@@ -117,7 +117,7 @@ pub enum Scenario {
     /// All steps of a lot but registrations and recordings.
     LotSteps,
 
-    /// `ParkingLot::trim`, where the table becomes smaller.
+    /// `ParkingLot::trim`, where the table becomes smaller, and a growth to the size before.
     ParkingLotTrim,
 
     /// `park` and the unparks in one thread, `release_resource`, and `list` where nobody waits.

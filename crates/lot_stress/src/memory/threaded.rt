@@ -47,7 +47,8 @@ pub(super) fn register<P: ThreadParkerT, R: Print + Wait + Clock>(
     threads.play_registrations(rt, calls)
 }
 
-/// `ParkingLot::trim` after a thread was registered for which the table has grown.
+/// `ParkingLot::trim` after a thread was registered for which the table has grown, and the next
+/// growth, which finds the row that the first one made.
 pub(super) fn trim<P: ThreadParkerT, R: Print + Wait + Clock>(
     rt: &R,
     alloc: Global,
@@ -124,10 +125,16 @@ impl<P: ThreadParkerT> Registered<P> {
     fn play_trim<R: Print + Wait + Clock>(&mut self, rt: &R) -> Result<(), Fault> {
         self.show(rt, Moment::Before)?;
         marks::begin(self.alloc);
-        let answer = self.lot.trim(rt, self.alloc);
+        let answer = self.trim_and_grow(rt);
         marks::end(self.alloc);
         self.finish(rt, &answer)?;
         tell_refused(rt, 0)
+    }
+
+    // Answers the number of the thread for which the table has grown again.
+    fn trim_and_grow<R: Wait>(&mut self, rt: &R) -> Result<usize, LotError> {
+        self.lot.trim(rt, self.alloc)?;
+        self.add(rt)
     }
 
     fn play_list<R: Print + Wait + Clock>(&mut self, rt: &R) -> Result<(), Fault> {

@@ -19,16 +19,21 @@ struct Screen {
     // How many bytes it takes. It fails once at the next, and would show what is written behind.
     room: usize,
 
+    // How many bytes it takes at most in one write.
+    most: usize,
+
     // How many flushes succeed.
     flushes: usize,
 }
 
 impl Screen {
+    // One that takes a byte in each write.
     fn new(alloc: Global, room: usize, flushes: usize) -> Screen {
         Screen {
             shown: Vec::new(alloc),
             flushed: 0,
             room,
+            most: 1,
             flushes,
         }
     }
@@ -42,17 +47,14 @@ impl Write for Output<'_> {
         let Ok(mut screen) = self.0.try_borrow_mut() else {
             return Err(ErrorKind::Other.into());
         };
-        if screen.shown.len() >= screen.room {
+        let room = screen.room.saturating_sub(screen.shown.len());
+        if room == 0 {
             screen.room = usize::MAX;
             return Err(ErrorKind::BrokenPipe.into());
         }
-        match buf.first() {
-            Some(byte) => {
-                screen.shown.push(*byte)?;
-                Ok(1)
-            }
-            None => Ok(0),
-        }
+        let len = buf.len().min(room).min(screen.most);
+        screen.shown.extend_from_slice(&buf[..len])?;
+        Ok(len)
     }
 
     fn flush(&mut self) -> io::Result<()> {
@@ -185,14 +187,20 @@ fn a_flush_that_fails_is_told_of_the_line_before_it_and_nothing_is_read_behind_i
 }
 
 // The lines are typed one by one, or are read all at once: then lines are done whose answers are
-// lost.
+// lost. A write takes a byte, or all for which there is room.
 #[test]
 fn a_lost_answer_is_told_of_the_first_line_that_lacks_it(rt: HostRuntime) {
     for room in 0..ANSWERS.len() {
         let shown = &ANSWERS.as_bytes()[..room];
         let line = lines_in(shown).wrapping_add(1);
-        for (typing, reads) in [(Typing::ByLine, line), (Typing::AtOnce, 1)] {
-            let screen = Screen::new(rt.alloc(), room, 100);
+        let rows = [
+            (Typing::ByLine, 1, line),
+            (Typing::AtOnce, 1, 1),
+            (Typing::AtOnce, usize::MAX, 1),
+        ];
+        for (typing, most, reads) in rows {
+            let mut screen = Screen::new(rt.alloc(), room, 100);
+            screen.most = most;
             let session = run(rt.alloc(), LINES, typing, screen);
             assert!(rt;
                 session.ended == stopped(line, Cause::WriteFailed),

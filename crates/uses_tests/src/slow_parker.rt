@@ -1,0 +1,79 @@
+//! A parker that takes long to prepare.
+
+use parking_lot_core::{NoMemory, Node, ThreadParkerT, UnparkHandleT, YieldHandle, YieldParker};
+use std::alloc::Global;
+use std::sync::Wait;
+use std::sync::atomic::{AtomicBool, Ordering};
+use std::thread;
+use std::time::{Clock, Instant};
+
+// Some tens of milliseconds.
+const YIELDS: usize = 200_000;
+
+/// A `YieldParker` whose thread yields often as it first prepares to park. So another thread can go
+/// on between what the thread does before a park and the park.
+#[derive(Drop)]
+pub struct SlowParker {
+    parker: YieldParker,
+    is_prepared: AtomicBool,
+}
+
+impl ThreadParkerT for SlowParker {
+    type UnparkHandle = SlowHandle;
+
+    const IS_CHEAP_TO_CONSTRUCT: bool = true;
+
+    ghost owner = { λ slow. ⟦<YieldParker as ThreadParkerT>⟧.owner slow.parker };
+
+    fn new(alloc: Global, number: usize) -> Result<SlowParker, NoMemory> {
+        Ok(SlowParker {
+            parker: YieldParker::new(alloc, number)?,
+            is_prepared: AtomicBool::new(false),
+        })
+    }
+
+    fn prepare_park(&self) {
+        if self.is_prepared.swap(true, Ordering::SeqCst) {
+            return;
+        }
+        for _ in 0..YIELDS {
+            thread::yield_now();
+        }
+    }
+
+    fn timed_out<R: Wait>(&self, rt: &R) -> bool {
+        self.parker.timed_out(rt)
+    }
+
+    fn park<R: Wait>(&self, rt: &R) -> Box<Node> {
+        self.parker.park(rt)
+    }
+
+    fn park_until<R: Wait + Clock>(&self, rt: &R, timeout: Instant) -> Option<Box<Node>> {
+        self.parker.park_until(rt, timeout)
+    }
+
+    fn unpark_lock<R: Wait>(&self, rt: &R, node: Box<Node>) -> SlowHandle {
+        let handle = self.parker.unpark_lock(rt, node);
+        SlowHandle { handle }
+    }
+}
+
+/// What is left to do after an unpark.
+#[derive(Drop)]
+pub struct SlowHandle {
+    handle: YieldHandle,
+}
+
+impl UnparkHandleT<SlowParker> for SlowHandle {
+    ghost number = { λ slow.
+        ⟦<YieldHandle as UnparkHandleT<YieldParker>>⟧.number slow.handle };
+
+    fn number(&self) -> usize {
+        self.handle.number()
+    }
+
+    fn unpark(self, parker: &SlowParker) {
+        self.handle.unpark(&parker.parker);
+    }
+}
