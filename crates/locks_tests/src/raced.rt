@@ -97,7 +97,7 @@ fn notify_until_over<P: ThreadParkerT, R: Wait + Abort>(rt: &R, race: &Race<P>) 
     false
 }
 
-fn race<P, R>(rt: &R, alloc: Global)
+fn hands_it_to_one<P, R>(rt: &R, alloc: Global)
 where
     P: ThreadParkerT + Send + Sync,
     R: Threads + Wait + Clock + Abort + Sync,
@@ -116,7 +116,7 @@ where
 // outside it whether the mutex is held: two threads hold it then.
 #[test]
 fn a_notify_of_a_thread_that_does_not_hold_the_mutex_hands_it_to_one(rt: HostRuntime) {
-    race::<WordParker, _>(&rt, rt.alloc());
-    race::<ThreadParker, _>(&rt, rt.alloc());
-    race::<YieldParker, _>(&rt, rt.alloc());
+    hands_it_to_one::<WordParker, _>(&rt, rt.alloc());
+    hands_it_to_one::<ThreadParker, _>(&rt, rt.alloc());
+    hands_it_to_one::<YieldParker, _>(&rt, rt.alloc());
 }
