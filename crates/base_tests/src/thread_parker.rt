@@ -170,7 +170,7 @@ fn looks_after_the_deadline<P: ThreadParkerT, R: Wait + Clock + Abort>(rt: &R, a
 }
 
 // Waits in vain for a while, and takes a node that is put after that. It prepares to park between
-// the two, or not. No clause says what a wait that ended at its deadline leaves. This refuses a
+// the two, after more than a second, or not. No clause says what a wait that ended at its deadline leaves. This refuses a
 // parker that takes it for a node, or that loses the next one.
 fn takes_a_commit_after_a_timeout<P: ThreadParkerT, R: Wait + Clock + Abort>(
     rt: &R,
@@ -178,7 +178,7 @@ fn takes_a_commit_after_a_timeout<P: ThreadParkerT, R: Wait + Clock + Abort>(
     prepares: bool,
 ) {
     let parker: P = new_parker(rt, alloc);
-    let soon = from_now(rt, Duration::from_millis(5));
+    let soon = from_now(rt, Duration::from_millis(if prepares { 1_005 } else { 5 }));
     expect_none(rt, &parker, soon, "nobody puts a node");
     if prepares {
         parker.prepare_park();

@@ -13,9 +13,10 @@ use std::thread;
 use std::thread::Threads;
 use std::time::Clock;
 
-pub const MUTEX_KEY: usize = 11;
+// Both keys have one bucket of 16.
+pub const MUTEX_KEY: usize = 0;
 
-pub const CONDVAR_KEY: usize = 12;
+pub const CONDVAR_KEY: usize = 13;
 
 pub const TURNS: usize = 10_000_000;
 
