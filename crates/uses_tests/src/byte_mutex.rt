@@ -1,5 +1,7 @@
 //! Tests of the mutex among threads.
 
+ghost use Rattle.std.specs.Prelude.{◌≡◌};
+
 use crate::expect_equal;
 use crate::lots::register;
 use crate::slow_parker::SlowParker;

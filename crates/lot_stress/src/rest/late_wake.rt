@@ -30,21 +30,36 @@ pub(super) fn rest<P: ThreadParkerT + Sync, R: Threads + Wait + Clock + Sync>(
     let parker = P::new(alloc, OWNER)?;
     let first = Node::new(alloc, OWNER)?;
     let second = Node::new(alloc, OWNER)?;
-    let taken = AtomicUsize::new(0);
     let Some(deadline) = Instant::now(rt)?.checked_add(Duration::from_millis(LONGER)) else {
         return Ok(false);
     };
+    Ok(two_come(rt, &parker, first, second, deadline, rest))
+}
+
+// Tells whether the owner has both nodes in the end.
+fn two_come<P: ThreadParkerT + Sync, R: Threads + Wait + Clock + Sync>(
+    rt: &R,
+    parker: &P,
+    first: Box<Node>,
+    second: Box<Node>,
+    deadline: Instant,
+    rest: Duration,
+) -> bool
+    requires first { (fields first.value).number ≡ P.owner parker.now }
+    requires second { (fields second.value).number ≡ P.owner parker.now }
+{
+    let taken = AtomicUsize::new(0);
     thread::join(
         rt,
-        || take_two(rt, &parker, deadline, &taken),
+        || take_two(rt, parker, deadline, &taken),
         ||
             requires first { (fields first.value).number ≡ P.owner parker.now }
             requires second { (fields second.value).number ≡ P.owner parker.now }
         {
-            wake_late(rt, &parker, first, second, &taken, rest);
+            wake_late(rt, parker, first, second, &taken, rest);
         },
     );
-    Ok(taken.load(Ordering::SeqCst) == 2)
+    taken.load(Ordering::SeqCst) == 2
 }
 
 // What the owner does. It finds its first node at the deadline.
