@@ -170,8 +170,9 @@ fn looks_after_the_deadline<P: ThreadParkerT, R: Wait + Clock + Abort>(rt: &R, a
 }
 
 // Waits in vain for a while, and takes a node that is put after that. It prepares to park between
-// the two, after more than a second, or not. No clause says what a wait that ended at its deadline leaves. This refuses a
-// parker that takes it for a node, or that loses the next one.
+// the two, after more than a second, or not. No clause says what a wait that ended at its deadline
+// leaves. This refuses a parker that takes it for a node, or that loses the next one, and one with
+// which such a deadline does not come.
 fn takes_a_commit_after_a_timeout<P: ThreadParkerT, R: Wait + Clock + Abort>(
     rt: &R,
     alloc: Global,

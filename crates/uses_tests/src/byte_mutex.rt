@@ -184,8 +184,8 @@ fn lock_once_more<P: ThreadParkerT, R: Wait + Clock>(
     }
 }
 
-// It refuses a `lock` that sleeps while the byte tells that nobody waits: whoever unlocks then looks
-// for no waiter.
+// It refuses a `lock` that sleeps while the byte tells that nobody waits: whoever unlocks then
+// looks for no waiter.
 #[test]
 fn a_thread_sleeps_only_while_the_byte_tells_of_waiters(rt: HostRuntime) -> Result<(), Fail> {
     let lot = ParkingLot::<SlowParker>::new(rt.alloc(), 1)?;
