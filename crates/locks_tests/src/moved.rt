@@ -47,8 +47,8 @@ fn notify_one<P: ThreadParkerT, R: Wait + Abort>(
     );
 }
 
-// Holds the mutex, and notifies one sleeper and then the other.
-fn notify_each<P: ThreadParkerT, R: Wait + Clock + Abort>(
+// Locks the mutex once both sleep.
+fn lock_behind_both<P: ThreadParkerT, R: Wait + Clock + Abort>(
     rt: &R,
     alloc: Global,
     shared: &Shared<P>,
@@ -56,6 +56,15 @@ fn notify_each<P: ThreadParkerT, R: Wait + Clock + Abort>(
     expect_equal(rt, come(rt, alloc, shared, CONDVAR_KEY, 2), true);
     let mut data = register(rt, alloc, shared);
     lock(rt, shared, &mut data);
+}
+
+// Holds the mutex, and notifies one sleeper and then the other.
+fn notify_each<P: ThreadParkerT, R: Wait + Clock + Abort>(
+    rt: &R,
+    alloc: Global,
+    shared: &Shared<P>,
+) {
+    lock_behind_both(rt, alloc, shared);
     notify_one(rt, alloc, shared, &[1]);
     notify_one(rt, alloc, shared, &[]);
     expect_equal(
@@ -72,9 +81,7 @@ fn notify_both<P: ThreadParkerT, R: Wait + Clock + Abort>(
     alloc: Global,
     shared: &Shared<P>,
 ) {
-    expect_equal(rt, come(rt, alloc, shared, CONDVAR_KEY, 2), true);
-    let mut data = register(rt, alloc, shared);
-    lock(rt, shared, &mut data);
+    lock_behind_both(rt, alloc, shared);
     shared.mutex.unlock(rt, &shared.lot);
     let handed = UnparkResult {
         unparked_threads: 1,
