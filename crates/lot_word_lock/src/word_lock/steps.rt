@@ -175,9 +175,14 @@ impl<T: Fits> WordLock<T> {
     /// The place that a caller asks for who found none free: the newest of the list, as the word
     /// told it, or the first place where the list is empty.
     pub(super) fn place_to_want(word: u64) -> usize
-        ensures { IsPlace result }
+        ensures place { IsPlace result }
+        ensures newest { IsPlace (word / 2) → result ≡ word / 2 }
     {
-        FIRST_PLACE + (word / 2 % WORD_SLOTS as u64) as usize
+        let newest = (word / 2) as usize;
+        if newest < FIRST_PLACE || newest >= FIRST_PLACE + WORD_SLOTS {
+            return FIRST_PLACE;
+        }
+        newest
     }
 
     /// Takes the place if nobody has it, and leaves the mark there that it is taken, or wanted
