@@ -11,7 +11,8 @@ use Rattle.lot_base.specs.declared.token.RequeueOp.TheVariants.{RequeueOne}
 use Rattle.lot_base.specs.NodeLists.{lists_of, with_new_key}
 use Rattle.lot_base.proofs.FilterLemmas.{taken_by, left_by, split_filter-moves_nobody}
 use Rattle.lot_base.proofs.RequeueLemmas.{lists-aborted}
-use Rattle.lot_base.specs.Laws.{IsMerge, UnparkEachTakesAll, UnparkThenStopTakesFirst, FilterSplitsInOrder}
+use Rattle.lot_base.specs.Laws.{IsMerge, UnparkEachTakesAll, UnparkThenStopTakesFirst, StopTakesNobody}
+use Rattle.lot_base.specs.Laws.{FilterSplitsInOrder}
 use Rattle.lot_base.specs.Laws.{UnparkSplitsInOrder}
 use Rattle.lot_base.specs.Laws.{RequeueSplitsInOrder, AbortKeepsLists, RequeueToItselfKeepsLists, RequeueAllCountsEach}
 use Rattle.lot_base.specs.Laws.{OwnKeyChangesNothing, ParkTokenStays}
@@ -44,6 +45,10 @@ pub split_filter-unpark_stop : (A : Type 0) → UnparkThenStopTakesFirst A
 split_filter-unpark_stop A [] decisions = refl
 split_filter-unpark_stop A (waiter ∷ []) decisions = refl
 split_filter-unpark_stop A (waiter ∷ second ∷ waiters) decisions = refl
+
+pub split_filter-stop : (A : Type 0) → StopTakesNobody A
+split_filter-stop A [] decisions = refl
+split_filter-stop A (waiter ∷ waiters) decisions = refl
 
 -- a requeue of all to the same key
 pub lists_after_requeue-to_itself : (A : Type 0) → RequeueToItselfKeepsLists A

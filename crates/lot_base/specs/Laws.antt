@@ -6,7 +6,8 @@ use Rattle.lot_base.specs.declared.token.RequeueOp.{RequeueOp}
 use Rattle.lot_base.specs.declared.token.RequeueOp.TheVariants.{Abort, RequeueAll}
 use Rattle.lot_base.specs.declared.token.UnparkToken.{UnparkToken}
 use Rattle.lot_base.specs.NodeFields.{NodeFields}
-use Rattle.lot_base.specs.Waiting.{Split, split_first, split_all, split_by, split_filter, lists_after_requeue}
+use Rattle.lot_base.specs.Waiting.{Split, split_none, split_first, split_all, split_by, split_filter}
+use Rattle.lot_base.specs.Waiting.{lists_after_requeue}
 use Rattle.lot_base.specs.NodeLists.{lists_of}
 use Rattle.lot_base.specs.Waiting.{result_of}
 use Rattle.lot_base.specs.NodeLists.{with_new_key, with_token}
@@ -28,6 +29,11 @@ module _ (A : Type 0) where
   abbrev pub UnparkThenStopTakesFirst : Type 0
   UnparkThenStopTakesFirst = (waiters : List A) (decisions : List FilterOp)
       → split_filter (Unpark ∷ Stop ∷ decisions) waiters ≡ split_first waiters
+
+  -- one that says `Stop` at once takes nobody
+  abbrev pub StopTakesNobody : Type 0
+  StopTakesNobody = (waiters : List A) (decisions : List FilterOp)
+      → split_filter (Stop ∷ decisions) waiters ≡ split_none waiters
 
   -- each of the waiters is taken by the filter or left, both in order, and none is moved
   abbrev pub FilterSplitsInOrder : Type 0

@@ -2,12 +2,14 @@
 //! them, or of the machine's waiters. Each function does nothing: its contract is the law, over the
 //! definitions that the contracts of the buckets and the machine's rules cite.
 
-ghost use Rattle.lot_base.specs.Laws.{UnparkEachTakesAll, UnparkThenStopTakesFirst, FilterSplitsInOrder, UnparkSplitsInOrder, RequeueSplitsInOrder, AbortKeepsLists, RequeueToItselfKeepsLists, RequeueAllCountsEach, OwnKeyChangesNothing, ParkTokenStays, EnteredStandsLast, EnteringKeepsOrder};
+ghost use Rattle.lot_base.specs.Laws.{UnparkEachTakesAll, UnparkThenStopTakesFirst, StopTakesNobody, FilterSplitsInOrder, UnparkSplitsInOrder, RequeueSplitsInOrder, AbortKeepsLists, RequeueToItselfKeepsLists, RequeueAllCountsEach, OwnKeyChangesNothing, ParkTokenStays, EnteredStandsLast, EnteringKeepsOrder};
 
-/// A filter can do what an unpark of all does, and what an unpark of one does.
+/// A filter can do what an unpark of all does, and what an unpark of one does; and one that stops
+/// at once unparks nobody.
 pub fn filter_covers_unparks<T>()
     ensures all { UnparkEachTakesAll T }
     ensures first { UnparkThenStopTakesFirst T }
+    ensures nobody { StopTakesNobody T }
 {}
 
 /// A requeue that aborts changes no list.

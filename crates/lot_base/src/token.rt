@@ -2,9 +2,10 @@
 //!
 //! Upstream has those that are no errors under the same names, with the same derives.
 
-ghost use Rattle.std.specs.Prelude.{◌≡◌, ◌↔◌, IsTrue};
+ghost use Rattle.std.specs.Prelude.{◌≡◌, ◌+◌, ◌↔◌, IsTrue};
 ghost use Rattle.lot_base.specs.declared.token.LotError.{LotError};
 ghost use Rattle.lot_base.specs.declared.token.UnparkToken.{UnparkToken};
+ghost use Rattle.lot_base.specs.NodeLists.{saturated};
 
 pub use lot_word_lock::no_memory::NoMemory;
 use std::alloc::{AllocError, AllocFailed};
@@ -49,6 +50,17 @@ pub struct UnparkResult {
     /// Whether it left any waiter of the key, one that was moved not counted. It is false after an
     /// abort.
     pub have_more_threads: bool,
+}
+
+impl UnparkResult {
+    /// How many threads it unparked or moved, or `usize::MAX` if there were more.
+    ///
+    /// Upstream leaves the sum to its callers.
+    pub fn threads(&self) -> usize
+        ensures { result ≡ saturated (self.now.unparked_threads + self.now.requeued_threads) }
+    {
+        self.unparked_threads.saturating_add(self.requeued_threads)
+    }
 }
 
 /// What a requeue is to do.
