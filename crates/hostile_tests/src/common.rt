@@ -4,7 +4,7 @@
 use crate::expect_equal;
 use parking_lot_core::{
     FilterOp, LotError, ParkResult, ParkToken, ParkingLot, RequeueOp, ThreadData, ThreadParkerT,
-    UnparkResult, UnparkToken, park, unpark_all, unpark_filter, unpark_one, unpark_requeue,
+    UnparkResult, UnparkToken, park, unpark_all, unpark_chosen, unpark_one, unpark_requeue,
 };
 use std::alloc::Global;
 use std::process::Abort;
@@ -131,7 +131,12 @@ pub fn expect_list<P: ThreadParkerT, R: Wait + Abort>(
     expect_equal(rt, (key, waiting.as_slice()), (key, numbers));
 }
 
-// Parks on the key, with it as the token for filters, and does this before it sleeps.
+// The token for filters of whoever parks on the key. It is not the default.
+pub fn token_of(key: usize) -> ParkToken {
+    ParkToken(!key)
+}
+
+// Parks on the key, with its token for filters, and does this before it sleeps.
 pub fn park_and<P: ThreadParkerT, R: Wait + Clock + Abort, B: FnOnce()>(
     rt: &R,
     lot: &ParkingLot<P>,
@@ -152,7 +157,7 @@ pub fn park_and<P: ThreadParkerT, R: Wait + Clock + Abort, B: FnOnce()>(
         || true,
         before_sleep,
         |key, last| told = Some((key, last)),
-        ParkToken(key),
+        token_of(key),
         deadline,
     );
     (result, told)
@@ -176,7 +181,7 @@ fn unpark_by_filter<P: ThreadParkerT, R: Wait>(
     key: usize,
     token: UnparkToken,
 ) -> usize {
-    unpark_filter(rt, lot, key, |_| FilterOp::Unpark, |_| token).unparked_threads
+    unpark_chosen(rt, lot, key, |_| FilterOp::Unpark, |_| token).unparked_threads
 }
 
 // Requeues by this operation.

@@ -2,10 +2,12 @@
 
 use crate::common::{
     TOKEN, TURNS, UNPARKED, come_by_turns, expect_list, late_on, move_all, new_lot, now, park_and,
-    raised_by_turns, register, waiting,
+    raised_by_turns, register, token_of, waiting,
 };
 use crate::expect_equal;
-use parking_lot_core::{ParkingLot, ThreadParkerT, WordParker, unpark_all};
+use parking_lot_core::{
+    FilterOp, ParkingLot, ThreadParkerT, WordParker, unpark_all, unpark_chosen,
+};
 use std::alloc::Global;
 use std::process::Abort;
 use std::sync::Wait;
@@ -144,7 +146,19 @@ fn queue_up<P: ThreadParkerT, R: Wait + Clock + Abort>(
     expect_equal(rt, left, UNPARKED);
 }
 
-// Lets the table grow to 32 buckets, trims it, and then unparks all.
+// Unparks those whose token for filters is the key's, and tells how many there were.
+fn unpark_by_token<P: ThreadParkerT, R: Wait>(rt: &R, lot: &ParkingLot<P>, key: usize) -> usize {
+    let filter = |token| {
+        if token == token_of(key) {
+            FilterOp::Unpark
+        } else {
+            FilterOp::Skip
+        }
+    };
+    unpark_chosen(rt, lot, key, filter, |_| TOKEN).unparked_threads
+}
+
+// Lets the table grow to 32 buckets, trims it, and then unparks all by their tokens.
 fn grow_and_trim<P: ThreadParkerT, R: Wait + Abort>(rt: &R, alloc: Global, lot: &ParkingLot<P>) {
     come_by_turns(rt, alloc, lot, KEY, QUEUED);
     let others = (
@@ -158,12 +172,13 @@ fn grow_and_trim<P: ThreadParkerT, R: Wait + Abort>(rt: &R, alloc: Global, lot: 
     lot.retire(rt, others.2);
     assert!(rt; lot.trim(rt, alloc).is_ok());
     expect_list(rt, alloc, lot, KEY, &[0, 1, 2]);
-    expect_equal(rt, unpark_all(rt, lot, KEY, TOKEN), QUEUED);
+    expect_equal(rt, unpark_by_token(rt, lot, KEY), QUEUED);
 }
 
-// It refuses a growth and a trim that put those who wait on one key in another order.
+// It refuses a growth and a trim that put those who wait on one key in another order, or that lose
+// their tokens.
 #[test]
-fn waiters_keep_their_order_through_a_growth_and_a_trim(rt: HostRuntime) {
+fn waiters_keep_their_order_and_tokens_through_a_growth_and_a_trim(rt: HostRuntime) {
     let lot = new_lot::<WordParker, _>(&rt, rt.alloc(), 2 * QUEUED);
     let play = |index: usize| match index {
         QUEUED => grow_and_trim(&rt, rt.alloc(), &lot),

@@ -78,7 +78,7 @@ pub fn unpark_all_by_filter(lot: &mut Lot, key: usize, unpark_token: UnparkToken
         (split_all ((machine lot.old).lists key)) unpark_token }
     ensures size { KeepsSize lot.old lot.new }
 {
-    lot.unpark_filter(key, |_| FilterOp::Unpark, |_| unpark_token)
+    lot.unpark_chosen(key, |_| FilterOp::Unpark, |_| unpark_token)
 }
 
 /// Requeues every waiter of the key onto the same key: it changes nothing, and counts them. It

@@ -290,6 +290,32 @@ impl Lot {
         result
     }
 
+    /// Does what `unpark_filter` does, for closures that may be called at any time, as those without
+    /// conditions of their own: its caller proves nothing of the waiters.
+    ///
+    /// Upstream has one function for both.
+    pub fn unpark_chosen<F: FnMut(ParkToken) -> FilterOp, C: FnOnce(UnparkResult) -> UnparkToken>(
+        &mut self,
+        key: usize,
+        filter: F,
+        callback: C,
+    ) -> UnparkResult
+        requires filter { (state : F) (park_token : _) → F.pre state park_token }
+        requires callback { (answer : _) → C.pre callback answer }
+
+        ensures filtered { let waiters = (machine self.old).lists key in record {
+          decisions : List FilterOp;
+          decided : IsFiltered F.FnMut filter (waiter_park_tokens waiters) decisions;
+          answer : result ≡ result_of (split_filter decisions waiters);
+          taken : (token : _) × C.post callback result token
+              × (machine self.new ≡ after_unpark (machine self.old) key
+              (split_filter decisions waiters) token);
+        } }
+        ensures size { KeepsSize self.old self.new }
+    {
+        self.unpark_filter(key, filter, callback)
+    }
+
     /// Unparks or requeues waiters of the key `from` onto the key `to`, as `validate` chooses. The
     /// keys may be equal.
     ///

@@ -3,7 +3,7 @@
 use crate::meeting::{Meeting, Parked, Stay, start};
 use crate::turns::{comes_to, unpark_first};
 use crate::{KEY, TOKEN, from_now};
-use parking_lot_core::{FilterOp, ParkToken, ParkingLot, ThreadParkerT, unpark_all, unpark_filter};
+use parking_lot_core::{FilterOp, ParkToken, ParkingLot, ThreadParkerT, unpark_all, unpark_chosen};
 use std::alloc::Global;
 use std::sync::{Arc, Wait};
 use std::thread::{JoinHandle, Threads};
@@ -31,14 +31,14 @@ where
     R: Threads + Wait + Clock + Copy + Send + 'static,
 {
     let workers = start_two::<P, _>(rt, alloc)?;
-    if unpark_chosen(rt, &workers.meeting.lot, ParkToken(0)) != 1 {
+    if unpark_those_with(rt, &workers.meeting.lot, ParkToken(0)) != 1 {
         return None;
     }
     workers.wake_other(rt)
 }
 
 // Unparks the workers with this park token, and answers how many there were.
-fn unpark_chosen<P: ThreadParkerT, R: Wait>(
+fn unpark_those_with<P: ThreadParkerT, R: Wait>(
     rt: &R,
     lot: &ParkingLot<P>,
     chosen: ParkToken,
@@ -50,7 +50,7 @@ fn unpark_chosen<P: ThreadParkerT, R: Wait>(
             FilterOp::Skip
         }
     };
-    unpark_filter(rt, lot, KEY, filter, |_| TOKEN).unparked_threads
+    unpark_chosen(rt, lot, KEY, filter, |_| TOKEN).unparked_threads
 }
 
 // Two workers that have parked, and the time by which both are to be back.

@@ -3,6 +3,7 @@
 #![tactic(auto)]
 
 pub mod deadlock;
+pub mod member;
 pub mod parking_lot;
 pub mod table;
 
@@ -26,6 +27,8 @@ pub use lot_base::word_lock::{
 };
 pub use lot_exclusive::{laws, lot, schedule};
 pub use lot_interleaved::interleaved;
+pub use member::Member;
 pub use parking_lot::{
-    ParkingLot, ThreadData, park, unpark_all, unpark_filter, unpark_one, unpark_requeue,
+    ParkingLot, ThreadData, park, unpark_all, unpark_chosen, unpark_filter, unpark_one,
+    unpark_requeue,
 };

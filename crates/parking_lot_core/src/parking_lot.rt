@@ -375,6 +375,24 @@ pub fn unpark_filter<
     result
 }
 
+/// Does what `unpark_filter` does, for closures that may be called at any time, as those without
+/// conditions of their own: its caller proves nothing of lists of waiters.
+///
+/// Upstream has one function for both.
+pub fn unpark_chosen<
+    P: ThreadParkerT,
+    R: Wait,
+    F: FnMut(ParkToken) -> FilterOp,
+    C: FnOnce(UnparkResult) -> UnparkToken,
+>(rt: &R, lot: &ParkingLot<P>, key: usize, filter: F, callback: C) -> UnparkResult
+    requires filter { (state : F) (park_token : _) → F.pre state park_token }
+    requires callback { (answer : _) → C.pre callback answer }
+
+    ensures { IsUnparkByFilter F.FnMut C.FnOnce filter callback result }
+{
+    unpark_filter(rt, lot, key, filter, callback)
+}
+
 /// Unparks or requeues threads in the queue of the key `key_from` onto that of `key_to`, as
 /// `validate` chooses. The keys may be equal.
 ///

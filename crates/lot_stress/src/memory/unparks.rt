@@ -1,7 +1,7 @@
 //! Unparks whose closures answer the same for each thread.
 
 use parking_lot_core::{
-    FilterOp, ParkingLot, RequeueOp, ThreadParkerT, UnparkResult, UnparkToken, unpark_filter,
+    FilterOp, ParkingLot, RequeueOp, ThreadParkerT, UnparkResult, UnparkToken, unpark_chosen,
     unpark_requeue,
 };
 use std::sync::Wait;
@@ -13,7 +13,7 @@ pub(super) fn unpark_by_filter<P: ThreadParkerT, R: Wait>(
     key: usize,
     token: UnparkToken,
 ) -> usize {
-    unpark_filter(rt, lot, key, |_| FilterOp::Unpark, |_| token).unparked_threads
+    unpark_chosen(rt, lot, key, |_| FilterOp::Unpark, |_| token).unparked_threads
 }
 
 /// Requeues by this operation.

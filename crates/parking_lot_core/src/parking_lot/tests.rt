@@ -32,19 +32,6 @@ fn raised_by_turns(flag: &AtomicBool) -> bool {
     false
 }
 
-// Unparks those waiters of the key that the filter chooses.
-fn unpark_by<
-    P: ThreadParkerT,
-    R: Wait,
-    F: FnMut(ParkToken) -> FilterOp,
-    C: FnOnce(UnparkResult) -> UnparkToken,
->(rt: &R, lot: &ParkingLot<P>, key: usize, filter: F, callback: C) -> UnparkResult
-    requires filter { (state : F) (park_token : _) → F.pre state park_token }
-    requires callback { (answer : _) → C.pre callback answer }
-{
-    unpark_filter(rt, lot, key, filter, callback)
-}
-
 // Three buckets for each thread, by the rule of the table's size. It refuses a `thread_data` that
 // registers one more number and frees it again, and so lets the table grow early.
 #[test]

@@ -5,7 +5,7 @@ use super::super::figures::Figures;
 use super::{KEYS, Round};
 use parking_lot_core::{
     FilterOp, ParkResult, ParkToken, RequeueOp, ThreadData, ThreadParkerT, UnparkResult,
-    UnparkToken, park, unpark_all, unpark_filter, unpark_one, unpark_requeue,
+    UnparkToken, park, unpark_all, unpark_chosen, unpark_one, unpark_requeue,
 };
 use std::alloc::Global;
 use std::sync::Wait;
@@ -36,7 +36,7 @@ pub(super) enum Way {
     /// `unpark_all`.
     All,
 
-    /// `unpark_filter`, with any decisions.
+    /// `unpark_chosen`, with any decisions.
     Filter,
 
     /// `unpark_requeue` with any operation, to any key or to the same.
@@ -172,7 +172,7 @@ fn unpark_once<P: ThreadParkerT, R: Wait>(
             requeued_threads: 0,
             have_more_threads: false,
         },
-        Way::Filter => unpark_chosen(rt, round, key, token, draws.next()),
+        Way::Filter => unpark_drawn(rt, round, key, token, draws.next()),
         Way::Requeue => {
             let to = draws.choose(&KEYS, 0);
             let op = draws.choose(&OPS, RequeueOp::RequeueAll);
@@ -182,7 +182,7 @@ fn unpark_once<P: ThreadParkerT, R: Wait>(
 }
 
 // The filter answers by two bits of the number for each thread.
-fn unpark_chosen<P: ThreadParkerT, R: Wait>(
+fn unpark_drawn<P: ThreadParkerT, R: Wait>(
     rt: &R,
     round: &Round<P>,
     key: usize,
@@ -198,7 +198,7 @@ fn unpark_chosen<P: ThreadParkerT, R: Wait>(
             _ => FilterOp::Unpark,
         }
     };
-    unpark_filter(rt, &round.lot, key, filter, |_| token)
+    unpark_chosen(rt, &round.lot, key, filter, |_| token)
 }
 
 // Sleeps for a while now and then, so that threads gather in the queues.

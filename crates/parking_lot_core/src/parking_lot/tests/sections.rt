@@ -32,7 +32,7 @@ fn unpark_watched<P: ThreadParkerT, R: Wait>(
                 watch.stay_inside();
                 FilterOp::Unpark
             };
-            unpark_by(rt, lot, KEY, filter, |_| token_from_inside(watch)).unparked_threads
+            unpark_chosen(rt, lot, KEY, filter, |_| token_from_inside(watch)).unparked_threads
         }
         Unpark::Requeue => requeue_watched(rt, lot, watch).unparked_threads,
     }

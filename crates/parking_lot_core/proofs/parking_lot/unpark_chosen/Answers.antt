@@ -1,5 +1,5 @@
 use Rattle.lot_base.proofs.FilterLemmas.{IsFilterCallable-always}
-use Rattle.parking_lot_core.proofs.parking_lot.tests.unpark_by.Goals as goal
+use Rattle.parking_lot_core.proofs.parking_lot.unpark_chosen.Goals as goal
 
 pub unpark_filter-requires-after_bounds : goal.unpark_filter-requires-after_bounds
 unpark_filter-requires-after_bounds g c κs within =
