@@ -1,19 +1,25 @@
-// An allocator to be preloaded, which counts requests for memory and refuses some of them.
+// An allocator to be preloaded, which counts requests for memory and refuses some of them. It also
+// counts how often a thread yields, and how often one asks the system to put it to sleep or to wake
+// another.
 //
 // The program marks the part that is counted: a request of BEGIN bytes begins it, one of END bytes
 // ends it, and neither is counted itself. It may begin and end many times; the count goes on.
 // Requests of ENTER and LEAVE bytes are marks too, round all that the program makes and drops.
 // REFUSE_AT=N refuses the Nth request of the counted part, REFUSE_FROM=N that and all behind it.
-// Where a counted part ends, `requests N bytes M` is written to the error output: how many there
-// were so far, and how many bytes they asked for. At LEAVE it is `left N`: how many blocks made
-// since ENTER were not given back.
+// Where a counted part ends, `requests N bytes M yields Y sleeps S` is written to the error output:
+// how many requests there were so far, how many bytes they asked for, and how many yields, and calls
+// for a sleep or a wake. At LEAVE it is `left N`: how many blocks made since ENTER were not given
+// back.
 #define _GNU_SOURCE
+#include <dlfcn.h>
 #include <errno.h>
+#include <stdarg.h>
 #include <stdatomic.h>
 #include <stdbool.h>
 #include <stddef.h>
 #include <stdio.h>
 #include <stdlib.h>
+#include <sys/syscall.h>
 #include <unistd.h>
 
 enum { BEGIN = 77771, END = 77773, ENTER = 77775, LEAVE = 77777 };
@@ -25,9 +31,11 @@ extern void *__libc_memalign(size_t, size_t);
 extern void __libc_free(void *);
 
 static atomic_bool counting;
-static atomic_ulong requests, bytes;
+static atomic_ulong requests, bytes, yields, sleeps;
 static atomic_long blocks, blocks_before;
 static unsigned long refused_at, refused_from;
+static int (*next_yield)(void);
+static long (*next_call)(long, ...);
 
 static unsigned long number_in(const char *name) {
     const char *text = getenv(name);
@@ -37,6 +45,8 @@ static unsigned long number_in(const char *name) {
 __attribute__((constructor)) static void start(void) {
     refused_at = number_in("REFUSE_AT");
     refused_from = number_in("REFUSE_FROM");
+    next_yield = (int (*)(void))dlsym(RTLD_NEXT, "sched_yield");
+    next_call = (long (*)(long, ...))dlsym(RTLD_NEXT, "syscall");
 }
 
 static void put(const char *line, int length) {
@@ -44,10 +54,11 @@ static void put(const char *line, int length) {
         _exit(3);
 }
 
-static void tell_requests(void) {
-    char line[80];
-    put(line, snprintf(line, sizeof line, "requests %lu bytes %lu\n", atomic_load(&requests),
-                       atomic_load(&bytes)));
+static void tell_counts(void) {
+    char line[120];
+    put(line, snprintf(line, sizeof line, "requests %lu bytes %lu yields %lu sleeps %lu\n",
+                       atomic_load(&requests), atomic_load(&bytes), atomic_load(&yields),
+                       atomic_load(&sleeps)));
 }
 
 static void tell_left(void) {
@@ -64,7 +75,7 @@ static bool is_mark(size_t size) {
         return true;
     case END:
         atomic_store(&counting, false);
-        tell_requests();
+        tell_counts();
         return true;
     case ENTER:
         atomic_store(&blocks_before, atomic_load(&blocks));
@@ -125,4 +136,22 @@ int posix_memalign(void **block, size_t alignment, size_t size) {
         return ENOMEM;
     *block = made;
     return 0;
+}
+
+int sched_yield(void) {
+    if (atomic_load(&counting))
+        atomic_fetch_add(&yields, 1);
+    return next_yield();
+}
+
+long syscall(long number, ...) {
+    va_list given;
+    va_start(given, number);
+    long words[6];
+    for (int at = 0; at < 6; at++)
+        words[at] = va_arg(given, long);
+    va_end(given);
+    if (number == SYS_futex && atomic_load(&counting))
+        atomic_fetch_add(&sleeps, 1);
+    return next_call(number, words[0], words[1], words[2], words[3], words[4], words[5]);
 }

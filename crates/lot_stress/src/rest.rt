@@ -1,6 +1,7 @@
 //! `lot_stress rest`: threads that wait for a while, and should sleep meanwhile. What processor
 //! time they take is measured from outside.
 
+mod change;
 mod late_wake;
 
 ghost use Rattle.std.specs.Prelude.{⊤};
@@ -39,7 +40,8 @@ impl Fits for Count {
 
 /// Eight threads wait for so many milliseconds: parked, over each parker whose threads sleep, half
 /// of them with a deadline far away, each after a park whose deadline passed; then for a word lock;
-/// and then one thread, over each of those parkers, after a wake that came late.
+/// then one thread, over each of those parkers, after a wake that came late; and then eight for a
+/// growth of the table.
 pub fn run<R: Print + Threads + Wait + Clock + Copy + Send + Sync + 'static>(
     rt: &R,
     alloc: Global,
@@ -50,7 +52,8 @@ pub fn run<R: Print + Threads + Wait + Clock + Copy + Send + Sync + 'static>(
         && rest_parked::<ThreadParker, _>(rt, alloc, rest)?
         && rest_at_a_lock(rt, alloc, rest)?
         && late_wake::rest::<WordParker, _>(rt, alloc, rest)?
-        && late_wake::rest::<ThreadParker, _>(rt, alloc, rest)?;
+        && late_wake::rest::<ThreadParker, _>(rt, alloc, rest)?
+        && change::rest(rt, alloc, rest)?;
     if !are_woken {
         return Err(Fault::Unlike("how many threads came back"));
     }

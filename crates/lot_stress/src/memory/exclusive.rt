@@ -71,8 +71,8 @@ pub(super) fn list<R: Print>(rt: &R, alloc: Global) -> Result<(), Fault> {
     finish(rt, &mut lot, &answer)
 }
 
-/// `Lot::acquire`, many times, and once by a thread that comes after: the first has given the memory
-/// of its records back.
+/// `Lot::acquire`, many times, and once by a thread that comes after: the first has given back the
+/// memory of its records.
 pub(super) fn records<R: Print>(rt: &R, alloc: Global) -> Result<(), Fault> {
     let mut schedule = Schedule::new(alloc, 1, 1)?;
     add_many_recordings(&mut schedule.steps)?;

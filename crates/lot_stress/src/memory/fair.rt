@@ -79,7 +79,7 @@ pub(super) fn sleepers<R: Print>(rt: &R, alloc: Global) -> Result<(), Fault> {
 
 /// `run_fair` of steps of each kind.
 pub(super) fn run_all<R: Print>(rt: &R, alloc: Global) -> Result<(), Fault> {
-    let mut schedule = Schedule::new(alloc)?;
+    let mut schedule = Schedule::new(alloc, FEW)?;
     for _ in 0..FEW {
         schedule.steps.push(FairStep::Register)?;
     }
@@ -91,9 +91,9 @@ pub(super) fn run_all<R: Print>(rt: &R, alloc: Global) -> Result<(), Fault> {
     schedule.finish(rt, alloc, &answer)
 }
 
-/// Steps of each kind but registrations.
+/// Steps of each kind but registrations, of which a retirement leaves a table that is too large.
 pub(super) fn use_steps<R: Print>(rt: &R, alloc: Global) -> Result<(), Fault> {
-    let mut schedule = Schedule::new(alloc)?;
+    let mut schedule = Schedule::new(alloc, FEW + 1)?;
     schedule.add(ENDS)?;
     schedule.answers.reserve(schedule.steps.len())?;
     schedule.show(rt, Moment::Before)?;
@@ -105,14 +105,14 @@ pub(super) fn use_steps<R: Print>(rt: &R, alloc: Global) -> Result<(), Fault> {
 
 // A core with as many threads as 16 buckets are for, of which some wait. It is shown.
 fn core_in_use<R: Print>(rt: &R, alloc: Global) -> Result<FairCore, Fault> {
-    let core = core_with(alloc)?;
+    let core = core_with(alloc, FEW)?;
     show(rt, Moment::Before, &core)?;
     Ok(core)
 }
 
-fn core_with(alloc: Global) -> Result<FairCore, Fault> {
+fn core_with(alloc: Global, threads: usize) -> Result<FairCore, Fault> {
     let mut core = FairCore::new(alloc, MOST)?;
-    for _ in 0..FEW {
+    for _ in 0..threads {
         core.apply(&FairStep::Register);
     }
     for step in ENTRIES {
@@ -148,15 +148,17 @@ fn finish<A: fmt::Debug, R: Print>(rt: &R, core: &mut FairCore, answer: &A) -> R
 // Steps of a core, and their answers.
 #[derive(Drop)]
 struct Schedule {
+    threads: usize,
     core: FairCore,
     steps: Vec<FairStep>,
     answers: Vec<FairAnswer>,
 }
 
 impl Schedule {
-    fn new(alloc: Global) -> Result<Schedule, Fault> {
+    fn new(alloc: Global, threads: usize) -> Result<Schedule, Fault> {
         Ok(Schedule {
-            core: core_with(alloc)?,
+            threads,
+            core: core_with(alloc, threads)?,
             steps: Vec::new(alloc),
             answers: Vec::new(alloc),
         })
@@ -186,7 +188,7 @@ impl Schedule {
     ) -> Result<(), Fault> {
         tell_answer(rt, answer)?;
         self.show(rt, Moment::After)?;
-        let mut again = core_with(alloc)?;
+        let mut again = core_with(alloc, self.threads)?;
         let refused = replay(&mut again, self.steps.as_slice(), self.answers.as_slice())?;
         if are_alike(&self.core, &again)? {
             tell_refused(rt, refused)

@@ -11,7 +11,7 @@ use parking_lot_core::{
 use std::alloc::Global;
 use std::fmt;
 use std::sync::Wait;
-use std::time::{Clock, Instant};
+use std::time::{Clock, Duration, Instant};
 
 /// How many numbers the lot has.
 pub(super) const MOST: usize = 1_024;
@@ -20,6 +20,9 @@ pub(super) const MOST: usize = 1_024;
 const SOME: usize = 40;
 
 const RECORDINGS: usize = 130;
+
+// In milliseconds, long enough for a thread to fall asleep.
+const MOMENT: u64 = 5;
 
 /// `ParkingLot::new`.
 pub(super) fn new<P: ThreadParkerT, R: Print>(rt: &R, alloc: Global) -> Result<(), Fault> {
@@ -323,6 +326,10 @@ impl<P: ThreadParkerT> Parks<P> {
 
     fn play<R: Print + Wait + Clock>(&mut self, rt: &R) -> Result<(), Fault> {
         let past = Instant::now(rt)?;
+        // After a sleep no later park or unpark has to call the system for it.
+        if let Some(soon) = past.checked_add(Duration::from_millis(MOMENT)) {
+            self.park_once(rt, true, Unpark::Nobody, Some(soon));
+        }
         self.show(rt, Moment::Before)?;
         marks::begin(self.threads.alloc);
         self.park_each_way(rt, past);
@@ -337,12 +344,12 @@ impl<P: ThreadParkerT> Parks<P> {
     }
 
     fn park_each_way<R: Wait + Clock>(&mut self, rt: &R, past: Instant) {
-        self.park_once(rt, false, Unpark::Nobody, None);
-        self.park_once(rt, true, Unpark::Nobody, Some(past));
         for unpark in [Unpark::One, Unpark::All, Unpark::Filter, Unpark::Requeue] {
             self.park_once(rt, true, unpark, None);
             self.park_once(rt, true, unpark, Some(past));
         }
+        self.park_once(rt, false, Unpark::Nobody, None);
+        self.park_once(rt, true, Unpark::Nobody, Some(past));
     }
 
     fn park_once<R: Wait + Clock>(

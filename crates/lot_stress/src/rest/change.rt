@@ -1,0 +1,75 @@
+//! Threads that come to a table while it grows.
+
+use crate::fault::Fault;
+use crate::turns::comes_to;
+use parking_lot_core::{DEFAULT_UNPARK_TOKEN, ParkingLot, WordParker, unpark_all, unpark_one};
+use std::alloc::Global;
+use std::sync::Wait;
+use std::sync::atomic::{AtomicUsize, Ordering};
+use std::thread;
+use std::thread::Threads;
+use std::time::{Clock, Duration};
+
+// The table grows at the registration of the last of these.
+const REGISTERED: usize = 6;
+
+// Its bucket is the first that a growth empties.
+const HELD_KEY: usize = 0;
+
+const OTHER_KEY: usize = 1;
+
+// Those who come, and the two on whom they wait.
+const THREADS: usize = 10;
+
+// In milliseconds, until the growth has begun.
+const MOMENT: u64 = 20;
+
+/// Eight threads come while the table grows, and the growth waits so long for a section. Tells
+/// whether all came through.
+pub(super) fn rest<R: Threads + Wait + Clock + Sync>(
+    rt: &R,
+    alloc: Global,
+    rest: Duration,
+) -> Result<bool, Fault> {
+    let lot = ParkingLot::<WordParker>::new(alloc, REGISTERED)?;
+    for _ in 1..REGISTERED {
+        drop(lot.thread_data(rt, alloc)?);
+    }
+    let is_held = AtomicUsize::new(0);
+    let through = AtomicUsize::new(0);
+    let play = |index: usize| {
+        match index {
+            0 => hold(rt, &lot, &is_held, rest),
+            1 => grow(rt, alloc, &lot, &is_held),
+            _ => come(rt, &lot, &is_held),
+        }
+        through.fetch_add(1, Ordering::SeqCst);
+    };
+    drop(thread::map_indices(rt, alloc, THREADS, &play));
+    Ok(through.load(Ordering::SeqCst) == THREADS)
+}
+
+// Stays so long in a section.
+fn hold<R: Wait + Clock>(
+    rt: &R,
+    lot: &ParkingLot<WordParker>,
+    is_held: &AtomicUsize,
+    rest: Duration,
+) {
+    unpark_one(rt, lot, HELD_KEY, |_| {
+        is_held.store(1, Ordering::SeqCst);
+        thread::sleep(rt, rest);
+        DEFAULT_UNPARK_TOKEN
+    });
+}
+
+fn grow<R: Wait>(rt: &R, alloc: Global, lot: &ParkingLot<WordParker>, is_held: &AtomicUsize) {
+    comes_to(is_held, 1);
+    drop(lot.thread_data(rt, alloc));
+}
+
+fn come<R: Wait + Clock>(rt: &R, lot: &ParkingLot<WordParker>, is_held: &AtomicUsize) {
+    comes_to(is_held, 1);
+    thread::sleep(rt, Duration::from_millis(MOMENT));
+    unpark_all(rt, lot, OTHER_KEY, DEFAULT_UNPARK_TOKEN);
+}
