@@ -266,7 +266,7 @@ fn a_deadline_far_away_has_not_passed(rt: HostRuntime) {
 fn a_long_wait_ends_at_its_deadline_alone(rt: HostRuntime) {
     let hour = Duration::from_hours(1);
     let commit = Commit {
-        pause: Duration::from_secs(2),
+        pause: Duration::from_secs(4),
         wakes: true,
     };
     comes_back::<ThreadParker, _>(&rt, rt.alloc(), hour, commit);

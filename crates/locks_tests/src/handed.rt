@@ -134,7 +134,7 @@ pub fn notify<P: ThreadParkerT, R: Wait + Abort>(
 }
 
 // Sleeps on the condition variable, and keeps the mutex until another thread waits for it.
-fn be_notified<P: ThreadParkerT, R: Wait + Clock + Abort>(
+pub fn be_notified<P: ThreadParkerT, R: Wait + Clock + Abort>(
     rt: &R,
     alloc: Global,
     shared: &Shared<P>,

@@ -2,7 +2,7 @@
 
 use crate::expect_equal;
 use crate::handed::{
-    CONDVAR_KEY, MUTEX_KEY, Shared, Way, come, lock, notify, register, sleep, waiting,
+    CONDVAR_KEY, MUTEX_KEY, Shared, Way, be_notified, come, lock, notify, register, sleep, waiting,
 };
 use lot_base::thread_parker::{ThreadParker, ThreadParkerT, WordParker, YieldParker};
 use lot_base::token::UnparkResult;
@@ -114,4 +114,52 @@ fn notifies_reach_those_who_sleep_in_order(rt: HostRuntime) {
         two_sleep::<ThreadParker, _>(&rt, rt.alloc(), way);
         two_sleep::<YieldParker, _>(&rt, rt.alloc(), way);
     }
+}
+
+// Notifies one of so many sleepers, who is handed the mutex, which nobody holds.
+fn hand_to_one_of<P: ThreadParkerT, R: Wait + Abort>(rt: &R, shared: &Shared<P>, sleepers: usize) {
+    let handed = UnparkResult {
+        unparked_threads: 1,
+        requeued_threads: 0,
+        have_more_threads: sleepers > 1,
+    };
+    expect_equal(rt, notify(rt, shared, Way::One), handed);
+}
+
+// Notifies the first once both have let the mutex go, locks that behind it, and notifies the other.
+fn hand_to_each<P: ThreadParkerT, R: Wait + Clock + Abort>(
+    rt: &R,
+    alloc: Global,
+    shared: &Shared<P>,
+) {
+    expect_equal(rt, come(rt, alloc, shared, CONDVAR_KEY, 2), true);
+    let mut data = register(rt, alloc, shared);
+    lock(rt, shared, &mut data);
+    shared.mutex.unlock(rt, &shared.lot);
+    hand_to_one_of(rt, shared, 2);
+    lock(rt, shared, &mut data);
+    shared.mutex.unlock(rt, &shared.lot);
+    hand_to_one_of(rt, shared, 1);
+}
+
+fn one_of_two_holds_it<P, R>(rt: &R, alloc: Global)
+where
+    P: ThreadParkerT + Send + Sync,
+    R: Threads + Wait + Clock + Abort + Sync,
+{
+    let shared = Shared::<P>::new(rt, alloc);
+    let play = |index: usize| match index {
+        0 => be_notified(rt, alloc, &shared),
+        1 => sleep_behind(rt, alloc, &shared, 1),
+        _ => hand_to_each(rt, alloc, &shared),
+    };
+    thread::map_indices(rt, alloc, 3, &play).expect(rt, "threads");
+}
+
+// It refuses a notify that leaves the mutex free where it hands it to the first of several.
+#[test]
+fn the_first_of_two_sleepers_holds_the_mutex_alone(rt: HostRuntime) {
+    one_of_two_holds_it::<WordParker, _>(&rt, rt.alloc());
+    one_of_two_holds_it::<ThreadParker, _>(&rt, rt.alloc());
+    one_of_two_holds_it::<YieldParker, _>(&rt, rt.alloc());
 }

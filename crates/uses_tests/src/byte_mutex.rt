@@ -114,12 +114,17 @@ fn threads_count_in_turn(rt: HostRuntime) -> Result<(), Fail> {
     Ok(())
 }
 
-// Waits until a thread waits for the mutex, and tells whether one came.
-fn come_by_turns<P: ThreadParkerT, R: Wait>(rt: &R, alloc: Global, lot: &ParkingLot<P>) -> bool {
+// Waits until so many threads wait for the mutex, and tells whether they did.
+fn wait_for_waiters<P: ThreadParkerT, R: Wait>(
+    rt: &R,
+    alloc: Global,
+    lot: &ParkingLot<P>,
+    waiters: usize,
+) -> bool {
     for _ in 0..TURNS {
         if lot
             .list(rt, alloc, KEY)
-            .is_ok_and(|numbers| numbers.len() == 1)
+            .is_ok_and(|numbers| numbers.len() == waiters)
         {
             return true;
         }
@@ -155,7 +160,7 @@ fn a_waiter_is_handed_the_mutex(rt: HostRuntime) -> Result<(), Fail> {
     let theirs = Arc::try_clone(&shared)?;
     let held = shared.mutex.try_lock().expect(&rt, "nobody holds it");
     let started = start_counting(&rt, theirs, data);
-    let came = come_by_turns(&rt, rt.alloc(), &shared.lot);
+    let came = wait_for_waiters(&rt, rt.alloc(), &shared.lot, 1);
     let counts = shared.counts();
     let handed = shared.mutex.unlock(&rt, &shared.lot, held);
     expect_equal(&rt, (came, counts, handed), (true, (0, 0), true));
@@ -178,7 +183,7 @@ fn lock_once_more<P: ThreadParkerT, R: Wait + Clock>(
     thread::sleep(rt, Duration::from_millis(20));
     shared.mutex.unlock(rt, &shared.lot, held);
     let again = shared.mutex.try_lock();
-    come_by_turns(rt, alloc, &shared.lot);
+    wait_for_waiters(rt, alloc, &shared.lot, 1);
     if let Some(held) = again {
         shared.mutex.unlock(rt, &shared.lot, held);
     }
@@ -197,5 +202,48 @@ fn a_thread_sleeps_only_while_the_byte_tells_of_waiters(rt: HostRuntime) -> Resu
     lock_once_more(&rt, rt.alloc(), &shared, held);
     assert!(rt; started.expect(&rt, "a thread").join(&rt));
     expect_equal(&rt, shared.counts(), (ROUNDS, ROUNDS));
+    Ok(())
+}
+
+// Starts a thread that counts in rounds once nobody waits for the mutex.
+fn start_once_nobody_waits<P, R>(
+    rt: &R,
+    alloc: Global,
+    shared: Arc<Shared<P>, Global>,
+    data: ThreadData,
+) -> Option<JoinHandle<bool>>
+where
+    P: ThreadParkerT + Send + Sync + 'static,
+    P::UnparkHandle: 'static,
+    R: Threads + Wait + Clock + Copy + Send + 'static,
+{
+    let runtime = *rt;
+    thread::spawn(rt, move || {
+        wait_for_waiters(&runtime, alloc, &shared.lot, 0);
+        count_in_rounds(&runtime, &shared, data)
+    })
+    .ok()
+}
+
+// It refuses an `unlock` that changes the byte behind its section: it would not know of a thread
+// that came to wait meanwhile.
+#[test]
+fn who_comes_to_wait_while_another_is_woken_is_woken_too(rt: HostRuntime) -> Result<(), Fail> {
+    let lot = ParkingLot::<SlowParker>::new(rt.alloc(), 2)?;
+    let shared = Arc::new(rt.alloc(), Shared::new(lot))?;
+    let data = register(&rt, rt.alloc(), &shared.lot)?;
+    let others = register(&rt, rt.alloc(), &shared.lot)?;
+    let (theirs, others_shared) = (Arc::try_clone(&shared)?, Arc::try_clone(&shared)?);
+    let held = shared.mutex.try_lock().expect(&rt, "nobody holds it");
+    let first = start_counting(&rt, theirs, data);
+    wait_for_waiters(&rt, rt.alloc(), &shared.lot, 1);
+    let second = start_once_nobody_waits(&rt, rt.alloc(), others_shared, others);
+    let handed = shared.mutex.unlock(&rt, &shared.lot, held);
+    let both = (
+        first.expect(&rt, "a thread").join(&rt),
+        second.expect(&rt, "a thread").join(&rt),
+    );
+    expect_equal(&rt, (handed, both), (true, (true, true)));
+    expect_equal(&rt, shared.counts(), (2 * ROUNDS, 2 * ROUNDS));
     Ok(())
 }

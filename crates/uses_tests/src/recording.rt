@@ -33,6 +33,15 @@ fn a_journal_of_two_threads_replays(rt: HostRuntime) -> Result<(), Fail> {
     Ok(())
 }
 
+// In one turn each thread registers, enters and unparks, and returns if it was unparked by then.
+#[test]
+fn a_turn_has_each_of_its_steps(rt: HostRuntime) -> Result<(), Fail> {
+    let recorded = record_two(&rt, rt.alloc(), 7, 1, 1_000)?;
+    let steps = recorded.journal().len();
+    assert!(&rt; matches!(steps, 6..=8));
+    Ok(())
+}
+
 fn expect_answer<R: Abort>(
     rt: &R,
     recorded: &mut Record,

@@ -1,4 +1,4 @@
-//! A parker that takes long to prepare.
+//! A parker that takes long to prepare and long to wake.
 
 use parking_lot_core::{NoMemory, Node, ThreadParkerT, UnparkHandleT, YieldHandle, YieldParker};
 use std::alloc::Global;
@@ -10,12 +10,24 @@ use std::time::{Clock, Instant};
 // Some tens of milliseconds.
 const YIELDS: usize = 200_000;
 
-/// A `YieldParker` whose thread yields often as it first prepares to park. So another thread can go
-/// on between what the thread does before a park and the park.
+/// A `YieldParker`. Thread 0 yields often as it first prepares to park, so that another thread can go
+/// on between what thread 0 does before a park and the park; and whoever first wakes thread 0 yields
+/// as often before, so that a third one can come between an unpark's section and what follows it.
 #[derive(Drop)]
 pub struct SlowParker {
     parker: YieldParker,
     is_prepared: AtomicBool,
+    is_woken: AtomicBool,
+}
+
+// Yields often, unless the flag was raised before.
+fn yield_once(flag: &AtomicBool) {
+    if flag.swap(true, Ordering::SeqCst) {
+        return;
+    }
+    for _ in 0..YIELDS {
+        thread::yield_now();
+    }
 }
 
 impl ThreadParkerT for SlowParker {
@@ -28,17 +40,13 @@ impl ThreadParkerT for SlowParker {
     fn new(alloc: Global, number: usize) -> Result<SlowParker, NoMemory> {
         Ok(SlowParker {
             parker: YieldParker::new(alloc, number)?,
-            is_prepared: AtomicBool::new(false),
+            is_prepared: AtomicBool::new(number != 0),
+            is_woken: AtomicBool::new(number != 0),
         })
     }
 
     fn prepare_park(&self) {
-        if self.is_prepared.swap(true, Ordering::SeqCst) {
-            return;
-        }
-        for _ in 0..YIELDS {
-            thread::yield_now();
-        }
+        yield_once(&self.is_prepared);
     }
 
     fn timed_out<R: Wait>(&self, rt: &R) -> bool {
@@ -74,6 +82,7 @@ impl UnparkHandleT<SlowParker> for SlowHandle {
     }
 
     fn unpark(self, parker: &SlowParker) {
+        yield_once(&parker.is_woken);
         self.handle.unpark(&parker.parker);
     }
 }
