@@ -1,0 +1,3 @@
+pub mod MutexKeeps
+pub mod MutexHolds
+pub mod OnceKeeps

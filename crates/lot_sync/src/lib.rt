@@ -1,0 +1,9 @@
+//! Locks around a value, on a parking lot: a mutex, a condition variable, a lock for readers and
+//! writers, and what is done once. Whoever waits parks on the lock's key.
+#![tactic(auto)]
+
+pub mod fits;
+pub mod keys;
+pub mod mutex;
+pub mod once;
+pub mod rw_lock;

@@ -1,0 +1,242 @@
+//! Each call once, by one thread.
+
+use crate::pair::Pair;
+use crate::{expect_equal, register};
+use lot_base::thread_parker::WordParker;
+use lot_sync::keys::Keys;
+use lot_sync::mutex::{Condvar, Mutex, WaitResult};
+use lot_sync::once::Once;
+use lot_sync::rw_lock::RwLock;
+use parking_lot_core::{
+    DEFAULT_PARK_TOKEN, Member, ParkResult, ParkingLot, UnparkToken, unpark_one,
+};
+use std::process::Abort;
+use std::sync::Wait;
+use std::sync::atomic::{AtomicUsize, Ordering};
+use std::test::Fail;
+use std::time::{Clock, Instant};
+
+#[test]
+fn keys_are_dealt_once(rt: HostRuntime) -> Result<(), Fail> {
+    let keys = Keys::new();
+    expect_equal(&rt, (keys.deal(), keys.deal()), (Some(0), Some(1)));
+    let last = Keys::starting_at(usize::MAX - 1);
+    expect_equal(&rt, last.deal(), Some(usize::MAX - 1));
+    expect_equal(&rt, last.deal(), None);
+    expect_equal(&rt, last.deal(), None);
+    Ok(())
+}
+
+#[test]
+fn a_member_registers_and_retires(rt: HostRuntime) -> Result<(), Fail> {
+    let lot = ParkingLot::<WordParker>::new(rt.alloc(), 1)?;
+    let mut member = register(&rt, rt.alloc(), &lot);
+    expect_equal(&rt, member.number(), 0);
+    expect_equal(&rt, member.lot().max_threads(), 1);
+    member.acquire_resource(5)?;
+    expect_equal(&rt, member.records(5), 1);
+    member.release_resource(5);
+    expect_equal(&rt, member.records(5), 0);
+    member.retire(&rt);
+    let again = register(&rt, rt.alloc(), &lot);
+    expect_equal(&rt, again.number(), 0);
+    Ok(())
+}
+
+#[test]
+fn a_member_parks_and_is_unparked(rt: HostRuntime) -> Result<(), Fail> {
+    let lot = ParkingLot::<WordParker>::new(rt.alloc(), 1)?;
+    let mut member = register(&rt, rt.alloc(), &lot);
+    let result = member.park(
+        &rt,
+        7,
+        || true,
+        || {
+            unpark_one(&rt, &lot, 7, |_| UnparkToken(42));
+        },
+        |_, _| (),
+        DEFAULT_PARK_TOKEN,
+        None,
+    );
+    expect_equal(&rt, result, ParkResult::Unparked(UnparkToken(42)));
+    Ok(())
+}
+
+#[test]
+fn data_whose_number_the_lot_has_not_comes_back(rt: HostRuntime) -> Result<(), Fail> {
+    let small = ParkingLot::<WordParker>::new(rt.alloc(), 1)?;
+    let lot = ParkingLot::<WordParker>::new(rt.alloc(), 2)?;
+    drop(lot.thread_data(&rt, rt.alloc())?);
+    let refused = Member::of(&small, lot.thread_data(&rt, rt.alloc())?);
+    let back = refused
+        .err()
+        .expect(&rt, "a number that is none of the lot's");
+    let member = Member::of(&lot, back)
+        .ok()
+        .expect(&rt, "a number of the lot's");
+    expect_equal(&rt, member.number(), 1);
+    Ok(())
+}
+
+// Tries a mutex that is held, up to the instant.
+fn expect_held<R: Wait + Clock + Abort>(
+    rt: &R,
+    member: &mut Member<'_, WordParker>,
+    mutex: &Mutex<Pair>,
+    past: Instant,
+) {
+    if let Some(held) = mutex.try_lock() {
+        held.unlock(rt, member);
+        expect_equal(rt, "free", "held");
+    }
+    if let Some(held) = mutex.lock_until(rt, member, past) {
+        held.unlock(rt, member);
+        expect_equal(rt, "free", "held");
+    }
+}
+
+fn lock_in_each_way<R: Wait + Clock + Abort>(
+    rt: &R,
+    member: &mut Member<'_, WordParker>,
+    mutex: &Mutex<Pair>,
+    past: Instant,
+) {
+    let mut held = mutex.lock(rt, member);
+    held.value.add_one();
+    expect_held(rt, member, mutex, past);
+    held.unlock(rt, member);
+    let mut held = mutex.try_lock().expect(rt, "a free mutex");
+    held.value.add_one();
+    held.unlock_fair(rt, member);
+    let held = mutex
+        .lock_until(rt, member, past)
+        .expect(rt, "a free mutex");
+    expect_equal(rt, held.value.first, 2);
+    expect_equal(rt, held.mutex().key(), mutex.key());
+    held.unlock(rt, member);
+}
+
+#[test]
+fn a_mutex_is_locked_in_each_way(rt: HostRuntime) -> Result<(), Fail> {
+    let lot = ParkingLot::<WordParker>::new(rt.alloc(), 1)?;
+    let mutex = Mutex::new(rt.alloc(), 3, Pair::new())?;
+    let mut member = register(&rt, rt.alloc(), &lot);
+    let past = Instant::now(&rt)?;
+    lock_in_each_way(&rt, &mut member, &mutex, past);
+    member.retire(&rt);
+    Ok(())
+}
+
+fn wait_in_vain<R: Wait + Clock + Abort>(
+    rt: &R,
+    member: &mut Member<'_, WordParker>,
+    mutex: &Mutex<Pair>,
+    condvar: &Condvar,
+    past: Instant,
+) {
+    let held = mutex.lock(rt, member);
+    let (held, ended) = condvar.wait_until(rt, member, held, past);
+    expect_equal(rt, ended, WaitResult::TimedOut);
+    held.unlock(rt, member);
+    expect_equal(rt, condvar.notify_one(rt, member, mutex), false);
+    expect_equal(rt, condvar.notify_all(rt, member, mutex), 0);
+}
+
+#[test]
+fn a_wait_ends_at_its_deadline(rt: HostRuntime) -> Result<(), Fail> {
+    let lot = ParkingLot::<WordParker>::new(rt.alloc(), 1)?;
+    let mutex = Mutex::new(rt.alloc(), 3, Pair::new())?;
+    let condvar = Condvar::new(4);
+    let mut member = register(&rt, rt.alloc(), &lot);
+    let past = Instant::now(&rt)?;
+    wait_in_vain(&rt, &mut member, &mutex, &condvar, past);
+    member.retire(&rt);
+    Ok(())
+}
+
+// Tries to write to a lock that is held, up to the instant.
+fn expect_no_writer<R: Wait + Clock + Abort>(
+    rt: &R,
+    member: &mut Member<'_, WordParker>,
+    lock: &RwLock<Pair>,
+    past: Instant,
+) {
+    if let Some(held) = lock.try_write() {
+        held.unlock(rt, member);
+        expect_equal(rt, "free", "held");
+    }
+    if let Some(held) = lock.write_until(rt, member, past) {
+        held.unlock(rt, member);
+        expect_equal(rt, "free", "held");
+    }
+}
+
+// Tries to read what a writer has, up to the instant.
+fn expect_no_reader<R: Wait + Clock + Abort>(
+    rt: &R,
+    member: &mut Member<'_, WordParker>,
+    lock: &RwLock<Pair>,
+    past: Instant,
+) {
+    if let Some(held) = lock.try_read() {
+        held.unlock(rt, member);
+        expect_equal(rt, "free", "held");
+    }
+    if let Some(held) = lock.read_until(rt, member, past) {
+        held.unlock(rt, member);
+        expect_equal(rt, "free", "held");
+    }
+}
+
+fn read_and_write<R: Wait + Clock + Abort>(
+    rt: &R,
+    member: &mut Member<'_, WordParker>,
+    lock: &RwLock<Pair>,
+    past: Instant,
+) {
+    let mut held = lock.write(rt, member);
+    held.value.add_one();
+    expect_no_reader(rt, member, lock, past);
+    expect_no_writer(rt, member, lock, past);
+    let one = held.downgrade(rt, member);
+    let two = lock.try_read().expect(rt, "no writer");
+    expect_no_writer(rt, member, lock, past);
+    let three = lock.read_until(rt, member, past).expect(rt, "no writer");
+    expect_equal(rt, one.value().first, two.value().second);
+    one.unlock(rt, member);
+    two.unlock(rt, member);
+    three.unlock(rt, member);
+    let held = lock.try_write().expect(rt, "a free lock");
+    expect_equal(rt, held.value.first, 1);
+    held.unlock(rt, member);
+}
+
+#[test]
+fn a_lock_is_read_and_written(rt: HostRuntime) -> Result<(), Fail> {
+    let lot = ParkingLot::<WordParker>::new(rt.alloc(), 1)?;
+    let lock = RwLock::new(&rt, 3, Pair::new());
+    let mut member = register(&rt, rt.alloc(), &lot);
+    let past = Instant::now(&rt)?;
+    read_and_write(&rt, &mut member, &lock, past);
+    member.retire(&rt);
+    Ok(())
+}
+
+#[test]
+fn a_once_runs_one_closure(rt: HostRuntime) -> Result<(), Fail> {
+    let lot = ParkingLot::<WordParker>::new(rt.alloc(), 1)?;
+    let once = Once::new(rt.alloc(), 3)?;
+    let mut member = register(&rt, rt.alloc(), &lot);
+    let runs = AtomicUsize::new(0);
+    expect_equal(&rt, once.is_done(), false);
+    for turn in 0..3 {
+        let called = once.call_once(&rt, &mut member, || {
+            runs.fetch_add(1, Ordering::SeqCst);
+        });
+        expect_equal(&rt, called, turn == 0);
+    }
+    expect_equal(&rt, once.is_done(), true);
+    expect_equal(&rt, runs.load(Ordering::SeqCst), 1);
+    member.retire(&rt);
+    Ok(())
+}

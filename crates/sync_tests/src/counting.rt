@@ -1,0 +1,80 @@
+//! Four threads count under a mutex, and none of their additions is lost.
+
+use crate::pair::Pair;
+use crate::{expect_equal, register};
+use lot_base::thread_parker::{ThreadParker, ThreadParkerT, WordParker, YieldParker};
+use lot_sync::mutex::Mutex;
+use parking_lot_core::ParkingLot;
+use std::alloc::Global;
+use std::process::Abort;
+use std::sync::Wait;
+use std::thread;
+use std::thread::Threads;
+use std::time::Clock;
+
+const THREADS: usize = 4;
+
+const ROUNDS: usize = 1_000;
+
+#[derive(Drop)]
+struct Shared<P: ThreadParkerT> {
+    lot: ParkingLot<P>,
+    mutex: Mutex<Pair>,
+}
+
+impl<P: ThreadParkerT> Shared<P> {
+    fn new<R: Abort>(rt: &R, alloc: Global) -> Shared<P> {
+        Shared {
+            lot: ParkingLot::<P>::new(alloc, THREADS).expect(rt, "a lot"),
+            mutex: Mutex::new(alloc, 7, Pair::new()).expect(rt, "a mutex"),
+        }
+    }
+}
+
+// Adds, and hands the mutex over each fourth time.
+fn count<P: ThreadParkerT, R: Wait + Clock + Abort>(rt: &R, alloc: Global, shared: &Shared<P>) {
+    let mut member = register(rt, alloc, &shared.lot);
+    for round in 0..ROUNDS {
+        let mut held = shared.mutex.lock(rt, &mut member);
+        held.value.add_one();
+        if round % 4 == 0 {
+            held.unlock_fair(rt, &member);
+        } else {
+            held.unlock(rt, &member);
+        }
+    }
+    member.retire(rt);
+}
+
+fn total<P: ThreadParkerT, R: Wait + Clock + Abort>(
+    rt: &R,
+    alloc: Global,
+    shared: &Shared<P>,
+) -> u64 {
+    let mut member = register(rt, alloc, &shared.lot);
+    let held = shared.mutex.lock(rt, &mut member);
+    let total = held.value.second;
+    held.unlock(rt, &member);
+    member.retire(rt);
+    total
+}
+
+fn all_count<P, R>(rt: &R, alloc: Global)
+where
+    P: ThreadParkerT + Send + Sync,
+    R: Threads + Wait + Clock + Abort + Sync,
+{
+    let shared = Shared::<P>::new(rt, alloc);
+    let play = |_: usize| count(rt, alloc, &shared);
+    thread::map_indices(rt, alloc, THREADS, &play).expect(rt, "threads");
+    expect_equal(rt, total(rt, alloc, &shared), 4_000);
+}
+
+// No clause says that an addition is not lost, or that whoever waits is woken. With two holders at
+// once some additions are lost; with an unlock that wakes nobody, this does not end.
+#[test]
+fn four_threads_count_together(rt: HostRuntime) {
+    all_count::<WordParker, _>(&rt, rt.alloc());
+    all_count::<ThreadParker, _>(&rt, rt.alloc());
+    all_count::<YieldParker, _>(&rt, rt.alloc());
+}

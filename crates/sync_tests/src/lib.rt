@@ -1,0 +1,44 @@
+//! Tests of the locks around values, by their public calls alone.
+#![tactic(auto)]
+
+#[cfg(test)]
+mod calls;
+#[cfg(test)]
+mod channel;
+#[cfg(test)]
+mod counting;
+#[cfg(test)]
+mod once;
+#[cfg(test)]
+mod pair;
+#[cfg(test)]
+mod readers;
+
+#[cfg(test)]
+use lot_base::thread_parker::ThreadParkerT;
+#[cfg(test)]
+use parking_lot_core::{Member, ParkingLot};
+#[cfg(test)]
+use std::alloc::Global;
+#[cfg(test)]
+use std::fmt::Debug;
+#[cfg(test)]
+use std::process::Abort;
+#[cfg(test)]
+use std::sync::Wait;
+
+// Compares what was found with what is expected. For any type it is proved once.
+#[cfg(test)]
+fn expect_equal<T: PartialEq + Debug + Drop>(rt: &impl Abort, found: T, expected: T) {
+    assert_eq!(rt; found, expected);
+}
+
+// Registers the calling thread.
+#[cfg(test)]
+fn register<'a, P: ThreadParkerT, R: Wait + Abort>(
+    rt: &R,
+    alloc: Global,
+    lot: &'a ParkingLot<P>,
+) -> Member<'a, P> {
+    Member::register(rt, alloc, lot).expect(rt, "a number")
+}
