@@ -1,0 +1,43 @@
+//! What was done in a session.
+
+use crate::words::first_word;
+use std::alloc::{AllocError, Global};
+
+/// A step as a line of the grammar, and what it answered.
+#[derive(Drop)]
+pub struct Entry {
+    /// The line.
+    pub line: String,
+
+    /// The answer.
+    pub answer: String,
+}
+
+impl Entry {
+    /// An entry of this line and this answer.
+    pub fn new(alloc: Global, line: &str, answer: &str) -> Result<Entry, AllocError> {
+        Ok(Entry {
+            line: String::from_str(alloc, line)?,
+            answer: String::from_str(alloc, answer)?,
+        })
+    }
+
+    /// Whether the lot may be another since. Questions leave it as it was, and so do steps that do
+    /// not fit or find no memory.
+    pub fn may_change(&self) -> bool {
+        !matches!(
+            first_word(self.line.as_str()).0,
+            "list" | "records" | "size"
+        ) && !matches!(self.answer.as_str(), "misfit" | "no memory")
+    }
+}
+
+/// The lines as a script.
+pub fn script_of(alloc: Global, entries: &[Entry]) -> Result<String, AllocError> {
+    let mut lines = String::new(alloc);
+    for entry in entries {
+        lines.push_str(entry.line.as_str())?;
+        lines.push_str("\n")?;
+    }
+    Ok(lines)
+}

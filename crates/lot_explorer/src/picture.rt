@@ -1,0 +1,248 @@
+//! A lot as rows of text, and which of them a step has changed.
+
+ghost use Rattle.std.specs.Prelude.{IfSome};
+ghost use Rattle.lot_base.specs.Place.{IsTableSize};
+
+use crate::known::insert_once;
+use crate::page::Page;
+use crate::state::{Queue, State, Status};
+use lot_base::bucket::place;
+use std::alloc::{AllocError, Global};
+
+/// A lot as rows of text.
+#[derive(Drop)]
+pub struct Picture {
+    rows: Vec<String>,
+}
+
+impl Picture {
+    /// No row, before there is a lot.
+    pub fn empty(alloc: Global) -> Picture {
+        Picture {
+            rows: Vec::new(alloc),
+        }
+    }
+
+    /// The size, who waits on each key, the threads by what they do, the records, and which keys
+    /// each bucket holds at this size.
+    pub fn of(alloc: Global, state: &State) -> Result<Picture, AllocError> {
+        let mut rows = Vec::new(alloc);
+        let State {
+            buckets,
+            registered,
+            ..
+        } = state;
+        rows.push(format!(in alloc; "size: buckets {buckets} threads {registered}")?)?;
+        for queue in &state.queues {
+            rows.push(queue_row(alloc, queue)?)?;
+        }
+        for group in Group::all() {
+            rows.push(group_row(alloc, group, &state.statuses)?)?;
+        }
+        for records in &state.records {
+            rows.push(format!(in alloc;
+                "records of thread {} on key {}: {}",
+                records.thread, records.key, records.count
+            )?)?;
+        }
+        push_bucket_rows(alloc, &mut rows, state)?;
+        Ok(Picture { rows })
+    }
+
+    /// Who waits on each key.
+    pub fn of_queues(alloc: Global, queues: &[Queue]) -> Result<Picture, AllocError> {
+        let mut rows = Vec::new(alloc);
+        for queue in queues {
+            rows.push(queue_row(alloc, queue)?)?;
+        }
+        Ok(Picture { rows })
+    }
+
+    /// Shows all rows, and marks those that are not in the picture before. Behind them it tells
+    /// which rows of that picture are gone.
+    pub fn show(&self, before: &Picture, page: &mut Page) -> Result<(), AllocError> {
+        for row in &self.rows {
+            if before.has(row.as_str()) {
+                page.row(row.as_str())?;
+            } else {
+                page.changed_row(row.as_str())?;
+            }
+        }
+        self.show_gone(before, page)
+    }
+
+    /// Shows the rows that are not in the picture before, and which rows of that picture are gone.
+    pub fn show_changes(&self, before: &Picture, page: &mut Page) -> Result<(), AllocError> {
+        for row in &self.rows {
+            if !before.has(row.as_str()) {
+                page.changed_row(row.as_str())?;
+            }
+        }
+        self.show_gone(before, page)
+    }
+
+    fn show_gone(&self, before: &Picture, page: &mut Page) -> Result<(), AllocError> {
+        for row in &before.rows {
+            let head = head_of(row.as_str());
+            if !self.rows.iter().any(|row| head_of(row.as_str()) == head) {
+                page.gone_row(head)?;
+            }
+        }
+        Ok(())
+    }
+
+    fn has(&self, wanted: &str) -> bool {
+        self.rows.iter().any(|row| row.as_str() == wanted)
+    }
+}
+
+// What the row tells of: what stands before its colon.
+fn head_of(row: &str) -> &str {
+    row.split_once(':').map_or(row, |(head, _)| head)
+}
+
+// What several threads are doing at a time.
+#[derive(Copy, Clone, Eq, PartialEq)]
+enum Group {
+    Running,
+    WaitingTimed,
+    WaitingUntimed,
+    Late,
+    Taken,
+}
+
+impl Group {
+    fn all() -> [Group; 5] {
+        [
+            Group::Running,
+            Group::WaitingTimed,
+            Group::WaitingUntimed,
+            Group::Late,
+            Group::Taken,
+        ]
+    }
+
+    fn of(status: Status) -> Option<Group> {
+        match status {
+            Status::Free => None,
+            Status::Running => Some(Group::Running),
+            Status::WaitingTimed { .. } => Some(Group::WaitingTimed),
+            Status::WaitingUntimed { .. } => Some(Group::WaitingUntimed),
+            Status::Late { .. } => Some(Group::Late),
+            Status::Taken { .. } => Some(Group::Taken),
+        }
+    }
+
+    fn name(self) -> &'static str {
+        match self {
+            Group::Running => "running:",
+            Group::WaitingTimed => "waiting timed:",
+            Group::WaitingUntimed => "waiting untimed:",
+            Group::Late => "late:",
+            Group::Taken => "taken:",
+        }
+    }
+}
+
+fn queue_row(alloc: Global, queue: &Queue) -> Result<String, AllocError> {
+    let mut row = format!(in alloc; "key {}:", queue.key)?;
+    push_threads(&mut row, queue)?;
+    Ok(row)
+}
+
+// The numbers in order, each after a blank, or `nobody`.
+fn push_threads(row: &mut String, queue: &Queue) -> Result<(), AllocError> {
+    if queue.threads.is_empty() {
+        return row.push_str(" nobody");
+    }
+    for thread in &queue.threads {
+        write!(row, " {thread}")?;
+    }
+    Ok(())
+}
+
+fn group_row(alloc: Global, group: Group, statuses: &[Status]) -> Result<String, AllocError> {
+    let mut row = String::from_str(alloc, group.name())?;
+    let mut separator = "";
+    for (thread, status) in statuses.iter().enumerate() {
+        if Group::of(*status) == Some(group) {
+            write!(row, "{separator} {thread}")?;
+            push_detail(&mut row, *status)?;
+            separator = ",";
+        }
+    }
+    if separator.is_empty() {
+        row.push_str(" nobody")?;
+    }
+    Ok(row)
+}
+
+// On which key the thread waits, or which token it was handed.
+fn push_detail(row: &mut String, status: Status) -> Result<(), AllocError> {
+    match status {
+        Status::Free | Status::Running => Ok(()),
+        Status::WaitingTimed { key } | Status::WaitingUntimed { key } | Status::Late { key } => {
+            write!(row, " on {key}")
+        }
+        Status::Taken { token } => write!(row, " with {token}"),
+    }
+}
+
+// A row for each bucket at which a known key has its place, in order of the places.
+fn push_bucket_rows(
+    alloc: Global,
+    rows: &mut Vec<String>,
+    state: &State,
+) -> Result<(), AllocError> {
+    let Some(size) = table_size(state.buckets) else {
+        return Ok(());
+    };
+    for bucket in places(alloc, &state.queues, size)? {
+        rows.push(bucket_row(alloc, bucket, &state.queues, size)?)?;
+    }
+    Ok(())
+}
+
+// The number of buckets, if a table can have so many.
+fn table_size(buckets: usize) -> Option<usize>
+    ensures { IfSome result IsTableSize }
+{
+    let bits = buckets.checked_ilog2()?;
+    if bits < 4 || 16 < bits {
+        return None;
+    }
+    let size = 1 << bits;
+    if size == buckets { Some(size) } else { None }
+}
+
+// The places of the keys, each once, in order.
+fn places(alloc: Global, queues: &[Queue], size: usize) -> Result<Vec<usize>, AllocError>
+    requires { IsTableSize size }
+{
+    let mut places = Vec::new(alloc);
+    for queue in queues {
+        insert_once(&mut places, place(queue.key, size))?;
+    }
+    Ok(places)
+}
+
+// The keys of a bucket, each with who waits there.
+fn bucket_row(
+    alloc: Global,
+    bucket: usize,
+    queues: &[Queue],
+    size: usize,
+) -> Result<String, AllocError>
+    requires { IsTableSize size }
+{
+    let mut row = format!(in alloc; "bucket {bucket} of {size}:")?;
+    let mut separator = "";
+    for queue in queues {
+        if place(queue.key, size) == bucket {
+            write!(row, "{separator} key {} holds", queue.key)?;
+            push_threads(&mut row, queue)?;
+            separator = ";";
+        }
+    }
+    Ok(row)
+}
