@@ -73,12 +73,17 @@ fn all_scenarios() -> [(&'static str, Scenario); 13] {
     ]
 }
 
-fn threads<R: Print + AllocGlobal + Threads + Wait + Clock + Copy + Send + 'static>(
+// Runs the scenarios. A line that cannot be printed ends them, and why is told on the error output.
+fn threads<R: Print + Eprint + AllocGlobal + Threads + Wait + Clock + Copy + Send + 'static>(
     rt: &R,
 ) -> ExitCode {
     match run_all(rt) {
         Ok(true) => ExitCode::SUCCESS,
-        _ => ExitCode::FAILURE,
+        Ok(false) => ExitCode::FAILURE,
+        Err(error) => {
+            let _ = eprintln!(rt; "parklot: {error}");
+            ExitCode::FAILURE
+        }
     }
 }
 
