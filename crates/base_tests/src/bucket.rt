@@ -1,7 +1,7 @@
 //! Worked rows of each step. The threads a, b, c and d are 0, 1, 2 and 3, and each parks with its
 //! number for a park token. All buckets are those of a table of 16, where the keys 0 and 13 have
 //! place 0, key 1 has place 9, key 2 has place 3 and key 7 has place 5.
-#![tactic(auto, using(crate::proofs::TableSizes::is_table_size_16, crate::proofs::TableSizes::is_table_size_32, crate::proofs::TableSizes::is_table_size_65536))]
+#![tactic(auto, using(crate::proofs::TableSizes::is_table_size_16))]
 
 mod steps;
 mod walk;
@@ -54,6 +54,16 @@ fn expect_one(
 
 const THREE: [(usize, usize); 3] = [(0, 1), (1, 1), (2, 1)];
 
+#[tactic(auto, using(crate::proofs::TableSizes::is_table_size_32))]
+fn place_of_32(key: usize) -> usize {
+    place(key, 32)
+}
+
+#[tactic(auto, using(crate::proofs::TableSizes::is_table_size_65536))]
+fn place_of_65536(key: usize) -> usize {
+    place(key, 65_536)
+}
+
 // A place is the first bits of the key's product with the multiplier.
 #[test]
 fn keys_have_the_places_of_the_table(rt: HostRuntime) {
@@ -67,12 +77,13 @@ fn keys_have_the_places_of_the_table(rt: HostRuntime) {
         (8, 0xf1bb_cdcb_fa53_e0a8, 15, 30),
         (13, 0x08d1_2e6b_76c8_4d11, 0, 1),
     ] {
-        let places = [place(key, 16), place(key, 32), place(key, 65_536)];
+        let places = [place(key, 16), place_of_32(key), place_of_65536(key)];
         expect_equal(&rt, (key, places), (key, [of_16, of_32, product >> 48]));
     }
 }
 
 #[test]
+#[tactic(auto, using(crate::proofs::TableSizes::is_table_size_32))]
 fn a_new_bucket_is_empty_and_knows_its_place_and_size(rt: HostRuntime) {
     let bucket = Bucket::new(5, 32);
     expect_equal(&rt, (bucket.place(), bucket.size()), (5, 32));

@@ -290,8 +290,8 @@ impl Lot {
         result
     }
 
-    /// Does what `unpark_filter` does, for closures that may be called at any time, as those without
-    /// conditions of their own: its caller proves nothing of the waiters.
+    /// Does what `unpark_filter` does, for closures that may be called at any time, as those
+    /// without conditions of their own: its caller proves nothing of the waiters.
     ///
     /// Upstream has one function for both.
     pub fn unpark_chosen<F: FnMut(ParkToken) -> FilterOp, C: FnOnce(UnparkResult) -> UnparkToken>(

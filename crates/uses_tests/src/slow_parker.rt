@@ -10,9 +10,10 @@ use std::time::{Clock, Instant};
 // Some tens of milliseconds.
 const YIELDS: usize = 200_000;
 
-/// A `YieldParker`. Thread 0 yields often as it first prepares to park, so that another thread can go
-/// on between what thread 0 does before a park and the park; and whoever first wakes thread 0 yields
-/// as often before, so that a third one can come between an unpark's section and what follows it.
+/// A `YieldParker`. Thread 0 yields often as it first prepares to park, so that another thread can
+/// go on between what thread 0 does before a park and the park; and whoever first wakes thread 0
+/// yields as often before, so that a third one can come between an unpark's section and what
+/// follows it.
 #[derive(Drop)]
 pub struct SlowParker {
     parker: YieldParker,
