@@ -3,4 +3,5 @@
 
 pub mod record;
 pub mod recording_lot;
-pub mod script;
+
+pub use lot_script::script;

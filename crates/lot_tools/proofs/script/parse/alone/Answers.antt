@@ -1,7 +1,0 @@
-use Rattle.std.proofs.Common.{sym, ap, ◌∙◌}
-use Rattle.lot_tools.specs.Private.Parsing.{texts_left}
-use Rattle.lot_tools.proofs.WordLemmas.{texts_in-nonempty}
-use Rattle.lot_tools.proofs.script.parse.alone.Goals as goal
-
-pub returns-in-Some-clause-none : goal.returns-in-Some-clause-none
-returns-in-Some-clause-none c none = texts_in-nonempty c.in-Some.field-0.now (sym (ap texts_left c.in-Some.is) ∙ none)

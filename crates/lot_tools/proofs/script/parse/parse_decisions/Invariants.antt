@@ -1,7 +1,0 @@
-use Rattle.std.proofs.Common.{◌≡◌, map, take}
-use Rattle.lot_tools.specs.Command.{letter_of}
-use Rattle.lot_tools.proofs.script.parse.parse_decisions.Given as goal
-
--- the letters so far are those of the decisions
-abbrev pub invariant-loop-letter : goal.invariant-loop-letter
-invariant-loop-letter l = map letter_of l.decisions.items ≡ take l.letter-index l.word
