@@ -15,8 +15,8 @@ use Rattle.lot_exclusive.specs.Run.{IsRun}
 use Rattle.lot_exclusive.proofs.RunLemmas.{IsRun-push}
 use Rattle.lot_script.specs.Lines.{lines_of, bytes_of}
 use Rattle.lot_script.specs.Reply.{State}
-use Rattle.lot_script.specs.Script.{IsAnswered, MayStop, IsStopped, IsDone, IsScript}
-use Rattle.lot_script.specs.Private.Turns.{IsTurn, IsLineRead, Answers}
+use Rattle.lot_script.specs.Script.{IsAnswered, MayStop, Answers, IsStopped, IsDone, IsScript}
+use Rattle.lot_script.specs.Private.Turns.{IsTurn, IsLineRead}
 use Rattle.std.proofs.KnownBytes.{Appends-trans, Appends-nil, Appends-kept}
 
 bytes_of-push : (answers : List (List ℕ)) (answer : List ℕ)
@@ -185,19 +185,34 @@ IsStopped-flush (first ∷ lines) written fault done is why =
     }
 
 -- an answer of which a beginning was written
-pub Answers-stop : (old : Option State) (line answer : List ℕ) (next new : Option State) (r : Result (Unit {0}) Cause)
-    (front rest : List ℕ) → IsErrAnd r (λ refusal. refusal ≡ cause.WriteFailed) → IsAnswered old line answer next
+pub Answers-stop : (old : Option State) (line answer : List ℕ) (new : Option State) (r : Result (Unit {0}) Cause)
+    (front rest : List ℕ) → IsErrAnd r (λ refusal. refusal ≡ cause.WriteFailed) → IsAnswered old line answer new
     → answer ++ 10 ∷ [] ≡ front ++ rest → Answers old line r front new
-Answers-stop old line answer next new (Ok _) front rest is answered cut = absurd is
-Answers-stop old line answer next new (Err refusal) front rest is answered cut =
-    subst (λ given. MayStop given old (line ∷ []) front) (sym is) (answer, next, answered, rest, cut)
+Answers-stop old line answer new (Ok _) front rest is answered cut = absurd is
+Answers-stop old line answer new (Err refusal) front rest is answered cut =
+    subst (λ given. Answers old line (Err given) front new) (sym is) (answer, answered, rest, cut)
 
 -- a line that was refused before its answer
 pub Answers-refused : (old new : Option State) (line : List ℕ) (r : Result (Unit {0}) Cause) (given : Cause)
-    → IsErrAnd r (λ refusal. refusal ≡ given) → MayStop given old (line ∷ []) [] → Answers old line r [] new
+    → IsErrAnd r (λ refusal. refusal ≡ given) → Answers old line (Err given) [] new → Answers old line r [] new
 Answers-refused old new line (Ok _) given is stops = absurd is
 Answers-refused old new line (Err refusal) given is stops =
-    subst (λ other. MayStop other old (line ∷ []) []) (sym is) stops
+    subst (λ other. Answers old line (Err other) [] new) (sym is) stops
+
+-- a script may stop at a line that was not answered
+Answers-may_stop : (old new : Option State) (line written : List ℕ) (refusal : Cause)
+    → Answers old line (Err refusal) written new → MayStop refusal old (line ∷ []) written
+Answers-may_stop old new line written cause.BadStep stops = stops
+Answers-may_stop old new line written cause.TooManyThreads stops = stops
+Answers-may_stop old new line written cause.NoMemory stops = stops
+Answers-may_stop old new line written cause.ReadFailed stops = absurd stops
+Answers-may_stop old new line written cause.WriteFailed stops = (stops.0, new, stops.1, stops.2, stops.3)
+
+-- at a lost answer nothing more is owed
+pub only_lost : (P : Type 0) (r : Result (Unit {0}) Cause) → IsErrAnd r (λ refusal. refusal ≡ cause.WriteFailed)
+    → IfErr r (λ refusal. (refusal ≡ cause.WriteFailed → ⊥) → P)
+only_lost P (Ok _) is = tt
+only_lost P (Err refusal) is = λ other. absurd (other is)
 
 -- what lines follow does not matter
 MayStop-behind : (refusal : Cause) (state : Option State) (line : List ℕ) (left other : List (List ℕ)) (front : List ℕ)
@@ -234,11 +249,12 @@ IsTurn-refused (Some bytes) left a b line old new given (Err refusal) read answe
   answered.1,
   subst (λ other. MayStop other old (lines_of bytes) answered.0) (sym is)
       (subst (λ lines. MayStop given old lines answered.0) (sym read.2)
-      (MayStop-behind given old line [] (lines_of read.0) answered.0 answered.2)),
+      (MayStop-behind given old line [] (lines_of read.0) answered.0
+      (Answers-may_stop old new line answered.0 given answered.2))),
 )
 
 -- what a line that could not be read says of the script
-refused_line : (state : Option State) (long : List ℕ) (rest : List (List ℕ)) → MAX_LINE < length long
+pub refused_line : (state : Option State) (long : List ℕ) (rest : List (List ℕ)) → MAX_LINE < length long
     → MayStop cause.BadStep state (long ∷ rest) []
 refused_line None long rest over = (refl, λ max_threads form. omega (arith, over, form.short))
 refused_line (Some _) long rest over = (refl, λ command form. omega (arith, over, form.short))
@@ -332,9 +348,11 @@ module _ (start known left old new after : Option (List ℕ)) (state next_state 
           )
 
 -- at first
-pub script-start : (known old : Option (List ℕ)) → IfSome known (λ bytes. Progress bytes known old old None 1)
-script-start None old = tt
-script-start (Some bytes) old = Progress-start bytes (Some bytes) old refl
+pub script-start : (known old : Option (List ℕ)) (state : Option State) → state ≡ None
+    → IfSome known (λ bytes. Progress bytes known old old state 1)
+script-start None old state none = tt
+script-start (Some bytes) old state none =
+    subst (λ other. Progress bytes (Some bytes) old old other 1) (sym none) (Progress-start bytes (Some bytes) old refl)
 
 -- no further line has a number
 pub script-limit : (start known old new : Option (List ℕ)) (state : Option State) (number : ℕ)

@@ -42,6 +42,15 @@ MayStop cause.WriteFailed state (line ∷ _) front =
     (answer : List ℕ) × (next : Option State) × IsAnswered state line answer next
     × (rest : List ℕ) × (answer ++ 10 ∷ [] ≡ front ++ rest)
 
+-- What comes of a line: it was answered, and the answer was written; or for this cause a script may stop at it. Where
+-- the answer could not be written it was answered all the same, and of the answer `written` was written.
+abbrev pub Answers : Option State → List ℕ → Result (Unit {0}) Cause → List ℕ → Option State → Type 0
+Answers old line (Ok _) written new = (answer : List ℕ) × IsAnswered old line answer new × (written ≡ answer ++ 10 ∷ [])
+Answers old line (Err cause.WriteFailed) written new =
+    (answer : List ℕ) × IsAnswered old line answer new × (rest : List ℕ) × (answer ++ 10 ∷ [] ≡ written ++ rest)
+Answers old line (Err cause.ReadFailed) written new = ⊥
+Answers old line (Err refusal) written new = MayStop refusal old (line ∷ []) written
+
 -- a script of lines stopped at this fault, and wrote this: the answers of the lines before, and `front`
 pub record IsStopped (lines : List (List ℕ)) (fault : Fault) (bytes : List ℕ) : Type 0 where
   pub before : List (List ℕ)

@@ -4,14 +4,12 @@
 //! a question. A line is words with one blank between two, and at most 4,096 bytes; numbers are
 //! decimal, without leading zeros, up to `usize::MAX`. The last line may lack its line feed.
 
-ghost use Rattle.std.specs.Prelude.{◌≡◌, ℕ, ◌≤◌, ◌++◌, ◌∷◌, [], List, Some, None, length, option_map, IfSome, IfOk, IfErr};
+ghost use Rattle.std.specs.Prelude.{◌≡◌, ℕ, List, option_map, IfSome, IfErr};
 ghost use Rattle.std.specs.Io.KnownBytes.{Appends, Keeps};
-ghost use Rattle.lot_script.specs.Words.{IsLine};
-ghost use Rattle.lot_script.specs.Command.{lot_words};
 ghost use Rattle.lot_script.specs.Lines.{lines_of};
-ghost use Rattle.lot_script.specs.Reply.{state_of, new_state};
-ghost use Rattle.lot_script.specs.Script.{IsScript, MayStop};
-ghost use Rattle.lot_script.specs.Private.Turns.{IsTurn, Answers};
+ghost use Rattle.lot_script.specs.Reply.{state_of};
+ghost use Rattle.lot_script.specs.Script.{IsScript};
+ghost use Rattle.lot_script.specs.Private.Turns.{IsTurn};
 
 mod buffered;
 mod command;
@@ -22,18 +20,15 @@ mod output;
 mod parse;
 mod print;
 mod reply;
+mod scripted_lot;
 mod words;
 
 pub use buffered::buffered_script;
+pub use command::Command;
 pub use fault::{Cause, Fault};
-use input::{MAX_LINE, Next, read_line};
-use lot_base::token::LotError;
-use lot_exclusive::lot::Lot;
-use lot_exclusive::table::MAX_THREADS;
-use output::put;
-use parse::{parse_command, parse_lot};
-use print::print_reply;
-use reply::reply_to;
+use input::{Next, read_line};
+pub use print::write_answer;
+pub use scripted_lot::ScriptedLot;
 use std::alloc::Global;
 use std::io::{BufRead, Write};
 
@@ -61,10 +56,10 @@ pub fn script<R: BufRead + Drop, W: Write>(
         × IsScript (lines_of bytes) result written) }
 {
     let mut line = Vec::new(alloc);
-    let mut lot = None;
+    let mut scripted = ScriptedLot::new(alloc);
     // Lines are counted in a `usize`, and so the loop has an end. No input has so many.
     for number in 1..usize::MAX {
-        match turn(alloc, &mut lot, &mut input, output, &mut line) {
+        match turn(&mut scripted, &mut input, output, &mut line) {
             Ok(Next::Line) => {}
             Ok(Next::End) => return flush(output, number - 1),
             Err(cause) => {
@@ -98,80 +93,22 @@ fn flush<W: Write>(output: &mut W, line: usize) -> Result<(), Fault>
 
 // Reads a line and answers it. An input without any line is refused.
 fn turn<R: BufRead, W: Write>(
-    alloc: Global,
-    lot: &mut Option<Lot>,
+    scripted: &mut ScriptedLot,
     input: &mut R,
     output: &mut W,
     line: &mut Vec<u8>,
 ) -> Result<Next, Cause>
     ensures { IfSome (R.remaining input.old) (λ bytes. (written : List ℕ)
         × Appends (W.contents output.old) (W.contents output.new) written
-        × IsTurn (option_map state_of lot.old) bytes (R.remaining input.new) result written
-        (option_map state_of lot.new)) }
+        × IsTurn (option_map state_of scripted.old) bytes (R.remaining input.new) result written
+        (option_map state_of scripted.new)) }
 {
     match read_line(input, line)? {
         Next::Line => {
-            answer(alloc, lot, line.as_slice(), output)?;
+            scripted.answer(line.as_slice(), output)?;
             Ok(Next::Line)
         }
-        Next::End if lot.is_none() => Err(Cause::BadStep),
+        Next::End if scripted.lot().is_none() => Err(Cause::BadStep),
         Next::End => Ok(Next::End),
     }
-}
-
-// Does what the line says, and writes the answer. The first line makes the lot.
-fn answer<W: Write>(
-    alloc: Global,
-    lot: &mut Option<Lot>,
-    line: &[u8],
-    output: &mut W,
-) -> Result<(), Cause>
-    requires { length line.now ≤ MAX_LINE }
-    ensures { (written : List ℕ)
-        × Appends (W.contents output.old) (W.contents output.new) written
-        × Answers (option_map state_of lot.old) line.now result written
-        (option_map state_of lot.new) }
-{
-    match lot {
-        Some(lot) => answer_command(alloc, lot, line, output),
-        None => {
-            *lot = Some(make_lot(alloc, line)?);
-            put(output, b"ok\n")?;
-            Ok(())
-        }
-    }
-}
-
-// Makes the lot that the first line asks for.
-fn make_lot(alloc: Global, line: &[u8]) -> Result<Lot, Cause>
-    requires { length line.now ≤ MAX_LINE }
-    ensures made { IfOk result (λ lot. (max_threads : ℕ) × IsLine (lot_words max_threads) line.now
-        × (max_threads ≤ MAX_THREADS) × (state_of lot ≡ new_state max_threads)) }
-    ensures refused { IfErr result (λ cause. MayStop cause None (line.now ∷ []) []) }
-{
-    let Some(max_threads) = parse_lot(line) else {
-        return Err(Cause::BadStep);
-    };
-    match Lot::new(alloc, max_threads) {
-        Ok(lot) => Ok(lot),
-        Err(LotError::TooManyThreads) => Err(Cause::TooManyThreads),
-        Err(_) => Err(Cause::NoMemory),
-    }
-}
-
-fn answer_command<W: Write>(
-    alloc: Global,
-    lot: &mut Lot,
-    line: &[u8],
-    output: &mut W,
-) -> Result<(), Cause>
-    requires { length line.now ≤ MAX_LINE }
-    ensures { (written : List ℕ)
-        × Appends (W.contents output.old) (W.contents output.new) written
-        × Answers (Some (state_of lot.old)) line.now result written (Some (state_of lot.new)) }
-{
-    let command = parse_command(alloc, line)?;
-    let reply = reply_to(lot, &command);
-    print_reply(output, &reply)?;
-    Ok(())
 }

@@ -62,11 +62,6 @@ IsTurn old bytes left (Ok next.End) written new =
     (lines_of bytes ≡ []) × (written ≡ []) × (new ≡ old) × IsSome old
 IsTurn old bytes left (Err refusal) written new = MayStop refusal old (lines_of bytes) written
 
--- a line was answered, or the script may stop so at it
-abbrev pub Answers : Option State → List ℕ → Result (Unit {0}) Cause → List ℕ → Option State → Type 0
-Answers old line (Ok _) written new = (answer : List ℕ) × IsAnswered old line answer new × (written ≡ answer ++ 10 ∷ [])
-Answers old line (Err refusal) written new = MayStop refusal old (line ∷ []) written
-
 -- a script appended its answers to known bytes, unless a write failed
 abbrev pub IsWrittenScript : Option (List ℕ) → Option (List ℕ) → List (List ℕ) → Result (Unit {0}) Fault → Type 0
 IsWrittenScript old new lines (Ok _) = (written : List ℕ) × Appends old new written × IsDone lines written

@@ -12,6 +12,7 @@ mod line_counter;
 
 use super::fault::{Cause, Fault};
 use super::input::Next;
+use super::scripted_lot::ScriptedLot;
 use super::turn;
 use line_counter::LineCounter;
 use std::alloc::Global;
@@ -92,11 +93,11 @@ fn answer_lines<R: Read, W: Write + Drop>(
         → writer_buffer output.new ≡ []) }
 {
     let mut line = Vec::new(alloc);
-    let mut lot = None;
+    let mut scripted = ScriptedLot::new(alloc);
     // Lines are counted as `script` counts them.
     for number in 1..usize::MAX {
         write_before_read(input, output, number - 1)?;
-        match turn(alloc, &mut lot, input, output, &mut line) {
+        match turn(&mut scripted, input, output, &mut line) {
             Ok(Next::Line) => {}
             Ok(Next::End) => return flush(output, number - 1),
             Err(cause) => return Err(stop(output, number, cause)),

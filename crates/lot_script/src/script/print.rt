@@ -1,16 +1,35 @@
 //! Replies as lines of text.
 
-ghost use Rattle.std.specs.Prelude.{◌≡◌, ◌++◌, ◌∷◌, [], decimal, codes, if◌then◌else◌};
+ghost use Rattle.std.specs.Prelude.{◌≡◌, ◌++◌, ◌∷◌, [], ℕ, List, decimal, codes, if◌then◌else◌, IfErr, OnOk, OnErr};
+ghost use Rattle.std.specs.Io.KnownBytes.{Appends};
 ghost use Rattle.std.specs.List.{flat_map};
 ghost use Rattle.lot_script.specs.Words.{line_of};
 ghost use Rattle.lot_script.specs.Reply.{reply_words, answer_words, result_words};
 ghost use Rattle.lot_script.specs.Private.Turns.{Writes};
 
+use super::fault::Cause;
 use super::output::{NotWritten, put, put_number};
 use super::reply::Reply;
 use lot_base::token::UnparkResult;
 use lot_exclusive::schedule::Answer;
 use std::io::Write;
+
+/// Writes what a script answers where a step of the lot answers this, without a line feed.
+///
+/// # Errors
+///
+/// `WriteFailed` if the writer tells an error or takes no byte. A beginning may be written then.
+pub fn write_answer<W: Write>(output: &mut W, answer: Answer) -> Result<(), Cause>
+    ensures written { OnOk result (Appends (W.contents output.old) (W.contents output.new)
+        (line_of (answer_words answer))) }
+    ensures begun { OnErr result ((front rest : List ℕ)
+        × (line_of (answer_words answer) ≡ front ++ rest)
+        × Appends (W.contents output.old) (W.contents output.new) front) }
+    ensures failed { IfErr result (λ cause. cause ≡ Cause.WriteFailed) }
+{
+    put_answer(output, answer)?;
+    Ok(())
+}
 
 // Writes the reply and a line feed.
 pub(super) fn print_reply<W: Write>(output: &mut W, reply: &Reply) -> Result<(), NotWritten>

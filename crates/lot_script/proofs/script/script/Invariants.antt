@@ -7,4 +7,4 @@ use Rattle.lot_script.proofs.script.script.Given as goal
 abbrev pub invariant-loop-number : goal.invariant-loop-number
 invariant-loop-number g l =
     IfSome (g.R.Read.remaining l.fn.input) (λ bytes. Progress bytes (g.R.Read.remaining l.input)
-    (g.W.Write.contents l.fn.output) (g.W.Write.contents l.output) (option_map state_of l.lot) l.number)
+    (g.W.Write.contents l.fn.output) (g.W.Write.contents l.output) (option_map state_of l.scripted) l.number)

@@ -1,4 +1,4 @@
-use Rattle.std.proofs.Common.{arith, None}
+use Rattle.std.proofs.Common.{arith, None, ap}
 use Rattle.std.specs.Prelude.{option_map}
 use Rattle.std.specs.Io.Buffered.{reader_remaining}
 use Rattle.lot_script.specs.Reply.{state_of}
@@ -7,13 +7,15 @@ use Rattle.lot_script.proofs.BufferedLemmas.{script-kept, written-ended, written
 use Rattle.lot_script.proofs.script.buffered.answer_lines.Goals as goal
 
 pub loop-number-init : goal.loop-number-init
-loop-number-init g c = script-start _ _
+loop-number-init g c =
+    let new = c.before.new-scripted in
+    script-start _ _ (option_map state_of new.result) (ap (option_map state_of) new.ensures)
 
 pub loop-number-preserved : goal.loop-number-preserved
 loop-number-preserved g c =
-    script-line _ _ _ _ _ _ (option_map state_of c.loop-number.lot)
-    (option_map state_of c.turn.new.lot) c.loop-number.number
-    (script-kept _ _ _ _ _ (option_map state_of c.loop-number.lot) c.loop-number.number c.loop-number.invariant
+    script-line _ _ _ _ _ _ (option_map state_of c.loop-number.scripted)
+    (option_map state_of c.turn.new.scripted) c.loop-number.number
+    (script-kept _ _ _ _ _ (option_map state_of c.loop-number.scripted) c.loop-number.number c.loop-number.invariant
     c.in_ok-write_before_read.ensures.kept)
     (rw c.in-Ok-Line.field-0-is at c.in-Ok-Line.ensures)
 
@@ -21,17 +23,17 @@ pub returns-in-Ok-End-clause-ended : goal.returns-in-Ok-End-clause-ended
 returns-in-Ok-End-clause-ended g c =
     written-ended _ _ _ c.flush.result
     (script-end _ _ (reader_remaining g.R.Read.remaining c.turn.new.input) _ _ _
-    (option_map state_of c.loop-number.lot) (option_map state_of c.turn.new.lot) c.loop-number.number
-    (script-kept _ _ _ _ _ (option_map state_of c.loop-number.lot) c.loop-number.number c.loop-number.invariant
+    (option_map state_of c.loop-number.scripted) (option_map state_of c.turn.new.scripted) c.loop-number.number
+    (script-kept _ _ _ _ _ (option_map state_of c.loop-number.scripted) c.loop-number.number c.loop-number.invariant
     c.in_ok-write_before_read.ensures.kept)
     _ c.flush.result (rw c.in-Ok-End.field-0-is at c.in-Ok-End.ensures) c.flush.ensures.kept c.flush.ensures.failed)
 
 pub returns-in-Err-clause-ended : goal.returns-in-Err-clause-ended
 returns-in-Err-clause-ended g c =
     written-stopped _ _ _ _ c.loop-number.number c.in-Err.cause c.stop.result _
-    (script-stop _ _ None _ _ _ (option_map state_of c.loop-number.lot)
-    (option_map state_of c.turn.new.lot) c.loop-number.number
-    (script-kept _ _ _ _ _ (option_map state_of c.loop-number.lot) c.loop-number.number c.loop-number.invariant
+    (script-stop _ _ None _ _ _ (option_map state_of c.loop-number.scripted)
+    (option_map state_of c.turn.new.scripted) c.loop-number.number
+    (script-kept _ _ _ _ _ (option_map state_of c.loop-number.scripted) c.loop-number.number c.loop-number.invariant
     c.in_ok-write_before_read.ensures.kept)
     c.in-Err.cause c.in-Err.ensures)
     c.stop.ensures.kept c.stop.ensures.fault
@@ -39,6 +41,6 @@ returns-in-Err-clause-ended g c =
 pub returns-clause-ended : goal.returns-clause-ended
 returns-clause-ended g c =
     written-stopped _ _ _ _ 18446744073709551615 _ c.stop-2.result _
-    (script-limit _ _ _ _ (option_map state_of c.loop-number.lot) c.loop-number.number c.loop-number.invariant
+    (script-limit _ _ _ _ (option_map state_of c.loop-number.scripted) c.loop-number.number c.loop-number.invariant
     (omega arith))
     c.stop-2.ensures.kept c.stop-2.ensures.fault

@@ -9,4 +9,4 @@ abbrev pub invariant-loop-number : goal.invariant-loop-number
 invariant-loop-number g l =
     IfSome (reader_remaining g.R.Read.remaining l.fn.input) (λ bytes. Progress bytes
     (reader_remaining g.R.Read.remaining l.input) (writer_contents g.W.Write.contents l.fn.output)
-    (writer_contents g.W.Write.contents l.output) (option_map state_of l.lot) l.number)
+    (writer_contents g.W.Write.contents l.output) (option_map state_of l.scripted) l.number)
