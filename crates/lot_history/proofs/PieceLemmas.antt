@@ -1,7 +1,8 @@
 -- What pieces cover, and that they stay so where a machine is alike in that.
 use Rattle.std.proofs.Common.{◌≡◌, ◌≢◌, ℕ, ◌+◌, ◌<◌, ◌≤◌, ◌==◌, Bool, true, false, cond, map, List, [], ◌∷◌, ◌++◌}
-use Rattle.std.proofs.Common.{length, refl, sym, ap, ◌∙◌, ⊎_elim, arith}
+use Rattle.std.proofs.Common.{All, length, refl, sym, ap, ◌∙◌, ⊎_elim, arith}
 use Rattle.std.proofs.lemmas.Bool.{cases_eq, eq-eqb, ne_eqb, cond-true}
+use Rattle.std.proofs.lemmas.List.Elements.{All-nil, All-cons, All-head, All-tail}
 use Rattle.lot_base.specs.Place.{place_of}
 use Rattle.lot_exclusive.specs.declared.lot.Status.{Status}
 use Rattle.lot_exclusive.specs.declared.lot.Status.TheVariants as status
@@ -11,7 +12,7 @@ use Rattle.lot_history.specs.declared.view.Standing.{Standing}
 use Rattle.lot_history.specs.declared.view.Piece.{Piece}
 use Rattle.lot_history.specs.declared.view.Piece.TheVariants.{Lists, Thread, Records, Numbers}
 use Rattle.lot_history.specs.Pieces.{Name, list, thread, records, numbers, covers, cover, times_standing, Alike}
-use Rattle.lot_history.specs.Pieces.{waiter_of, AllStand, IsList, at_key, IsSo, AllSo}
+use Rattle.lot_history.specs.Pieces.{waiter_of, status_of, AllStand, IsList, at_key, IsSo, AllSo}
 
 pub cover-append : (name : Name) (ps qs : List Piece) → cover name (ps ++ qs) ≡ cover name ps + cover name qs
 cover-append name [] qs = omega arith
@@ -21,10 +22,18 @@ pub AllSo-append : (m : Machine) (ps qs : List Piece) → AllSo m ps → AllSo m
 AllSo-append m [] qs _ others = others
 AllSo-append m (p ∷ ps) qs (first, rest) others = (first, AllSo-append m ps qs rest others)
 
+pub AllSo-parts : (m : Machine) (ps qs : List Piece) → AllSo m (ps ++ qs) → AllSo m ps × AllSo m qs
+AllSo-parts m [] qs so = (tt, so)
+AllSo-parts m (p ∷ ps) qs (first, rest) = let parts = AllSo-parts m ps qs rest in ((first, parts.0), parts.1)
+
 -- what a piece is about
 
 pub own_thread : (number other : ℕ) (s : Status) → number ≡ other → covers (thread number) (Thread other s) ≡ 1
 own_thread number other s same = cond-true (other == number) 1 0 (eq-eqb other number (sym same))
+
+pub own_records : (number other : ℕ) (keys : List ℕ) → number ≡ other
+    → covers (records number) (Records other keys) ≡ 1
+own_records number other keys same = cond-true (other == number) 1 0 (eq-eqb other number (sym same))
 
 pub own_list : (key size place : ℕ) (standing : List Standing) → place_of key size ≡ place
     → covers (list key) (Lists size place standing) ≡ 1
@@ -44,6 +53,22 @@ stands-alike m next [] alike _ = tt
 stands-alike m next (each ∷ standing) alike (first, rest) = (
   sym (alike each.number (stands-first each standing)) ∙ first,
   stands-alike m next standing (λ number more. alike number (omega arith)) rest,
+)
+
+-- the status that a thread has where it stands
+abbrev pub StandsIn : Machine → Standing → Type 0
+StandsIn m each = m.status each.number ≡ status_of each
+
+pub stand_all : (m : Machine) (standing : List Standing) → AllStand m standing → All (StandsIn m) standing
+stand_all m [] _ = All-nil (StandsIn m)
+stand_all m (each ∷ standing) (first, rest) =
+    All-cons (StandsIn m) each standing first (stand_all m standing rest)
+
+pub all_stand : (m : Machine) (standing : List Standing) → All (StandsIn m) standing → AllStand m standing
+all_stand m [] all = tt
+all_stand m (each ∷ standing) all = (
+  All-head (StandsIn m) each standing all,
+  all_stand m standing (All-tail (StandsIn m) each standing all),
 )
 
 -- those of a key are among all

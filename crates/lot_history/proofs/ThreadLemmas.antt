@@ -39,6 +39,23 @@ says max_threads said also before after more moves = record {
   };
 }
 
+-- one whose answer goes by another name, wherever it is made
+pub answers : (max_threads : ℕ) (step : Step) (answer other : Answer) (before after : List Piece)
+    → ((m : Machine) → Finds max_threads before m → answer ≡ other) → Moves max_threads (Is step answer) before after
+    → Moves max_threads (Is step other) before after
+answers max_threads step answer other before after same moves = record {
+  cover = moves.cover;
+  step = λ m finds. let to : Reaches m (Is step answer) after = moves.step m finds in record {
+    step = to.step;
+    answer = to.answer;
+    is_said = (to.is_said.0, to.is_said.1 ∙ same m finds);
+    next = to.next;
+    does = to.does;
+    so = to.so;
+    others = to.others;
+  };
+}
+
 -- one that is known, where pieces go by other names
 pub said_moves : (max_threads : ℕ) (step : Step) (answer : Answer) (said : Step → Answer → Type 0)
     (before after old new : List Piece) → old ≡ before → new ≡ after → said step answer

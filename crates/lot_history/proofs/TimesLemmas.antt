@@ -1,16 +1,18 @@
--- The lists of all keys tell how often a thread stands in a place, and so of whom some were taken.
-use Rattle.std.proofs.Common.{◌≡◌, ◌≢◌, ℕ, ◌+◌, ◌==◌, Bool, true, false, cond, List, [], ◌∷◌, refl, sym, ap, ◌∙◌}
-use Rattle.std.proofs.Common.{subst, ⊎_elim, arith, filter, not}
+-- The lists of all keys tell how often a thread stands in a place, and so once the list of a key is another.
+use Rattle.std.proofs.Common.{◌≡◌, ◌≢◌, ℕ, ◌+◌, ◌==◌, Bool, true, false, cond, List, [], ◌∷◌, ◌++◌, refl, sym, ap, ◌∙◌}
+use Rattle.std.proofs.Common.{All, subst, ⊎_elim, arith, filter, not, append-nil}
 use Rattle.std.proofs.lemmas.Bool.{cases_eq, eq-eqb, ne_eqb, cond-true, cond-false, eqb-true}
-use Rattle.lot_base.specs.Waiting.{with_value, without_first, Split, split_first, split_all}
+use Rattle.std.proofs.lemmas.List.Elements.{All-nil, All-cons, All-head, All-tail, filter-append}
+use Rattle.lot_base.specs.Waiting.{with_value, without_first}
 use Rattle.lot_base.proofs.ValueLemmas.{with_value-same, with_value-other}
 use Rattle.lot_history.specs.Pieces.{at_key, times_standing}
 use Rattle.lot_history.specs.declared.view.Standing.{Standing}
+use Rattle.lot_history.proofs.PieceLemmas.{times-append}
 
-at_own : (x : Standing) (xs : List Standing) (k : ℕ) → x.key ≡ k → at_key k (x ∷ xs) ≡ x ∷ at_key k xs
+pub at_own : (x : Standing) (xs : List Standing) (k : ℕ) → x.key ≡ k → at_key k (x ∷ xs) ≡ x ∷ at_key k xs
 at_own x xs k same = cond-true (x.key == k) (x ∷ at_key k xs) (at_key k xs) (eq-eqb x.key k same)
 
-at_other : (x : Standing) (xs : List Standing) (k : ℕ) → x.key ≢ k → at_key k (x ∷ xs) ≡ at_key k xs
+pub at_other : (x : Standing) (xs : List Standing) (k : ℕ) → x.key ≢ k → at_key k (x ∷ xs) ≡ at_key k xs
 at_other x xs k other = cond-false (x.key == k) (x ∷ at_key k xs) (at_key k xs) (ne_eqb x.key k other)
 
 -- a list without its first of a key
@@ -65,18 +67,8 @@ same_times number (x ∷ xs) ys same =
     (cases_eq x.key k)) in
     let t = is.times number in omega arith
 
-first_key : (key : ℕ) (standing rest : List Standing) (first : Standing) → at_key key standing ≡ first ∷ rest
-    → first.key ≡ key
-first_key key [] rest first is = absurd (cc (is))
-first_key key (x ∷ xs) rest first is =
-    ⊎_elim
-    (λ (same : x.key ≡ key). let own = at_own x xs key same in let one : x ≡ first = cc (own, is) in
-    ap (λ (each : Standing). each.key) (sym one) ∙ same)
-    (λ (other : x.key ≢ key). first_key key xs rest first (sym (at_other x xs key other) ∙ is))
-    (cases_eq x.key key)
-
 -- those of other keys
-abbrev others_of : ℕ → List Standing → List Standing
+abbrev pub others_of : ℕ → List Standing → List Standing
 others_of key standing = filter (λ each. not (each.key == key)) standing
 
 others-own : (key : ℕ) (standing : List Standing) → at_key key (others_of key standing) ≡ []
@@ -88,7 +80,7 @@ others-own key (x ∷ xs) = either (x.key == key) refl (others-own key xs)
     either false is none = cond-false (x.key == key) (x ∷ at_key key (others_of key xs)) (at_key key (others_of key xs)) is
         ∙ none
 
-others-other : (key k : ℕ) (standing : List Standing) → k ≢ key → at_key k (others_of key standing) ≡ at_key k standing
+pub others-other : (key k : ℕ) (standing : List Standing) → k ≢ key → at_key k (others_of key standing) ≡ at_key k standing
 others-other key k [] other = refl
 others-other key k (x ∷ xs) other = either (x.key == key) refl (others-other key k xs other)
   where
@@ -98,7 +90,7 @@ others-other key k (x ∷ xs) other = either (x.key == key) refl (others-other k
         ∙ sym (at_other x xs k (λ e. other (sym e ∙ eqb-true x.key key is)))
     either false is same = ap (λ (l : List Standing). cond (x.key == k) (x ∷ l) l) same
 
-others-times : (key number : ℕ) (standing : List Standing) → times_standing number (others_of key standing)
+pub others-times : (key number : ℕ) (standing : List Standing) → times_standing number (others_of key standing)
     + times_standing number (at_key key standing) ≡ times_standing number standing
 others-times key number [] = refl
 others-times key number (x ∷ xs) = either (x.key == key) (others-times key number xs)
@@ -110,49 +102,62 @@ others-times key number (x ∷ xs) = either (x.key == key) (others-times key num
     either true same = omega arith
     either false same = omega arith
 
-module _ (key : ℕ) (standing after : List Standing) where
-  -- of the key those are there that a split leaves, and of each other key all
-  abbrev pub LeavesOf : Split Standing → Type 0
-  LeavesOf split = (k : ℕ) → at_key k after ≡ with_value (λ q. at_key q standing) key split.left k
+-- whether a thread stands at the key
+abbrev pub HasKey : ℕ → Standing → Type 0
+HasKey key each = each.key ≡ key
 
-  module _ (number : ℕ) where
-    -- the first was taken
-    first_counts : (waiting : List Standing) → at_key key standing ≡ waiting → LeavesOf (split_first waiting)
-        → times_standing number after + times_standing number (split_first waiting).taken
-        ≡ times_standing number standing
-    first_counts [] none leaves =
-        let same = same_times number after standing (λ k. ⊎_elim
-        (λ (own : k ≡ key). leaves k ∙ (with_value-same (λ q. at_key q standing) key [] k own
-        ∙ (sym none ∙ ap (λ q. at_key q standing) (sym own))))
-        (λ (other : k ≢ key). leaves k ∙ with_value-other (λ q. at_key q standing) key [] k other)
-        (cases_eq k key)) in omega arith
-    first_counts (first ∷ rest) is leaves =
-        let here = first_key key standing rest first is in
-        let same : times_standing number standing ≡ times_standing number (first ∷ after) =
-        same_times number standing (first ∷ after) (λ k. ⊎_elim
-        (λ (own : k ≡ key). ap (λ q. at_key q standing) own ∙ (is
-        ∙ (ap (λ (l : List Standing). first ∷ l)
-        (sym (leaves k ∙ with_value-same (λ q. at_key q standing) key rest k own))
-        ∙ sym (at_own first after k (here ∙ sym own)))))
-        (λ (other : k ≢ key). sym (leaves k ∙ with_value-other (λ q. at_key q standing) key rest k other)
-        ∙ sym (at_other first after k (λ e. other (sym e ∙ here))))
-        (cases_eq k key)) in omega arith
+pub all_at_key : (key : ℕ) (standing : List Standing) → All (HasKey key) (at_key key standing)
+all_at_key key [] = All-nil (HasKey key)
+all_at_key key (x ∷ xs) =
+    ⊎_elim
+    (λ (same : x.key ≡ key). subst (All (HasKey key)) (sym (at_own x xs key same))
+    (All-cons (HasKey key) x (at_key key xs) same (all_at_key key xs)))
+    (λ (other : x.key ≢ key). subst (All (HasKey key)) (sym (at_other x xs key other)) (all_at_key key xs))
+    (cases_eq x.key key)
 
-    pub one_counts : LeavesOf (split_first (at_key key standing))
-        → times_standing number after + times_standing number (split_first (at_key key standing)).taken
-        ≡ times_standing number standing
-    one_counts leaves = first_counts (at_key key standing) refl leaves
+-- threads that all stand at one key
+pub at_key-all : (key : ℕ) (standing : List Standing) → All (HasKey key) standing → at_key key standing ≡ standing
+at_key-all key [] all = refl
+at_key-all key (x ∷ xs) all = at_own x xs key (All-head (HasKey key) x xs all)
+    ∙ ap (λ (l : List Standing). x ∷ l) (at_key-all key xs (All-tail (HasKey key) x xs all))
 
-    -- all were taken
-    pub all_counts : LeavesOf (split_all (at_key key standing))
-        → times_standing number after + times_standing number (split_all (at_key key standing)).taken
-        ≡ times_standing number standing
-    all_counts leaves =
-        let same : times_standing number after ≡ times_standing number (others_of key standing) =
-        same_times number after (others_of key standing) (λ k. ⊎_elim
-        (λ (own : k ≡ key). leaves k ∙ (with_value-same (λ q. at_key q standing) key [] k own
-        ∙ (sym (others-own key standing) ∙ ap (λ q. at_key q (others_of key standing)) (sym own))))
-        (λ (other : k ≢ key). leaves k ∙ (with_value-other (λ q. at_key q standing) key [] k other
-        ∙ sym (others-other key k standing other)))
-        (cases_eq k key)) in
-        let parts = others-times key number standing in omega arith
+pub at_key-none : (key k : ℕ) (standing : List Standing) → All (HasKey key) standing → k ≢ key
+    → at_key k standing ≡ []
+at_key-none key k [] all other = refl
+at_key-none key k (x ∷ xs) all other =
+    at_other x xs k (λ e. other (sym e ∙ All-head (HasKey key) x xs all))
+    ∙ at_key-none key k xs (All-tail (HasKey key) x xs all) other
+
+pub at_key-append : (k : ℕ) (xs ys : List Standing) → at_key k (xs ++ ys) ≡ at_key k xs ++ at_key k ys
+at_key-append k xs ys = filter-append (λ (each : Standing). each.key == k) xs ys
+
+-- one list of the key is another, and that of each other key stays
+abbrev pub ChangesKey : List Standing → List Standing → ℕ → List Standing → Type 0
+ChangesKey standing after key list = (k : ℕ) → at_key k after ≡ with_value (λ q. at_key q standing) key list k
+
+module _ (standing : List Standing) (key : ℕ) (list : List Standing) (of_key : All (HasKey key) list) where
+  -- threads that stand so
+  abbrev pub changed : List Standing
+  changed = others_of key standing ++ list
+
+  pub changed_lists : ChangesKey standing changed key list
+  changed_lists k =
+      ⊎_elim
+      (λ (same : k ≡ key). ap (λ q. at_key q changed) same
+      ∙ (at_key-append key (others_of key standing) list
+      ∙ (ap (λ (l : List Standing). l ++ at_key key list) (others-own key standing)
+      ∙ (at_key-all key list of_key ∙ sym (with_value-same (λ q. at_key q standing) key list k same)))))
+      (λ (other : k ≢ key). at_key-append k (others_of key standing) list
+      ∙ (ap (λ (l : List Standing). at_key k (others_of key standing) ++ l) (at_key-none key k list of_key other)
+      ∙ (append-nil (at_key k (others_of key standing)) ∙ (others-other key k standing other
+      ∙ sym (with_value-other (λ q. at_key q standing) key list k other)))))
+      (cases_eq k key)
+
+  -- how often each thread stands in any such
+  pub changed_times : (after : List Standing) → ChangesKey standing after key list → (number : ℕ)
+      → times_standing number after + times_standing number (at_key key standing)
+      ≡ times_standing number standing + times_standing number list
+  changed_times after lists number =
+      let same = same_times number after changed (λ k. lists k ∙ sym (changed_lists k)) in
+      let both = times-append number (others_of key standing) list in
+      let parts = others-times key number standing in omega arith

@@ -1,7 +1,9 @@
 -- The parts of the machine that one seat alone may change, its pieces.
-use Rattle.std.specs.Prelude.{◌≡◌, ℕ, ◌+◌, ◌==◌, Bool, false, if◌then◌else◌, cond, ⊤, List, [], ◌∷◌, map, filter}
-use Rattle.std.specs.Prelude.{slice_index_or}
+use Rattle.std.specs.Prelude.{◌≡◌, ℕ, ◌+◌, ◌==◌, Bool, true, false, if◌then◌else◌, cond, ⊤, List, []}
+use Rattle.std.specs.Prelude.{◌∷◌, map, filter, slice_index_or}
+use Rattle.lot_base.specs.NodeFields.{NodeFields}
 use Rattle.lot_base.specs.Place.{place_of}
+use Rattle.lot_base.specs.Waiting.{with_value}
 use Rattle.lot_base.specs.declared.token.UnparkToken.{UnparkToken}
 use Rattle.lot_exclusive.specs.declared.lot.Status.{Status}
 use Rattle.lot_exclusive.specs.declared.lot.Status.TheVariants as status
@@ -22,6 +24,11 @@ pub data Name : Type 0 where
 -- whether a number is registered
 abbrev pub has_number : List Bool → ℕ → Bool
 has_number uses number = slice_index_or uses number false
+
+-- the numbers `more` are those of `uses`, and this one, which is not among them
+pub record IsOneMore (uses : List Bool) (number : ℕ) (more : List Bool) : Type 0 where
+  pub free : has_number uses number ≡ false
+  pub numbers : (k : ℕ) → has_number more k ≡ with_value (has_number uses) number true k
 
 -- how often a thread stands there
 abbrev pub times_standing : ℕ → List Standing → ℕ
@@ -92,3 +99,16 @@ AllSo m (piece ∷ pieces) = IsSo m piece × AllSo m pieces
 abbrev pub threads_taken : UnparkToken → List Standing → List Piece
 threads_taken token [] = []
 threads_taken token (each ∷ taken) = Thread each.number (status.Taken token) ∷ threads_taken token taken
+
+-- a thread as its node has it that waits in a bucket, its deadline not passed
+abbrev pub standing_of : NodeFields → Standing
+standing_of node = record {
+  key = node.key;
+  number = node.number;
+  park_token = node.park_token;
+  timed = node.timed;
+  late = false;
+}
+
+abbrev pub standing_in : List NodeFields → List Standing
+standing_in nodes = map standing_of nodes

@@ -1,0 +1,91 @@
+-- What a step does with some pieces it does beside any others, and however they are put together.
+use Rattle.std.proofs.Common.{ℕ, List, ◌++◌, ◌∙◌, arith}
+use Rattle.lot_exclusive.specs.declared.schedule.Answer.{Answer}
+use Rattle.lot_exclusive.specs.declared.schedule.Step.{Step}
+use Rattle.lot_exclusive.specs.Machine.{Machine}
+use Rattle.lot_exclusive.proofs.StepLemmas.{IsConsistent-step}
+use Rattle.lot_history.specs.declared.view.Piece.{Piece}
+use Rattle.lot_history.specs.Moves.{Finds, Reaches, Moves, Regroups}
+use Rattle.lot_history.proofs.MachineLemmas.{max_threads-step}
+use Rattle.lot_history.proofs.PieceLemmas.{AllSo-alike, AllSo-append, AllSo-parts, cover-append}
+
+module _ (max_threads : ℕ) where
+  -- what is found of all pieces is found of the first of them
+  found_first : (first rest : List Piece) (m : Machine) → Finds max_threads (first ++ rest) m → Finds max_threads first m
+  found_first first rest m finds = record {
+    threads = finds.threads;
+    consistent = finds.consistent;
+    once = λ name. let both = cover-append name first rest in let once = finds.once name in omega arith;
+    so = (AllSo-parts m first rest finds.so).0;
+  }
+
+  -- a step leaves other pieces as they are
+  pub framed : (said : Step → Answer → Type 0) (before after rest : List Piece) → Moves max_threads said before after
+      → Moves max_threads said (before ++ rest) (after ++ rest)
+  framed said before after rest moves = record {
+    cover = λ name. let same = moves.cover name in
+        let old = cover-append name before rest in let new = cover-append name after rest in omega arith;
+    step = λ m finds. let to : Reaches m said after = moves.step m (found_first before rest m finds) in record {
+      step = to.step;
+      answer = to.answer;
+      is_said = to.is_said;
+      next = to.next;
+      does = to.does;
+      so = AllSo-append to.next after rest to.so
+          (AllSo-alike m to.next rest
+          (λ name more. to.others name
+          (let same = moves.cover name in
+          let once = finds.once name in let both = cover-append name before rest in omega arith))
+          (AllSo-parts m before rest finds.so).1);
+      others = λ name none. to.others name (let both = cover-append name after rest in omega arith);
+    };
+  }
+
+  -- and so does a regrouping
+  pub framed_group : (before after rest : List Piece) → Regroups max_threads before after
+      → Regroups max_threads (before ++ rest) (after ++ rest)
+  framed_group before after rest same = record {
+    cover = λ name. let alike = same.cover name in
+        let old = cover-append name before rest in let new = cover-append name after rest in omega arith;
+    so = λ m finds. AllSo-append m after rest (same.so m (found_first before rest m finds))
+        (AllSo-parts m before rest finds.so).1;
+  }
+
+  -- the pieces in another order
+  pub turned : (first rest : List Piece) → Regroups max_threads (first ++ rest) (rest ++ first)
+  turned first rest = record {
+    cover = λ name. let old = cover-append name first rest in let new = cover-append name rest first in omega arith;
+    so = λ m finds. let parts = AllSo-parts m first rest finds.so in AllSo-append m rest first parts.1 parts.0;
+  }
+
+  -- what is found of pieces is found of the same parts in others
+  found_again : (before after : List Piece) → Regroups max_threads before after → (m : Machine)
+      → Finds max_threads before m → Finds max_threads after m
+  found_again before after same m finds = record {
+    threads = finds.threads;
+    consistent = finds.consistent;
+    once = λ name. let alike = same.cover name in let once = finds.once name in omega arith;
+    so = same.so m finds;
+  }
+
+  -- a step whose pieces are put together otherwise before it and after it
+  pub regrouped : (said : Step → Answer → Type 0) (old before after new : List Piece) → Regroups max_threads old before
+      → Moves max_threads said before after → Regroups max_threads after new → Moves max_threads said old new
+  regrouped said old before after new first moves last = record {
+    cover = λ name. let one = first.cover name in let two = moves.cover name in let three = last.cover name in omega arith;
+    step = λ m finds. let to : Reaches m said after = moves.step m (found_again old before first m finds) in record {
+      step = to.step;
+      answer = to.answer;
+      is_said = to.is_said;
+      next = to.next;
+      does = to.does;
+      so = last.so to.next (record {
+        threads = max_threads-step m to.step to.answer to.next to.does ∙ finds.threads;
+        consistent = IsConsistent-step m to.step to.answer to.next finds.consistent to.does;
+        once = λ name. let one = first.cover name in
+            let two = moves.cover name in let once = finds.once name in omega arith;
+        so = to.so;
+      });
+      others = λ name none. to.others name (let three = last.cover name in omega arith);
+    };
+  }

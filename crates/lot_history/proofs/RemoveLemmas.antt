@@ -1,0 +1,64 @@
+-- A timeout, as a bucket tells of it: a node of the key is found by its number, and taken out.
+use Rattle.std.proofs.Common.{◌≡◌, ℕ, Bool, true, not, find, Some, List, [], ◌∷◌, refl, sym, ap, ◌∙◌, subst}
+use Rattle.lot_base.specs.NodeFields.{NodeFields}
+use Rattle.lot_base.specs.NodeLists.{lists_of, ChangesOnly, has_number}
+use Rattle.lot_base.specs.Place.{place_of}
+use Rattle.lot_base.specs.Waiting.{without_first, has_any}
+use Rattle.lot_exclusive.specs.declared.lot.Status.TheVariants as status
+use Rattle.lot_exclusive.specs.declared.schedule.Answer.TheVariants as answer
+use Rattle.lot_exclusive.specs.declared.schedule.Step.TheVariants as step
+use Rattle.lot_exclusive.proofs.SplitLemmas.{has_any-map}
+use Rattle.lot_history.specs.declared.view.Standing.{Standing}
+use Rattle.lot_history.specs.declared.view.Piece.{Piece}
+use Rattle.lot_history.specs.declared.view.Piece.TheVariants.{Lists, Thread}
+use Rattle.lot_history.specs.Moves.{Moves}
+use Rattle.lot_history.specs.Pieces.{at_key, standing_of, standing_in}
+use Rattle.lot_history.proofs.FrameLemmas.{framed}
+use Rattle.lot_history.proofs.NodeLemmas.{at_key-nodes, changes_nodes}
+use Rattle.lot_history.proofs.ThreadLemmas.{Is}
+use Rattle.lot_history.proofs.TimeoutLemmas.{is_number, with_late, find-map, without_first-map, passes_deadline, times_out}
+use Rattle.lot_history.proofs.TimesLemmas.{ChangesKey}
+
+module _ (max_threads size place key number : ℕ) (old : List NodeFields) (node : NodeFields) (rest : List Piece)
+    (here : place_of key size ≡ place) (found : find (has_number number) (lists_of old key) ≡ Some node) where
+  abbrev left : List NodeFields
+  left = without_first (has_number number) (lists_of old key)
+
+  abbrev here_left : List Standing
+  here_left = without_first (is_number number) (at_key key (standing_in old))
+
+  found_here : find (is_number number) (at_key key (standing_in old)) ≡ Some (standing_of node)
+  found_here =
+      subst (λ (l : List Standing). find (is_number number) l ≡ Some (standing_of node)) (sym (at_key-nodes old key))
+      (find-map standing_of (has_number number) (is_number number) (λ x. refl) (lists_of old key) node found)
+
+  same_left : here_left ≡ standing_in left
+  same_left = ap (λ (l : List Standing). without_first (is_number number) l) (at_key-nodes old key)
+      ∙ sym (without_first-map standing_of (has_number number) (is_number number) (λ x. refl) (lists_of old key))
+
+  -- its deadline passes
+  pub removes_late : node.timed ≡ true
+      → Moves max_threads (Is (step.Deadline number) answer.Late) (Lists size place (standing_in old) ∷ rest)
+      (Lists size place (with_late number (standing_in old)) ∷ rest)
+  removes_late timed =
+      framed max_threads (Is (step.Deadline number) answer.Late) (Lists size place (standing_in old) ∷ [])
+      (Lists size place (with_late number (standing_in old)) ∷ []) rest
+      (passes_deadline max_threads size place key number (standing_in old) (standing_of node) here found_here timed refl)
+
+  -- and it is out
+  pub removes : (new : List NodeFields) → ChangesOnly old new key left
+      → Moves max_threads (Is (step.Resolve number) (answer.TimedOut key (not (has_any left))))
+      (Lists size place (with_late number (standing_in old)) ∷ rest)
+      (Lists size place (standing_in new) ∷ Thread number status.Running ∷ rest)
+  removes new lists =
+      let last : not (has_any here_left) ≡ not (has_any left) =
+      ap (λ (l : List Standing). not (has_any l)) same_left ∙ ap not (has_any-map standing_of left) in
+      framed max_threads (Is (step.Resolve number) (answer.TimedOut key (not (has_any left))))
+      (Lists size place (with_late number (standing_in old)) ∷ [])
+      (Lists size place (standing_in new) ∷ Thread number status.Running ∷ []) rest
+      (subst (λ (b : Bool). Moves max_threads (Is (step.Resolve number) (answer.TimedOut key b))
+      (Lists size place (with_late number (standing_in old)) ∷ [])
+      (Lists size place (standing_in new) ∷ Thread number status.Running ∷ [])) last
+      (times_out max_threads size place key number (standing_in old) (standing_of node) here found_here (standing_in new)
+      (subst (ChangesKey (standing_in old) (standing_in new) key) (sym same_left)
+      (changes_nodes old new key left lists))))
