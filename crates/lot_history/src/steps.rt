@@ -1,11 +1,13 @@
 //! Steps that concern one thread alone, or none, ready to be called. A step of a bucket is made by
 //! `History::add` where the bucket is.
 
-ghost use Rattle.std.specs.Prelude.{◌≡◌, ◌∷◌, List};
+ghost use Rattle.std.specs.Prelude.{◌≡◌, ◌<◌, ◌∷◌, [], true, Bool, List, ℕ};
+ghost use Rattle.lot_exclusive.specs.Records.{one_less, one_more, times_recorded};
+ghost use Rattle.lot_history.specs.Pieces.{IsOneMore, has_number};
 ghost use Rattle.lot_history.specs.Views.{rest_of};
 ghost use Rattle.lot_history.specs.declared.view.Piece.{Piece};
-ghost use Rattle.lot_history.specs.declared.view.Piece.TheVariants.{Thread};
-ghost use Rattle.lot_history.specs.Witness.{Adds, Extends, IsStill, IsWitnessOf, pieces_of};
+ghost use Rattle.lot_history.specs.declared.view.Piece.TheVariants.{Numbers, Records, Thread};
+ghost use Rattle.lot_history.specs.Witness.{Adds, Extends, IsStill, IsWitnessOf, max_threads_of, pieces_of};
 
 use crate::history::{History, Witness};
 use crate::plays::Told;
@@ -52,6 +54,180 @@ impl History {
         ensures still { IsStill self.now me.old me.new }
         ensures adds { Adds self.now me.old E.said me.new }
         ensures pieces { pieces_of me.new ≡ after }
+    {
+        self.add::<E>(me);
+    }
+
+    /// Adds that the least number that is free is registered. The witness has the numbers' piece
+    /// before its others, and keeps it, with that number among them; the thread's own two pieces
+    /// stand behind it then. The caller picks the numbers `after`. It costs a load.
+    pub fn register(&self, me: &mut Witness, number: usize)
+        ghost after: { List Bool }
+        requires witness { IsWitnessOf self.now me.old }
+        requires below { number < max_threads_of self.now }
+        requires free { record {
+          uses : List Bool;
+          pieces : pieces_of me.old ≡ Numbers uses ∷ rest_of (pieces_of me.old);
+          more : IsOneMore uses number after;
+          least : (k : ℕ) → k < number → has_number uses k ≡ true;
+        } }
+        ensures still { IsStill self.now me.old me.new }
+        ensures extends { Extends self.now me.old
+            Step.Register (Answer.Registered number) me.new }
+        ensures pieces { pieces_of me.new
+            ≡ Numbers after ∷ Thread number Status.Running ∷ Records number []
+            ∷ rest_of (pieces_of me.old) }
+    {
+        self.register_as::<Brand>(me, number);
+    }
+
+    // The same, where the pieces that it leaves have a name, too.
+    fn register_as<E: Told>(&self, me: &mut Witness, number: usize)
+        ghost after: { List Bool × List Piece }
+        requires witness { IsWitnessOf self.now me.old }
+        requires below { number < max_threads_of self.now }
+        requires free { record {
+          uses : List Bool;
+          pieces : pieces_of me.old ≡ Numbers uses ∷ rest_of (pieces_of me.old);
+          more : IsOneMore uses number after.0;
+          least : (k : ℕ) → k < number → has_number uses k ≡ true;
+        } }
+        requires after { after.1
+            ≡ Numbers after.0 ∷ Thread number Status.Running ∷ Records number []
+            ∷ rest_of (pieces_of me.old) }
+        requires said { E.said Step.Register (Answer.Registered number) }
+        ensures still { IsStill self.now me.old me.new }
+        ensures adds { Adds self.now me.old E.said me.new }
+        ensures pieces { pieces_of me.new ≡ after.1 }
+    {
+        self.add::<E>(me);
+    }
+
+    /// Adds that a running thread ends its registration. The witness has the thread's piece, that
+    /// of its records and the numbers' before its others, and keeps the last, without that number.
+    /// The caller picks the numbers `after`. It costs a load.
+    pub fn retire(&self, me: &mut Witness, number: usize)
+        ghost after: { List Bool }
+        requires witness { IsWitnessOf self.now me.old }
+        requires registered { record {
+          keys : List ℕ;
+          uses : List Bool;
+          pieces : pieces_of me.old ≡ Thread number Status.Running ∷ Records number keys
+              ∷ Numbers uses ∷ rest_of (rest_of (rest_of (pieces_of me.old)));
+          more : IsOneMore after number uses;
+        } }
+        ensures still { IsStill self.now me.old me.new }
+        ensures extends { Extends self.now me.old
+            (Step.Retire number) Answer.Retired me.new }
+        ensures pieces { pieces_of me.new
+            ≡ Numbers after ∷ rest_of (rest_of (rest_of (pieces_of me.old))) }
+    {
+        self.retire_as::<Brand>(me, number);
+    }
+
+    // The same, where the pieces that it leaves have a name, too.
+    fn retire_as<E: Told>(&self, me: &mut Witness, number: usize)
+        ghost after: { List Bool × List Piece }
+        requires witness { IsWitnessOf self.now me.old }
+        requires registered { record {
+          keys : List ℕ;
+          uses : List Bool;
+          pieces : pieces_of me.old ≡ Thread number Status.Running ∷ Records number keys
+              ∷ Numbers uses ∷ rest_of (rest_of (rest_of (pieces_of me.old)));
+          more : IsOneMore after.0 number uses;
+        } }
+        requires after { after.1
+            ≡ Numbers after.0 ∷ rest_of (rest_of (rest_of (pieces_of me.old))) }
+        requires said { E.said (Step.Retire number) Answer.Retired }
+        ensures still { IsStill self.now me.old me.new }
+        ensures adds { Adds self.now me.old E.said me.new }
+        ensures pieces { pieces_of me.new ≡ after.1 }
+    {
+        self.add::<E>(me);
+    }
+
+    /// Adds that a running thread records the key once more. The witness has the thread's piece and
+    /// that of its records before its others, and keeps both. The caller picks the keys `after`. It
+    /// costs a load.
+    pub fn acquire(&self, me: &mut Witness, number: usize, key: usize)
+        ghost after: { List ℕ }
+        requires witness { IsWitnessOf self.now me.old }
+        requires running { record {
+          keys : List ℕ;
+          pieces : pieces_of me.old ≡ Thread number Status.Running ∷ Records number keys
+              ∷ rest_of (rest_of (pieces_of me.old));
+          more : times_recorded after ≡ one_more (times_recorded keys) key;
+        } }
+        ensures still { IsStill self.now me.old me.new }
+        ensures extends { Extends self.now me.old
+            (Step.Acquire number key) Answer.Recorded me.new }
+        ensures pieces { pieces_of me.new
+            ≡ Thread number Status.Running ∷ Records number after
+            ∷ rest_of (rest_of (pieces_of me.old)) }
+    {
+        self.acquire_as::<Brand>(me, number, key);
+    }
+
+    // The same, where the pieces that it leaves have a name, too.
+    fn acquire_as<E: Told>(&self, me: &mut Witness, number: usize, key: usize)
+        ghost after: { List ℕ × List Piece }
+        requires witness { IsWitnessOf self.now me.old }
+        requires running { record {
+          keys : List ℕ;
+          pieces : pieces_of me.old ≡ Thread number Status.Running ∷ Records number keys
+              ∷ rest_of (rest_of (pieces_of me.old));
+          more : times_recorded after.0 ≡ one_more (times_recorded keys) key;
+        } }
+        requires after { after.1
+            ≡ Thread number Status.Running ∷ Records number after.0
+            ∷ rest_of (rest_of (pieces_of me.old)) }
+        requires said { E.said (Step.Acquire number key) Answer.Recorded }
+        ensures still { IsStill self.now me.old me.new }
+        ensures adds { Adds self.now me.old E.said me.new }
+        ensures pieces { pieces_of me.new ≡ after.1 }
+    {
+        self.add::<E>(me);
+    }
+
+    /// Adds that a running thread records the key once less, if it had recorded it. The witness has
+    /// the thread's piece and that of its records before its others, and keeps both. The caller
+    /// picks the keys `after`. It costs a load.
+    pub fn release(&self, me: &mut Witness, number: usize, key: usize)
+        ghost after: { List ℕ }
+        requires witness { IsWitnessOf self.now me.old }
+        requires running { record {
+          keys : List ℕ;
+          pieces : pieces_of me.old ≡ Thread number Status.Running ∷ Records number keys
+              ∷ rest_of (rest_of (pieces_of me.old));
+          less : times_recorded after ≡ one_less (times_recorded keys) key;
+        } }
+        ensures still { IsStill self.now me.old me.new }
+        ensures extends { Extends self.now me.old
+            (Step.Release number key) Answer.Released me.new }
+        ensures pieces { pieces_of me.new
+            ≡ Thread number Status.Running ∷ Records number after
+            ∷ rest_of (rest_of (pieces_of me.old)) }
+    {
+        self.release_as::<Brand>(me, number, key);
+    }
+
+    // The same, where the pieces that it leaves have a name, too.
+    fn release_as<E: Told>(&self, me: &mut Witness, number: usize, key: usize)
+        ghost after: { List ℕ × List Piece }
+        requires witness { IsWitnessOf self.now me.old }
+        requires running { record {
+          keys : List ℕ;
+          pieces : pieces_of me.old ≡ Thread number Status.Running ∷ Records number keys
+              ∷ rest_of (rest_of (pieces_of me.old));
+          less : times_recorded after.0 ≡ one_less (times_recorded keys) key;
+        } }
+        requires after { after.1
+            ≡ Thread number Status.Running ∷ Records number after.0
+            ∷ rest_of (rest_of (pieces_of me.old)) }
+        requires said { E.said (Step.Release number key) Answer.Released }
+        ensures still { IsStill self.now me.old me.new }
+        ensures adds { Adds self.now me.old E.said me.new }
+        ensures pieces { pieces_of me.new ≡ after.1 }
     {
         self.add::<E>(me);
     }

@@ -1,11 +1,12 @@
-ghost use Rattle.std.specs.Prelude.{◌≡◌, ◌∷◌, ◌++◌, [], List};
+ghost use Rattle.std.specs.Prelude.{◌≡◌, ◌<◌, ◌∷◌, ◌++◌, [], false, List};
 ghost use mathlib.Core.List.{IsPrefix};
 ghost use Rattle.lot_base.specs.Place.{place_of};
 ghost use Rattle.lot_base.specs.declared.token.UnparkToken.{UnparkToken};
 ghost use Rattle.lot_history.specs.Views.{all_pieces, first_of, rest_of};
 ghost use Rattle.lot_history.specs.History.{events_by};
 ghost use Rattle.lot_history.specs.Tells.{event};
-ghost use Rattle.lot_history.specs.Witness.{Adds, Extends, IsStill, IsWitnessOf, events_of, number_of, pieces_of, seen_by};
+ghost use Rattle.lot_history.specs.Witness.{Adds, Extends, IsStill, IsWitnessOf, events_of, max_threads_of, number_of, pieces_of, seen_by};
+ghost use Rattle.lot_history.specs.declared.view.Piece.TheVariants.{Numbers};
 
 use crate::history::{History, Part, Witness};
 use crate::plays::Told;
@@ -126,6 +127,23 @@ fn unpark_told<E: Told, F: FnOnce(UnparkResult) -> UnparkToken>(
     history.add::<E>(me);
 }
 
+// Registers the thread of number 0, which records a key and releases it, and ends its registration.
+fn register_and_retire(history: &History, me: &mut Witness)
+    requires witness { IsWitnessOf history.now me.old }
+    requires nobody { pieces_of me.old ≡ all_pieces }
+    requires room { 0 < max_threads_of history.now }
+    ensures still { IsStill history.now me.old me.new }
+    ensures pieces { pieces_of me.new ≡ Numbers (false ∷ []) ∷ [] }
+{
+    let _lists = history.give(me);
+    history.register(me, 0);
+    let numbers = history.give(me);
+    history.acquire(me, 0, 7);
+    history.release(me, 0, 7);
+    history.take(me, numbers);
+    history.retire(me, 0);
+}
+
 #[test]
 fn two_witnesses_tell_and_hear(rt: HostRuntime) -> Result<(), Fail> {
     let (history, mut one) = History::new(rt.alloc(), 2)?;
@@ -142,6 +160,13 @@ fn two_threads_stand_in_one_history(rt: HostRuntime) -> Result<(), Fail> {
     hand_over(&history, &mut one, &mut two);
     let (_one, _two) = trim_in_two(&rt, &history, one, two);
     drop(Part::none());
+    Ok(())
+}
+
+#[test]
+fn a_thread_registers_and_retires(rt: HostRuntime) -> Result<(), Fail> {
+    let (history, mut me) = History::new(rt.alloc(), 2)?;
+    register_and_retire(&history, &mut me);
     Ok(())
 }
 
