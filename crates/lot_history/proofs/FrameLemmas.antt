@@ -1,5 +1,5 @@
 -- What a step does with some pieces it does beside any others, and however they are put together.
-use Rattle.std.proofs.Common.{ℕ, List, ◌++◌, ◌∙◌, arith}
+use Rattle.std.proofs.Common.{ℕ, List, ◌++◌, refl, ◌∙◌, arith}
 use Rattle.lot_exclusive.specs.declared.schedule.Answer.{Answer}
 use Rattle.lot_exclusive.specs.declared.schedule.Step.{Step}
 use Rattle.lot_exclusive.specs.Machine.{Machine}
@@ -11,12 +11,25 @@ use Rattle.lot_history.proofs.PieceLemmas.{AllSo-alike, AllSo-append, AllSo-part
 
 module _ (max_threads : ℕ) where
   -- what is found of all pieces is found of the first of them
-  found_first : (first rest : List Piece) (m : Machine) → Finds max_threads (first ++ rest) m → Finds max_threads first m
+  found_first : (first rest : List Piece) (m : Machine) → Finds max_threads (first ++ rest) m
+      → Finds max_threads first m
   found_first first rest m finds = record {
+    few = finds.few;
     threads = finds.threads;
     consistent = finds.consistent;
     once = λ name. let both = cover-append name first rest in let once = finds.once name in omega arith;
     so = (AllSo-parts m first rest finds.so).0;
+  }
+
+  -- and of the others
+  found_rest : (first rest : List Piece) (m : Machine) → Finds max_threads (first ++ rest) m
+      → Finds max_threads rest m
+  found_rest first rest m finds = record {
+    few = finds.few;
+    threads = finds.threads;
+    consistent = finds.consistent;
+    once = λ name. let both = cover-append name first rest in let once = finds.once name in omega arith;
+    so = (AllSo-parts m first rest finds.so).1;
   }
 
   -- a step leaves other pieces as they are
@@ -41,14 +54,19 @@ module _ (max_threads : ℕ) where
     };
   }
 
-  -- and so does a regrouping
-  pub framed_group : (before after rest : List Piece) → Regroups max_threads before after
-      → Regroups max_threads (before ++ rest) (after ++ rest)
-  framed_group before after rest same = record {
-    cover = λ name. let alike = same.cover name in
-        let old = cover-append name before rest in let new = cover-append name after rest in omega arith;
-    so = λ m finds. AllSo-append m after rest (same.so m (found_first before rest m finds))
-        (AllSo-parts m before rest finds.so).1;
+  -- the same pieces
+  pub kept_pieces : (pieces : List Piece) → Regroups max_threads pieces pieces
+  kept_pieces pieces = record { cover = λ name. refl; so = λ m finds. finds.so }
+
+  -- the parts of some pieces in others, beside those of further ones
+  pub beside : (before after old new : List Piece) → Regroups max_threads before after → Regroups max_threads old new
+      → Regroups max_threads (before ++ old) (after ++ new)
+  beside before after old new first second = record {
+    cover = λ name. let one = first.cover name in
+        let two = second.cover name in
+        let was = cover-append name before old in let is = cover-append name after new in omega arith;
+    so = λ m finds. AllSo-append m after new (first.so m (found_first before old m finds))
+        (second.so m (found_rest before old m finds));
   }
 
   -- the pieces in another order
@@ -62,17 +80,27 @@ module _ (max_threads : ℕ) where
   found_again : (before after : List Piece) → Regroups max_threads before after → (m : Machine)
       → Finds max_threads before m → Finds max_threads after m
   found_again before after same m finds = record {
+    few = finds.few;
     threads = finds.threads;
     consistent = finds.consistent;
     once = λ name. let alike = same.cover name in let once = finds.once name in omega arith;
     so = same.so m finds;
   }
 
+  -- one after another
+  pub chained : (before between after : List Piece) → Regroups max_threads before between
+      → Regroups max_threads between after → Regroups max_threads before after
+  chained before between after first second = record {
+    cover = λ name. second.cover name ∙ first.cover name;
+    so = λ m finds. second.so m (found_again before between first m finds);
+  }
+
   -- a step whose pieces are put together otherwise before it and after it
   pub regrouped : (said : Step → Answer → Type 0) (old before after new : List Piece) → Regroups max_threads old before
       → Moves max_threads said before after → Regroups max_threads after new → Moves max_threads said old new
   regrouped said old before after new first moves last = record {
-    cover = λ name. let one = first.cover name in let two = moves.cover name in let three = last.cover name in omega arith;
+    cover = λ name. let one = first.cover name in
+        let two = moves.cover name in let three = last.cover name in omega arith;
     step = λ m finds. let to : Reaches m said after = moves.step m (found_again old before first m finds) in record {
       step = to.step;
       answer = to.answer;
@@ -80,6 +108,7 @@ module _ (max_threads : ℕ) where
       next = to.next;
       does = to.does;
       so = last.so to.next (record {
+        few = finds.few;
         threads = max_threads-step m to.step to.answer to.next to.does ∙ finds.threads;
         consistent = IsConsistent-step m to.step to.answer to.next finds.consistent to.does;
         once = λ name. let one = first.cover name in

@@ -18,6 +18,7 @@ pub mod TimeoutLemmas
 pub mod RemoveLemmas
 pub mod PlaceLemmas
 pub mod GrowthLemmas
+pub mod RowLemmas
 pub mod NumberLemmas
 pub mod RecordLemmas
 pub mod LawLemmas

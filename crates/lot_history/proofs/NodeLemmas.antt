@@ -1,6 +1,6 @@
 -- What the nodes of a bucket say of the threads that stand at its place.
-use Rattle.std.proofs.Common.{◌≡◌, ◌≢◌, ℕ, ◌-◌, ◌≤◌, ◌^◌, ◌==◌, Bool, true, false, cond, List, [], ◌∷◌, ◌++◌, map, length, refl}
-use Rattle.std.proofs.Common.{sym, ap, ◌∙◌, subst, arith}
+use Rattle.std.proofs.Common.{◌≡◌, ◌≢◌, ℕ, ◌-◌, ◌≤◌, ◌^◌, ◌==◌, Bool, true, false, cond, List, [], ◌∷◌, ◌++◌, map}
+use Rattle.std.proofs.Common.{length, refl, sym, ap, ◌∙◌, subst, arith}
 use Rattle.std.proofs.lemmas.List.{length-map, map-append}
 use Rattle.std.specs.Prelude.{Vec}
 use Rattle.std.specs.declared.alloc.Global.{Global}
@@ -105,15 +105,15 @@ requeued_nodes old new from to split lists k =
     (record { taken = standing_in split.taken; moved = moved; left = standing_in split.left }) k)
     (moved_nodes to split.moved))))
 
--- no list is so long that a `usize` could not tell it, where a history is for no more threads than that
+-- no list is so long that a `usize` could not tell it
 pub few_waiting : (max_threads size place key : ℕ) (standing : List Standing) (rest : List Piece) (m : Machine)
-    → place_of key size ≡ place → max_threads ≤ 2 ^ 64 - 1 → Finds max_threads (Lists size place standing ∷ rest) m
+    → place_of key size ≡ place → Finds max_threads (Lists size place standing ∷ rest) m
     → length (map waiter_of (at_key key standing)) ≤ 2 ^ 64 - 1
-few_waiting max_threads size place key standing rest m here most finds =
+few_waiting max_threads size place key standing rest m here finds =
     let short = length-le_from_MatchesStatus finds.consistent.0 m key finds.consistent.1 in
     let same : length (m.lists key) ≡ length (map waiter_of (at_key key standing)) =
     ap (λ (ws : List Waiter). length ws) (finds.so.0 key here).waiters in
-    omega (arith, short, same, most, finds.threads)
+    omega (arith, short, same, finds.few, finds.threads)
 
 -- a thread's node enters a bucket
 pub enters_node : (max_threads size place : ℕ) (old : List NodeFields) (node : NodeFields) (rest : List Piece)
@@ -138,7 +138,8 @@ module _ (max_threads size place key : ℕ) (old new : List NodeFields) (token :
   before = Lists size place (standing_in old) ∷ []
 
   abbrev pub Unparks : Op → Answer → List NodeFields → Type 0
-  Unparks which given taken = Moves max_threads (Is (step.Unpark which) given) (Lists size place (standing_in old) ∷ rest)
+  Unparks which given taken = Moves max_threads (Is (step.Unpark which) given)
+      (Lists size place (standing_in old) ∷ rest)
       (Lists size place (standing_in new) ∷ (threads_taken token (standing_in taken) ++ rest))
 
   pub takes_one : ChangesOnly old new key (split_first waiting).left
@@ -157,60 +158,59 @@ module _ (max_threads size place key : ℕ) (old new : List NodeFields) (token :
       (unparks_one max_threads size place key (standing_in old) (standing_in new) token here)
       (changes_nodes old new key (split_first waiting).left lists)))
 
-  module _ (most : max_threads ≤ 2 ^ 64 - 1) where
-    pub takes_all : ChangesOnly old new key (split_all waiting).left
-        → Unparks (op.All key token) (answer.Count (saturated (length waiting))) (split_all waiting).taken
-    takes_all lists =
-        framed max_threads (Is (step.Unpark (op.All key token)) (answer.Count (saturated (length waiting)))) before
-        (Lists size place (standing_in new) ∷ threads_taken token (standing_in waiting)) rest
-        (answers max_threads (step.Unpark (op.All key token)) (answer.Count (length (standing_in waiting)))
-        (answer.Count (saturated (length waiting))) before
-        (Lists size place (standing_in new) ∷ threads_taken token (standing_in waiting))
-        (λ m finds. ap answer.Count
-        (let few = few_waiting max_threads size place key (standing_in old) [] m here most finds in
-        let machine = length-map (at_key key (standing_in old)) waiter_of in
-        let same = ap (λ (l : List Standing). length l) (at_key-nodes old key) in
-        let nodes = length-map waiting standing_of in
-        omega (arith, few, machine, same, nodes)))
-        (subst (λ (l : List Standing).
-        Moves max_threads (Is (step.Unpark (op.All key token)) (answer.Count (length l))) before
-        (Lists size place (standing_in new) ∷ threads_taken token l)) (at_key-nodes old key)
-        (unparks_all max_threads size place key (standing_in old) (standing_in new) token here
-        (changes_nodes old new key [] lists))))
+  pub takes_all : ChangesOnly old new key (split_all waiting).left
+      → Unparks (op.All key token) (answer.Count (saturated (length waiting))) (split_all waiting).taken
+  takes_all lists =
+      framed max_threads (Is (step.Unpark (op.All key token)) (answer.Count (saturated (length waiting)))) before
+      (Lists size place (standing_in new) ∷ threads_taken token (standing_in waiting)) rest
+      (answers max_threads (step.Unpark (op.All key token)) (answer.Count (length (standing_in waiting)))
+      (answer.Count (saturated (length waiting))) before
+      (Lists size place (standing_in new) ∷ threads_taken token (standing_in waiting))
+      (λ m finds. ap answer.Count
+      (let few = few_waiting max_threads size place key (standing_in old) [] m here finds in
+      let machine = length-map (at_key key (standing_in old)) waiter_of in
+      let same = ap (λ (l : List Standing). length l) (at_key-nodes old key) in
+      let nodes = length-map waiting standing_of in
+      omega (arith, few, machine, same, nodes)))
+      (subst (λ (l : List Standing).
+      Moves max_threads (Is (step.Unpark (op.All key token)) (answer.Count (length l))) before
+      (Lists size place (standing_in new) ∷ threads_taken token l)) (at_key-nodes old key)
+      (unparks_all max_threads size place key (standing_in old) (standing_in new) token here
+      (changes_nodes old new key [] lists))))
 
-    pub takes_filter : (decisions : Vec FilterOp Global)
-        → ChangesOnly old new key (split_filter decisions.items waiting).left
-        → Unparks (op.Filter key decisions token)
-        (answer.Unpark (with_saturated_counts (result_of (split_filter decisions.items waiting))))
-        (split_filter decisions.items waiting).taken
-    takes_filter decisions lists =
-        let chosen : Split NodeFields = split_filter decisions.items waiting in
-        let here_chosen : Split Standing = split_filter decisions.items (at_key key (standing_in old)) in
-        let same : here_chosen ≡ split_map standing_of chosen =
-        ap (λ (l : List Standing). split_filter decisions.items l) (at_key-nodes old key)
-        ∙ sym (split_filter-map standing_of decisions.items waiting) in
-        let after : List Piece =
-        Lists size place (standing_in new) ∷ threads_taken token (standing_in chosen.taken) in
-        let given : Answer = answer.Unpark (with_saturated_counts (result_of chosen)) in
-        framed max_threads (Is (step.Unpark (op.Filter key decisions token)) given) before after rest
-        (answers max_threads (step.Unpark (op.Filter key decisions token))
-        (answer.Unpark (result_of (split_map standing_of chosen))) given before after
-        (λ m finds. ap answer.Unpark
-        (ap (λ (s : Split Standing). result_of s) (sym same)
-        ∙ (sym (result_of-exact here_chosen (at_key key (standing_in old))
-        (parted_filter (at_key key (standing_in old)) decisions.items)
-        (few_waiting max_threads size place key (standing_in old) [] m here most finds))
-        ∙ (ap (λ (s : Split Standing). with_saturated_counts (result_of s)) same
-        ∙ ap with_saturated_counts (result_of-map standing_of chosen)))))
-        (subst (λ (s : Split Standing). ChangesKey (standing_in old) (standing_in new) key s.left
-        → Moves max_threads (Is (step.Unpark (op.Filter key decisions token)) (answer.Unpark (result_of s))) before
-        (Lists size place (standing_in new) ∷ threads_taken token s.taken)) same
-        (unparks_filter max_threads size place key (standing_in old) (standing_in new) token here decisions)
-        (changes_nodes old new key chosen.left lists)))
+  pub takes_filter : (decisions : Vec FilterOp Global)
+      → ChangesOnly old new key (split_filter decisions.items waiting).left
+      → Unparks (op.Filter key decisions token)
+      (answer.Unpark (with_saturated_counts (result_of (split_filter decisions.items waiting))))
+      (split_filter decisions.items waiting).taken
+  takes_filter decisions lists =
+      let chosen : Split NodeFields = split_filter decisions.items waiting in
+      let here_chosen : Split Standing = split_filter decisions.items (at_key key (standing_in old)) in
+      let same : here_chosen ≡ split_map standing_of chosen =
+      ap (λ (l : List Standing). split_filter decisions.items l) (at_key-nodes old key)
+      ∙ sym (split_filter-map standing_of decisions.items waiting) in
+      let after : List Piece =
+      Lists size place (standing_in new) ∷ threads_taken token (standing_in chosen.taken) in
+      let given : Answer = answer.Unpark (with_saturated_counts (result_of chosen)) in
+      framed max_threads (Is (step.Unpark (op.Filter key decisions token)) given) before after rest
+      (answers max_threads (step.Unpark (op.Filter key decisions token))
+      (answer.Unpark (result_of (split_map standing_of chosen))) given before after
+      (λ m finds. ap answer.Unpark
+      (ap (λ (s : Split Standing). result_of s) (sym same)
+      ∙ (sym (result_of-exact here_chosen (at_key key (standing_in old))
+      (parted_filter (at_key key (standing_in old)) decisions.items)
+      (few_waiting max_threads size place key (standing_in old) [] m here finds))
+      ∙ (ap (λ (s : Split Standing). with_saturated_counts (result_of s)) same
+      ∙ ap with_saturated_counts (result_of-map standing_of chosen)))))
+      (subst (λ (s : Split Standing). ChangesKey (standing_in old) (standing_in new) key s.left
+      → Moves max_threads (Is (step.Unpark (op.Filter key decisions token)) (answer.Unpark (result_of s))) before
+      (Lists size place (standing_in new) ∷ threads_taken token s.taken)) same
+      (unparks_filter max_threads size place key (standing_in old) (standing_in new) token here decisions)
+      (changes_nodes old new key chosen.left lists)))
 
 -- requeues, as buckets tell of them
 module _ (max_threads size place from to : ℕ) (old new : List NodeFields) (chosen : RequeueOp) (token : UnparkToken)
-    (rest : List Piece) (most : max_threads ≤ 2 ^ 64 - 1) (from_here : place_of from size ≡ place) where
+    (rest : List Piece) (from_here : place_of from size ≡ place) where
   abbrev requeued : Split NodeFields
   requeued = split_by chosen (lists_of old from)
 
@@ -243,7 +243,7 @@ module _ (max_threads size place from to : ℕ) (old new : List NodeFields) (cho
       (λ m finds. ap answer.Unpark
       (ap (λ (s : Split Standing). requeue_result chosen s) (sym same)
       ∙ (sym (requeue_result-exact (split_by chosen here_waiting) here_waiting (parted_by here_waiting chosen)
-      (few_waiting max_threads size place from (standing_in old) others m from_here most finds) chosen)
+      (few_waiting max_threads size place from (standing_in old) others m from_here finds) chosen)
       ∙ (ap (λ (s : Split Standing). with_saturated_counts (requeue_result chosen s)) same
       ∙ ap with_saturated_counts (requeue_result-map standing_of chosen requeued))))) moves)
 
@@ -258,7 +258,8 @@ module _ (max_threads size place from to : ℕ) (old new : List NodeFields) (cho
       → Moves max_threads
       (Is (step.Unpark (op.Requeue from to chosen token)) (answer.Unpark (requeue_result chosen s)))
       (Lists size place (standing_in old) ∷ []) (Lists size place (standing_in new) ∷ threads_taken token s.taken)) same
-      (requeues_within max_threads from to (standing_in old) chosen token size place (standing_in new) from_here to_here)
+      (requeues_within max_threads from to (standing_in old) chosen token size place (standing_in new) from_here
+      to_here)
       (requeued_nodes old new from to requeued lists))
 
   pub requeues_two : (other : ℕ) (target target_new : List NodeFields) → other ≢ place → place_of to size ≡ other

@@ -57,7 +57,8 @@ module _ (max_threads number key : ℕ) (keys after : List ℕ) where
 
   pub acquires : times_recorded after ≡ one_more (times_recorded keys) key
       → Moves max_threads (Is (step.Acquire number key) answer.Recorded)
-      (Thread number status.Running ∷ Records number keys ∷ []) (Thread number status.Running ∷ Records number after ∷ [])
+      (Thread number status.Running ∷ Records number keys ∷ [])
+      (Thread number status.Running ∷ Records number after ∷ [])
   acquires more = recorded (step.Acquire number key) answer.Recorded
       (λ m runs are. subst (λ s. MatchBool (is_running s)
       (IsAcquire m number key answer.Recorded (with_records m number (times_recorded after)))
@@ -66,7 +67,8 @@ module _ (max_threads number key : ℕ) (keys after : List ℕ) where
 
   pub releases : times_recorded after ≡ one_less (times_recorded keys) key
       → Moves max_threads (Is (step.Release number key) answer.Released)
-      (Thread number status.Running ∷ Records number keys ∷ []) (Thread number status.Running ∷ Records number after ∷ [])
+      (Thread number status.Running ∷ Records number keys ∷ [])
+      (Thread number status.Running ∷ Records number after ∷ [])
   releases less = recorded (step.Release number key) answer.Released
       (λ m runs are. subst (λ s. MatchBool (is_running s)
       (Gives (after_release m number key) answer.Released answer.Released

@@ -16,7 +16,8 @@ use Rattle.lot_history.specs.Pieces.{at_key, standing_of, standing_in}
 use Rattle.lot_history.proofs.FrameLemmas.{framed}
 use Rattle.lot_history.proofs.NodeLemmas.{at_key-nodes, changes_nodes}
 use Rattle.lot_history.proofs.ThreadLemmas.{Is}
-use Rattle.lot_history.proofs.TimeoutLemmas.{is_number, with_late, find-map, without_first-map, passes_deadline, times_out}
+use Rattle.lot_history.proofs.TimeoutLemmas.{is_number, with_late, find-map, without_first-map, passes_deadline}
+use Rattle.lot_history.proofs.TimeoutLemmas.{times_out}
 use Rattle.lot_history.proofs.TimesLemmas.{ChangesKey}
 
 module _ (max_threads size place key number : ℕ) (old : List NodeFields) (node : NodeFields) (rest : List Piece)
@@ -43,7 +44,8 @@ module _ (max_threads size place key number : ℕ) (old : List NodeFields) (node
   removes_late timed =
       framed max_threads (Is (step.Deadline number) answer.Late) (Lists size place (standing_in old) ∷ [])
       (Lists size place (with_late number (standing_in old)) ∷ []) rest
-      (passes_deadline max_threads size place key number (standing_in old) (standing_of node) here found_here timed refl)
+      (passes_deadline max_threads size place key number (standing_in old) (standing_of node) here found_here timed
+      refl)
 
   -- and it is out
   pub removes : (new : List NodeFields) → ChangesOnly old new key left
@@ -59,6 +61,7 @@ module _ (max_threads size place key number : ℕ) (old : List NodeFields) (node
       (subst (λ (b : Bool). Moves max_threads (Is (step.Resolve number) (answer.TimedOut key b))
       (Lists size place (with_late number (standing_in old)) ∷ [])
       (Lists size place (standing_in new) ∷ Thread number status.Running ∷ [])) last
-      (times_out max_threads size place key number (standing_in old) (standing_of node) here found_here (standing_in new)
+      (times_out max_threads size place key number (standing_in old) (standing_of node) here found_here
+      (standing_in new)
       (subst (ChangesKey (standing_in old) (standing_in new) key) (sym same_left)
       (changes_nodes old new key left lists))))

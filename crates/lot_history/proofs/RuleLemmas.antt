@@ -44,7 +44,8 @@ module _ (max_threads : ℕ) (views : List View) (kept : Kept max_threads views)
   own = kept.each id v at
 
   found : Finds max_threads v.pieces kept.machine
-  found = record { threads = kept.threads; consistent = kept.consistent; once = own.once; so = own.pieces }
+  found =
+      record { few = kept.few; threads = kept.threads; consistent = kept.consistent; once = own.once; so = own.pieces }
 
   below : id < length views
   below = in_range views id v at
@@ -56,6 +57,7 @@ module _ (max_threads : ℕ) (views : List View) (kept : Kept max_threads views)
     machine = kept.machine;
     owner = kept.owner;
     run = kept.run;
+    few = kept.few;
     threads = kept.threads;
     consistent = kept.consistent;
     each = λ j u there. ⊎_elim
@@ -149,6 +151,7 @@ module _ (max_threads : ℕ) (views : List View) (kept : Kept max_threads views)
       machine = from.next;
       owner = kept.owner;
       run = LeadsTo-push max_threads kept.events added kept.machine from.next kept.run from.does;
+      few = kept.few;
       threads = max_threads-step kept.machine from.step from.answer from.next from.does ∙ kept.threads;
       consistent = IsConsistent-step kept.machine from.step from.answer from.next kept.consistent from.does;
       each = λ j u there. ⊎_elim
@@ -242,6 +245,7 @@ module _ (max_threads : ℕ) (views : List View) (kept : Kept max_threads views)
       machine = kept.machine;
       owner = owner;
       run = kept.run;
+      few = kept.few;
       threads = kept.threads;
       consistent = kept.consistent;
       each = λ j u there. ⊎_elim
@@ -330,6 +334,7 @@ module _ (max_threads : ℕ) (views : List View) (kept : Kept max_threads views)
       machine = kept.machine;
       owner = new_owner;
       run = kept.run;
+      few = kept.few;
       threads = kept.threads;
       consistent = kept.consistent;
       each = λ j u now. ⊎_elim

@@ -1,6 +1,6 @@
 -- The rule allows what a seat does at the history's word.
-use Rattle.std.proofs.Common.{◌≡◌, ℕ, zero, suc, ◌≤◌, ◌==◌, Bool, true, false, cond, List, [], ◌∷◌, ◌++◌, ◌+◌, ◌∙◌}
-use Rattle.std.proofs.Common.{refl, sym, subst, arith}
+use Rattle.std.proofs.Common.{◌≡◌, ℕ, zero, suc, ◌-◌, ◌≤◌, ◌^◌, ◌==◌, Bool, true, false, cond, List, [], ◌∷◌, ◌++◌, ◌+◌}
+use Rattle.std.proofs.Common.{◌∙◌, refl, sym, subst, arith}
 use mathlib.Core.List.{IsPrefix}
 use mathlib.Core.Option.{some, some-injective, some-ne-none}
 use lib.ListN.{get_elem?}
@@ -85,12 +85,13 @@ first_once (thread number) = omega arith
 first_once (records number) = omega arith
 first_once numbers = omega arith
 
-pub opens : (max_threads : ℕ) → Kept max_threads (first_view ∷ [])
-opens max_threads = record {
+pub opens : (max_threads : ℕ) → max_threads ≤ 2 ^ 64 - 1 → Kept max_threads (first_view ∷ [])
+opens max_threads few = record {
   events = [];
   machine = new_machine max_threads;
   owner = λ _. 0;
   run = refl;
+  few = few;
   threads = refl;
   consistent = IsConsistent-new max_threads;
   each = each;

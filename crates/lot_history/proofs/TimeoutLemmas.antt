@@ -1,6 +1,6 @@
 -- A thread whose deadline has passed leaves the list where it stands.
-use Rattle.std.proofs.Common.{◌≡◌, ◌≢◌, ℕ, ◌+◌, ◌<◌, ◌≤◌, ◌==◌, Bool, true, false, MatchBool, not, cond, find, Some, List, []}
-use Rattle.std.proofs.Common.{◌∷◌, map, All, refl, sym, ap, ◌∙◌, subst, ⊎_elim, arith}
+use Rattle.std.proofs.Common.{◌≡◌, ◌≢◌, ℕ, ◌+◌, ◌<◌, ◌≤◌, ◌==◌, Bool, true, false, MatchBool, not, cond, find, Some}
+use Rattle.std.proofs.Common.{List, [], ◌∷◌, map, All, refl, sym, ap, ◌∙◌, subst, ⊎_elim, arith}
 use Rattle.std.proofs.lemmas.Bool.{cases_eq, eq-eqb, ne_eqb, eqb-true, cond-true, cond-false}
 use Rattle.lot_base.specs.Place.{place_of}
 use Rattle.lot_base.specs.Waiting.{with_value, without_first, has_any}
@@ -328,7 +328,8 @@ module _ (max_threads size place key number : ℕ) (standing : List Standing) (f
       left_waiters : without_first (λ (w : Waiter). w.number == number) (m.lists key) ≡ map waiter_of left
       left_waiters =
           ap (λ (ws : List Waiter). without_first (λ (w : Waiter). w.number == number) ws) was_waiters
-          ∙ sym (without_first-map waiter_of (is_number number) (λ (w : Waiter). w.number == number) (λ x. refl) waiting)
+          ∙ sym (without_first-map waiter_of (is_number number) (λ (w : Waiter). w.number == number) (λ x. refl)
+          waiting)
 
       stands_at : StandsAt m number key
       stands_at = StandsAt-standing finds.consistent.0 m number key finds.consistent.1.standing

@@ -1,5 +1,5 @@
 -- What a step of a seat is that has pieces.
-use Rattle.std.specs.Prelude.{◌≡◌, ℕ, ◌≤◌, List}
+use Rattle.std.specs.Prelude.{◌≡◌, ℕ, ◌-◌, ◌≤◌, ◌^◌, List}
 use Rattle.lot_exclusive.specs.declared.schedule.Answer.{Answer}
 use Rattle.lot_exclusive.specs.declared.schedule.Step.{Step}
 use Rattle.lot_exclusive.specs.Machine.{Machine, IsConsistent}
@@ -11,8 +11,9 @@ use Rattle.lot_history.specs.Pieces.{Name, cover, Alike, AllSo}
 abbrev pub SameCover : List Piece → List Piece → Type 0
 SameCover pieces others = (name : Name) → cover name others ≡ cover name pieces
 
--- the machine is one, for so many threads, that a seat with these pieces may find
+-- the machine is one, for so many threads, that a seat with these pieces may find; a `usize` has room for as many
 pub record Finds (max_threads : ℕ) (pieces : List Piece) (m : Machine) : Type 0 where
+  pub few : max_threads ≤ 2 ^ 64 - 1
   pub threads : m.max_threads ≡ max_threads
   pub consistent : IsConsistent m
   pub once : (name : Name) → cover name pieces ≤ 1

@@ -1,5 +1,5 @@
 -- The parts of the machine that one seat alone may change, its pieces.
-use Rattle.std.specs.Prelude.{◌≡◌, ℕ, ◌+◌, ◌==◌, Bool, true, false, if◌then◌else◌, cond, ⊤, List, []}
+use Rattle.std.specs.Prelude.{◌≡◌, ℕ, zero, suc, ◌+◌, ◌==◌, Bool, true, false, if◌then◌else◌, cond, ⊤, List, []}
 use Rattle.std.specs.Prelude.{◌∷◌, map, filter, slice_index_or}
 use Rattle.lot_base.specs.NodeFields.{NodeFields}
 use Rattle.lot_base.specs.Place.{place_of}
@@ -112,3 +112,8 @@ standing_of node = record {
 
 abbrev pub standing_in : List NodeFields → List Standing
 standing_in nodes = map standing_of nodes
+
+-- so many places of a table, from this one on, where each has these threads
+abbrev pub row_pieces : ℕ → ℕ → ℕ → (ℕ → List Standing) → List Piece
+row_pieces size first zero row = []
+row_pieces size first (suc count) row = Lists size first (row first) ∷ row_pieces size (first + 1) count row

@@ -1,5 +1,5 @@
 -- What holds of the history and of all seats between any two steps.
-use Rattle.std.specs.Prelude.{◌≡◌, ℕ, ◌<◌, ◌≤◌, List, [], length}
+use Rattle.std.specs.Prelude.{◌≡◌, ℕ, ◌-◌, ◌<◌, ◌≤◌, ◌^◌, List, [], length}
 use mathlib.Core.List.{IsPrefix}
 use mathlib.Core.Option.{some}
 use lib.ListN.{get_elem?}
@@ -24,6 +24,7 @@ pub record Kept (max_threads : ℕ) (views : List View) : Type 0 where
   pub machine : Machine
   pub owner : Name → ℕ
   pub run : LeadsTo max_threads events machine
+  pub few : max_threads ≤ 2 ^ 64 - 1
   pub threads : machine.max_threads ≡ max_threads
   pub consistent : IsConsistent machine
   pub each : (id : ℕ) (view : View) → get_elem? views id ≡ some view → Knows events machine owner id view

@@ -13,4 +13,5 @@ ghosts-acquire_as g a = record { said = Is (step.Acquire a.number a.key) answer.
 
 -- and the thread has these records then
 abbrev pub ghost-acquire_as : goal.ghost-acquire_as
-ghost-acquire_as g a = (g.after, Thread a.number status.Running ∷ Records a.number g.after ∷ rest_of (rest_of a.me.now.seat.me.0.pieces))
+ghost-acquire_as g a =
+    (g.after, Thread a.number status.Running ∷ Records a.number g.after ∷ rest_of (rest_of a.me.now.seat.me.0.pieces))

@@ -18,7 +18,9 @@ add-requires g c = λ lifetimes within.
       within,
       (
         c.requires.1.0,
-        said_moves threads (step.Acquire c.args.number c.args.key) answer.Recorded g.E.Told.said (Thread c.args.number status.Running ∷ Records c.args.number own.keys ∷ rest) (Thread c.args.number status.Running ∷ Records c.args.number g.after.0 ∷ rest)
+        said_moves threads (step.Acquire c.args.number c.args.key) answer.Recorded g.E.Told.said
+            (Thread c.args.number status.Running ∷ Records c.args.number own.keys ∷ rest)
+            (Thread c.args.number status.Running ∷ Records c.args.number g.after.0 ∷ rest)
             c.args.me.now.seat.me.0.pieces g.after.1 own.pieces c.requires.1.1.1.0 c.requires.1.1.1.1
             (framed threads (Is (step.Acquire c.args.number c.args.key) answer.Recorded)
             (Thread c.args.number status.Running ∷ Records c.args.number own.keys ∷ [])

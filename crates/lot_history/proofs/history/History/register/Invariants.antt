@@ -13,4 +13,6 @@ ghosts-register_as g a = record { said = Is step.Register (answer.Registered a.n
 
 -- and the number has its own pieces then
 abbrev pub ghost-register_as : goal.ghost-register_as
-ghost-register_as g a = (g.after, Numbers g.after ∷ Thread a.number status.Running ∷ Records a.number [] ∷ rest_of a.me.now.seat.me.0.pieces)
+ghost-register_as g a =
+    let rest = rest_of a.me.now.seat.me.0.pieces in
+    (g.after, Numbers g.after ∷ Thread a.number status.Running ∷ Records a.number [] ∷ rest)

@@ -17,7 +17,9 @@ add-requires g c = λ lifetimes within.
       within,
       (
         c.requires.1.0,
-        said_moves threads step.Register (answer.Registered c.args.number) g.E.Told.said (Numbers own.uses ∷ rest) (Numbers g.after.0 ∷ Thread c.args.number status.Running ∷ Records c.args.number [] ∷ rest)
+        said_moves threads step.Register (answer.Registered c.args.number) g.E.Told.said
+            (Numbers own.uses ∷ rest)
+            (Numbers g.after.0 ∷ Thread c.args.number status.Running ∷ Records c.args.number [] ∷ rest)
             c.args.me.now.seat.me.0.pieces g.after.1 own.pieces c.requires.1.1.1.1.0 c.requires.1.1.1.1.1
             (registers threads own.uses rest c.args.number g.after.0 c.requires.1.1.0 own.more own.least),
       ),

@@ -13,4 +13,5 @@ ghosts-release_as g a = record { said = Is (step.Release a.number a.key) answer.
 
 -- and the thread has these records then
 abbrev pub ghost-release_as : goal.ghost-release_as
-ghost-release_as g a = (g.after, Thread a.number status.Running ∷ Records a.number g.after ∷ rest_of (rest_of a.me.now.seat.me.0.pieces))
+ghost-release_as g a =
+    (g.after, Thread a.number status.Running ∷ Records a.number g.after ∷ rest_of (rest_of a.me.now.seat.me.0.pieces))

@@ -18,7 +18,9 @@ add-requires g c = λ lifetimes within.
       within,
       (
         c.requires.1.0,
-        said_moves threads (step.Retire c.args.number) answer.Retired g.E.Told.said (Thread c.args.number status.Running ∷ Records c.args.number own.keys ∷ Numbers own.uses ∷ rest) (Numbers g.after.0 ∷ rest)
+        said_moves threads (step.Retire c.args.number) answer.Retired g.E.Told.said
+            (Thread c.args.number status.Running ∷ Records c.args.number own.keys ∷ Numbers own.uses ∷ rest)
+            (Numbers g.after.0 ∷ rest)
             c.args.me.now.seat.me.0.pieces g.after.1 own.pieces c.requires.1.1.1.0 c.requires.1.1.1.1
             (framed threads (Is (step.Retire c.args.number) answer.Retired)
             (Thread c.args.number status.Running ∷ Records c.args.number own.keys ∷ Numbers own.uses ∷ [])
