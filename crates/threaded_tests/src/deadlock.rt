@@ -8,14 +8,17 @@ use std::test::Fail;
 
 type Lot = ParkingLot<ThreadParker>;
 
+// More than a byte or 16 bits count.
+const MANY: usize = 70_000;
+
 fn expect(rt: &impl Abort, data: &ThreadData, times: [(usize, usize); 3]) {
     for (key, expected) in times {
         expect_equal(rt, (key, data.records(key)), (key, expected));
     }
 }
 
-// It refuses an `acquire_resource` that answers `NoMemory` at each call, and a `release_resource`
-// that forgets a key that was not released.
+// It refuses an `acquire_resource` that answers `NoMemory` at each call or at some later one, and a
+// `release_resource` that forgets a key that was not released.
 #[test]
 fn a_thread_records_each_key_as_often_as_it_holds_it(rt: HostRuntime) -> Result<(), Fail> {
     let lot = Lot::new(rt.alloc(), 1)?;
@@ -29,6 +32,10 @@ fn a_thread_records_each_key_as_often_as_it_holds_it(rt: HostRuntime) -> Result<
     release_resource(&mut data, 9);
     expect(&rt, &data, [(5, 1), (7, 1), (9, 0)]);
     expect_equal(&rt, data.number(), 0);
+    for _ in 0..MANY {
+        expect_equal(&rt, acquire_resource(&mut data, 9), Ok(()));
+    }
+    expect(&rt, &data, [(5, 1), (7, 1), (9, MANY)]);
     Ok(())
 }
 
