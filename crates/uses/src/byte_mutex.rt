@@ -1,10 +1,10 @@
 //! A mutex whose state is one byte, for threads who wait on a key of a threaded lot.
 
-ghost use Rattle.std.specs.Prelude.{◌≡◌, ◌↔◌, ◌<◌, IfSome, IsTrue, IsFalse};
+ghost use Rattle.std.specs.Prelude.{◌≡◌, ◌↔◌, IfSome, IsTrue, IsFalse};
 
 use parking_lot_core::{
-    DEFAULT_PARK_TOKEN, DEFAULT_UNPARK_TOKEN, ParkingLot, ThreadData, ThreadParkerT, UnparkResult,
-    park, unpark_one,
+    DEFAULT_PARK_TOKEN, DEFAULT_UNPARK_TOKEN, Member, ParkingLot, ThreadParkerT, UnparkResult,
+    unpark_one,
 };
 use std::marker::Model;
 use std::sync::Wait;
@@ -75,20 +75,16 @@ impl ByteMutex {
         }
     }
 
-    /// Locks the mutex, and sleeps while another thread holds it. The data's number is below the
-    /// lot's greatest number of threads.
+    /// Locks the mutex, and sleeps while another thread holds it.
     ///
     /// It is one compare-exchange if nobody holds the mutex, and else one `park` or more.
     pub fn lock<P: ThreadParkerT, R: Wait + Clock>(
         &self,
         rt: &R,
-        lot: &ParkingLot<P>,
-        thread_data: &mut ThreadData,
+        member: &mut Member<'_, P>,
     ) -> Held
-        requires number { thread_data.old.number < lot.now.max_threads }
-
         ensures held { result.key ≡ self.now.key }
-        ensures number { thread_data.new ≡ thread_data.old }
+        ensures unchanged { member.new ≡ member.old }
     {
         for _ in rt.forever() {
             if let Some(held) = self.try_lock() {
@@ -97,10 +93,8 @@ impl ByteMutex {
 
             // The thread parks only while whoever unlocks will look for waiters.
             self.exchange(LOCKED, LOCKED_WITH_WAITERS);
-            let result = park(
+            let result = member.park(
                 rt,
-                lot,
-                thread_data,
                 self.key,
                 || self.state.load(Ordering::SeqCst) == LOCKED_WITH_WAITERS,
                 || (),

@@ -1,10 +1,10 @@
 //! An event, for which any number of threads wait on a key of a threaded lot.
 
-ghost use Rattle.std.specs.Prelude.{◌≡◌, ◌≢◌, ◌<◌, None, IsFalse};
+ghost use Rattle.std.specs.Prelude.{◌≡◌, ◌≢◌, None, IsFalse};
 
 use parking_lot_core::{
-    DEFAULT_PARK_TOKEN, DEFAULT_UNPARK_TOKEN, ParkResult, ParkingLot, ThreadData, ThreadParkerT,
-    park, unpark_all,
+    DEFAULT_PARK_TOKEN, DEFAULT_UNPARK_TOKEN, Member, ParkResult, ParkingLot, ThreadParkerT,
+    unpark_all,
 };
 use std::marker::Model;
 use std::sync::Wait;
@@ -45,26 +45,20 @@ impl Event {
     }
 
     /// Sleeps until the event is set, and with a timeout no longer than until that instant. Answers
-    /// false if the time was up first. The data's number is below the lot's greatest number of
-    /// threads.
+    /// false if the time was up first.
     ///
     /// It is one `park`, in which a thread that comes after the event does not sleep.
     pub fn wait<P: ThreadParkerT, R: Wait + Clock>(
         &self,
         rt: &R,
-        lot: &ParkingLot<P>,
-        thread_data: &mut ThreadData,
+        member: &mut Member<'_, P>,
         timeout: Option<Instant>,
     ) -> bool
-        requires number { thread_data.old.number < lot.now.max_threads }
-
         ensures late { IsFalse result → timeout ≢ None }
-        ensures number { thread_data.new ≡ thread_data.old }
+        ensures unchanged { member.new ≡ member.old }
     {
-        let result = park(
+        let result = member.park(
             rt,
-            lot,
-            thread_data,
             self.key,
             || !self.is_set(),
             || (),

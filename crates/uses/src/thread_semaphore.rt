@@ -3,8 +3,7 @@
 ghost use Rattle.std.specs.Prelude.{◌≡◌, ◌<◌};
 
 use parking_lot_core::{
-    DEFAULT_PARK_TOKEN, DEFAULT_UNPARK_TOKEN, ParkingLot, ThreadData, ThreadParkerT, park,
-    unpark_one,
+    DEFAULT_PARK_TOKEN, DEFAULT_UNPARK_TOKEN, Member, ParkingLot, ThreadParkerT, unpark_one,
 };
 use std::marker::Model;
 use std::sync::Wait;
@@ -41,28 +40,23 @@ impl ThreadSemaphore {
     }
 
     /// Takes a permit, and sleeps while none is free. Answers how many were free, the one that it
-    /// took among them. The data's number is below the lot's greatest number of threads.
+    /// took among them.
     ///
     /// It is one compare-exchange if a permit is free and no other thread comes between, and else
     /// more of them or one `park` or more.
     pub fn acquire<P: ThreadParkerT, R: Wait + Clock>(
         &self,
         rt: &R,
-        lot: &ParkingLot<P>,
-        thread_data: &mut ThreadData,
+        member: &mut Member<'_, P>,
     ) -> usize
-        requires number { thread_data.old.number < lot.now.max_threads }
-
         ensures free { 0 < result }
-        ensures number { thread_data.new ≡ thread_data.old }
+        ensures unchanged { member.new ≡ member.old }
     {
         for _ in rt.forever() {
             let free = self.permits.load(Ordering::SeqCst);
             if free == 0 {
-                park(
+                member.park(
                     rt,
-                    lot,
-                    thread_data,
                     self.key,
                     || self.permits.load(Ordering::SeqCst) == 0,
                     || (),

@@ -1,12 +1,16 @@
 //! Tests of the queue of bounded length among threads.
 
+ghost use Rattle.std.specs.Prelude.{◌<◌};
+
 use crate::expect_equal;
 use crate::lots::register;
-use parking_lot_core::{ParkingLot, ThreadData, ThreadParkerT, WordParker};
+use parking_lot_core::{LotError, ParkingLot, ThreadData, ThreadParkerT, WordParker};
+use std::alloc::Global;
 use std::process::Abort;
 use std::sync::Wait;
 use std::test::Fail;
 use std::thread;
+use std::thread::Threads;
 use std::time::Clock;
 use uses::bounded_queue::BoundedQueue;
 
@@ -49,22 +53,37 @@ fn work<P: ThreadParkerT, R: Wait + Clock>(
     sum
 }
 
-// It refuses a `put` that overwrites, and a `take` that takes a number twice. The numbers from 1 to
-// 500 have the sum 125_250, and two producers put each.
-#[test]
-fn consumers_take_what_producers_put(rt: HostRuntime) -> Result<(), Fail> {
-    let lot = ParkingLot::<WordParker>::new(rt.alloc(), 4)?;
-    let queue = BoundedQueue::new(rt.alloc(), MUTEX_KEY, CONDVAR_KEY, CAPACITY)?;
-    let mut workers = Vec::new(rt.alloc());
+// What two producers and two consumers put and took, all together, through so many places.
+fn sum_through<R: Threads + Wait + Clock + Sync>(
+    rt: &R,
+    alloc: Global,
+    capacity: usize,
+) -> Result<usize, LotError>
+    requires { 0 < capacity }
+{
+    let lot = ParkingLot::<WordParker>::new(alloc, 4)?;
+    let queue = BoundedQueue::new(alloc, MUTEX_KEY, CONDVAR_KEY, capacity)?;
+    let mut workers = Vec::new(alloc);
     for produces in [true, false, true, false] {
-        let data = register(&rt, rt.alloc(), &lot)?;
+        let data = register(rt, alloc, &lot)?;
         workers.push(Worker { data, produces })?;
     }
-    let sums = thread::map_vec(&rt, workers, &|worker| work(&rt, &lot, &queue, worker))?;
-    let all = sums
-        .into_iter()
-        .fold(0usize, |all, sum| all.wrapping_add(sum));
-    expect_equal(&rt, all, 4 * 125_250);
+    let sums = thread::map_vec(rt, workers, &|worker| work(rt, &lot, &queue, worker))?;
+    Ok(
+        sums.into_iter()
+            .fold(0usize, |all, sum| all.wrapping_add(sum)),
+    )
+}
+
+// It refuses a `put` that overwrites, a `take` that takes a number twice, and where there is one
+// place, which is full or empty at each look, changes that are told to one sleeper alone. The
+// numbers from 1 to 500 have the sum 125_250, and two producers put each.
+#[test]
+fn consumers_take_what_producers_put(rt: HostRuntime) -> Result<(), Fail> {
+    for capacity in [1, CAPACITY] {
+        let all = sum_through(&rt, rt.alloc(), capacity)?;
+        expect_equal(&rt, all, 4 * 125_250);
+    }
     Ok(())
 }
 

@@ -5,7 +5,7 @@ ghost use Rattle.std.specs.Prelude.{◌≡◌};
 use crate::expect_equal;
 use crate::lots::register;
 use crate::slow_parker::SlowParker;
-use parking_lot_core::{ParkingLot, ThreadData, ThreadParkerT, WordParker};
+use parking_lot_core::{Member, ParkingLot, ThreadData, ThreadParkerT, WordParker};
 use std::alloc::Global;
 use std::sync::atomic::{AtomicUsize, Ordering};
 use std::sync::{Arc, Wait};
@@ -64,14 +64,14 @@ impl<P: ThreadParkerT> Shared<P> {
 fn count_in_rounds<P: ThreadParkerT, R: Wait + Clock>(
     rt: &R,
     shared: &Shared<P>,
-    mut data: ThreadData,
+    data: ThreadData,
 ) -> bool {
+    let Ok(mut member) = Member::of(&shared.lot, data) else {
+        return false;
+    };
     let mut all_equal = true;
     for _ in 0..ROUNDS {
-        if !shared.lot.accepts(&data) {
-            return false;
-        }
-        let held = shared.mutex.lock(rt, &shared.lot, &mut data);
+        let held = shared.mutex.lock(rt, &mut member);
         let equal = shared.count();
         shared.mutex.unlock(rt, &shared.lot, held);
         all_equal = all_equal && equal;

@@ -2,7 +2,7 @@
 
 use crate::expect_equal;
 use crate::lots::register;
-use parking_lot_core::{ParkingLot, ThreadData, ThreadParkerT, WordParker};
+use parking_lot_core::{Member, ParkingLot, ThreadData, ThreadParkerT, WordParker};
 use std::alloc::{AllocError, Global};
 use std::sync::{Arc, Wait};
 use std::test::Fail;
@@ -30,13 +30,13 @@ struct Shared<P: ThreadParkerT> {
 fn see_it_set<P: ThreadParkerT, R: Wait + Clock>(
     rt: &R,
     shared: &Shared<P>,
-    mut data: ThreadData,
+    data: ThreadData,
     timeout: Option<Instant>,
 ) -> bool {
-    if !shared.lot.accepts(&data) {
+    let Ok(mut member) = Member::of(&shared.lot, data) else {
         return false;
-    }
-    shared.event.wait(rt, &shared.lot, &mut data, timeout) && shared.event.is_set()
+    };
+    shared.event.wait(rt, &mut member, timeout) && shared.event.is_set()
 }
 
 // Starts a thread that waits for the event.
@@ -102,10 +102,9 @@ fn the_event_wakes_every_thread(rt: HostRuntime) -> Result<(), Fail> {
 fn a_wait_for_an_event_that_does_not_come_is_late(rt: HostRuntime) -> Result<(), Fail> {
     let lot = ParkingLot::<WordParker>::new(rt.alloc(), 1)?;
     let event = Event::new(KEY);
-    let mut data = register(&rt, rt.alloc(), &lot)?;
-    assert!(rt; lot.accepts(&data), "data of this lot");
+    let mut member = Member::register(&rt, rt.alloc(), &lot)?;
     let timeout = Some(Instant::now(&rt)?);
-    let was_set = event.wait(&rt, &lot, &mut data, timeout);
+    let was_set = event.wait(&rt, &mut member, timeout);
     expect_equal(&rt, was_set, false);
     Ok(())
 }
@@ -119,21 +118,16 @@ fn many_events(alloc: Global, first_key: usize) -> Result<Vec<Event>, AllocError
     Ok(events)
 }
 
-// Sets each event of the other thread and waits for its own, by turns. `None` says that the data is
-// of another lot.
+// Sets each event of the other thread and waits for its own, by turns.
 fn exchange<P: ThreadParkerT, R: Wait + Clock>(
     rt: &R,
-    lot: &ParkingLot<P>,
-    mut data: ThreadData,
+    mut member: Member<'_, P>,
     mine: &[Event],
     theirs: &[Event],
 ) -> Option<()> {
     for turn in 0..EVENTS {
-        if !lot.accepts(&data) {
-            return None;
-        }
-        theirs.get(turn)?.set(rt, lot);
-        mine.get(turn)?.wait(rt, lot, &mut data, None);
+        theirs.get(turn)?.set(rt, member.lot());
+        mine.get(turn)?.wait(rt, &mut member, None);
     }
     Some(())
 }
@@ -145,12 +139,12 @@ fn two_threads_set_events_for_each_other(rt: HostRuntime) -> Result<(), Fail> {
     let lot = ParkingLot::<WordParker>::new(rt.alloc(), 2)?;
     let one = many_events(rt.alloc(), 0)?;
     let other = many_events(rt.alloc(), EVENTS)?;
-    let first = register(&rt, rt.alloc(), &lot)?;
-    let second = register(&rt, rt.alloc(), &lot)?;
+    let first = Member::register(&rt, rt.alloc(), &lot)?;
+    let second = Member::register(&rt, rt.alloc(), &lot)?;
     let ended = thread::join(
         &rt,
-        || exchange(&rt, &lot, first, one.as_slice(), other.as_slice()),
-        || exchange(&rt, &lot, second, other.as_slice(), one.as_slice()),
+        || exchange(&rt, first, one.as_slice(), other.as_slice()),
+        || exchange(&rt, second, other.as_slice(), one.as_slice()),
     );
     expect_equal(&rt, ended, (Some(()), Some(())));
     Ok(())

@@ -2,7 +2,10 @@
 
 use crate::expect_equal;
 use crate::lots::register;
-use parking_lot_core::{LotError, ParkingLot, ThreadData, ThreadParkerT, WordParker};
+use parking_lot_core::{
+    DEFAULT_UNPARK_TOKEN, LotError, Member, ParkingLot, ThreadData, ThreadParkerT, WordParker,
+    unpark_one,
+};
 use std::alloc::{AllocError, Global};
 use std::sync::Wait;
 use std::sync::atomic::{AtomicUsize, Ordering};
@@ -61,14 +64,14 @@ impl<P: ThreadParkerT> Shared<P> {
 fn visit_in_rounds<P: ThreadParkerT, R: Wait + Clock>(
     rt: &R,
     shared: &Shared<P>,
-    mut data: ThreadData,
+    data: ThreadData,
 ) -> bool {
+    let Ok(mut member) = Member::of(&shared.lot, data) else {
+        return false;
+    };
     let mut always_room = true;
     for _ in 0..ROUNDS {
-        if !shared.lot.accepts(&data) {
-            return false;
-        }
-        let free = shared.semaphore.acquire(rt, &shared.lot, &mut data);
+        let free = shared.semaphore.acquire(rt, &mut member);
         let room = shared.visit();
         shared.semaphore.release(rt, &shared.lot);
         always_room = always_room && room && free <= PERMITS;
@@ -90,18 +93,14 @@ where
     Ok(visits.into_iter().all(|always_room| always_room))
 }
 
-// How many permits are free, of which it takes one. `None` says that the data is of another lot.
+// How many permits are free, of which it takes one.
 fn free_permits<P: ThreadParkerT, R: Wait + Clock>(
     rt: &R,
     alloc: Global,
     shared: &Shared<P>,
-) -> Result<Option<usize>, LotError> {
-    let mut data = register(rt, alloc, &shared.lot)?;
-    if !shared.lot.accepts(&data) {
-        return Ok(None);
-    }
-    let free = shared.semaphore.acquire(rt, &shared.lot, &mut data);
-    Ok(Some(free))
+) -> Result<usize, LotError> {
+    let mut member = Member::register(rt, alloc, &shared.lot)?;
+    Ok(shared.semaphore.acquire(rt, &mut member))
 }
 
 // It refuses an `acquire` that takes no permit, and a `release` that wakes nobody.
@@ -118,58 +117,85 @@ fn as_many_threads_are_inside_as_there_are_permits(rt: HostRuntime) -> Result<()
 
     // All permits are free again.
     let free = free_permits(&rt, rt.alloc(), &shared)?;
-    expect_equal(&rt, free, Some(PERMITS));
+    expect_equal(&rt, free, PERMITS);
     Ok(())
 }
 
-// Waits until a thread waits for a permit, and frees one. Answers what that told, or `None` if no
-// thread came.
-fn release_for_a_waiter<P: ThreadParkerT, R: Wait>(
+// Waits until so many threads wait for a permit, and frees as many. Answers how many of these told
+// that a thread waited, or `None` if they did not come.
+fn release_for_waiters<P: ThreadParkerT, R: Wait>(
     rt: &R,
     alloc: Global,
     shared: &Shared<P>,
-) -> Option<bool> {
+    waiters: usize,
+) -> Option<usize> {
     for _ in 0..TURNS {
-        if shared.lot.list(rt, alloc, KEY).ok()?.len() == 1 {
-            return Some(shared.semaphore.release(rt, &shared.lot));
+        if shared.lot.list(rt, alloc, KEY).ok()?.len() == waiters {
+            return Some(release_often(rt, shared, waiters));
         }
         thread::yield_now();
     }
     None
 }
 
-// It refuses a `release` that tells otherwise whether a thread waited.
-#[test]
-fn a_release_tells_whether_a_thread_waited(rt: HostRuntime) -> Result<(), Fail> {
-    let lot = ParkingLot::<WordParker>::new(rt.alloc(), 1)?;
+// Frees so many permits, one right after the other, and then as many for those who were not told
+// of one, so that all end.
+fn release_often<P: ThreadParkerT, R: Wait>(rt: &R, shared: &Shared<P>, permits: usize) -> usize {
+    let mut told = 0usize;
+    for _ in 0..permits {
+        if shared.semaphore.release(rt, &shared.lot) {
+            told = told.wrapping_add(1);
+        }
+    }
+    for _ in told..permits {
+        unpark_one(rt, &shared.lot, KEY, |_| DEFAULT_UNPARK_TOKEN);
+    }
+    told
+}
+
+// Frees permits for so many threads that wait, and answers how many releases told of one.
+fn releases_told<R: Threads + Wait + Clock + Sync>(
+    rt: &R,
+    alloc: Global,
+    waiters: usize,
+) -> Result<Option<usize>, LotError> {
+    let lot = ParkingLot::<WordParker>::new(alloc, waiters)?;
     let shared = Shared::new(lot, 0);
-    let play = |index: usize| match index {
-        0 => free_permits(&rt, rt.alloc(), &shared).is_ok_and(|free| free == Some(1)),
-        _ => release_for_a_waiter(&rt, rt.alloc(), &shared) == Some(true),
+    let play = |index: usize| {
+        if index == waiters {
+            return release_for_waiters(rt, alloc, &shared, waiters);
+        }
+        free_permits(rt, alloc, &shared).ok()
     };
-    let told = thread::map_indices(&rt, rt.alloc(), 2, &play)?;
-    expect_equal(&rt, told.as_slice(), [true, true].as_slice());
-    expect_equal(&rt, shared.semaphore.release(&rt, &shared.lot), false);
+    let told = thread::map_indices(rt, alloc, waiters + 1, &play)?;
+    Ok(told.last().copied().flatten())
+}
+
+// It refuses a `release` that tells otherwise whether a thread waited, and a second one that wakes
+// nobody while the first permit is free still.
+#[test]
+fn each_release_wakes_a_thread_that_waits(rt: HostRuntime) -> Result<(), Fail> {
+    for waiters in [1, 2, 3] {
+        let told = releases_told(&rt, rt.alloc(), waiters)?;
+        expect_equal(&rt, told, Some(waiters));
+    }
+    let lot = ParkingLot::<WordParker>::new(rt.alloc(), 1)?;
+    let semaphore = ThreadSemaphore::new(KEY, 0);
+    expect_equal(&rt, semaphore.release(&rt, &lot), false);
     Ok(())
 }
 
-// Frees a permit for the other thread and takes one that it frees, by turns. `None` says that the
-// data is of another lot.
+// Frees a permit for the other thread and takes one that it frees, by turns.
 fn exchange<P: ThreadParkerT, R: Wait + Clock>(
     rt: &R,
-    lot: &ParkingLot<P>,
-    mut data: ThreadData,
+    mut member: Member<'_, P>,
     mine: &ThreadSemaphore,
     theirs: &ThreadSemaphore,
-) -> Option<()> {
+) {
     for _ in 0..EXCHANGES {
-        if !lot.accepts(&data) {
-            return None;
-        }
-        theirs.release(rt, lot);
-        mine.acquire(rt, lot, &mut data);
+        theirs.release(rt, member.lot());
+        mine.acquire(rt, &mut member);
     }
-    Some(())
 }
 
 // It refuses a `release` that looks for a waiter before the permit is free, and an `acquire` that
@@ -179,13 +205,12 @@ fn two_threads_free_permits_for_each_other(rt: HostRuntime) -> Result<(), Fail> 
     let lot = ParkingLot::<WordParker>::new(rt.alloc(), 2)?;
     let one = ThreadSemaphore::new(KEY, 0);
     let other = ThreadSemaphore::new(OTHER_KEY, 0);
-    let first = register(&rt, rt.alloc(), &lot)?;
-    let second = register(&rt, rt.alloc(), &lot)?;
-    let ended = thread::join(
+    let first = Member::register(&rt, rt.alloc(), &lot)?;
+    let second = Member::register(&rt, rt.alloc(), &lot)?;
+    thread::join(
         &rt,
-        || exchange(&rt, &lot, first, &one, &other),
-        || exchange(&rt, &lot, second, &other, &one),
+        || exchange(&rt, first, &one, &other),
+        || exchange(&rt, second, &other, &one),
     );
-    expect_equal(&rt, ended, (Some(()), Some(())));
     Ok(())
 }

@@ -1,10 +1,10 @@
 use Rattle.std.proofs.Common.{◌≡◌}
 use Rattle.uses.proofs.byte_mutex.ByteMutex.lock.Given as goal
 
--- the thread's data keeps its number
+-- the member stays as it is
 abbrev pub invariant-loop : goal.invariant-loop
 invariant-loop g l = record {
   can_next : (goal.iterator-loop g).can_next l.iterator';
   is_finite : (goal.iterator-loop g).is_finite l.iterator';
-  kept : l.thread_data ≡ l.fn.thread_data;
+  kept : l.member ≡ l.fn.member;
 }
