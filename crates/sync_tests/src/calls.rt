@@ -8,8 +8,10 @@ use lot_sync::mutex::{Condvar, Mutex, WaitResult};
 use lot_sync::once::Once;
 use lot_sync::rw_lock::RwLock;
 use parking_lot_core::{
-    DEFAULT_PARK_TOKEN, Member, ParkResult, ParkingLot, UnparkToken, unpark_one,
+    DEFAULT_PARK_TOKEN, FilterOp, Member, ParkResult, ParkToken, ParkingLot, UnparkToken,
+    unpark_chosen,
 };
+use std::cell::Cell;
 use std::process::Abort;
 use std::sync::Wait;
 use std::sync::atomic::{AtomicUsize, Ordering};
@@ -43,22 +45,41 @@ fn a_member_registers_and_retires(rt: HostRuntime) -> Result<(), Fail> {
     Ok(())
 }
 
-#[test]
-fn a_member_parks_and_is_unparked(rt: HostRuntime) -> Result<(), Fail> {
-    let lot = ParkingLot::<WordParker>::new(rt.alloc(), 1)?;
-    let mut member = register(&rt, rt.alloc(), &lot);
+// Parks, is seen by a filter, and is unparked. Answers what the filter saw.
+fn token_seen<R: Wait + Clock + Abort>(
+    rt: &R,
+    lot: &ParkingLot<WordParker>,
+    member: &mut Member<'_, WordParker>,
+    timeout: Option<Instant>,
+) -> ParkToken {
+    let seen = Cell::new(DEFAULT_PARK_TOKEN);
+    let filter = |token: ParkToken| {
+        seen.set(token);
+        FilterOp::Unpark
+    };
     let result = member.park(
-        &rt,
+        rt,
         7,
         || true,
         || {
-            unpark_one(&rt, &lot, 7, |_| UnparkToken(42));
+            unpark_chosen(rt, lot, 7, filter, |_| UnparkToken(42));
         },
         |_, _| (),
-        DEFAULT_PARK_TOKEN,
-        None,
+        ParkToken(usize::MAX),
+        timeout,
     );
-    expect_equal(&rt, result, ParkResult::Unparked(UnparkToken(42)));
+    expect_equal(rt, result, ParkResult::Unparked(UnparkToken(42)));
+    seen.get()
+}
+
+#[test]
+fn a_member_parks_with_its_token_and_is_unparked(rt: HostRuntime) -> Result<(), Fail> {
+    let lot = ParkingLot::<WordParker>::new(rt.alloc(), 1)?;
+    let mut member = register(&rt, rt.alloc(), &lot);
+    for timeout in [None, Some(Instant::now(&rt)?)] {
+        let seen = token_seen(&rt, &lot, &mut member, timeout);
+        expect_equal(&rt, seen, ParkToken(usize::MAX));
+    }
     Ok(())
 }
 

@@ -8,11 +8,19 @@ mod channel;
 #[cfg(test)]
 mod counting;
 #[cfg(test)]
+mod given_up;
+#[cfg(test)]
+mod handed;
+#[cfg(test)]
+mod notified;
+#[cfg(test)]
 mod once;
 #[cfg(test)]
 mod pair;
 #[cfg(test)]
 mod readers;
+#[cfg(test)]
+mod scene;
 
 #[cfg(test)]
 use lot_base::thread_parker::ThreadParkerT;

@@ -1,14 +1,16 @@
 //! What is done once, and a cell that is filled once, by four threads.
 
+use crate::scene::Scene;
 use crate::{expect_equal, register};
 use lot_base::thread_parker::{ThreadParker, ThreadParkerT, WordParker, YieldParker};
 use lot_sync::fits::Fits;
 use lot_sync::once::{Once, OnceValue};
 use parking_lot_core::ParkingLot;
-use std::alloc::Global;
+use std::alloc::{AllocError, Global};
 use std::process::Abort;
 use std::sync::Wait;
-use std::sync::atomic::{AtomicUsize, Ordering};
+use std::sync::atomic::{AtomicBool, AtomicUsize, Ordering};
+use std::test::Fail;
 use std::thread;
 use std::thread::Threads;
 use std::time::Clock;
@@ -100,4 +102,60 @@ fn four_threads_do_it_once(rt: HostRuntime) {
     all_run_and_fill::<WordParker, _>(&rt, rt.alloc());
     all_run_and_fill::<ThreadParker, _>(&rt, rt.alloc());
     all_run_and_fill::<YieldParker, _>(&rt, rt.alloc());
+}
+
+// Runs what is done once until both others wait for it.
+fn run_long<R: Wait + Clock + Abort>(
+    rt: &R,
+    alloc: Global,
+    scene: &Scene,
+    once: &Once,
+    is_done: &AtomicBool,
+) -> bool {
+    let mut member = scene.enter(rt, alloc);
+    once.call_once(rt, &mut member, || {
+        scene.advance();
+        scene.wait_for_waiters(rt, alloc, once.key(), 2);
+        is_done.store(true, Ordering::SeqCst);
+    })
+}
+
+// Comes once as many steps were made, and tells whether it was done when it went on.
+fn come<R: Wait + Clock + Abort>(
+    rt: &R,
+    alloc: Global,
+    scene: &Scene,
+    once: &Once,
+    is_done: &AtomicBool,
+    waiters: usize,
+) -> bool {
+    let mut member = scene.enter(rt, alloc);
+    scene.wait_for_step(rt, 1);
+    scene.wait_for_waiters(rt, alloc, once.key(), waiters);
+    let ran = once.call_once(rt, &mut member, || ());
+    is_done.load(Ordering::SeqCst) && !ran
+}
+
+fn two_come_meanwhile<R: Threads + Wait + Clock + Abort + Sync>(
+    rt: &R,
+    alloc: Global,
+) -> Result<Vec<bool>, AllocError> {
+    let scene = Scene::new(rt, alloc);
+    let once = Once::new(alloc, 0).expect(rt, "a once");
+    let is_done = AtomicBool::new(false);
+    let play = |index: usize| match index {
+        0 => run_long(rt, alloc, &scene, &once, &is_done),
+        1 => come(rt, alloc, &scene, &once, &is_done, 0),
+        _ => come(rt, alloc, &scene, &once, &is_done, 1),
+    };
+    thread::map_indices(rt, alloc, 3, &play)
+}
+
+// It refuses a caller that goes on while what is done once runs still, as one that comes behind
+// another who waits.
+#[test]
+fn all_who_come_meanwhile_wait_until_it_is_done(rt: HostRuntime) -> Result<(), Fail> {
+    let told = two_come_meanwhile(&rt, rt.alloc())?;
+    expect_equal(&rt, told.as_slice(), [true, true, true].as_slice());
+    Ok(())
 }

@@ -1,0 +1,114 @@
+//! Sleepers on a condition variable who are notified, moved to the mutex, or late.
+
+use crate::expect_equal;
+use crate::pair::Pair;
+use crate::scene::{Scene, far, later, wait_until_past};
+use lot_sync::mutex::{Condvar, Mutex, WaitResult};
+use std::alloc::{AllocError, Global};
+use std::process::Abort;
+use std::sync::Wait;
+use std::test::Fail;
+use std::thread;
+use std::thread::Threads;
+use std::time::{Clock, Instant};
+
+const KEY: usize = 7;
+
+const SLEEPERS: usize = 8;
+
+#[derive(Drop)]
+struct Shared {
+    scene: Scene,
+    mutex: Mutex<Pair>,
+    condvar: Condvar,
+}
+
+impl Shared {
+    fn new<R: Abort>(rt: &R, alloc: Global) -> Shared {
+        Shared {
+            scene: Scene::new(rt, alloc),
+            mutex: Mutex::new(alloc, KEY, Pair::new()).expect(rt, "a mutex"),
+            condvar: Condvar::new(SLEEPERS),
+        }
+    }
+
+    // Sleeps until the deadline, and tells whether it was notified.
+    fn sleep<R: Wait + Clock + Abort>(&self, rt: &R, alloc: Global, deadline: Instant) -> bool {
+        let mut member = self.scene.enter(rt, alloc);
+        let held = self.mutex.lock(rt, &mut member);
+        let (held, ended) = self.condvar.wait_until(rt, &mut member, held, deadline);
+        held.unlock(rt, &member);
+        ended == WaitResult::Notified
+    }
+
+    // Notifies all of two sleepers, while nobody holds the mutex.
+    fn notify_two<R: Wait + Clock + Abort>(&self, rt: &R, alloc: Global) -> bool {
+        let member = self.scene.enter(rt, alloc);
+        self.scene.wait_for_waiters(rt, alloc, SLEEPERS, 2);
+        self.condvar.notify_all(rt, &member, &self.mutex) == 2
+    }
+
+    // Moves the first sleeper to the mutex, holds that until the sleeper's deadline has passed, and
+    // then notifies the second.
+    fn notify_late<R: Wait + Clock + Abort>(&self, rt: &R, alloc: Global) -> bool {
+        let mut member = self.scene.enter(rt, alloc);
+        self.scene.wait_for_waiters(rt, alloc, SLEEPERS, 2);
+        let held = self.mutex.lock(rt, &mut member);
+        let moved = self.condvar.notify_one(rt, &member, &self.mutex);
+        wait_until_past(rt, later(rt));
+        held.unlock(rt, &member);
+        self.condvar.notify_one(rt, &member, &self.mutex) && moved
+    }
+
+    // Sleeps behind the first.
+    fn sleep_second<R: Wait + Clock + Abort>(&self, rt: &R, alloc: Global) -> bool {
+        self.scene.wait_for_waiters(rt, alloc, SLEEPERS, 1);
+        self.sleep(rt, alloc, far(rt))
+    }
+}
+
+fn notified<R: Threads + Wait + Clock + Abort + Sync>(
+    rt: &R,
+    alloc: Global,
+) -> Result<Vec<bool>, AllocError> {
+    let shared = Shared::new(rt, alloc);
+    let play = |index: usize| {
+        if index == 2 {
+            return shared.notify_two(rt, alloc);
+        }
+        shared.sleep(rt, alloc, far(rt))
+    };
+    thread::map_indices(rt, alloc, 3, &play)
+}
+
+// It refuses a notify of all that wakes the first and forgets that another was moved.
+#[test]
+fn both_sleepers_on_a_free_mutex_come_back(rt: HostRuntime) -> Result<(), Fail> {
+    let told = notified(&rt, rt.alloc())?;
+    expect_equal(&rt, told.as_slice(), [true, true, true].as_slice());
+    Ok(())
+}
+
+fn notified_late<R: Threads + Wait + Clock + Abort + Sync>(
+    rt: &R,
+    alloc: Global,
+) -> Result<Vec<bool>, AllocError> {
+    let shared = Shared::new(rt, alloc);
+    let play = |index: usize| match index {
+        0 => {
+            shared.sleep(rt, alloc, later(rt));
+            true
+        }
+        1 => shared.sleep_second(rt, alloc),
+        _ => shared.notify_late(rt, alloc),
+    };
+    thread::map_indices(rt, alloc, 3, &play)
+}
+
+// It refuses a deadline that passes on the mutex and takes the note of those who still sleep.
+#[test]
+fn one_that_is_late_on_the_mutex_leaves_the_other_asleep(rt: HostRuntime) -> Result<(), Fail> {
+    let told = notified_late(&rt, rt.alloc())?;
+    expect_equal(&rt, told.as_slice(), [true, true, true].as_slice());
+    Ok(())
+}

@@ -1,0 +1,107 @@
+//! A lot on which threads act in an order that the test says.
+
+use crate::register;
+use lot_base::thread_parker::WordParker;
+use parking_lot_core::{Member, ParkingLot};
+use std::alloc::Global;
+use std::process::Abort;
+use std::sync::Wait;
+use std::sync::atomic::{AtomicUsize, Ordering};
+use std::thread;
+use std::time::{Clock, Duration, Instant};
+
+// So often a thread yields before it gives a step up.
+const TURNS: usize = 10_000_000;
+
+// Within so many milliseconds a thread that waits is woken, on any machine.
+const FAR: u64 = 20_000;
+
+const SOON: u64 = 30;
+
+// Long enough for all threads of a test to come.
+const LATER: u64 = 2_000;
+
+#[derive(Drop)]
+pub struct Scene {
+    lot: ParkingLot<WordParker>,
+    step: AtomicUsize,
+}
+
+impl Scene {
+    pub fn new<R: Abort>(rt: &R, alloc: Global) -> Scene {
+        Scene {
+            lot: ParkingLot::new(alloc, 4).expect(rt, "a lot"),
+            step: AtomicUsize::new(0),
+        }
+    }
+
+    // The calling thread.
+    pub fn enter<R: Wait + Abort>(&self, rt: &R, alloc: Global) -> Member<'_, WordParker> {
+        register(rt, alloc, &self.lot)
+    }
+
+    pub fn advance(&self) {
+        self.step.fetch_add(1, Ordering::SeqCst);
+    }
+
+    // Waits until so many steps were made.
+    pub fn wait_for_step<R: Abort>(&self, rt: &R, step: usize) {
+        for _ in 0..TURNS {
+            if self.step.load(Ordering::SeqCst) >= step {
+                return;
+            }
+            thread::yield_now();
+        }
+        panic!(rt; "a step was not made");
+    }
+
+    // Waits until so many threads wait on the key.
+    pub fn wait_for_waiters<R: Wait + Abort>(
+        &self,
+        rt: &R,
+        alloc: Global,
+        key: usize,
+        count: usize,
+    ) {
+        for _ in 0..TURNS {
+            let waiting = self.lot.list(rt, alloc, key).expect(rt, "a list");
+            if waiting.len() == count {
+                return;
+            }
+            thread::yield_now();
+        }
+        panic!(rt; "threads do not wait");
+    }
+}
+
+fn instant_in<R: Clock + Abort>(rt: &R, milliseconds: u64) -> Instant {
+    let now = Instant::now(rt).expect(rt, "a clock");
+    now.checked_add(Duration::from_millis(milliseconds))
+        .expect(rt, "an instant")
+}
+
+// A deadline that nobody meets who is woken.
+pub fn far<R: Clock + Abort>(rt: &R) -> Instant {
+    instant_in(rt, FAR)
+}
+
+// A deadline that passes while the test runs.
+pub fn soon<R: Clock + Abort>(rt: &R) -> Instant {
+    instant_in(rt, SOON)
+}
+
+// A deadline that passes once all threads of the test have come.
+pub fn later<R: Clock + Abort>(rt: &R) -> Instant {
+    instant_in(rt, LATER)
+}
+
+// Waits until the instant has passed.
+pub fn wait_until_past<R: Clock + Abort>(rt: &R, instant: Instant) {
+    for _ in 0..100 * TURNS {
+        if Instant::now(rt).expect(rt, "a clock") > instant {
+            return;
+        }
+        thread::yield_now();
+    }
+    panic!(rt; "the clock does not go on");
+}
