@@ -1,10 +1,12 @@
 //! The program: `lot_stress memory SCENARIO PARKER` does one scenario whose requests for memory are
 //! counted and refused from outside, `lot_stress parks COUNT` parks many times in one thread,
-//! `lot_stress rest MILLISECONDS` lets threads sleep, and `lot_stress race SECONDS SEED` lets them
-//! race.
+//! `lot_stress rest MILLISECONDS` lets threads sleep, `lot_stress race SECONDS SEED` lets them
+//! race, and `lot_stress locks SECONDS SEED` lets them share locks.
 #![tactic(auto)]
 
+mod draws;
 mod fault;
+mod locks;
 mod memory;
 mod parks;
 mod program;

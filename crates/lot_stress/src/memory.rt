@@ -12,6 +12,7 @@ mod fair;
 mod fair_threads;
 mod gate;
 mod interleaved;
+mod locks;
 mod marks;
 mod scenario;
 mod table;
@@ -153,6 +154,9 @@ where
         Scenario::FairWaiters => fair::waiters(rt, alloc),
         Scenario::FairSleepers => fair::sleepers(rt, alloc),
         Scenario::RunFair => fair::run_all(rt, alloc),
+        Scenario::MutexNew => locks::new_mutex(rt, alloc),
+        Scenario::OnceNew => locks::new_once(rt, alloc),
+        Scenario::OnceValueNew => locks::new_once_value(rt, alloc),
         Scenario::SpinWait => base::spin(rt, alloc),
         Scenario::Queue => base::use_queues(rt, alloc),
         Scenario::Bucket => base::use_bucket(rt, alloc),
@@ -164,6 +168,7 @@ where
         Scenario::Threads => crowd::use_threads::<P, _>(rt, alloc),
         Scenario::WordLock => crowd::use_word_lock(rt, alloc),
         Scenario::FairSteps => fair::use_steps(rt, alloc),
+        Scenario::Locks => locks::use_locks::<P, _>(rt, alloc),
         Scenario::FairThreads => fair_threads::use_threads::<P, _>(rt, alloc),
     }
 }

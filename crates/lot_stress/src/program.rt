@@ -2,7 +2,7 @@
 
 use crate::fault::Fault;
 use crate::memory::{self, Scenario};
-use crate::{parks, race, rest};
+use crate::{locks, parks, race, rest};
 use parking_lot_core::{ThreadParker, WordParker, YieldParker};
 use std::process::ExitCode;
 use std::rt::Env;
@@ -27,6 +27,7 @@ enum Command {
     Parks { count: usize },
     Rest { milliseconds: u64 },
     Race { seconds: u64, seed: u64 },
+    Locks { seconds: u64, seed: u64 },
 }
 
 /// Runs the command that the arguments name. Any other words are answered by the usage lines on the
@@ -39,6 +40,7 @@ pub fn run<
         let _ = eprintln!(rt; "       lot_stress parks COUNT");
         let _ = eprintln!(rt; "       lot_stress rest MILLISECONDS");
         let _ = eprintln!(rt; "       lot_stress race SECONDS SEED");
+        let _ = eprintln!(rt; "       lot_stress locks SECONDS SEED");
         return ExitCode::from(USAGE_STATUS);
     };
     match follow(rt, command) {
@@ -85,6 +87,10 @@ fn command_with_two(command: &str, first: &str, second: &str) -> Option<Command>
             seconds: first.parse().ok()?,
             seed: second.parse().ok()?,
         }),
+        "locks" => Some(Command::Locks {
+            seconds: first.parse().ok()?,
+            seed: second.parse().ok()?,
+        }),
         _ => None,
     }
 }
@@ -116,6 +122,7 @@ fn follow<R: Print + Eprint + AllocGlobal + Threads + Wait + Clock + Copy + Send
         Command::Parks { count } => parks::run(rt, rt.alloc(), count),
         Command::Rest { milliseconds } => rest::run(rt, rt.alloc(), milliseconds),
         Command::Race { seconds, seed } => race::run(rt, rt.alloc(), seconds, seed),
+        Command::Locks { seconds, seed } => locks::run(rt, rt.alloc(), seconds, seed),
     }
 }
 

@@ -1,7 +1,6 @@
 //! `lot_stress race`: threads that park, unpark, requeue, register and retire on one lot, while the
 //! tokens that were handed out are compared with those that were told.
 
-mod draws;
 mod figures;
 mod round;
 

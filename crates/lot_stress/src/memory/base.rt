@@ -7,7 +7,7 @@ use crate::fault::Fault;
 use lot_base::word_lock::{Fits, WordLock};
 use parking_lot_core::{
     Bucket, FilterOp, NoMemory, Node, ParkToken, Queue, Slot, SpinWait, ThreadParkerT,
-    UnparkHandleT, UnparkToken, place,
+    UnparkHandleT, UnparkToken, place, thread_yield,
 };
 use std::alloc::Global;
 use std::sync::Wait;
@@ -101,7 +101,7 @@ fn enter(bucket: &mut Bucket, mut node: Box<Node>) {
     }
 }
 
-/// All of `SpinWait`.
+/// All of `SpinWait`, and `thread_yield`.
 pub(super) fn spin<R: Print>(rt: &R, alloc: Global) -> Result<(), Fault> {
     let mut trial = Trial::new(rt, alloc)?;
     marks::begin(alloc);
@@ -200,8 +200,13 @@ impl Trial {
             self.note(usize::from(wait.spin()));
         }
         wait.reset();
-        wait.spin_no_yield();
+        for _ in 0..12 {
+            wait.spin_no_yield();
+        }
         self.note(usize::from(wait.spin()));
+        for _ in 0..3 {
+            thread_yield();
+        }
     }
 
     // Moves a node into the queue, if one is left.

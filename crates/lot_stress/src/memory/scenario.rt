@@ -99,7 +99,16 @@ pub enum Scenario {
     /// `run_fair` of steps of each kind.
     RunFair,
 
-    /// All of `SpinWait`.
+    /// `Mutex::new`.
+    MutexNew,
+
+    /// `Once::new`.
+    OnceNew,
+
+    /// `OnceValue::new`.
+    OnceValueNew,
+
+    /// All of `SpinWait`, and `thread_yield`.
     SpinWait,
 
     /// All of `Queue` and `Slot`.
@@ -131,6 +140,9 @@ pub enum Scenario {
 
     /// All steps of a `FairCore` but registrations.
     FairSteps,
+
+    /// All of the locks around values, and of a condition variable, in one thread.
+    Locks,
 
     /// All of a `FairMutex` and a `FairCondvar`, with eight threads.
     FairThreads,
@@ -194,6 +206,9 @@ pub const ROWS: &[Row] = &[
     (Scenario::FairWaiters, "each", "fair_waiters", "any"),
     (Scenario::FairSleepers, "each", "fair_sleepers", "any"),
     (Scenario::RunFair, "each", "run_fair", "any"),
+    (Scenario::MutexNew, "each", "mutex_new", "any"),
+    (Scenario::OnceNew, "each", "once_new", "any"),
+    (Scenario::OnceValueNew, "each", "once_value_new", "any"),
     (Scenario::SpinWait, "none", "spin_wait", "any"),
     (Scenario::Queue, "none", "queue", "any"),
     (Scenario::Bucket, "none", "bucket", "any"),
@@ -205,6 +220,7 @@ pub const ROWS: &[Row] = &[
     (Scenario::Threads, "none", "threads", "each"),
     (Scenario::WordLock, "none", "word_lock", "any"),
     (Scenario::FairSteps, "none", "fair_steps", "any"),
+    (Scenario::Locks, "none", "locks", "each"),
     (Scenario::FairThreads, "none", "fair_threads", "each"),
 ];
 

@@ -1,6 +1,6 @@
 //! What is counted in a race.
 
-use super::draws::mixed;
+use crate::draws::mixed;
 use parking_lot_core::UnparkToken;
 use std::fmt;
 use std::time::Duration;

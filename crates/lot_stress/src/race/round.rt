@@ -2,8 +2,8 @@
 
 mod roles;
 
-use super::draws::Draws;
 use super::figures::Figures;
+use crate::draws::Draws;
 use crate::fault::Fault;
 use parking_lot_core::{ParkingLot, ThreadParkerT, UnparkToken, unpark_all};
 use std::alloc::Global;

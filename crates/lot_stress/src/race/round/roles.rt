@@ -1,8 +1,8 @@
 //! What the threads of a round do.
 
-use super::super::draws::Draws;
 use super::super::figures::Figures;
 use super::{KEYS, Round};
+use crate::draws::Draws;
 use parking_lot_core::{
     FilterOp, ParkResult, ParkToken, RequeueOp, ThreadData, ThreadParkerT, UnparkResult,
     UnparkToken, park, unpark_all, unpark_chosen, unpark_one, unpark_requeue,
