@@ -1,5 +1,5 @@
 -- Requeues, within one place and across two places of one table.
-use Rattle.std.proofs.Common.{◌≡◌, ◌≢◌, ℕ, ◌+◌, ◌<◌, List, [], ◌∷◌, ◌++◌, map, sym, ap}
+use Rattle.std.proofs.Common.{◌≡◌, ◌≢◌, ℕ, ◌+◌, ◌<◌, List, [], ◌∷◌, ◌++◌, map, refl, sym, ap}
 use Rattle.std.proofs.Common.{◌∙◌, ⊎_elim, arith}
 use Rattle.std.proofs.lemmas.Bool.{cases_eq}
 use Rattle.lot_base.specs.declared.token.RequeueOp.{RequeueOp}
@@ -9,15 +9,14 @@ use Rattle.lot_base.specs.Waiting.{Split, with_value, split_by, requeue_result, 
 use Rattle.lot_base.proofs.ValueLemmas.{with_value-same, with_value-other}
 use Rattle.lot_exclusive.specs.declared.schedule.Answer.{Answer}
 use Rattle.lot_exclusive.specs.declared.schedule.Answer.TheVariants as answer
-use Rattle.lot_exclusive.specs.declared.schedule.Op.{Op}
+use Rattle.lot_exclusive.specs.declared.schedule.Step.{Step}
 use Rattle.lot_exclusive.specs.declared.schedule.Op.TheVariants as op
 use Rattle.lot_exclusive.specs.declared.schedule.Step.TheVariants as step
 use Rattle.lot_exclusive.specs.Machine.{Machine, Waiter, after_requeue}
-use Rattle.lot_exclusive.specs.Steps.{IsUnpark}
 use Rattle.lot_history.specs.declared.view.Standing.{Standing}
 use Rattle.lot_history.specs.declared.view.Piece.{Piece}
 use Rattle.lot_history.specs.declared.view.Piece.TheVariants.{Lists}
-use Rattle.lot_history.specs.Moves.{Moves}
+use Rattle.lot_history.specs.Moves.{Finds, Moves}
 use Rattle.lot_history.specs.Pieces.{thread, times_standing, cover, at_key, waiter_of, AllStand}
 use Rattle.lot_history.specs.Pieces.{AllSo, threads_taken}
 use Rattle.lot_history.proofs.ListsLemmas.{changes_so, lists_cover, with_key, moved_to, moved_times}
@@ -27,7 +26,7 @@ use Rattle.lot_history.proofs.SplitLemmas.{IsParted, parted_times, parted_by, wa
 use Rattle.lot_history.proofs.SplitLemmas.{requeue_result-map}
 use Rattle.lot_history.proofs.ThreadLemmas.{Is}
 use Rattle.lot_history.proofs.TimesLemmas.{ChangesKey, HasKey, all_at_key, changed_times}
-use Rattle.lot_history.proofs.UnparkLemmas.{passes}
+use Rattle.lot_history.proofs.UnparkLemmas.{Unparks, passes}
 use Rattle.lot_history.proofs.RequeueLemmas.{all_to_key, waiters_to_key, left_stand, passes_within}
 
 module _ (max_threads size place other from to : ℕ) (standing after target target_after : List Standing)
@@ -100,10 +99,10 @@ module _ (max_threads size place other from to : ℕ) (standing after target tar
     )
 
   -- waiters of one key are taken, or moved to a key of another place
-  pub passes_across : (which : Op) (given : Answer)
-      → ((m : Machine) → m.lists from ≡ map waiter_of (at_key from standing)
-      → IsUnpark m which given (after_requeue m from to (waiter_split split) token))
-      → Moves max_threads (Is (step.Unpark which) given) (Lists size place standing ∷ Lists size other target ∷ [])
+  pub passes_across : (said : Step → Answer → Type 0)
+      → ((m : Machine) → Finds max_threads old m → m.lists from ≡ map waiter_of (at_key from standing)
+      → Unparks said m (after_requeue m from to (waiter_split split) token))
+      → Moves max_threads said (Lists size place standing ∷ Lists size other target ∷ [])
       (Lists size place after ∷ Lists size other target_after ∷ threads_taken token split.taken)
   passes_across =
       passes max_threads from to old new (at_key from standing) split token parts
@@ -122,36 +121,37 @@ module _ (max_threads from to : ℕ) (standing : List Standing) (chosen : Requeu
   abbrev pub requeued : Split Standing
   requeued = split_by chosen waiting
 
-  abbrev pub Requeues : List Piece → List Piece → Type 0
-  Requeues before after = Moves max_threads
-      (Is (step.Unpark (op.Requeue from to chosen token)) (answer.Unpark (requeue_result chosen requeued))) before after
+  abbrev IsRequeue : Step → Answer → Type 0
+  IsRequeue = Is (step.Unpark (op.Requeue from to chosen token)) (answer.Unpark (requeue_result chosen requeued))
 
-  is_requeue : (m : Machine) → m.lists from ≡ map waiter_of waiting
-      → IsUnpark m (op.Requeue from to chosen token) (answer.Unpark (requeue_result chosen requeued))
-      (after_requeue m from to (waiter_split requeued) token)
-  is_requeue m lists =
+  leads : (m : Machine) → m.lists from ≡ map waiter_of waiting
+      → Unparks IsRequeue m (after_requeue m from to (waiter_split requeued) token)
+  leads m lists =
       let same : waiter_split requeued ≡ split_by chosen (m.lists from) = split_by-map waiter_of chosen waiting
       ∙ ap (λ (ws : List Waiter). split_by chosen ws) (sym lists) in (
-        ap answer.Unpark (sym (requeue_result-map waiter_of chosen requeued)
-            ∙ ap (λ (s : Split Waiter). requeue_result chosen s) same),
-        ap (λ (s : Split Waiter). after_requeue m from to s token) same,
+        op.Requeue from to chosen token,
+        answer.Unpark (requeue_result chosen requeued),
+        (refl, refl),
+        (
+          ap answer.Unpark (sym (requeue_result-map waiter_of chosen requeued)
+              ∙ ap (λ (s : Split Waiter). requeue_result chosen s) same),
+          ap (λ (s : Split Waiter). after_requeue m from to s token) same,
+        ),
       )
 
   pub requeues_within : (size place : ℕ) (after : List Standing) → place_of from size ≡ place
       → place_of to size ≡ place
       → ((k : ℕ) → at_key k after ≡ lists_after_requeue (λ q. at_key q standing) from to (moved_to to requeued) k)
-      → Requeues (Lists size place standing ∷ []) (Lists size place after ∷ threads_taken token requeued.taken)
+      → Moves max_threads IsRequeue (Lists size place standing ∷ []) (Lists size place after ∷ threads_taken token requeued.taken)
   requeues_within size place after from_here to_here lists =
       passes_within max_threads size place from to standing after requeued token from_here to_here
-      (parted_by waiting chosen) lists (op.Requeue from to chosen token)
-      (answer.Unpark (requeue_result chosen requeued)) is_requeue
+      (parted_by waiting chosen) lists IsRequeue (λ m finds. leads m)
 
   pub requeues_across : (size place other : ℕ) (after target target_after : List Standing) → other ≢ place
       → place_of from size ≡ place → place_of to size ≡ other → ChangesKey standing after from requeued.left
       → ChangesKey target target_after to (at_key to target ++ map (with_key to) requeued.moved)
-      → Requeues (Lists size place standing ∷ Lists size other target ∷ [])
+      → Moves max_threads IsRequeue (Lists size place standing ∷ Lists size other target ∷ [])
       (Lists size place after ∷ Lists size other target_after ∷ threads_taken token requeued.taken)
   requeues_across size place other after target target_after apart from_here to_there lists targets =
       passes_across max_threads size place other from to standing after target target_after requeued token apart
-      from_here to_there (parted_by waiting chosen) lists targets (op.Requeue from to chosen token)
-      (answer.Unpark (requeue_result chosen requeued)) is_requeue
+      from_here to_there (parted_by waiting chosen) lists targets IsRequeue (λ m finds. leads m)

@@ -1,18 +1,21 @@
 -- What the nodes of a bucket say of the threads that stand at its place.
-use Rattle.std.proofs.Common.{◌≡◌, ◌≢◌, ℕ, ◌-◌, ◌≤◌, ◌^◌, ◌==◌, Bool, true, false, cond, List, [], ◌∷◌, ◌++◌, map}
+use Rattle.std.proofs.Common.{◌≡◌, ◌≢◌, ℕ, ◌<◌, ◌≤◌, ◌^◌, ◌==◌, Bool, true, false, cond, List, [], ◌∷◌, ◌++◌, map}
 use Rattle.std.proofs.Common.{length, refl, sym, ap, ◌∙◌, subst, arith}
 use Rattle.std.proofs.lemmas.List.{length-map, map-append}
-use Rattle.std.specs.Prelude.{Vec}
-use Rattle.std.specs.declared.alloc.Global.{Global}
+use Rattle.std.specs.Fn.{Mut}
 use Rattle.lot_base.specs.declared.token.FilterOp.{FilterOp}
+use Rattle.lot_base.specs.declared.token.FilterOp.TheVariants.{Unpark, Skip, Stop}
+use Rattle.lot_base.specs.declared.token.ParkToken.{ParkToken}
 use Rattle.lot_base.specs.declared.token.RequeueOp.{RequeueOp}
 use Rattle.lot_base.specs.declared.token.UnparkToken.{UnparkToken}
+use Rattle.lot_base.specs.Filter.{IsFiltered}
 use Rattle.lot_base.specs.NodeFields.{NodeFields}
 use Rattle.lot_base.specs.NodeLists.{lists_of, ChangesOnly, with_token, with_new_key, split_to, saturated}
 use Rattle.lot_base.specs.NodeLists.{with_saturated_counts}
 use Rattle.lot_base.specs.Place.{place_of}
 use Rattle.lot_base.specs.Waiting.{Split, with_value, split_first, split_all, split_filter, split_by, result_of}
 use Rattle.lot_base.specs.Waiting.{requeue_result, lists_after_requeue}
+use Rattle.lot_base.proofs.FilterLemmas.{unpark≢stop, skip≢stop}
 use Rattle.lot_base.proofs.ValueLemmas.{map-with_value}
 use Rattle.lot_exclusive.specs.declared.lot.Status.TheVariants as status
 use Rattle.lot_exclusive.specs.declared.schedule.Answer.{Answer}
@@ -20,21 +23,19 @@ use Rattle.lot_exclusive.specs.declared.schedule.Answer.TheVariants as answer
 use Rattle.lot_exclusive.specs.declared.schedule.Op.{Op}
 use Rattle.lot_exclusive.specs.declared.schedule.Op.TheVariants as op
 use Rattle.lot_exclusive.specs.declared.schedule.Step.TheVariants as step
-use Rattle.lot_exclusive.specs.Machine.{Machine, Waiter}
-use Rattle.lot_exclusive.proofs.MachineLemmas.{length-le_from_MatchesStatus}
 use Rattle.lot_history.specs.declared.view.Standing.{Standing}
 use Rattle.lot_history.specs.declared.view.Piece.{Piece}
 use Rattle.lot_history.specs.declared.view.Piece.TheVariants.{Lists, Thread}
-use Rattle.lot_history.specs.Moves.{Finds, Moves}
+use Rattle.lot_history.specs.Moves.{Moves, IsFilter}
 use Rattle.lot_history.specs.Pieces.{at_key, waiter_of, threads_taken, standing_of, standing_in}
 use Rattle.lot_history.proofs.EnterLemmas.{enters}
 use Rattle.lot_history.proofs.FrameLemmas.{framed}
 use Rattle.lot_history.proofs.ListsLemmas.{with_key, moved_to}
 use Rattle.lot_history.proofs.AcrossLemmas.{requeues_within, requeues_across}
 use Rattle.lot_history.proofs.SplitLemmas.{split_map, split_first-map, split_filter-map, split_by-map, result_of-map}
-use Rattle.lot_history.proofs.SplitLemmas.{requeue_result-map, parted_filter, parted_by, result_of-exact}
+use Rattle.lot_history.proofs.SplitLemmas.{requeue_result-map, parted_by}
 use Rattle.lot_history.proofs.SplitLemmas.{requeue_result-exact}
-use Rattle.lot_history.proofs.TakeLemmas.{unparks_one, unparks_all, unparks_filter}
+use Rattle.lot_history.proofs.TakeLemmas.{few_waiting, unparks_one, unparks_all, unparks_filter}
 use Rattle.lot_history.proofs.ThreadLemmas.{Is, answers}
 use Rattle.lot_history.proofs.TimesLemmas.{ChangesKey}
 
@@ -105,15 +106,19 @@ requeued_nodes old new from to split lists k =
     (record { taken = standing_in split.taken; moved = moved; left = standing_in split.left }) k)
     (moved_nodes to split.moved))))
 
--- no list is so long that a `usize` could not tell it
-pub few_waiting : (max_threads size place key : ℕ) (standing : List Standing) (rest : List Piece) (m : Machine)
-    → place_of key size ≡ place → Finds max_threads (Lists size place standing ∷ rest) m
-    → length (map waiter_of (at_key key standing)) ≤ 2 ^ 64 - 1
-few_waiting max_threads size place key standing rest m here finds =
-    let short = length-le_from_MatchesStatus finds.consistent.0 m key finds.consistent.1 in
-    let same : length (m.lists key) ≡ length (map waiter_of (at_key key standing)) =
-    ap (λ (ws : List Waiter). length ws) (finds.so.0 key here).waiters in
-    omega (arith, short, same, finds.few, finds.threads)
+-- a filter decides on no more waiters than there are
+pub filtered_length : {F : Type 0} (calls : Mut F (ParkToken × Unit {0}) FilterOp) (filter : F)
+    (tokens : List ParkToken) (decisions : List FilterOp) → IsFiltered calls filter tokens decisions
+    → length decisions ≤ length tokens
+filtered_length calls filter [] decisions none =
+    let same : length decisions ≡ 0 = ap (λ (ds : List FilterOp). length ds) none in omega arith
+filtered_length calls filter (token ∷ tokens) [] none = absurd none
+filtered_length calls filter (token ∷ tokens) (Unpark ∷ decisions) (next, called, stops, goes) =
+    let rest = filtered_length calls next tokens decisions (goes unpark≢stop) in omega arith
+filtered_length calls filter (token ∷ tokens) (Skip ∷ decisions) (next, called, stops, goes) =
+    let rest = filtered_length calls next tokens decisions (goes skip≢stop) in omega arith
+filtered_length calls filter (token ∷ tokens) (Stop ∷ decisions) (next, called, stops, goes) =
+    let same : length decisions ≡ 0 = ap (λ (ds : List FilterOp). length ds) (stops refl) in omega arith
 
 -- a thread's node enters a bucket
 pub enters_node : (max_threads size place : ℕ) (old : List NodeFields) (node : NodeFields) (rest : List Piece)
@@ -171,42 +176,38 @@ module _ (max_threads size place key : ℕ) (old new : List NodeFields) (token :
       let machine = length-map (at_key key (standing_in old)) waiter_of in
       let same = ap (λ (l : List Standing). length l) (at_key-nodes old key) in
       let nodes = length-map waiting standing_of in
-      omega (arith, few, machine, same, nodes)))
+      omega (arith, few, finds.few, machine, same, nodes)))
       (subst (λ (l : List Standing).
       Moves max_threads (Is (step.Unpark (op.All key token)) (answer.Count (length l))) before
       (Lists size place (standing_in new) ∷ threads_taken token l)) (at_key-nodes old key)
       (unparks_all max_threads size place key (standing_in old) (standing_in new) token here
       (changes_nodes old new key [] lists))))
 
-  pub takes_filter : (decisions : Vec FilterOp Global)
-      → ChangesOnly old new key (split_filter decisions.items waiting).left
-      → Unparks (op.Filter key decisions token)
-      (answer.Unpark (with_saturated_counts (result_of (split_filter decisions.items waiting))))
-      (split_filter decisions.items waiting).taken
-  takes_filter decisions lists =
-      let chosen : Split NodeFields = split_filter decisions.items waiting in
-      let here_chosen : Split Standing = split_filter decisions.items (at_key key (standing_in old)) in
-      let same : here_chosen ≡ split_map standing_of chosen =
-      ap (λ (l : List Standing). split_filter decisions.items l) (at_key-nodes old key)
-      ∙ sym (split_filter-map standing_of decisions.items waiting) in
+  pub takes_filter : (decisions : List FilterOp) → max_threads < 2 ^ 63 → length decisions ≤ length waiting
+      → ChangesOnly old new key (split_filter decisions waiting).left
+      → Moves max_threads
+      (IsFilter key decisions token (with_saturated_counts (result_of (split_filter decisions waiting))))
+      (Lists size place (standing_in old) ∷ rest)
+      (Lists size place (standing_in new)
+      ∷ (threads_taken token (standing_in (split_filter decisions waiting).taken) ++ rest))
+  takes_filter decisions most short lists =
+      let chosen : Split NodeFields = split_filter decisions waiting in
+      let here_waiting : List Standing = at_key key (standing_in old) in
+      let same : split_filter decisions here_waiting ≡ split_map standing_of chosen =
+      ap (λ (l : List Standing). split_filter decisions l) (at_key-nodes old key)
+      ∙ sym (split_filter-map standing_of decisions waiting) in
       let after : List Piece =
       Lists size place (standing_in new) ∷ threads_taken token (standing_in chosen.taken) in
-      let given : Answer = answer.Unpark (with_saturated_counts (result_of chosen)) in
-      framed max_threads (Is (step.Unpark (op.Filter key decisions token)) given) before after rest
-      (answers max_threads (step.Unpark (op.Filter key decisions token))
-      (answer.Unpark (result_of (split_map standing_of chosen))) given before after
-      (λ m finds. ap answer.Unpark
-      (ap (λ (s : Split Standing). result_of s) (sym same)
-      ∙ (sym (result_of-exact here_chosen (at_key key (standing_in old))
-      (parted_filter (at_key key (standing_in old)) decisions.items)
-      (few_waiting max_threads size place key (standing_in old) [] m here finds))
-      ∙ (ap (λ (s : Split Standing). with_saturated_counts (result_of s)) same
-      ∙ ap with_saturated_counts (result_of-map standing_of chosen)))))
+      let all = ap (λ (l : List Standing). length l) (at_key-nodes old key) in
+      let nodes = length-map waiting standing_of in
+      framed max_threads (IsFilter key decisions token (with_saturated_counts (result_of chosen))) before after rest
+      (subst (λ result. Moves max_threads (IsFilter key decisions token (with_saturated_counts result)) before after)
+      (result_of-map standing_of chosen)
       (subst (λ (s : Split Standing). ChangesKey (standing_in old) (standing_in new) key s.left
-      → Moves max_threads (Is (step.Unpark (op.Filter key decisions token)) (answer.Unpark (result_of s))) before
+      → Moves max_threads (IsFilter key decisions token (with_saturated_counts (result_of s))) before
       (Lists size place (standing_in new) ∷ threads_taken token s.taken)) same
-      (unparks_filter max_threads size place key (standing_in old) (standing_in new) token here decisions)
-      (changes_nodes old new key chosen.left lists)))
+      (unparks_filter max_threads size place key (standing_in old) (standing_in new) token here decisions most
+      (omega (arith, all, nodes, short))) (changes_nodes old new key chosen.left lists)))
 
 -- requeues, as buckets tell of them
 module _ (max_threads size place from to : ℕ) (old new : List NodeFields) (chosen : RequeueOp) (token : UnparkToken)
@@ -243,7 +244,8 @@ module _ (max_threads size place from to : ℕ) (old new : List NodeFields) (cho
       (λ m finds. ap answer.Unpark
       (ap (λ (s : Split Standing). requeue_result chosen s) (sym same)
       ∙ (sym (requeue_result-exact (split_by chosen here_waiting) here_waiting (parted_by here_waiting chosen)
-      (few_waiting max_threads size place from (standing_in old) others m from_here finds) chosen)
+      (let few = few_waiting max_threads size place from (standing_in old) others m from_here finds in
+      omega (arith, few, finds.few)) chosen)
       ∙ (ap (λ (s : Split Standing). with_saturated_counts (requeue_result chosen s)) same
       ∙ ap with_saturated_counts (requeue_result-map standing_of chosen requeued))))) moves)
 

@@ -7,13 +7,11 @@ use Rattle.lot_base.specs.declared.token.UnparkToken.{UnparkToken}
 use Rattle.lot_base.specs.Place.{place_of}
 use Rattle.lot_base.specs.Waiting.{Split, with_value, lists_after_requeue}
 use Rattle.lot_exclusive.specs.declared.schedule.Answer.{Answer}
-use Rattle.lot_exclusive.specs.declared.schedule.Op.{Op}
-use Rattle.lot_exclusive.specs.declared.schedule.Step.TheVariants as step
+use Rattle.lot_exclusive.specs.declared.schedule.Step.{Step}
 use Rattle.lot_exclusive.specs.Machine.{Machine, Waiter, after_requeue}
-use Rattle.lot_exclusive.specs.Steps.{IsUnpark}
 use Rattle.lot_history.specs.declared.view.Standing.{Standing}
 use Rattle.lot_history.specs.declared.view.Piece.TheVariants.{Lists}
-use Rattle.lot_history.specs.Moves.{Moves}
+use Rattle.lot_history.specs.Moves.{Finds, Moves}
 use Rattle.lot_history.specs.Pieces.{thread, times_standing, cover, at_key, waiter_of, AllStand, IsSo}
 use Rattle.lot_history.specs.Pieces.{AllSo, threads_taken}
 use Rattle.lot_history.proofs.ListsLemmas.{changes_so, lists_cover, with_key, moved_to, moved_times, moved_waiters}
@@ -21,9 +19,8 @@ use Rattle.lot_history.proofs.ListsLemmas.{moved_stand}
 use Rattle.lot_history.proofs.PieceLemmas.{StandsIn, stand_all, all_stand, own_list, times-append, AllStand-append}
 use Rattle.lot_history.proofs.PieceLemmas.{stands-alike}
 use Rattle.lot_history.proofs.SplitLemmas.{IsParted, parted_times, waiter_split}
-use Rattle.lot_history.proofs.ThreadLemmas.{Is}
 use Rattle.lot_history.proofs.TimesLemmas.{ChangesKey, HasKey, all_at_key, changed, changed_lists, changed_times}
-use Rattle.lot_history.proofs.UnparkLemmas.{passes}
+use Rattle.lot_history.proofs.UnparkLemmas.{Unparks, passes}
 
 -- who moves stands at the new key, and those that were there before
 pub all_to_key : (key : ℕ) (standing moved : List Standing)
@@ -112,10 +109,11 @@ module _ (max_threads size place from to : ℕ) (standing after : List Standing)
       tt,
     )
 
-  pub passes_within : (which : Op) (given : Answer)
-      → ((m : Machine) → m.lists from ≡ map waiter_of (at_key from standing)
-      → IsUnpark m which given (after_requeue m from to (waiter_split split) token))
-      → Moves max_threads (Is (step.Unpark which) given) (Lists size place standing ∷ [])
+  pub passes_within : (said : Step → Answer → Type 0)
+      → ((m : Machine) → Finds max_threads (Lists size place standing ∷ []) m
+      → m.lists from ≡ map waiter_of (at_key from standing)
+      → Unparks said m (after_requeue m from to (waiter_split split) token))
+      → Moves max_threads said (Lists size place standing ∷ [])
       (Lists size place after ∷ threads_taken token split.taken)
   passes_within =
       passes max_threads from to (Lists size place standing ∷ []) (Lists size place after ∷ []) (at_key from standing)

@@ -7,6 +7,7 @@ use Rattle.lot_base.proofs.ValueLemmas.{with_value-other}
 use Rattle.lot_exclusive.specs.declared.lot.Status.TheVariants as status
 use Rattle.lot_exclusive.specs.declared.schedule.Answer.{Answer}
 use Rattle.lot_exclusive.specs.declared.schedule.Op.{Op}
+use Rattle.lot_exclusive.specs.declared.schedule.Step.{Step}
 use Rattle.lot_exclusive.specs.declared.schedule.Step.TheVariants as step
 use Rattle.lot_exclusive.specs.Machine.{Machine, Waiter, after_requeue}
 use Rattle.lot_exclusive.specs.Status.{is_registered}
@@ -20,7 +21,6 @@ use Rattle.lot_history.specs.Pieces.{IsList, AllSo, threads_taken}
 use Rattle.lot_history.proofs.ListsLemmas.{is_thread}
 use Rattle.lot_history.proofs.PieceLemmas.{own_thread, AllSo-append, cover-append, stands-registered, times_in-waiters}
 use Rattle.lot_history.proofs.SplitLemmas.{waiter_split, IsParted, parted_times}
-use Rattle.lot_history.proofs.ThreadLemmas.{Is}
 
 cover-taken : (token : UnparkToken) (taken : List Standing) (number : ℕ)
     → cover (thread number) (threads_taken token taken) ≡ times_standing number taken
@@ -36,6 +36,10 @@ cover-taken_other token (each ∷ taken) (records number) other =
     omega (arith, cover-taken_other token taken (records number) other)
 cover-taken_other token (each ∷ taken) numbers other = omega (arith, cover-taken_other token taken numbers other)
 cover-taken_other token (each ∷ taken) (thread number) other = absurd (cc)
+
+-- from the machine an unpark of which this is said leads to the next
+abbrev pub Unparks : (Step → Answer → Type 0) → Machine → Machine → Type 0
+Unparks said m next = (which : Op) × (given : Answer) × said (step.Unpark which) given × IsUnpark m which given next
 
 -- `old` are the places of both keys, and `new` what becomes of them
 module _ (max_threads from to : ℕ) (old new : List Piece) (waiting : List Standing) (split : Split Standing)
@@ -129,18 +133,18 @@ module _ (max_threads from to : ℕ) (old new : List Piece) (waiting : List Stan
     uncovered : (name : Name) → cover name new_pieces ≡ 0 → Alike m next name
     uncovered name none = alike name (omega (arith, same_cover name, none))
 
-  pub passes : (which : Op) (given : Answer)
-      → ((m : Machine) → m.lists from ≡ map waiter_of waiting
-      → IsUnpark m which given (after_requeue m from to (waiter_split split) token))
-      → Moves max_threads (Is (step.Unpark which) given) old (new ++ threads_taken token split.taken)
-  passes which given does = record {
+  pub passes : (said : Step → Answer → Type 0)
+      → ((m : Machine) → Finds max_threads old m → m.lists from ≡ map waiter_of waiting
+      → Unparks said m (after_requeue m from to (waiter_split split) token))
+      → Moves max_threads said old (new ++ threads_taken token split.taken)
+  passes said does = record {
     cover = same_cover;
-    step = λ m finds. record {
+    step = λ m finds. let (which, given, is_said, leads) = does m finds (is_list m finds.so).waiters in record {
       step = step.Unpark which;
       answer = given;
-      is_said = (refl, refl);
+      is_said = is_said;
       next = after_requeue m from to (waiter_split split) token;
-      does = does m (is_list m finds.so).waiters;
+      does = leads;
       so = AllSo-append (after_requeue m from to (waiter_split split) token) new (threads_taken token split.taken)
           (becomes m finds.so (still m finds)) (taken_so m finds split.taken (λ number more. more));
       others = uncovered m finds;

@@ -1,7 +1,14 @@
 -- What a step of a seat is that has pieces.
-use Rattle.std.specs.Prelude.{◌≡◌, ℕ, ◌-◌, ◌≤◌, ◌^◌, List}
+use Rattle.std.specs.Prelude.{◌≡◌, ℕ, ◌-◌, ◌≤◌, ◌^◌, List, Vec}
+use Rattle.std.specs.declared.alloc.Global.{Global}
+use Rattle.lot_base.specs.declared.token.FilterOp.{FilterOp}
+use Rattle.lot_base.specs.declared.token.UnparkResult.{UnparkResult}
+use Rattle.lot_base.specs.declared.token.UnparkToken.{UnparkToken}
 use Rattle.lot_exclusive.specs.declared.schedule.Answer.{Answer}
+use Rattle.lot_exclusive.specs.declared.schedule.Answer.TheVariants as answer
+use Rattle.lot_exclusive.specs.declared.schedule.Op.TheVariants.{Filter}
 use Rattle.lot_exclusive.specs.declared.schedule.Step.{Step}
+use Rattle.lot_exclusive.specs.declared.schedule.Step.TheVariants.{Unpark}
 use Rattle.lot_exclusive.specs.Machine.{Machine, IsConsistent}
 use Rattle.lot_exclusive.specs.Steps.{IsStep}
 use Rattle.lot_history.specs.declared.view.Piece.{Piece}
@@ -39,3 +46,8 @@ pub record Moves (max_threads : ℕ) (said : Step → Answer → Type 0) (before
 pub record Regroups (max_threads : ℕ) (before after : List Piece) : Type 0 where
   pub cover : SameCover before after
   pub so : (m : Machine) → Finds max_threads before m → AllSo m after
+
+-- an unpark by a filter that decides so, with this result
+abbrev pub IsFilter : ℕ → List FilterOp → UnparkToken → UnparkResult → Step → Answer → Type 0
+IsFilter key decisions token result step given = (others : Vec FilterOp Global) × (others.items ≡ decisions)
+    × (step ≡ Unpark (Filter key others token)) × (given ≡ answer.Unpark result)
