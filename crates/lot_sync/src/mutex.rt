@@ -29,24 +29,17 @@ pub mod view;
 
 use crate::fits::Fits;
 use crate::mutex::plays::Exclusive;
-use crate::mutex::steps::{
-    FREE, LOCKED, PARKED, WORDS, is_free, word_after_hand_over, word_after_unpark,
-};
+use crate::mutex::steps::{FREE, HAND_OVER, LOCKED, Next, PARKED, WORDS, is_free};
 use crate::mutex::view::View;
 use atomic_table::{Refused, Seat, Table, TableRule};
 pub use condvar::{Condvar, WaitResult};
 use lot_base::spinwait::SpinWait;
 use lot_base::thread_parker::ThreadParkerT;
-use lot_base::token::{
-    DEFAULT_PARK_TOKEN, DEFAULT_UNPARK_TOKEN, NoMemory, ParkResult, UnparkToken,
-};
+use lot_base::token::{DEFAULT_PARK_TOKEN, NoMemory, ParkResult, UnparkToken};
 use parking_lot_core::{Member, ParkingLot, unpark_one};
 use std::alloc::Global;
 use std::sync::Wait;
 use std::time::{Clock, Instant};
-
-/// The token of an unpark that hands the mutex to the thread that it wakes.
-const HAND_OVER: UnparkToken = UnparkToken(1);
 
 /// A mutex around a value, which threads share by reference.
 ///
@@ -292,16 +285,18 @@ impl<T: Fits> Mutex<T> {
         rt: &R,
         lot: &ParkingLot<P>,
         holder: Seat<Option<T>, View>,
+        next: Next,
     )
         requires { HasMutex T.fits self.now holder }
     {
         let mut seat = holder;
         if !self.leave_alone(&mut seat) {
-            self.unpark(rt, lot, seat);
+            self.unpark(rt, lot, seat, next);
         }
     }
 
-    // Lets the mutex go in the section of the key, and wakes the first that waits.
+    // Lets the mutex go in the section of the key, or hands it over, and wakes the first that
+    // waits.
     #[cold]
     #[inline(never)]
     fn unpark<P: ThreadParkerT, R: Wait>(
@@ -309,6 +304,7 @@ impl<T: Fits> Mutex<T> {
         rt: &R,
         lot: &ParkingLot<P>,
         holder: Seat<Option<T>, View>,
+        next: Next,
     )
         requires { HasMutex T.fits self.now holder }
     {
@@ -319,30 +315,8 @@ impl<T: Fits> Mutex<T> {
             |unpark| -> UnparkToken
                 requires { HasMutex T.fits self.now holder }
             {
-                self.leave(holder, word_after_unpark(unpark));
-                DEFAULT_UNPARK_TOKEN
-            },
-        );
-    }
-
-    // Hands the mutex to the first that waits, in the section of the key, or lets it go.
-    fn hand_over<P: ThreadParkerT, R: Wait>(
-        &self,
-        rt: &R,
-        lot: &ParkingLot<P>,
-        holder: Seat<Option<T>, View>,
-    )
-        requires { HasMutex T.fits self.now holder }
-    {
-        unpark_one(
-            rt,
-            lot,
-            self.key,
-            |unpark| -> UnparkToken
-                requires { HasMutex T.fits self.now holder }
-            {
-                self.leave(holder, word_after_hand_over(unpark));
-                HAND_OVER
+                self.leave(holder, next.word_after(unpark));
+                next.token()
             },
         );
     }
@@ -374,7 +348,7 @@ impl<'a, T: Fits> Held<'a, T> {
         let Held { value, mutex, seat } = self;
         let mut seat = seat;
         mutex.put_value(&mut seat, value);
-        mutex.let_go(rt, member.lot(), seat);
+        mutex.let_go(rt, member.lot(), seat, Next::Anyone);
     }
 
     /// Puts the value back, which has to fit, and hands the mutex to the thread that waits longest,
@@ -388,9 +362,7 @@ impl<'a, T: Fits> Held<'a, T> {
         let Held { value, mutex, seat } = self;
         let mut seat = seat;
         mutex.put_value(&mut seat, value);
-        if !mutex.leave_alone(&mut seat) {
-            mutex.hand_over(rt, member.lot(), seat);
-        }
+        mutex.let_go(rt, member.lot(), seat, Next::Woken);
     }
 }
 

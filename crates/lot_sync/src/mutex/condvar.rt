@@ -1,5 +1,6 @@
 //! A condition variable for a mutex.
 
+use super::steps::Next;
 use super::{Held, Mutex};
 use crate::fits::Fits;
 use lot_base::thread_parker::ThreadParkerT;
@@ -127,7 +128,7 @@ impl Condvar {
             ||
                 requires { HasMutex T.fits mutex.now seat }
             {
-                mutex.let_go(rt, lot, seat);
+                mutex.let_go(rt, lot, seat, Next::Anyone);
             },
             |key, is_last| {
                 if key == self.key && is_last {

@@ -8,7 +8,7 @@ use super::plays::{Arrive, Leave, LeaveAlone, Note, Take, TakeOver, TryTake};
 use super::view::View;
 use crate::fits::Fits;
 use atomic_table::Seat;
-use lot_base::token::UnparkResult;
+use lot_base::token::{DEFAULT_UNPARK_TOKEN, UnparkResult, UnparkToken};
 use std::sync::Wait;
 
 /// How many words a mutex has.
@@ -42,28 +42,42 @@ pub(super) fn is_free(word: u64) -> bool
     word == FREE || word == PARKED
 }
 
-/// The word once an unpark of one thread has let the mutex go.
-pub(super) fn word_after_unpark(unpark: UnparkResult) -> u64
-    ensures { IsLeft result }
-{
-    if unpark.have_more_threads {
-        PARKED
-    } else {
-        FREE
-    }
+/// The token of an unpark that hands the mutex to the thread that it wakes.
+pub(super) const HAND_OVER: UnparkToken = UnparkToken(1);
+
+/// Who may have the mutex next, where threads may be parked.
+#[derive(Copy, Clone, Eq, PartialEq, Debug)]
+pub(super) enum Next {
+    /// Whoever comes first.
+    Anyone,
+
+    /// The thread that is woken.
+    Woken,
 }
 
-/// The word once an unpark of one thread has handed the mutex over, or has let it go where nobody
-/// waits.
-pub(super) fn word_after_hand_over(unpark: UnparkResult) -> u64
-    ensures { IsLeft result }
-{
-    if unpark.unparked_threads == 0 {
-        FREE
-    } else if unpark.have_more_threads {
-        LOCKED + PARKED + HANDED
-    } else {
-        LOCKED + HANDED
+impl Next {
+    /// The token for the thread that is woken.
+    pub(super) fn token(self) -> UnparkToken {
+        match self {
+            Next::Anyone => DEFAULT_UNPARK_TOKEN,
+            Next::Woken => HAND_OVER,
+        }
+    }
+
+    /// The word once an unpark of one thread has let the mutex go, or has handed it over. Where
+    /// nobody waits nobody is handed it.
+    pub(super) fn word_after(self, unpark: UnparkResult) -> u64
+        ensures { IsLeft result }
+    {
+        let parked = if unpark.have_more_threads {
+            PARKED
+        } else {
+            FREE
+        };
+        match self {
+            Next::Woken if unpark.unparked_threads > 0 => parked + LOCKED + HANDED,
+            _ => parked,
+        }
     }
 }
 
