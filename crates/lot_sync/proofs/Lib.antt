@@ -1,3 +1,5 @@
 pub mod MutexKeeps
 pub mod MutexHolds
+pub mod Seats
 pub mod OnceKeeps
+pub mod RwKeeps

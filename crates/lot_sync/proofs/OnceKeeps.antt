@@ -108,11 +108,6 @@ module _ (n id : ℕ) where
       let none-ran : total ran s.views ≡ 0 = omega arith in
       (Ran, keeps, tt, rebuilt s o Running Ran 4 me (omega arith) (omega arith) (omega arith), refl)
 
-  -- a step of a seat whose view is known by an equation
-  pub at_seat : (m m' : Seat) (f : ℕ → ℕ) (then : Seat → ℕ → Seat → Type 0) → m ≡ m'
-      → Allows RunsOnce n id m' 0 f (then m') → Allows RunsOnce n id m 0 f (then m)
-  at_seat m m' f then view allows = subst (λ (x : Seat). Allows RunsOnce n id x 0 f (then x)) (sym view) allows
-
 has_begun : (v : View) → HasBegun v → began v ≡ 1
 has_begun Waiting h = absurd h
 has_begun Running h = refl

@@ -1,10 +1,13 @@
 -- Of the mutex: what holds between any two steps, the same as its table keeps it, what each step tells, and a mutex as
--- contracts see it.
+-- contracts see it; and the same of the once, the semaphore and the barrier. Of the lock for readers and writers: its
+-- words, its rule with its steps, and what holds between any two of them.
 pub mod MutexInvariant
 pub mod MutexRule
 pub mod MutexSteps
 pub mod Mutex
 pub mod RwWord
+pub mod RwRule
+pub mod RwInvariant
 pub mod OnceInvariant
 pub mod OnceRule
 pub mod OnceSteps

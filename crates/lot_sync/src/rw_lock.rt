@@ -4,30 +4,39 @@
 //! lent the value there. A writer takes the value out while no reader is counted, and the word
 //! tells so until it puts a value back. Whoever finds the lock held spins, then notes in the word
 //! that a thread may be parked, and parks while the word says so and keeps it out; a writer notes
-//! besides that no new reader may come. Whoever lets the lock go then lets all that are parked look
-//! again.
+//! besides that no new reader may come. Whoever lets the lock go wakes the writer that stands first,
+//! or else the readers in front of the first writer, and writes in the section of the key who is
+//! left. A reader that was woken may pass the writers that still wait, so it needs no new turn.
 //!
-//! That the count follows those who read, and that a value is taken out only where none is counted,
-//! the slot asks of each step. What is proved besides is that every value that is lent or taken out
-//! fits. That whoever sleeps is woken is shown by tests.
+//! The slot asks of each step that the count follows those who read, and that a value is taken out
+//! only where none is counted. Each step asks besides that it is one of `IsStep`, and every run of
+//! such steps keeps `RwInvariant`. That whoever sleeps is woken is shown by tests.
 //!
-//! Upstream's lock has two keys, wakes one writer or the readers before it, and keeps the value in
-//! its place.
+//! Upstream's lock has two keys, wakes the first writer together with the readers before it, and
+//! keeps the value in its place.
 
-ghost use Rattle.std.specs.Prelude.{◌≡◌, IsSome, IsSomeAnd};
+ghost use Rattle.std.specs.Prelude.{◌≡◌, ℕ, IsSome, IsSomeAnd};
+ghost use mathlib.Core.Option.{some};
+ghost use lib.ListN.{get_elem?};
+ghost use Rattle.lot_sync.specs.RwRule.{RwState, RwRule, IsStep, opening, arrived, stepped};
+ghost use Rattle.lot_sync.specs.RwInvariant.{RwInvariant};
+ghost use Rattle.lot_sync.specs.declared.rw_lock.view.View.{View};
 
+mod steps;
+pub mod view;
 mod word;
 
 use crate::fits::Fits;
 use crate::rw_lock::word::{
-    Wish, is_idle, is_parked_on, is_shared, lets_read, lets_write, reader_count,
-    with_nobody_parked, with_value_out,
+    Front, Wish, is_parked_on, is_shared, lets_read, lets_write, reader_count, with_value_in,
+    with_value_out,
 };
-use counted_slot::{Claim, Counted, ONE_READER, PRESENT, TAKEN};
+use counted_slot::{Claim, Counted, FREE, ONE_READER, PRESENT};
 use lot_base::spinwait::SpinWait;
 use lot_base::thread_parker::ThreadParkerT;
-use lot_base::token::{DEFAULT_PARK_TOKEN, DEFAULT_UNPARK_TOKEN, ParkResult};
-use parking_lot_core::{Member, ParkingLot, unpark_all};
+use lot_base::token::{DEFAULT_UNPARK_TOKEN, FilterOp, ParkResult};
+use parking_lot_core::{Member, ParkingLot, unpark_chosen};
+use std::cell::Cell;
 use std::sync::Wait;
 use std::thread;
 use std::time::{Clock, Instant};
@@ -47,11 +56,12 @@ impl<T: Fits> counted_slot::Fits for Stored<T> {
 /// A lock around a value, which threads share by reference: many may read it, or one may have it.
 ///
 /// A writer that waits keeps new readers out, so readers that come and go do not keep it waiting
-/// for ever. Who is next among those that wait is not said. Nothing is promised of ever being
-/// served.
+/// for ever. Who lets the lock go wakes the thread that waits longest: a writer alone, and a reader
+/// with all readers up to the first writer. A writer that comes meanwhile may have the lock before
+/// them. Nothing is promised of ever being served.
 ///
-/// Every call is with members of one lot, and the key is the lock's alone there. No call asks for
-/// memory.
+/// Every call is with members of one lot, and the key is the lock's alone there. Readers park with
+/// the token 0, and writers with 1. No call asks for memory.
 ///
 /// Upstream has it under this name, in `parking_lot`.
 #[derive(Drop)]
@@ -82,9 +92,7 @@ pub struct WriteHeld<'a, T: Fits> {
 }
 
 impl<T: Fits> RwLock<T> {
-    ghost use Rattle.std.specs.Prelude.{◌≡◌, ◌≢◌, ◌+◌, None, IfSome, IsSome, IsTrue};
-    ghost use Rattle.counted_slot.specs.Counting.{readers, IsTurn, IsShared};
-    ghost use Rattle.lot_sync.specs.RwWord.{IsIdle};
+    ghost use Rattle.std.specs.Prelude.{◌≡◌, ◌≢◌, None, IfSome, IsSome};
 
     /// A lock that nobody holds, around a value that fits, whose waiters park on the key. The value
     /// is put in as a writer puts it back.
@@ -98,8 +106,14 @@ impl<T: Fits> RwLock<T> {
             key,
             slot: Counted::new(None, &()),
         };
-        lock.put_back(rt, value);
-        lock
+        for _ in rt.forever() {
+            // Nobody else has the lock yet, so the first turn finds it free.
+            if let Some(claim) = lock.take(FREE) {
+                RwLock::put_in(claim, value, PRESENT);
+                return lock;
+            }
+        }
+        unreachable!()
     }
 
     /// The key on which its waiters park.
@@ -144,7 +158,7 @@ impl<T: Fits> RwLock<T> {
     /// Upstream has it under this name, and tries again where the word changed.
     pub fn try_read(&self) -> Option<ReadHeld<'_, T>> {
         let word = self.slot.load();
-        if lets_read(word) {
+        if lets_read(word, false) {
             self.enter(word, word + ONE_READER)
         } else {
             None
@@ -208,14 +222,18 @@ impl<T: Fits> RwLock<T> {
         ensures { deadline ≡ None → IsSome result }
     {
         let mut spin = SpinWait::new();
+        let mut is_woken = false;
         for _ in rt.forever() {
             let word = self.slot.load();
-            if lets_read(word) {
+            if lets_read(word, is_woken) {
                 if let Some(held) = self.enter(word, word + ONE_READER) {
                     return Some(held);
                 }
-            } else if !self.wait(rt, member, &mut spin, word, Wish::Read, deadline) {
-                return None;
+            } else {
+                let wish = Wish::Read { is_woken };
+                if self.wait(rt, member, &mut spin, word, wish, deadline)? {
+                    is_woken = true;
+                }
             }
         }
         unreachable!()
@@ -238,15 +256,15 @@ impl<T: Fits> RwLock<T> {
                 if let Some(held) = self.take_out(word) {
                     return Some(held);
                 }
-            } else if !self.wait(rt, member, &mut spin, word, Wish::Write, deadline) {
-                return None;
+            } else {
+                self.wait(rt, member, &mut spin, word, Wish::Write, deadline)?;
             }
         }
         unreachable!()
     }
 
-    // Waits a while: spins, or parks if the word keeps the thread out. Answers false once the
-    // deadline has passed.
+    // Waits a while: spins, or parks if the word keeps the thread out. Answers whether it was
+    // woken, or `None` once the deadline has passed.
     fn wait<P: ThreadParkerT, R: Wait + Clock>(
         &self,
         rt: &R,
@@ -255,26 +273,29 @@ impl<T: Fits> RwLock<T> {
         word: u64,
         wish: Wish,
         deadline: Option<Instant>,
-    ) -> bool
-        ensures { deadline ≡ None → IsTrue result }
+    ) -> Option<bool>
+        ensures { deadline ≡ None → IsSome result }
     {
         if spin.spin() {
-            return true;
+            return Some(false);
         }
         if !is_shared(word) {
             thread::yield_now();
-            return true;
+            return Some(false);
         }
         if !self.change(word, wish.noted_in(word)) {
-            return true;
+            return Some(false);
         }
         spin.reset();
         let result = self.park(rt, member, wish, deadline);
-        if result == ParkResult::TimedOut && wish == Wish::Write {
-            // It kept new readers out.
-            self.let_all_look(rt, member.lot());
+        if result != ParkResult::TimedOut {
+            return Some(result.is_unparked());
         }
-        result != ParkResult::TimedOut
+        if wish == Wish::Write {
+            // It kept out the readers that came behind it.
+            self.wake_front(rt, member.lot(), Front::Readers);
+        }
+        None
     }
 
     // Parks on the key while the word tells that threads may be parked, and keeps the thread out.
@@ -296,127 +317,34 @@ impl<T: Fits> RwLock<T> {
             },
             || (),
             |_, _| (),
-            DEFAULT_PARK_TOKEN,
+            wish.token(),
             deadline,
         )
     }
 
-    // Notes that nobody is parked, and wakes all that are. If the word has no note, whoever cleared
-    // it wakes them.
-    fn let_all_look<P: ThreadParkerT, R: Wait>(&self, rt: &R, lot: &ParkingLot<P>) {
-        for _ in rt.forever() {
-            let word = self.slot.load();
-            if is_shared(word) {
-                if !is_parked_on(word) {
-                    return;
+    // Wakes those at the head of the queue who may go on beside this front, and writes in the
+    // section of the key who is left.
+    fn wake_front<P: ThreadParkerT, R: Wait>(&self, rt: &R, lot: &ParkingLot<P>, front: Front) {
+        let front = Cell::new(front);
+        unpark_chosen(
+            rt,
+            lot,
+            self.key,
+            |token| match front.get().with(token) {
+                Some(longer) => {
+                    front.set(longer);
+                    FilterOp::Unpark
                 }
-                if self.change(word, with_nobody_parked(word)) {
-                    break;
-                }
-            }
-            thread::yield_now();
-        }
-        unpark_all(rt, lot, self.key, DEFAULT_UNPARK_TOKEN);
-    }
-
-    // Writes the word if it is still the first, and the other counts as many readers. Answers
-    // whether it was.
-    fn change(&self, word: u64, new: u64) -> bool
-        requires turn { IsTurn word new }
-        requires shared { IsShared new }
-        requires count { readers new ≡ readers word }
-    {
-        let (found, claim) = self.slot.turn(word, new);
-        claim.done();
-        found == word
-    }
-
-    // Counts a reader more if the word is still the first, by writing the other.
-    fn enter(&self, word: u64, new: u64) -> Option<ReadHeld<'_, T>>
-        requires turn { IsTurn word new }
-        requires shared { IsShared new }
-        requires count { readers new ≡ readers word + 1 }
-    {
-        let (found, claim) = self.slot.turn(word, new);
-        if found != word {
-            claim.done();
-            return None;
-        }
-        self.lend(claim)
-    }
-
-    // A guard for a claim to read. Whoever takes the value out of the slot says so in the word, so
-    // a reader finds it there; no contract says that.
-    fn lend<'a>(&'a self, claim: Claim<'a, Option<Stored<T>>>) -> Option<ReadHeld<'a, T>>
-        requires { claim.right ≡ 1 }
-    {
-        if claim.get().is_none() {
-            claim.leave();
-            return None;
-        }
-        Some(ReadHeld { lock: self, claim })
-    }
-
-    // Takes the value out if the word is still this one.
-    fn take_out(&self, word: u64) -> Option<WriteHeld<'_, T>>
-        requires { IsIdle word }
-        ensures { IfSome result (λ held. T.fits held.value) }
-    {
-        let claim = self.take(word)?;
-        let stored = claim.put(None, with_value_out(word))?;
-        let Stored { value } = stored;
-        Some(WriteHeld { value, lock: self })
-    }
-
-    // A claim to write, if the word is still this one.
-    fn take(&self, word: u64) -> Option<Claim<'_, Option<Stored<T>>>>
-        requires { IsIdle word }
-        ensures { IfSome result (λ claim. claim.right ≡ 2) }
-    {
-        let (found, claim) = self.slot.turn(word, TAKEN);
-        if found != word {
-            claim.done();
-            return None;
-        }
-        Some(claim)
-    }
-
-    // Puts a value into the slot, and lets all in. Answers the word as it was.
-    fn put_back<R: Wait>(&self, rt: &R, value: T) -> u64
-        requires { T.fits value }
-    {
-        let (word, claim) = self.take_back(rt);
-        claim.put(Some(Stored { value }), PRESENT);
-        word
-    }
-
-    // A claim to write for whoever has the value, with the word as it was.
-    fn take_back<'a, R: Wait>(&'a self, rt: &R) -> (u64, Claim<'a, Option<Stored<T>>>)
-        ensures { result.1.right ≡ 2 }
-    {
-        for _ in rt.forever() {
-            let word = self.slot.load();
-            if is_idle(word) {
-                if let Some(claim) = self.take(word) {
-                    return (word, claim);
-                }
-            }
-        }
-        unreachable!()
-    }
-
-    // Lends the value to the writer that has put it back, where the word still tells that it is
-    // out, and lets other readers in. Answers the word as it was, too.
-    fn read_first<'a, R: Wait>(&'a self, rt: &R) -> (u64, ReadHeld<'a, T>) {
-        for _ in rt.forever() {
-            let word = self.slot.load();
-            if is_shared(word) && is_idle(word) {
-                if let Some(held) = self.enter(word, PRESENT + ONE_READER) {
-                    return (word, held);
-                }
-            }
-        }
-        unreachable!()
+                None => FilterOp::Stop,
+            },
+            |unpark| {
+                let is_parked_on = unpark.have_more_threads;
+                // Behind woken readers a writer is the first that stays.
+                let has_writer = is_parked_on || front.get() == Front::Writer;
+                self.note_waiters(rt, is_parked_on, has_writer);
+                DEFAULT_UNPARK_TOKEN
+            },
+        );
     }
 }
 
@@ -433,15 +361,16 @@ impl<'a, T: Fits> ReadHeld<'a, T> {
 
     /// Lets the lock go. The member is one of the lot with which the others lock.
     ///
-    /// It is one step of the word; the last reader wakes all that are parked, for which it takes
-    /// the lock of the key's bucket.
+    /// It is one step of the word. If threads are parked, the last reader wakes the first of them,
+    /// or the readers in front of the first writer, by one `unpark_chosen`, which takes the lock of
+    /// the key's bucket.
     ///
     /// Upstream does it as it drops the guard.
     pub fn unlock<P: ThreadParkerT, R: Wait>(self, rt: &R, member: &Member<'_, P>) {
         let ReadHeld { lock, claim } = self;
         let word = claim.leave();
         if reader_count(word) == 1 && is_parked_on(word) {
-            lock.let_all_look(rt, member.lot());
+            lock.wake_front(rt, member.lot(), Front::Nobody);
         }
     }
 }
@@ -450,24 +379,27 @@ impl<'a, T: Fits> WriteHeld<'a, T> {
     /// Puts the value back, which has to fit, and lets the lock go. The member is one of the lot
     /// with which the others lock.
     ///
-    /// It is an exchange of the word and a store. If threads are parked it wakes all, for which it
-    /// takes the lock of the key's bucket.
+    /// It is an exchange of the word and a store. If threads are parked it wakes the first of them,
+    /// or the readers in front of the first writer, by one `unpark_chosen`, which takes the lock of
+    /// the key's bucket.
     ///
     /// Upstream does it as it drops the guard.
     pub fn unlock<P: ThreadParkerT, R: Wait>(self, rt: &R, member: &Member<'_, P>)
         requires { T.fits self.value }
     {
         let WriteHeld { value, lock } = self;
-        let word = lock.put_back(rt, value);
+        let (word, claim) = lock.take_back(rt);
+        RwLock::put_in(claim, value, with_value_in(word));
         if is_parked_on(word) {
-            unpark_all(rt, member.lot(), lock.key, DEFAULT_UNPARK_TOKEN);
+            lock.wake_front(rt, member.lot(), Front::Nobody);
         }
     }
 
     /// Puts the value back, which has to fit, and reads it from then on: no other writer has it
-    /// between. Other readers may come, and all threads that are parked are woken.
+    /// between. Other readers may come, and those in front of the first writer that is parked are
+    /// woken, as `unlock` does it.
     ///
-    /// Upstream has it as `RwLockWriteGuard::downgrade`, which wakes readers alone.
+    /// Upstream has it as `RwLockWriteGuard::downgrade`.
     pub fn downgrade<P: ThreadParkerT, R: Wait>(
         self,
         rt: &R,
@@ -477,11 +409,23 @@ impl<'a, T: Fits> WriteHeld<'a, T> {
     {
         let WriteHeld { value, lock } = self;
         let (word, claim) = lock.take_back(rt);
-        claim.put(Some(Stored { value }), with_value_out(word));
+        RwLock::put_out(claim, Some(Stored { value }), with_value_out(word));
         let (word, held) = lock.read_first(rt);
         if is_parked_on(word) {
-            unpark_all(rt, member.lot(), lock.key, DEFAULT_UNPARK_TOKEN);
+            lock.wake_front(rt, member.lot(), Front::Readers);
         }
         held
     }
 }
+
+/// A new lock has what the rule says, each step of `IsStep` keeps it, and it gives the invariant. So
+/// the invariant holds between any two steps of those who lock, since each step on the word is one
+/// of these; that nothing else writes the word, the toolchain's slot does not tell.
+pub fn rw_locks_keep_their_invariant()
+    ensures opens { RwRule opening }
+    ensures arrives { (state : RwState) → RwRule state → RwRule (arrived state) }
+    ensures steps { (state : RwState) (id word : ℕ) (before after : View) → RwRule state
+        → get_elem? state.views id ≡ some before → IsStep before after state.word word
+        → RwRule (stepped state id after word) }
+    ensures invariant { (state : RwState) → RwRule state → RwInvariant state }
+{}

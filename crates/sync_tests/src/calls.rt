@@ -100,7 +100,7 @@ fn data_whose_number_the_lot_has_not_comes_back(rt: HostRuntime) -> Result<(), F
 }
 
 // Tries a mutex that is held, up to the instant.
-fn expect_held<R: Wait + Clock + Abort>(
+pub fn expect_held<R: Wait + Clock + Abort>(
     rt: &R,
     member: &mut Member<'_, WordParker>,
     mutex: &Mutex<Pair>,
@@ -176,7 +176,7 @@ fn a_wait_ends_at_its_deadline(rt: HostRuntime) -> Result<(), Fail> {
 }
 
 // Tries to write to a lock that is held, up to the instant.
-fn expect_no_writer<R: Wait + Clock + Abort>(
+pub fn expect_no_writer<R: Wait + Clock + Abort>(
     rt: &R,
     member: &mut Member<'_, WordParker>,
     lock: &RwLock<Pair>,
@@ -193,7 +193,7 @@ fn expect_no_writer<R: Wait + Clock + Abort>(
 }
 
 // Tries to read what a writer has, up to the instant.
-fn expect_no_reader<R: Wait + Clock + Abort>(
+pub fn expect_no_reader<R: Wait + Clock + Abort>(
     rt: &R,
     member: &mut Member<'_, WordParker>,
     lock: &RwLock<Pair>,
