@@ -12,3 +12,11 @@ pub mod OnceInvariant
 pub mod OnceRule
 pub mod OnceSteps
 pub mod Once
+pub mod SemaphoreInvariant
+pub mod SemaphoreRule
+pub mod SemaphoreSteps
+pub mod Semaphore
+pub mod BarrierInvariant
+pub mod BarrierRule
+pub mod BarrierSteps
+pub mod Barrier

@@ -2,8 +2,10 @@
 //! writers, and what is done once. Whoever waits parks on the lock's key.
 #![tactic(auto)]
 
+pub mod barrier;
 pub mod fits;
 pub mod keys;
 pub mod mutex;
 pub mod once;
 pub mod rw_lock;
+pub mod semaphore;

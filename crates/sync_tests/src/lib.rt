@@ -2,6 +2,8 @@
 #![tactic(auto)]
 
 #[cfg(test)]
+mod barrier;
+#[cfg(test)]
 mod calls;
 #[cfg(test)]
 mod channel;
@@ -18,16 +20,24 @@ mod once;
 #[cfg(test)]
 mod pair;
 #[cfg(test)]
+mod parked;
+#[cfg(test)]
 mod readers;
 #[cfg(test)]
 mod scene;
+#[cfg(test)]
+mod semaphore;
+#[cfg(test)]
+mod woken;
 
 #[cfg(test)]
 use lot_base::thread_parker::ThreadParkerT;
 #[cfg(test)]
-use parking_lot_core::{Member, ParkingLot};
+use parking_lot_core::{DEFAULT_UNPARK_TOKEN, FilterOp, Member, ParkingLot, unpark_chosen};
 #[cfg(test)]
 use std::alloc::Global;
+#[cfg(test)]
+use std::cell::Cell;
 #[cfg(test)]
 use std::fmt::Debug;
 #[cfg(test)]
@@ -49,4 +59,22 @@ fn register<'a, P: ThreadParkerT, R: Wait + Abort>(
     lot: &'a ParkingLot<P>,
 ) -> Member<'a, P> {
     Member::register(rt, alloc, lot).expect(rt, "a number")
+}
+
+// Who stands in the queue of the key, first to last: a digit each, 1 more than its token.
+#[cfg(test)]
+fn queue<P: ThreadParkerT, R: Wait>(rt: &R, lot: &ParkingLot<P>, key: usize) -> usize {
+    let seen = Cell::new(0usize);
+    unpark_chosen(
+        rt,
+        lot,
+        key,
+        |token| {
+            let digit = token.0.wrapping_add(1);
+            seen.set(seen.get().wrapping_mul(10).wrapping_add(digit));
+            FilterOp::Skip
+        },
+        |_| DEFAULT_UNPARK_TOKEN,
+    );
+    seen.get()
 }
