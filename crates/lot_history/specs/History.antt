@@ -1,5 +1,5 @@
--- Histories: events, each a step of the machine with its answer and who added it. No lot adds to one yet, and no
--- contract says that an event is what a lot did: that is the word of whoever adds it.
+-- Histories: events, each a step of the machine with its answer and who added it. That an event is what a lot did is the
+-- word of whoever adds it.
 use Rattle.std.specs.Prelude.{ℕ, ◌==◌, List, map, filter}
 use Rattle.lot_exclusive.specs.declared.schedule.Answer.{Answer}
 use Rattle.lot_exclusive.specs.declared.schedule.Step.{Step}
