@@ -1,11 +1,10 @@
 -- The steps of a caller of a lock for readers and writers keep its rule, which gives its invariant.
-use Rattle.std.proofs.Common.{◌≡◌, ◌≢◌, ℕ, ◌+◌, ◌-◌, ◌<◌, ◌≤◌, [], ◌∷◌, set, sym, refl, ◌∙◌, arith}
+use Rattle.std.proofs.Common.{◌≡◌, ℕ, ◌+◌, ◌-◌, ◌<◌, ◌≤◌, [], ◌∷◌, sym, refl, ◌∙◌, arith}
 use mathlib.Core.Logic.{dite}
 use mathlib.Core.Option.{some}
 use native.Mathlib.Decide.{ℕ_discrete}
 use lib.ListN.{get_elem?}
 use Rattle.counted_slot.specs.Counting.{readers}
-use Rattle.lot_word_lock.specs.WordPlaces.{total}
 use Rattle.lot_word_lock.proofs.WordCounts.{total-append, total-set, one_term, two_terms}
 use Rattle.lot_sync.specs.declared.rw_lock.view.View.{View}
 use Rattle.lot_sync.specs.declared.rw_lock.view.View.TheVariants.{Resting, Reading, Moving, Writing}

@@ -3,7 +3,7 @@ use Rattle.std.specs.Prelude.{◌≡◌, ℕ, []}
 use Rattle.atomic_table.specs.declared.shared.Seat.{Seat}
 use Rattle.lot_sync.specs.declared.barrier.Barrier.{Barrier}
 use Rattle.lot_sync.specs.declared.barrier.view.View.{View}
-use Rattle.lot_sync.specs.declared.barrier.view.View.TheVariants.{Coming, Came}
+use Rattle.lot_sync.specs.declared.barrier.view.View.TheVariants.{Came}
 
 -- the seat is one of this barrier, and knows this
 pub record IsSeat (barrier : Barrier) (view : View) (seat : Seat (Unit {0}) View) : Type 0 where

@@ -5,7 +5,7 @@ use lib.ListN.{get_elem?}
 use Rattle.atomic_table.specs.Table.{State}
 use Rattle.lot_word_lock.specs.WordPlaces.{total}
 use Rattle.lot_sync.specs.declared.barrier.view.View.{View}
-use Rattle.lot_sync.specs.declared.barrier.view.View.TheVariants.{Coming, Came}
+use Rattle.lot_sync.specs.declared.barrier.view.View.TheVariants.{Came}
 use Rattle.lot_sync.specs.BarrierRule.{came_in}
 
 -- the ticket is the last of its round

@@ -1,6 +1,6 @@
 -- The rule of a barrier for n threads, as its table keeps it. Word 0 is the number of those who have come; word 1 never
 -- changes.
-use Rattle.std.specs.Prelude.{◌≡◌, ℕ, ◌+◌, ◌-◌, ◌/◌, ◌%◌, ◌<◌, ◌≤◌, length, slice_index}
+use Rattle.std.specs.Prelude.{◌≡◌, ℕ, ◌-◌, ◌/◌, ◌%◌, ◌<◌, ◌≤◌, length, slice_index}
 use Rattle.atomic_table.specs.Table.{State}
 use Rattle.lot_word_lock.specs.WordPlaces.{total, one_at}
 use Rattle.lot_sync.specs.declared.barrier.view.View.{View}

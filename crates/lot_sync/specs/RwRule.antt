@@ -1,7 +1,5 @@
 -- The rule of a lock for readers and writers: what its word says of all its callers, and the steps that they take on it.
-use Rattle.std.specs.Prelude.{◌≡◌, ⊤, ℕ, ◌+◌, ◌-◌, ◌<◌, ◌≤◌, List, [], ◌∷◌, ◌++◌, slice_set}
-use mathlib.Core.Option.{some}
-use lib.ListN.{get_elem?}
+use Rattle.std.specs.Prelude.{◌≡◌, ℕ, ◌+◌, ◌-◌, ◌<◌, ◌≤◌, List, [], ◌∷◌, ◌++◌, slice_set}
 use Rattle.counted_slot.specs.Counting.{readers, IsShared}
 use Rattle.lot_word_lock.specs.WordPlaces.{total}
 use Rattle.lot_sync.specs.declared.rw_lock.view.View.{View}
