@@ -142,7 +142,8 @@ module _ (max_threads from to : ℕ) (standing : List Standing) (chosen : Requeu
   pub requeues_within : (size place : ℕ) (after : List Standing) → place_of from size ≡ place
       → place_of to size ≡ place
       → ((k : ℕ) → at_key k after ≡ lists_after_requeue (λ q. at_key q standing) from to (moved_to to requeued) k)
-      → Moves max_threads IsRequeue (Lists size place standing ∷ []) (Lists size place after ∷ threads_taken token requeued.taken)
+      → Moves max_threads IsRequeue (Lists size place standing ∷ [])
+      (Lists size place after ∷ threads_taken token requeued.taken)
   requeues_within size place after from_here to_here lists =
       passes_within max_threads size place from to standing after requeued token from_here to_here
       (parted_by waiting chosen) lists IsRequeue (λ m finds. leads m)

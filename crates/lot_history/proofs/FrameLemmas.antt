@@ -118,3 +118,9 @@ module _ (max_threads : ℕ) where
       others = λ name none. to.others name (let three = last.cover name in omega arith);
     };
   }
+
+  -- a step whose pieces are first the other way round, as where they were taken behind others
+  pub behind : (said : Step → Answer → Type 0) (first rest after : List Piece)
+      → Moves max_threads said (rest ++ first) after → Moves max_threads said (first ++ rest) after
+  behind said first rest after moves =
+      regrouped said (first ++ rest) (rest ++ first) after after (turned first rest) moves (kept_pieces after)

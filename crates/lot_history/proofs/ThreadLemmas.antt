@@ -91,6 +91,11 @@ stays_moves max_threads s a pieces does = record {
 pub trims : (max_threads : ℕ) (pieces : List Piece) → Moves max_threads (Is step.Trim answer.Trimmed) pieces pieces
 trims max_threads pieces = stays_moves max_threads step.Trim answer.Trimmed pieces (λ m finds. refl)
 
+-- where memory is wanting, too
+pub trims_nothing : (max_threads : ℕ) (pieces : List Piece)
+    → Moves max_threads (Is step.Trim answer.NoMemory) pieces pieces
+trims_nothing max_threads pieces = stays_moves max_threads step.Trim answer.NoMemory pieces (λ m finds. refl)
+
 -- the status of a registered thread changes, and it stays registered
 module _ (m : Machine) (number : ℕ) (before after : Status) (is : m.status number ≡ before)
     (was : is_registered before ≡ true) (still : is_registered after ≡ true) where
