@@ -30,26 +30,25 @@ pub fn replay_from<R: Files + AllocGlobal>(
     file: &str,
     page: &mut Page,
 ) -> anyhow::Result<()> {
-    match fs::read_to_string(rt, file) {
-        Ok(text) => show_replayed(session, replay(rt.alloc(), text.as_str())?, page)?,
-        Err(error) => page.failure(file, &error)?,
-    }
-    Ok(())
-}
-
-fn show_replayed(session: &mut Session, replayed: Replayed, page: &mut Page) -> anyhow::Result<()> {
-    match replayed {
-        Replayed::Same(entries) => {
-            page.counted("steps replayed, with the same answers", entries.len())?;
-            session.take_over(entries)?;
+    let text = match fs::read_to_string(rt, file) {
+        Ok(text) => text,
+        Err(error) => return Ok(page.failure(file, &error)?),
+    };
+    match replay(rt.alloc(), text.as_str()) {
+        Ok(Replayed::Same(other)) => {
+            page.counted(
+                "steps replayed, with the same answers",
+                other.entries().len(),
+            )?;
+            session.turn_to(other)?;
             session.show_changes(page)?;
         }
-        Replayed::Differs { recorded, now } => {
+        Ok(Replayed::Differs { recorded, now }) => {
             page.labelled("step", recorded.line.as_str())?;
             page.labelled("recorded", recorded.answer.as_str())?;
             page.labelled("answered now", now.as_str())?;
         }
-        Replayed::Refused(cause) => refuse_journal(&cause, page)?,
+        Err(cause) => refuse_journal(&cause, page)?,
     }
     Ok(())
 }

@@ -3,7 +3,7 @@
 /// Who takes a line.
 #[derive(Copy, Clone, Eq, PartialEq)]
 pub enum Taker {
-    /// The lot: the line is one of the grammar of `lot_tools::script`.
+    /// The lot: the line is one of the grammar of `lot_script::script`.
     Lot,
 
     /// This program.

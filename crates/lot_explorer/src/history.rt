@@ -31,13 +31,3 @@ impl Entry {
         ) && !matches!(self.answer.as_str(), "misfit" | "no memory")
     }
 }
-
-/// The lines as a script.
-pub fn script_of(alloc: Global, entries: &[Entry]) -> Result<String, AllocError> {
-    let mut lines = String::new(alloc);
-    for entry in entries {
-        lines.push_str(entry.line.as_str())?;
-        lines.push_str("\n")?;
-    }
-    Ok(lines)
-}

@@ -4,12 +4,13 @@ use crate::known::insert_once;
 use crate::page::Page;
 use crate::picture::Picture;
 use crate::state::Queue;
-use crate::words::{first_word, number, number_at, word_at};
-use lot_base::token::{LotError, ParkToken, RequeueOp, UnparkResult, UnparkToken};
-use lot_exclusive::schedule::{Answer, Op};
+use crate::words::{first_word, number, text_of};
+use lot_base::token::LotError;
+use lot_exclusive::schedule::{Op, Step};
 use lot_interleaved::interleaved::{FineAnswer, FineLot, FineStep, run_fine};
+use lot_script::script::{Command, write_answer};
 use std::alloc::{AllocError, Global};
-use std::{fmt, mem};
+use std::mem;
 
 /// An interleaved lot, the keys on which threads have waited there, and pictures of who waits
 /// before the last step and now.
@@ -41,7 +42,7 @@ impl Interleaving {
     /// Does the step that the line tells, and shows its answer, the step of a lot to which it
     /// amounts, if it is one, and which queues changed.
     pub fn step(&mut self, line: &str, page: &mut Page) -> Result<(), LotError> {
-        let Some(step) = fine_step(line) else {
+        let Some(step) = fine_step(self.alloc, line) else {
             page.line("bad step")?;
             return Ok(());
         };
@@ -52,7 +53,7 @@ impl Interleaving {
         let mut whole = Vec::new(self.alloc);
         run_fine(&mut self.lot, &[step], &mut answers, &mut whole)?;
         if let Some(answer) = answers.first() {
-            page.shown(&Told(*answer))?;
+            page.line(told(self.alloc, *answer)?.as_str())?;
         }
         if let Some(step) = whole.first() {
             page.amounts_to(step)?;
@@ -85,122 +86,80 @@ fn key_entered(step: &FineStep) -> Option<usize> {
     }
 }
 
-// The step that the line tells. Stories need neither filters nor records, and nobody retires.
-fn fine_step(line: &str) -> Option<FineStep> {
+// The step that the line tells.
+fn fine_step(alloc: Global, line: &str) -> Option<FineStep> {
     let (word, rest) = first_word(line);
     match word {
-        "register" => Some(FineStep::Register),
-        "enter" => enter_step(line),
-        "begin" => begin_step(rest),
+        "begin" => begin_step(alloc, rest),
         "commit" => number(rest).map(|caller| FineStep::Commit { caller }),
         "end" => number(rest).map(|caller| FineStep::End { caller }),
         "wake" => number(rest).map(|caller| FineStep::Wake { caller }),
-        "deadline" => number(rest).map(|thread| FineStep::Deadline { thread }),
         "read-key" => number(rest).map(|thread| FineStep::ReadKey { thread }),
         "look" => number(rest).map(|thread| FineStep::Look { thread }),
-        "return" => number(rest).map(|thread| FineStep::Return { thread }),
-        _ => None,
+        _ => same_step(script_step(alloc, line)?),
     }
 }
 
-fn enter_step(line: &str) -> Option<FineStep> {
-    Some(FineStep::Enter {
-        thread: number_at(line, 1)?,
-        key: number_at(line, 2)?,
-        valid: word_at(line, 3)? == "yes",
-        park_token: ParkToken(number_at(line, 4)?),
-        timed: word_at(line, 5)? == "timed",
-    })
-}
-
-fn begin_step(rest: &str) -> Option<FineStep> {
+fn begin_step(alloc: Global, rest: &str) -> Option<FineStep> {
     let (caller, line) = first_word(rest);
-    Some(FineStep::Begin {
-        caller: number(caller)?,
-        op: unpark_op(line)?,
-    })
-}
-
-fn unpark_op(line: &str) -> Option<Op> {
-    let first = number_at(line, 1)?;
-    let second = number_at(line, 2)?;
-    match first_word(line).0 {
-        "one" => Some(Op::One {
-            key: first,
-            token: UnparkToken(second),
-        }),
-        "all" => Some(Op::All {
-            key: first,
-            token: UnparkToken(second),
-        }),
-        "requeue" => Some(Op::Requeue {
-            from: first,
-            to: second,
-            op: requeue_op(word_at(line, 3)?)?,
-            token: UnparkToken(number_at(line, 4)?),
-        }),
+    let caller = number(caller)?;
+    match script_step(alloc, line)? {
+        Step::Unpark(op) => Some(FineStep::Begin { caller, op }),
         _ => None,
     }
 }
 
-fn requeue_op(word: &str) -> Option<RequeueOp> {
-    match word {
-        "abort" => Some(RequeueOp::Abort),
-        "one-rest" => Some(RequeueOp::UnparkOneRequeueRest),
-        "all" => Some(RequeueOp::RequeueAll),
-        "one" => Some(RequeueOp::UnparkOne),
-        "requeue-one" => Some(RequeueOp::RequeueOne),
+// The step that the line tells to a lot.
+fn script_step(alloc: Global, line: &str) -> Option<Step> {
+    match Command::of(alloc, line.as_bytes()) {
+        Ok(Command::Do(step)) => Some(step),
         _ => None,
     }
 }
 
-// An answer as text, where a lot has the answer too in the words of its script.
-#[derive(Copy, Clone)]
-struct Told(FineAnswer);
-
-impl fmt::Display for Told {
-    fn fmt<W: fmt::Write>(&self, f: &mut fmt::Formatter<W>) -> fmt::Result {
-        match self.0 {
-            FineAnswer::Answer(answer) => fmt_answer(answer, f),
-            FineAnswer::Committed(thread) => write!(f, "committed {thread}"),
-            FineAnswer::Ended => write!(f, "ended"),
-            FineAnswer::Woken => write!(f, "woken"),
-            FineAnswer::Late => write!(f, "late"),
-            FineAnswer::Read(key) => write!(f, "read {key}"),
-            FineAnswer::Retry => write!(f, "retry"),
-            FineAnswer::Blocked => write!(f, "blocked"),
-        }
+// The step that an interleaved lot has too. There a resolve is several steps, and so is an unpark.
+fn same_step(step: Step) -> Option<FineStep> {
+    match step {
+        Step::Register => Some(FineStep::Register),
+        Step::Retire { thread } => Some(FineStep::Retire { thread }),
+        Step::Enter {
+            thread,
+            key,
+            valid,
+            park_token,
+            timed,
+        } => Some(FineStep::Enter {
+            thread,
+            key,
+            valid,
+            park_token,
+            timed,
+        }),
+        Step::Deadline { thread } => Some(FineStep::Deadline { thread }),
+        Step::Return { thread } => Some(FineStep::Return { thread }),
+        Step::Acquire { thread, key } => Some(FineStep::Acquire { thread, key }),
+        Step::Release { thread, key } => Some(FineStep::Release { thread, key }),
+        Step::Trim => Some(FineStep::Trim),
+        Step::Unpark(_) | Step::Resolve { .. } => None,
     }
 }
 
-fn fmt_answer<W: fmt::Write>(answer: Answer, f: &mut fmt::Formatter<W>) -> fmt::Result {
+// The answer as text, in the words of a script where a lot has it too.
+fn told(alloc: Global, answer: FineAnswer) -> Result<String, AllocError> {
     match answer {
-        Answer::Registered(thread) => write!(f, "number {thread}"),
-        Answer::Full => write!(f, "full"),
-        Answer::NoMemory => write!(f, "no memory"),
-        Answer::Retired => write!(f, "retired"),
-        Answer::Entered => write!(f, "entered"),
-        Answer::Invalid => write!(f, "invalid"),
-        Answer::Unpark(outcome) => fmt_outcome(outcome, f),
-        Answer::Count(count) => write!(f, "count {count}"),
-        Answer::Late => write!(f, "late"),
-        Answer::TimedOut { key, last } => write!(f, "timed out {key} {last}"),
-        Answer::Unparked(UnparkToken(token)) => write!(f, "unparked {token}"),
-        Answer::Recorded => write!(f, "recorded"),
-        Answer::Released => write!(f, "released"),
-        Answer::Trimmed => write!(f, "trimmed"),
-        Answer::Misfit => write!(f, "misfit"),
+        FineAnswer::Answer(answer) => {
+            let mut written = Vec::new(alloc);
+            match write_answer(&mut written, answer) {
+                Ok(()) => Ok(text_of(alloc, written)),
+                Err(_) => Err(AllocError),
+            }
+        }
+        FineAnswer::Committed(thread) => format!(in alloc; "committed {thread}"),
+        FineAnswer::Ended => String::from_str(alloc, "ended"),
+        FineAnswer::Woken => String::from_str(alloc, "woken"),
+        FineAnswer::Late => String::from_str(alloc, "late"),
+        FineAnswer::Read(key) => format!(in alloc; "read {key}"),
+        FineAnswer::Retry => String::from_str(alloc, "retry"),
+        FineAnswer::Blocked => String::from_str(alloc, "blocked"),
     }
-}
-
-fn fmt_outcome<W: fmt::Write>(outcome: UnparkResult, f: &mut fmt::Formatter<W>) -> fmt::Result {
-    let UnparkResult {
-        unparked_threads,
-        requeued_threads,
-        have_more_threads,
-    } = outcome;
-    write!(
-        f,
-        "unparked {unparked_threads} requeued {requeued_threads} more {have_more_threads}"
-    )
 }

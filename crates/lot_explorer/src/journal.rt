@@ -1,9 +1,9 @@
 //! Journals: sessions as text, a step and its answer a line.
 
-use crate::answers::answers_to;
 use crate::command::is_passed_by;
-use crate::history::{Entry, script_of};
-use lot_tools::script::Cause;
+use crate::history::Entry;
+use crate::session::Session;
+use lot_script::script::Cause;
 use std::alloc::{AllocError, Global};
 
 // What stands between a line and its answer.
@@ -27,8 +27,8 @@ pub fn journal_of(alloc: Global, entries: &[Entry]) -> Result<String, AllocError
 /// How a replay ended.
 #[derive(Drop)]
 pub enum Replayed {
-    /// Each line was answered as the journal tells.
-    Same(Vec<Entry>),
+    /// Each line was answered as the journal tells. This is the session that did them.
+    Same(Session),
 
     /// This is the first line whose answer is another now.
     Differs {
@@ -37,57 +37,30 @@ pub enum Replayed {
         /// What is answered now.
         now: String,
     },
-
-    /// The script stopped, or this text is no journal: a line has no answer, or there is none.
-    Refused(Cause),
 }
 
-/// Does the steps of a journal on a new lot, and compares the answers.
+/// Does the steps of a journal in a new session, and compares the answers.
 ///
 /// # Errors
 ///
-/// If memory cannot be had.
-pub fn replay(alloc: Global, text: &str) -> Result<Replayed, AllocError> {
-    let Some(entries) = entries_of(alloc, text)? else {
-        return Ok(Replayed::Refused(Cause::BadStep));
-    };
-    let script = script_of(alloc, entries.as_slice())?;
-    match answers_to(alloc, script.as_str()) {
-        Ok(answers) => compare(alloc, entries, answers.as_str()),
-        Err(cause) => Ok(Replayed::Refused(cause)),
-    }
-}
-
-// The lines of a journal with their answers, if each has one.
-fn entries_of(alloc: Global, text: &str) -> Result<Option<Vec<Entry>>, AllocError> {
-    let mut entries = Vec::new(alloc);
+/// The cause for which a step is refused; `BadStep` too if the text is no journal: a line has no
+/// answer, or there is none.
+pub fn replay(alloc: Global, text: &str) -> Result<Replayed, Cause> {
+    let mut session = Session::new(alloc);
     for line in text.lines() {
         if is_passed_by(line) {
             continue;
         }
         let Some((step, answer)) = line.split_once(BETWEEN) else {
-            return Ok(None);
+            return Err(Cause::BadStep);
         };
-        entries.push(Entry::new(alloc, step, answer)?)?;
-    }
-    Ok(Some(entries))
-}
-
-// Compares the answers of a journal with those given now, and keeps what may have changed the lot.
-fn compare(alloc: Global, entries: Vec<Entry>, answers: &str) -> Result<Replayed, AllocError> {
-    let mut kept = Vec::new(alloc);
-    let mut answers = answers.lines();
-    for entry in entries {
-        let now = answers.next().unwrap_or("");
-        if entry.answer.as_str() != now {
-            return Ok(Replayed::Differs {
-                recorded: entry,
-                now: String::from_str(alloc, now)?,
-            });
-        }
-        if entry.may_change() {
-            kept.push(entry)?;
+        if let Some(now) = session.repeat(step, answer)? {
+            let recorded = Entry::new(alloc, step, answer)?;
+            return Ok(Replayed::Differs { recorded, now });
         }
     }
-    Ok(Replayed::Same(kept))
+    if session.lot().is_none() {
+        return Err(Cause::BadStep);
+    }
+    Ok(Replayed::Same(session))
 }

@@ -1,10 +1,9 @@
 //! What the steps of a session speak of.
 
-use crate::history::Entry;
 use crate::words::{first_word, number_at};
 use std::alloc::{AllocError, Global};
 
-/// The keys on which threads waited, the records that were made, and how many numbers threads had.
+/// The keys on which threads waited, and the records that were made.
 #[derive(Drop)]
 pub struct Known {
     /// The keys, each once, in order.
@@ -12,34 +11,28 @@ pub struct Known {
 
     /// The thread and the key of each record, each pair once.
     pub records: Vec<(usize, usize)>,
-
-    /// One more than the greatest number that a registration answered.
-    pub threads: usize,
 }
 
 impl Known {
-    /// What these steps speak of.
-    pub fn of(alloc: Global, entries: &[Entry]) -> Result<Known, AllocError> {
-        let mut known = Known {
+    /// Nothing is known.
+    pub fn new(alloc: Global) -> Known {
+        Known {
             keys: Vec::new(alloc),
             records: Vec::new(alloc),
-            threads: 0,
-        };
-        for entry in entries {
-            known.note(entry)?;
         }
-        Ok(known)
     }
 
-    fn note(&mut self, entry: &Entry) -> Result<(), AllocError> {
-        let line = entry.line.as_str();
+    /// Makes room for what a step may speak of, so that `note` needs no memory.
+    pub fn make_room(&mut self) -> Result<(), AllocError> {
+        self.keys.reserve(1)?;
+        self.records.reserve(1)
+    }
+
+    /// Notes what the step speaks of.
+    pub fn note(&mut self, line: &str) -> Result<(), AllocError> {
         match first_word(line).0 {
             "enter" | "requeue" => self.note_key(number_at(line, 2)),
             "acquire" => self.note_record(number_at(line, 1), number_at(line, 2)),
-            "register" => {
-                self.note_thread(number_at(entry.answer.as_str(), 1));
-                Ok(())
-            }
             _ => Ok(()),
         }
     }
@@ -58,13 +51,6 @@ impl Known {
             self.records.push((thread, key))?;
         }
         Ok(())
-    }
-
-    // Notes the number that a registration answers, if it answers one.
-    fn note_thread(&mut self, thread: Option<usize>) {
-        if let Some(thread) = thread {
-            self.threads = self.threads.max(thread.saturating_add(1));
-        }
     }
 }
 

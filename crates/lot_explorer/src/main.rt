@@ -1,7 +1,6 @@
 //! The program: a session with an exclusive lot, for a person at a terminal.
 #![tactic(auto)]
 
-mod answers;
 mod command;
 mod files;
 mod forms;

@@ -1,12 +1,13 @@
 //! A lot as rows of text, and which of them a step has changed.
 
-ghost use Rattle.std.specs.Prelude.{IfSome};
 ghost use Rattle.lot_base.specs.Place.{IsTableSize};
 
-use crate::known::insert_once;
+use crate::known::{Known, insert_once};
 use crate::page::Page;
-use crate::state::{Queue, State, Status};
+use crate::state::{Doing, Queue, all_doing, queues_of};
 use lot_base::bucket::place;
+use lot_base::token::{LotError, UnparkToken};
+use lot_exclusive::lot::{Lot, Status};
 use std::alloc::{AllocError, Global};
 
 /// A lot as rows of text.
@@ -25,27 +26,25 @@ impl Picture {
 
     /// The size, who waits on each key, the threads by what they do, the records, and which keys
     /// each bucket holds at this size.
-    pub fn of(alloc: Global, state: &State) -> Result<Picture, AllocError> {
+    pub fn of(alloc: Global, lot: &Lot, known: &Known) -> Result<Picture, LotError> {
+        let size = lot.size();
+        let queues = queues_of(alloc, lot, known.keys.as_slice())?;
+        let threads = all_doing(alloc, lot, queues.as_slice())?;
         let mut rows = Vec::new(alloc);
-        let State {
-            buckets,
-            registered,
-            ..
-        } = state;
-        rows.push(format!(in alloc; "size: buckets {buckets} threads {registered}")?)?;
-        for queue in &state.queues {
+        rows.push(format!(in alloc; "size: buckets {size} threads {}", threads.len())?)?;
+        for queue in &queues {
             rows.push(queue_row(alloc, queue)?)?;
         }
         for group in Group::all() {
-            rows.push(group_row(alloc, group, &state.statuses)?)?;
+            rows.push(group_row(alloc, group, threads.as_slice())?)?;
         }
-        for records in &state.records {
-            rows.push(format!(in alloc;
-                "records of thread {} on key {}: {}",
-                records.thread, records.key, records.count
-            )?)?;
+        for (thread, key) in &known.records {
+            let count = lot.records(*thread, *key);
+            rows.push(format!(in alloc; "records of thread {thread} on key {key}: {count}")?)?;
         }
-        push_bucket_rows(alloc, &mut rows, state)?;
+        for bucket in places(alloc, queues.as_slice(), size)? {
+            rows.push(bucket_row(alloc, bucket, queues.as_slice(), size)?)?;
+        }
         Ok(Picture { rows })
     }
 
@@ -126,10 +125,10 @@ impl Group {
         match status {
             Status::Free => None,
             Status::Running => Some(Group::Running),
-            Status::WaitingTimed { .. } => Some(Group::WaitingTimed),
-            Status::WaitingUntimed { .. } => Some(Group::WaitingUntimed),
-            Status::Late { .. } => Some(Group::Late),
-            Status::Taken { .. } => Some(Group::Taken),
+            Status::Waiting { timed: true } => Some(Group::WaitingTimed),
+            Status::Waiting { timed: false } => Some(Group::WaitingUntimed),
+            Status::Late => Some(Group::Late),
+            Status::Taken(_) => Some(Group::Taken),
         }
     }
 
@@ -161,13 +160,13 @@ fn push_threads(row: &mut String, queue: &Queue) -> Result<(), AllocError> {
     Ok(())
 }
 
-fn group_row(alloc: Global, group: Group, statuses: &[Status]) -> Result<String, AllocError> {
+fn group_row(alloc: Global, group: Group, threads: &[Doing]) -> Result<String, AllocError> {
     let mut row = String::from_str(alloc, group.name())?;
     let mut separator = "";
-    for (thread, status) in statuses.iter().enumerate() {
-        if Group::of(*status) == Some(group) {
-            write!(row, "{separator} {thread}")?;
-            push_detail(&mut row, *status)?;
+    for doing in threads {
+        if Group::of(doing.status) == Some(group) {
+            write!(row, "{separator} {}", doing.thread)?;
+            push_detail(&mut row, doing)?;
             separator = ",";
         }
     }
@@ -178,41 +177,12 @@ fn group_row(alloc: Global, group: Group, statuses: &[Status]) -> Result<String,
 }
 
 // On which key the thread waits, or which token it was handed.
-fn push_detail(row: &mut String, status: Status) -> Result<(), AllocError> {
-    match status {
+fn push_detail(row: &mut String, doing: &Doing) -> Result<(), AllocError> {
+    match doing.status {
         Status::Free | Status::Running => Ok(()),
-        Status::WaitingTimed { key } | Status::WaitingUntimed { key } | Status::Late { key } => {
-            write!(row, " on {key}")
-        }
-        Status::Taken { token } => write!(row, " with {token}"),
+        Status::Waiting { .. } | Status::Late => write!(row, " on {}", doing.key),
+        Status::Taken(UnparkToken(token)) => write!(row, " with {token}"),
     }
-}
-
-// A row for each bucket at which a known key has its place, in order of the places.
-fn push_bucket_rows(
-    alloc: Global,
-    rows: &mut Vec<String>,
-    state: &State,
-) -> Result<(), AllocError> {
-    let Some(size) = table_size(state.buckets) else {
-        return Ok(());
-    };
-    for bucket in places(alloc, &state.queues, size)? {
-        rows.push(bucket_row(alloc, bucket, &state.queues, size)?)?;
-    }
-    Ok(())
-}
-
-// The number of buckets, if a table can have so many.
-fn table_size(buckets: usize) -> Option<usize>
-    ensures { IfSome result IsTableSize }
-{
-    let bits = buckets.checked_ilog2()?;
-    if bits < 4 || 16 < bits {
-        return None;
-    }
-    let size = 1 << bits;
-    if size == buckets { Some(size) } else { None }
 }
 
 // The places of the keys, each once, in order.

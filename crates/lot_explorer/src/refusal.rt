@@ -4,7 +4,7 @@ use crate::forms::{all_forms, form_of};
 use crate::page::Page;
 use crate::session::Session;
 use crate::words::first_word;
-use lot_tools::script::Cause;
+use lot_script::script::Cause;
 use std::alloc::{AllocError, Global};
 
 /// Tells that a line is none of those that were expected.
@@ -52,7 +52,7 @@ fn refuse_bad_step(
     page: &mut Page,
 ) -> Result<(), AllocError> {
     let word = first_word(line).0;
-    if session.has_no_lot() && form_of(word).is_some() {
+    if session.lot().is_none() && form_of(word).is_some() {
         return refuse(page, "lot M");
     }
     if word == "lot" {

@@ -1,22 +1,28 @@
-//! A session: the steps that were done on a lot, and what the lot is like.
+//! A session: a lot, the steps that were done on it, and what it is like.
 
-use crate::answers::{answers_behind, answers_to};
-use crate::history::{Entry, script_of};
+use crate::history::Entry;
+use crate::known::Known;
 use crate::page::Page;
 use crate::picture::Picture;
-use crate::state::{State, Status};
-use lot_tools::script::Cause;
+use crate::state::{Doing, doing_of, queues_of};
+use crate::words::text_of;
+use lot_base::token::LotError;
+use lot_exclusive::lot::Lot;
+use lot_script::script::{Cause, ScriptedLot};
 use std::alloc::{AllocError, Global};
 use std::mem;
 
-/// The steps that were done since the lot was made, and pictures of the lot before the last one
-/// and now.
-///
-/// The lot itself is not kept: each line does the steps once more, on a new lot.
+// No step has an answer of so many bytes.
+const STEP_ANSWER: usize = 64;
+
+/// A lot, or none yet, with the steps that were done on it and what they speak of, and pictures of
+/// it before the last step and now.
 #[derive(Drop)]
 pub struct Session {
     alloc: Global,
+    scripted: ScriptedLot,
     entries: Vec<Entry>,
+    known: Known,
     before: Picture,
     now: Picture,
 }
@@ -26,15 +32,17 @@ impl Session {
     pub fn new(alloc: Global) -> Session {
         Session {
             alloc,
+            scripted: ScriptedLot::new(alloc),
             entries: Vec::new(alloc),
+            known: Known::new(alloc),
             before: Picture::empty(alloc),
             now: Picture::empty(alloc),
         }
     }
 
-    /// Whether there is no lot yet.
-    pub fn has_no_lot(&self) -> bool {
-        self.entries.is_empty()
+    /// The lot, once there is one.
+    pub fn lot(&self) -> Option<&Lot> {
+        self.scripted.lot()
     }
 
     /// What was done, in order.
@@ -45,43 +53,59 @@ impl Session {
     /// Does a line of the grammar, and shows its answer and what it changed. A step that changed
     /// nothing is not kept.
     ///
-    /// It does all steps twice: once to answer, and once to ask what the lot is like.
-    ///
     /// # Errors
     ///
-    /// Why the line is refused. The session is as it was then, and so is the page, but for
-    /// `NoMemory`.
+    /// Why the line is refused. The session is as it was then, and so is the page; but at
+    /// `NoMemory` the step may be done and its answer shown, and only the picture be as it was.
     pub fn step(&mut self, line: &str, page: &mut Page) -> Result<(), Cause> {
-        let mut lines = script_of(self.alloc, self.entries.as_slice())?;
-        lines.push_str(line)?;
-        lines.push_str("\n")?;
-        let answers = answers_to(self.alloc, lines.as_str())?;
-        let mut behind = answers_behind(self.entries.as_slice(), answers.as_str())?;
-        let entry = Entry::new(self.alloc, line, behind.next().unwrap_or(""))?;
-        page.line(entry.answer.as_str())?;
-        if entry.may_change() {
-            self.keep(entry)?;
-            self.show_changes(page)?;
+        let entry = self.answered(line)?;
+        let shown = page.line(entry.answer.as_str());
+        if !entry.may_change() {
+            return Ok(shown?);
         }
+        self.keep(entry)?;
+        shown?;
+        let now = self.picture()?;
+        self.before = mem::replace(&mut self.now, now);
+        self.show_changes(page)?;
         Ok(())
     }
 
-    fn keep(&mut self, entry: Entry) -> Result<(), Cause> {
-        self.entries.push(entry)?;
-        match picture_of(self.alloc, self.entries.as_slice()) {
-            Ok(now) => {
-                self.turn_to(now);
-                Ok(())
-            }
-            Err(cause) => {
-                let _ = self.entries.pop();
-                Err(cause)
-            }
+    /// Does a line once more that had this answer, and tells the answer if it is another now.
+    ///
+    /// # Errors
+    ///
+    /// Why the line is refused.
+    pub fn repeat(&mut self, line: &str, answer: &str) -> Result<Option<String>, Cause> {
+        let entry = self.answered(line)?;
+        if entry.answer.as_str() != answer {
+            return Ok(Some(entry.answer));
         }
+        if entry.may_change() {
+            self.keep(entry)?;
+        }
+        Ok(None)
+    }
+
+    // Does the line. All room for it is made first, so that nothing is done that is not kept.
+    fn answered(&mut self, line: &str) -> Result<Entry, Cause> {
+        self.entries.reserve(1)?;
+        self.known.make_room()?;
+        let line = String::from_str(self.alloc, line)?;
+        let mut written = Vec::with_capacity(self.alloc, STEP_ANSWER)?;
+        self.scripted.answer(line.as_bytes(), &mut written)?;
+        let answer = text_of(self.alloc, written);
+        Ok(Entry { line, answer })
+    }
+
+    fn keep(&mut self, entry: Entry) -> Result<(), Cause> {
+        self.known.note(entry.line.as_str())?;
+        self.entries.push(entry)?;
+        Ok(())
     }
 
     /// Goes back before the last step, and tells what that was. All steps before it are done once
-    /// more.
+    /// more, on a new lot.
     ///
     /// # Errors
     ///
@@ -90,34 +114,48 @@ impl Session {
         let Some((_, rest)) = self.entries.as_slice().split_last() else {
             return Ok(None);
         };
-        let now = picture_of(self.alloc, rest)?;
-        self.turn_to(now);
-        Ok(self.entries.pop())
+        let mut again = Session::new(self.alloc);
+        for entry in rest {
+            // Only a step that found no memory this time is answered otherwise.
+            if again
+                .repeat(entry.line.as_str(), entry.answer.as_str())?
+                .is_some()
+            {
+                return Err(Cause::NoMemory);
+            }
+        }
+        let mut undone = self.turn_to(again)?;
+        Ok(undone.pop())
     }
 
-    /// Goes on from the end of these steps.
+    /// Goes on from the end of the other session, and tells which steps were done before.
     ///
     /// # Errors
     ///
     /// `NoMemory` if memory cannot be had. The session is as it was then.
-    pub fn take_over(&mut self, entries: Vec<Entry>) -> Result<(), Cause> {
-        let now = picture_of(self.alloc, entries.as_slice())?;
-        self.turn_to(now);
-        self.entries = entries;
-        Ok(())
+    pub fn turn_to(&mut self, mut other: Session) -> Result<Vec<Entry>, Cause> {
+        other.now = other.picture()?;
+        mem::swap(self, &mut other);
+        self.before = other.now;
+        Ok(other.entries)
     }
 
-    fn turn_to(&mut self, now: Picture) {
-        self.before = mem::replace(&mut self.now, now);
+    // The lot as it is now.
+    fn picture(&self) -> Result<Picture, Cause> {
+        match self.lot() {
+            None => Ok(Picture::empty(self.alloc)),
+            Some(lot) => Picture::of(self.alloc, lot, &self.known).map_err(no_memory),
+        }
     }
 
-    /// What the number is doing, once there is a lot. All steps are done once more.
+    /// What the number is doing on the session's lot.
     ///
     /// # Errors
     ///
     /// `NoMemory` if memory cannot be had.
-    pub fn status(&self, thread: usize) -> Result<Status, Cause> {
-        Ok(State::after(self.alloc, self.entries.as_slice())?.status(thread))
+    pub fn doing(&self, lot: &Lot, thread: usize) -> Result<Doing, LotError> {
+        let queues = queues_of(self.alloc, lot, self.known.keys.as_slice())?;
+        Ok(doing_of(lot, queues.as_slice(), thread))
     }
 
     /// Shows the lot, and marks what the last step changed.
@@ -131,11 +169,7 @@ impl Session {
     }
 }
 
-// The lot after these steps. Without a step there is none.
-fn picture_of(alloc: Global, entries: &[Entry]) -> Result<Picture, Cause> {
-    if entries.is_empty() {
-        return Ok(Picture::empty(alloc));
-    }
-    let state = State::after(alloc, entries)?;
-    Ok(Picture::of(alloc, &state)?)
+// A picture is refused for nothing else.
+fn no_memory(_error: LotError) -> Cause {
+    Cause::NoMemory
 }

@@ -55,10 +55,11 @@ fn turn<R: Input + Print + Files + AllocGlobal>(
         Command::Pass => {}
         Command::Quit => return Ok(Next::End),
         Command::Step(line) => step(rt.alloc(), session, line, &mut page)?,
-        Command::Status(_) | Command::Show | Command::Record(_) if session.has_no_lot() => {
-            page.line(NO_LOT)?;
-        }
-        Command::Status(thread) => page.shown(&session.status(thread)?)?,
+        Command::Show | Command::Record(_) if session.lot().is_none() => page.line(NO_LOT)?,
+        Command::Status(thread) => match session.lot() {
+            Some(lot) => page.shown(&session.doing(lot, thread)?)?,
+            None => page.line(NO_LOT)?,
+        },
         Command::Show => session.show(&mut page)?,
         Command::Undo => undo(session, &mut page)?,
         Command::Story(name) => tell_story(rt, terminal, name, &mut page)?,
