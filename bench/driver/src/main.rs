@@ -1,4 +1,4 @@
-//! The rows of `lot_bench`, measured of upstream's `parking_lot_core`.
+//! The rows of `lot_bench`, measured of upstream's `parking_lot_core` and of `parking_lot` on it.
 //!
 //! `upstream_bench ROW` measures one row and prints its name and the nanoseconds per operation;
 //! without a word it prints the rows' names. Each row does what the row of that name does there:
@@ -14,7 +14,7 @@ use std::hint;
 use std::process::ExitCode;
 use std::sync::atomic::Ordering::SeqCst;
 use std::sync::atomic::{AtomicBool, AtomicU8, AtomicU64};
-use std::sync::{Arc, Barrier, Mutex};
+use std::sync::{Arc, Barrier, Mutex, RwLock};
 use std::thread;
 use std::time::{Duration, Instant};
 
@@ -25,7 +25,7 @@ const TURNS: usize = 10_000_000;
 
 type Row = (&'static str, fn() -> Option<f64>);
 
-const ROWS: [Row; 36] = [
+const ROWS: [Row; 50] = [
     ("unpark_one_nobody", unpark_one_nobody),
     ("unpark_one_two_keys", || unpark_one_on_each(&KEYS[..2])),
     ("unpark_one_four_keys", || unpark_one_on_each(&KEYS)),
@@ -62,6 +62,20 @@ const ROWS: [Row; 36] = [
     ("std_mutex_four", || std_mutex(4, SHORT)),
     ("std_mutex_two_longer", || std_mutex(2, LONGER)),
     ("std_mutex_four_longer", || std_mutex(4, LONGER)),
+    ("sync_mutex_alone", || sync_mutex(1, SHORT)),
+    ("sync_mutex_two", || sync_mutex(2, SHORT)),
+    ("sync_mutex_four", || sync_mutex(4, SHORT)),
+    ("sync_mutex_two_longer", || sync_mutex(2, LONGER)),
+    ("sync_mutex_four_longer", || sync_mutex(4, LONGER)),
+    ("sync_read_alone", || sync_rw_lock(1, READ)),
+    ("sync_read_two", || sync_rw_lock(2, READ)),
+    ("sync_read_four", || sync_rw_lock(4, READ)),
+    ("sync_write_alone", || sync_rw_lock(1, SHORT)),
+    ("sync_mostly_read_four", || sync_rw_lock(4, MOSTLY_READ)),
+    ("std_read_four", || std_rw_lock(4, READ)),
+    ("std_mostly_read_four", || std_rw_lock(4, MOSTLY_READ)),
+    ("sync_once_done", sync_once_done),
+    ("sync_condvar_turns", || median_of(5, sync_condvar_turns)),
     ("many_keys", many_keys),
     ("thousand_threads", thousand_threads),
 ];
@@ -674,11 +688,36 @@ fn fair_notify_all() -> Option<f64> {
     })
 }
 
-// The word lock, and std's mutex beside it.
+// Locks around a tally.
 
-/// How often a section mixes.
-const SHORT: u32 = 0;
-const LONGER: u32 = 50;
+/// What a thread does again and again: so often it counts, and mixes a number so many times
+/// meanwhile, and then it reads so often what was counted. Both make a hundred.
+#[derive(Copy, Clone)]
+struct Section {
+    counts: u32,
+    turns: u32,
+    reads: u32,
+}
+
+const SHORT: Section = Section {
+    counts: 100,
+    turns: 0,
+    reads: 0,
+};
+
+const LONGER: Section = Section { turns: 50, ..SHORT };
+
+const READ: Section = Section {
+    counts: 0,
+    turns: 0,
+    reads: 100,
+};
+
+const MOSTLY_READ: Section = Section {
+    counts: 1,
+    turns: 0,
+    reads: 99,
+};
 
 const MULTIPLIER: u64 = 0x9E37_79B9_7F4A_7C15;
 
@@ -729,6 +768,7 @@ impl TallyLock for Locked {
         }
     }
 
+    #[inline]
     fn count(&self) -> u64 {
         self.lock.lock();
         unsafe {
@@ -745,37 +785,134 @@ impl TallyLock for Mutex<Tally> {
         self.lock().unwrap().count_one(turns);
     }
 
+    #[inline]
     fn count(&self) -> u64 {
         self.lock().unwrap().count
     }
 }
 
-fn word_lock(threads: usize, turns: u32) -> Option<f64> {
+impl TallyLock for RwLock<Tally> {
+    #[inline]
+    fn count_one(&self, turns: u32) {
+        self.write().unwrap().count_one(turns);
+    }
+
+    #[inline]
+    fn count(&self) -> u64 {
+        self.read().unwrap().count
+    }
+}
+
+impl TallyLock for parking_lot::Mutex<Tally> {
+    #[inline]
+    fn count_one(&self, turns: u32) {
+        self.lock().count_one(turns);
+    }
+
+    #[inline]
+    fn count(&self) -> u64 {
+        self.lock().count
+    }
+}
+
+impl TallyLock for parking_lot::RwLock<Tally> {
+    #[inline]
+    fn count_one(&self, turns: u32) {
+        self.write().count_one(turns);
+    }
+
+    #[inline]
+    fn count(&self) -> u64 {
+        self.read().count
+    }
+}
+
+fn word_lock(threads: usize, section: Section) -> Option<f64> {
     let lock = Locked {
         lock: WordLock::new(),
         tally: UnsafeCell::new(Tally::new()),
     };
-    cost_of_lock(&lock, threads, turns)
+    cost_of_lock(&lock, threads, section)
 }
 
-fn std_mutex(threads: usize, turns: u32) -> Option<f64> {
-    cost_of_lock(&Mutex::new(Tally::new()), threads, turns)
+fn std_mutex(threads: usize, section: Section) -> Option<f64> {
+    cost_of_lock(&Mutex::new(Tally::new()), threads, section)
 }
 
-fn cost_of_lock(lock: &impl TallyLock, threads: usize, turns: u32) -> Option<f64> {
-    const PAIRS: u64 = 300_000;
+fn std_rw_lock(threads: usize, section: Section) -> Option<f64> {
+    cost_of_lock(&RwLock::new(Tally::new()), threads, section)
+}
+
+fn sync_mutex(threads: usize, section: Section) -> Option<f64> {
+    cost_of_lock(&parking_lot::Mutex::new(Tally::new()), threads, section)
+}
+
+fn sync_rw_lock(threads: usize, section: Section) -> Option<f64> {
+    cost_of_lock(&parking_lot::RwLock::new(Tally::new()), threads, section)
+}
+
+fn cost_of_lock(lock: &impl TallyLock, threads: usize, section: Section) -> Option<f64> {
+    const HUNDREDS: u64 = 3_000;
     const RUNS: usize = 7;
-    let pairs = PAIRS * threads as u64;
+    let pairs = 100 * HUNDREDS * threads as u64;
     let cost = median_of(RUNS, || {
         let spent = together(threads, |_| {
-            for _ in 0..PAIRS {
-                lock.count_one(turns);
-            }
-            true
+            (0..HUNDREDS).all(|_| hundred_pairs(lock, section))
         })?;
         Some(spent.as_nanos() as f64 / pairs as f64)
     });
-    cost.filter(|_| lock.count() == pairs * (RUNS as u64 + 1))
+    let counted = HUNDREDS * u64::from(section.counts) * threads as u64 * (RUNS as u64 + 1);
+    cost.filter(|_| lock.count() == counted)
+}
+
+/// False says that it read less than before.
+fn hundred_pairs(lock: &impl TallyLock, section: Section) -> bool {
+    for _ in 0..section.counts {
+        lock.count_one(section.turns);
+    }
+    let mut last = 0;
+    let mut is_ordered = true;
+    for _ in 0..section.reads {
+        let count = lock.count();
+        is_ordered &= last <= count;
+        last = count;
+    }
+    is_ordered
+}
+
+// What is done once, and a condition variable.
+
+fn sync_once_done() -> Option<f64> {
+    let once = parking_lot::Once::new();
+    once.call_once(|| ());
+    median_of(7, || {
+        let start = Instant::now();
+        let mut called = 0;
+        for _ in 0..CALLS_ALONE {
+            once.call_once(|| called += 1);
+        }
+        (called == 0).then(|| since(start, CALLS_ALONE))
+    })
+}
+
+fn sync_condvar_turns() -> Option<f64> {
+    let mutex = parking_lot::Mutex::new(Tally::new());
+    let condvar = parking_lot::Condvar::new();
+    let takes_turns = |side: u64| {
+        for _ in 0..WORD_ROUNDS {
+            let mut tally = mutex.lock();
+            while tally.count % 2 != side {
+                condvar.wait(&mut tally);
+            }
+            tally.count_one(0);
+            condvar.notify_one();
+        }
+        true
+    };
+    let start = Instant::now();
+    both(|| takes_turns(0), || takes_turns(1));
+    let cost = since(start, WORD_ROUNDS);
+    (mutex.lock().count == 2 * WORD_ROUNDS).then_some(cost)
 }
 
 // Many keys.
