@@ -1,7 +1,8 @@
 //! The rows of one thread.
 
 use crate::cost::{Cost, median_of};
-use crate::waiting::{KEYS, Lot};
+use crate::waiting::{KEYS, Lot, LotMember};
+use lot_sync::once::Once;
 use parking_lot_core::{
     DEFAULT_PARK_TOKEN, DEFAULT_UNPARK_TOKEN, ParkResult, ThreadData, park, unpark_one,
 };
@@ -121,4 +122,30 @@ fn park_once<R: Wait + Clock>(
         timeout,
     );
     u64::from(result == expected)
+}
+
+/// Calls a once that is done.
+pub fn once_done<R: Wait + Clock>(rt: &R, alloc: Global) -> Option<Cost> {
+    let lot = Lot::new(alloc, 1).ok()?;
+    let once = Once::new(alloc, KEYS[0]).ok()?;
+    median_of(alloc, RUNS, || cost_of_calls(rt, alloc, &lot, &once))
+}
+
+fn cost_of_calls<R: Wait + Clock>(rt: &R, alloc: Global, lot: &Lot, once: &Once) -> Option<Cost> {
+    let mut member = LotMember::register(rt, alloc, lot).ok()?;
+    once.call_once(rt, &mut member, || ());
+    let start = Instant::now(rt).ok()?;
+    let called = count_called(rt, once, &mut member);
+    let cost = Cost::since(rt, start, CALLS);
+    member.retire(rt);
+    if called == 0 { cost } else { None }
+}
+
+// How many of the calls called their closure.
+fn count_called<R: Wait + Clock>(rt: &R, once: &Once, member: &mut LotMember<'_>) -> u64 {
+    let mut called = 0u64;
+    for _ in 0..CALLS {
+        called = called.wrapping_add(u64::from(once.call_once(rt, member, || ())));
+    }
+    called
 }

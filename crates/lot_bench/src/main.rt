@@ -11,6 +11,7 @@ mod many_keys;
 mod program;
 mod row;
 mod sizes;
+mod synced;
 mod thousand;
 mod together;
 mod turns;

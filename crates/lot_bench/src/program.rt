@@ -2,7 +2,9 @@
 
 use crate::cost::Cost;
 use crate::row::{ROWS, Row, row_named};
-use crate::{alone, crowd, fair, locked, locking, many_keys, sizes, thousand, together, turns};
+use crate::{
+    alone, crowd, fair, locked, locking, many_keys, sizes, synced, thousand, together, turns,
+};
 use std::process::ExitCode;
 use std::rt::Env;
 use std::sync::Wait;
@@ -93,6 +95,11 @@ fn measure<R: AllocGlobal + Threads + Wait + Clock + Copy + Send + Sync + 'stati
         Row::FairNotifyAll => fair::notify_all(rt, alloc),
         Row::WordLock(threads, section) => locked::word_lock(rt, alloc, threads, section),
         Row::StdMutex(threads, section) => locked::std_mutex(rt, alloc, threads, section),
+        Row::StdRwLock(threads, section) => locked::std_rw_lock(rt, alloc, threads, section),
+        Row::SyncMutex(threads, section) => synced::mutex(rt, alloc, threads, section),
+        Row::SyncRwLock(threads, section) => synced::rw_lock(rt, alloc, threads, section),
+        Row::OnceDone => alone::once_done(rt, alloc),
+        Row::CondvarTurns => turns::turns_by_condvar(rt, alloc),
         Row::ManyKeys => many_keys::many_keys(rt, alloc),
         Row::ThousandThreads => thousand::thousand_threads(rt, alloc),
         Row::RegisterAll => sizes::register_all(rt, alloc),

@@ -46,6 +46,21 @@ pub enum Row {
     /// The same with std's `Mutex`.
     StdMutex(usize, Section),
 
+    /// The same with std's `RwLock`.
+    StdRwLock(usize, Section),
+
+    /// The same with the mutex whose threads wait in a lot.
+    SyncMutex(usize, Section),
+
+    /// The same with the lock for readers and writers whose threads wait in a lot.
+    SyncRwLock(usize, Section),
+
+    /// One thread calls a once that is done.
+    OnceDone,
+
+    /// Two threads hand a turn to each other by a count under a mutex, and a condition variable.
+    CondvarTurns,
+
     /// One thread parks on many keys in turn, and is unparked on each.
     ManyKeys,
 
@@ -69,7 +84,7 @@ pub enum Row {
 }
 
 /// The rows by their names, in the order in which they are printed.
-pub const ROWS: [(&str, Row); 41] = [
+pub const ROWS: [(&str, Row); 55] = [
     ("unpark_one_nobody", Row::UnparkOneNobody),
     (
         "unpark_one_two_keys",
@@ -98,21 +113,41 @@ pub const ROWS: [(&str, Row); 41] = [
     ("fair_two", Row::FairMutex(2)),
     ("fair_four", Row::FairMutex(4)),
     ("fair_notify_all", Row::FairNotifyAll),
-    ("word_lock_alone", Row::WordLock(1, Section::Short)),
-    ("word_lock_two", Row::WordLock(2, Section::Short)),
-    ("word_lock_four", Row::WordLock(4, Section::Short)),
-    ("word_lock_sixteen", Row::WordLock(16, Section::Short)),
-    ("word_lock_two_longer", Row::WordLock(2, Section::Longer)),
-    ("word_lock_four_longer", Row::WordLock(4, Section::Longer)),
+    ("word_lock_alone", Row::WordLock(1, Section::SHORT)),
+    ("word_lock_two", Row::WordLock(2, Section::SHORT)),
+    ("word_lock_four", Row::WordLock(4, Section::SHORT)),
+    ("word_lock_sixteen", Row::WordLock(16, Section::SHORT)),
+    ("word_lock_two_longer", Row::WordLock(2, Section::LONGER)),
+    ("word_lock_four_longer", Row::WordLock(4, Section::LONGER)),
     (
         "word_lock_sixteen_longer",
-        Row::WordLock(16, Section::Longer),
+        Row::WordLock(16, Section::LONGER),
     ),
-    ("std_mutex_alone", Row::StdMutex(1, Section::Short)),
-    ("std_mutex_two", Row::StdMutex(2, Section::Short)),
-    ("std_mutex_four", Row::StdMutex(4, Section::Short)),
-    ("std_mutex_two_longer", Row::StdMutex(2, Section::Longer)),
-    ("std_mutex_four_longer", Row::StdMutex(4, Section::Longer)),
+    ("std_mutex_alone", Row::StdMutex(1, Section::SHORT)),
+    ("std_mutex_two", Row::StdMutex(2, Section::SHORT)),
+    ("std_mutex_four", Row::StdMutex(4, Section::SHORT)),
+    ("std_mutex_two_longer", Row::StdMutex(2, Section::LONGER)),
+    ("std_mutex_four_longer", Row::StdMutex(4, Section::LONGER)),
+    ("sync_mutex_alone", Row::SyncMutex(1, Section::SHORT)),
+    ("sync_mutex_two", Row::SyncMutex(2, Section::SHORT)),
+    ("sync_mutex_four", Row::SyncMutex(4, Section::SHORT)),
+    ("sync_mutex_two_longer", Row::SyncMutex(2, Section::LONGER)),
+    ("sync_mutex_four_longer", Row::SyncMutex(4, Section::LONGER)),
+    ("sync_read_alone", Row::SyncRwLock(1, Section::READ)),
+    ("sync_read_two", Row::SyncRwLock(2, Section::READ)),
+    ("sync_read_four", Row::SyncRwLock(4, Section::READ)),
+    ("sync_write_alone", Row::SyncRwLock(1, Section::SHORT)),
+    (
+        "sync_mostly_read_four",
+        Row::SyncRwLock(4, Section::MOSTLY_READ),
+    ),
+    ("std_read_four", Row::StdRwLock(4, Section::READ)),
+    (
+        "std_mostly_read_four",
+        Row::StdRwLock(4, Section::MOSTLY_READ),
+    ),
+    ("sync_once_done", Row::OnceDone),
+    ("sync_condvar_turns", Row::CondvarTurns),
     ("many_keys", Row::ManyKeys),
     ("thousand_threads", Row::ThousandThreads),
     ("register_all", Row::RegisterAll),

@@ -1,7 +1,9 @@
 //! The rows of two threads that hand a turn to each other.
 
 use crate::cost::{Cost, median_of};
-use crate::waiting::{KEYS, Lot, TURNS};
+use crate::locked::Tally;
+use crate::waiting::{KEYS, Lot, LotMember, TURNS};
+use lot_sync::mutex::{Condvar, Mutex};
 use parking_lot_core::{
     DEFAULT_PARK_TOKEN, DEFAULT_UNPARK_TOKEN, ParkResult, ThreadData, park, unpark_all, unpark_one,
 };
@@ -237,4 +239,70 @@ fn park_by_word<R: Wait + Clock>(
 fn give_turn<R: Wait>(rt: &R, lot: &Lot, turn: &AtomicU64, next: u64, side: Side) {
     turn.store(next, Ordering::SeqCst);
     unpark_one(rt, lot, side.other_key, |_| DEFAULT_UNPARK_TOKEN);
+}
+
+/// Each of two threads waits on a condition variable until the count under its mutex says that it
+/// is its turn, and then counts one. The cost is that of a round, there and back.
+pub fn turns_by_condvar<R: Threads + Wait + Clock + Sync>(rt: &R, alloc: Global) -> Option<Cost> {
+    let lot = Lot::new(alloc, 2).ok()?;
+    median_of(alloc, RUNS, || cost_by_condvar(rt, alloc, &lot))
+}
+
+fn cost_by_condvar<R: Threads + Wait + Clock + Sync>(
+    rt: &R,
+    alloc: Global,
+    lot: &Lot,
+) -> Option<Cost> {
+    let mutex = Mutex::new(alloc, KEYS[0], Tally::new()).ok()?;
+    let condvar = Condvar::new(KEYS[1]);
+    let first = LotMember::register(rt, alloc, lot).ok()?;
+    let second = LotMember::register(rt, alloc, lot).ok()?;
+    let start = Instant::now(rt).ok()?;
+    let (one, other) = thread::join(
+        rt,
+        || counts_by_turns(rt, first, &mutex, &condvar, 0),
+        || counts_by_turns(rt, second, &mutex, &condvar, 1),
+    );
+    if one.max(other) == 2 * WORD_ROUNDS {
+        Cost::since(rt, start, WORD_ROUNDS)
+    } else {
+        None
+    }
+}
+
+// Counts one in each round, when the count is even or odd as it says. Answers the last count.
+fn counts_by_turns<R: Wait + Clock>(
+    rt: &R,
+    mut member: LotMember<'_>,
+    mutex: &Mutex<Tally>,
+    condvar: &Condvar,
+    turn: u64,
+) -> u64 {
+    let mut last = 0u64;
+    for _ in 0..WORD_ROUNDS {
+        last = count_at_turn(rt, &mut member, mutex, condvar, turn);
+    }
+    member.retire(rt);
+    last
+}
+
+fn count_at_turn<R: Wait + Clock>(
+    rt: &R,
+    member: &mut LotMember<'_>,
+    mutex: &Mutex<Tally>,
+    condvar: &Condvar,
+    turn: u64,
+) -> u64 {
+    let mut held = mutex.lock(rt, member);
+    for _ in rt.forever() {
+        if held.value.count % 2 == turn {
+            break;
+        }
+        held = condvar.wait(rt, member, held);
+    }
+    held.value.count_one(0);
+    let count = held.value.count;
+    condvar.notify_one(rt, member, mutex);
+    held.unlock(rt, member);
+    count
 }

@@ -1,11 +1,14 @@
 //! What the rows have in common: the lot, its keys, and waiting by turns.
 
-use parking_lot_core::{ParkingLot, WordParker};
+use parking_lot_core::{Member, ParkingLot, WordParker};
 use std::sync::atomic::{AtomicU64, Ordering};
 use std::thread;
 
 /// The lot that is measured.
 pub type Lot = ParkingLot<WordParker>;
+
+/// A thread that is registered with it.
+pub type LotMember<'a> = Member<'a, WordParker>;
 
 /// Keys with a bucket of their own each, in a table of any size.
 pub const KEYS: [usize; 4] = [1, 2, 3, 4];
