@@ -1,0 +1,4 @@
+pub mod RowLemmas
+pub mod TakingLemmas
+pub mod BelowLemmas
+pub mod HandedLemmas

@@ -1,0 +1,16 @@
+use Rattle.std.proofs.Common.{List, [], ◌∷◌, sym, subst}
+use Rattle.lot_history.specs.Moves.{Regroups}
+use Rattle.lot_history.specs.Witness.{max_threads_of}
+use Rattle.lot_history.specs.declared.view.Piece.{Piece}
+use Rattle.lot_witnessed.specs.Rows.{empty_lists, free_numbers}
+use Rattle.lot_witnessed.proofs.RowLemmas.{cuts_up}
+use Rattle.lot_witnessed.proofs.lot.Lot.of_size.Goals as goal
+
+pub cut_up-requires-clause-regroups : goal.cut_up-requires-clause-regroups
+cut_up-requires-clause-regroups g c =
+    let bound = max_threads_of c.in_ok-history.history in
+    let size = c.args.size in
+    let max_threads = c.args.max_threads in
+    subst (λ (pieces : List Piece).
+    Regroups bound pieces (empty_lists size 0 size (free_numbers max_threads ∷ [])))
+    (sym c.in_ok-history.ensures.pieces) (cuts_up max_threads size c.requires bound)

@@ -1,0 +1,110 @@
+-- What fits behind the locks of a lot: buckets, mailboxes, and the registry of numbers, each with its part of the lot's
+-- history.
+use Rattle.std.specs.Prelude.{◌≡◌, ℕ, ◌<◌, All, ⊤, List, [], ◌∷◌, map, length, Option, Some, None}
+use Rattle.atomic_table.specs.Seated.{TableId}
+use Rattle.lot_base.specs.BucketState.{BucketState, IsBucketAt}
+use Rattle.lot_base.specs.NodeFields.{NodeFields}
+use Rattle.lot_base.specs.Place.{place_of}
+use Rattle.lot_word_lock.specs.WordLock.{key_of}
+use Rattle.lot_word_lock.specs.declared.word_lock.WordLock.{WordLock}
+use Rattle.lot_exclusive.specs.declared.lot.Status.TheVariants.{Taken}
+use Rattle.lot_history.specs.declared.history.History.{History}
+use Rattle.lot_history.specs.declared.history.Part.{Part}
+use Rattle.lot_history.specs.declared.history.Witness.{Witness}
+use Rattle.lot_history.specs.declared.view.Piece.{Piece}
+use Rattle.lot_history.specs.declared.view.Piece.TheVariants.{Lists, Thread, Numbers}
+use Rattle.lot_history.specs.Pieces.{standing_in}
+use Rattle.lot_history.specs.Witness.{IsPartOf, events_of, id_of, max_threads_of, pieces_in, pieces_of}
+use Rattle.lot_witnessed.specs.declared.cell.Cell.{Cell}
+use Rattle.lot_witnessed.specs.declared.cell.CellKey.{CellKey}
+use Rattle.lot_witnessed.specs.declared.mail.Letter.{Letter}
+use Rattle.lot_witnessed.specs.declared.mail.Mail.{Mail}
+use Rattle.lot_witnessed.specs.declared.mail.MailKey.{MailKey}
+use Rattle.lot_witnessed.specs.declared.registry.Registry.{Registry}
+use Rattle.lot_witnessed.specs.declared.registry.RegistryKey.{RegistryKey}
+
+-- the history that a part is of
+abbrev pub home_of : Part → TableId
+home_of part = part.badge.table_id
+
+-- the part is of this history, and has these pieces
+pub record Has (home : TableId) (all : List Piece) (part : Part) : Type 0 where
+  pub of_history : IsPartOf home part
+  pub pieces : pieces_in part ≡ all
+
+-- the lists of a bucket
+abbrev pub lists_in : BucketState → Piece
+lists_in bucket = Lists bucket.size bucket.place (standing_in bucket.nodes)
+
+-- the node is one of a thread of this lot
+abbrev pub IsBelow : ℕ → NodeFields → Type 0
+IsBelow max_threads node = node.number < max_threads
+
+-- the bucket's part has its lists, and its nodes are those of threads of the lot
+pub record IsCell (home : TableId) (max_threads : ℕ) (cell : Cell) : Type 0 where
+  pub part : Has home (lists_in cell.bucket ∷ []) cell.part
+  pub below : All (IsBelow max_threads) cell.bucket.nodes
+
+-- behind the lock of a bucket
+pub record FitsCell (key : CellKey) (cell : Cell) : Type 0 where
+  pub bucket : IsBucketAt key.place key.size cell.bucket
+  pub own : IsCell (home_of key.home) key.max_threads cell
+
+-- the lock is that of the bucket of this place in a row of the lot
+pub record IsCellLock (home : TableId) (max_threads size place : ℕ) (lock : WordLock Cell CellKey) : Type 0 where
+  pub at_place : (key_of lock).place ≡ place
+  pub of_size : (key_of lock).size ≡ size
+  pub for_threads : (key_of lock).max_threads ≡ max_threads
+  pub of_lot : home_of (key_of lock).home ≡ home
+
+-- threads that were taken, each with the token that its node has
+abbrev pub thread_taken : NodeFields → Piece
+thread_taken node = Thread node.number (Taken node.unpark_token)
+
+abbrev pub threads_in : List NodeFields → List Piece
+threads_in taken = map thread_taken taken
+
+-- the letter tells a thread's token, and has the thread's piece
+abbrev pub IsLetterTo : TableId → ℕ → Letter → Type 0
+IsLetterTo home number letter = Has home (Thread number (Taken letter.token) ∷ []) letter.part
+
+abbrev pub IsMailOf : TableId → ℕ → Option Letter → Type 0
+IsMailOf home number None = ⊤
+IsMailOf home number (Some letter) = IsLetterTo home number letter
+
+-- behind the lock of a mailbox
+abbrev pub FitsMail : MailKey → Mail → Type 0
+FitsMail key mail = IsMailOf (home_of key.home) key.number mail.letter
+
+-- the lock is that of this thread's mailbox
+pub record IsMailLock (home : TableId) (number : ℕ) (lock : WordLock Mail MailKey) : Type 0 where
+  pub of_thread : (key_of lock).number ≡ number
+  pub of_lot : home_of (key_of lock).home ≡ home
+
+-- a witness that has added nothing and has no piece
+pub record IsIdle (home : TableId) (witness : Witness) : Type 0 where
+  pub table : witness.seat.table_id ≡ home
+  pub slots : witness.seat.me.1 ≡ []
+  pub nothing_added : events_of witness ≡ []
+  pub no_pieces : pieces_of witness ≡ []
+
+-- the registry of a lot for so many threads
+pub record IsRegistry (home : TableId) (max_threads : ℕ) (registry : Registry) : Type 0 where
+  pub count : length registry.uses.items ≡ max_threads
+  pub part : Has home (Numbers registry.uses.items ∷ []) registry.part
+  pub witness : IsIdle home registry.witness
+
+-- behind the lock of the registry
+abbrev pub FitsRegistry : RegistryKey → Registry → Type 0
+FitsRegistry key registry = IsRegistry (home_of key.home) key.max_threads registry
+
+-- the lock is that of the lot's registry
+pub record IsRegistryLock (home : TableId) (max_threads : ℕ) (lock : WordLock Registry RegistryKey) : Type 0 where
+  pub for_threads : (key_of lock).max_threads ≡ max_threads
+  pub of_lot : home_of (key_of lock).home ≡ home
+
+-- the lock is that of the key's bucket in a lot
+pub record IsLockFor (history : History) (key : ℕ) (lock : WordLock Cell CellKey) : Type 0 where
+  pub for_key : place_of key (key_of lock).size ≡ (key_of lock).place
+  pub for_threads : (key_of lock).max_threads ≡ max_threads_of history
+  pub of_lot : home_of (key_of lock).home ≡ id_of history

@@ -1,0 +1,13 @@
+-- In the order of reading, after the types of src/. First lists of which each item has a number, and the pieces of a
+-- new machine.
+pub mod Rows
+-- Then what fits behind the locks of a lot: buckets, mailboxes, and the registry of numbers.
+pub mod Cells
+-- Then pieces where a deadline has passed.
+pub mod Late
+-- Then members, and what their calls add to the history.
+pub mod Members
+-- Then the handles of threads that are to be woken.
+pub mod Handles
+-- Last what follows by the laws of every history.
+pub mod Laws

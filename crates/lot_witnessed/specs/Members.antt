@@ -1,0 +1,133 @@
+-- Members of a lot, and what their calls add to its history.
+use Rattle.std.specs.Prelude.{◌≡◌, ℕ, ◌<◌, Bool, true, false, ⊤, List, [], ◌∷◌, Option, Some, None, IsSomeAnd, Box}
+use Rattle.std.specs.declared.alloc.Global.{Global}
+use Rattle.lot_base.specs.Node.{fields}
+use Rattle.lot_base.specs.NodeFields.{NodeFields}
+use Rattle.lot_base.specs.declared.queue.Node.{Node}
+use Rattle.lot_base.specs.declared.token.ParkResult.{ParkResult}
+use Rattle.lot_base.specs.declared.token.ParkResult.TheVariants as result
+use Rattle.lot_base.specs.declared.token.ParkToken.{ParkToken}
+use Rattle.lot_base.specs.declared.token.UnparkToken.{UnparkToken}
+use Rattle.lot_exclusive.specs.declared.lot.Status.TheVariants.{Running}
+use Rattle.lot_exclusive.specs.declared.schedule.Answer.{Answer}
+use Rattle.lot_exclusive.specs.declared.schedule.Answer.TheVariants.{Registered, Full, Entered, Invalid, Unparked}
+use Rattle.lot_exclusive.specs.declared.schedule.Answer.TheVariants.{Late, TimedOut}
+use Rattle.lot_exclusive.specs.declared.schedule.Step.{Step}
+use Rattle.lot_exclusive.specs.declared.schedule.Step.TheVariants.{Register, Enter, Return, Deadline, Resolve}
+use Rattle.lot_history.specs.declared.history.History.{History}
+use Rattle.lot_history.specs.declared.history.Part.{Part}
+use Rattle.lot_history.specs.declared.history.Witness.{Witness}
+use Rattle.lot_history.specs.declared.view.Piece.{Piece}
+use Rattle.lot_history.specs.declared.view.Piece.TheVariants.{Thread, Records}
+use Rattle.lot_history.specs.Witness.{Extends, IsStill, IsWitnessOf, events_of, id_of, max_threads_of, pieces_of}
+use Rattle.lot_witnessed.specs.declared.told.Entry.{Entry}
+use Rattle.lot_witnessed.specs.Cells.{Has}
+
+-- this step, with this answer
+abbrev pub Is : Step → Answer → Step → Answer → Type 0
+Is step answer s a = (s ≡ step) × (a ≡ answer)
+
+-- a thread comes to a list, and is let in or not
+abbrev pub entry_step : Entry → Bool → Step
+entry_step entry valid = Enter entry.number entry.key valid entry.park_token entry.timed
+
+-- what the thread of a node enters with
+abbrev pub entry_of : NodeFields → Entry
+entry_of node = record { number = node.number; key = node.key; park_token = node.park_token; timed = node.timed }
+
+-- a member: the history of its lot, its number, and its witness, whose events its calls added
+pub record MemberState : Type 0 where
+  pub history : History
+  pub number : ℕ
+  pub witness : Witness
+
+-- a member that runs has its node, and the pieces that say so
+pub record IsMember (history : History) (own : ℕ) (node : Option (Box Node Global)) (thread records : Part)
+    (witness : Witness) : Type 0 where
+  pub below : own < max_threads_of history
+  pub has_node : IsSomeAnd node (λ held. (fields held.value).number ≡ own)
+  pub runs : Has (id_of history) (Thread own Running ∷ []) thread
+  pub has_recorded : Has (id_of history) (Records own [] ∷ []) records
+  pub of_history : IsWitnessOf history witness
+  pub no_pieces : pieces_of witness ≡ []
+
+-- a witness whose first event is this
+pub record Begins (history : History) (step : Step) (answer : Answer) (witness : Witness) : Type 0 where
+  pub from : Witness
+  pub nothing_added : events_of from ≡ []
+  pub extends : Extends history from step answer witness
+
+-- what a registration answers that gave this number, or none, and the pieces of the thread then
+abbrev pub answer_for : Option ℕ → Answer
+answer_for None = Full
+answer_for (Some number) = Registered number
+
+abbrev pub pieces_for : Option ℕ → List Piece
+pieces_for None = []
+pieces_for (Some number) = Thread number Running ∷ Records number [] ∷ []
+
+-- the new witness told of the registration, and has the thread's pieces
+pub record IsRegistered (history : History) (number : Option ℕ) (witness : Witness) : Type 0 where
+  pub of_history : IsWitnessOf history witness
+  pub begins : Begins history Register (answer_for number) witness
+  pub pieces : pieces_of witness ≡ pieces_for number
+
+-- the same member
+pub record Stays (old new : MemberState) : Type 0 where
+  pub history : new.history ≡ old.history
+  pub number : new.number ≡ old.number
+  pub witness : IsStill old.history old.witness new.witness
+
+-- the step of a thread that comes to park
+abbrev pub park_step : MemberState → ℕ → ParkToken → Bool → Bool → Step
+park_step member key park_token timed valid = Enter member.number key valid park_token timed
+
+-- a park that was not let in added that
+abbrev pub IsRefused : MemberState → ℕ → ParkToken → Bool → MemberState → Type 0
+IsRefused old key park_token timed new =
+    Extends old.history old.witness (park_step old key park_token timed false) Invalid new.witness
+
+-- one that was let in added that, and, once it was unparked, that it came back with its token
+pub record ComesBack (old : MemberState) (key : ℕ) (park_token : ParkToken) (timed : Bool) (token : UnparkToken)
+    (new : MemberState) : Type 0 where
+  pub entered : Witness
+  pub still : IsStill old.history old.witness entered
+  pub enters : Extends old.history old.witness (park_step old key park_token timed true) Entered entered
+  pub returns : Extends old.history entered (Return old.number) (Unparked token) new.witness
+
+-- a thread that stands in the list of the key with a timeout added that its deadline passed, and that it left the list
+pub record Leaves (history : History) (number key : ℕ) (last : Bool) (old new : Witness) : Type 0 where
+  pub late : Witness
+  pub still : IsStill history old late
+  pub passes : Extends history old (Deadline number) Late late
+  pub resolves : Extends history late (Resolve number) (TimedOut key last) new
+
+-- one that was let in with a timeout added that, and, once the deadline had passed, that it left the list
+pub record TimesOut (old : MemberState) (key : ℕ) (park_token : ParkToken) (last : Bool) (new : MemberState)
+    : Type 0 where
+  pub entered : Witness
+  pub still : IsStill old.history old.witness entered
+  pub enters : Extends old.history old.witness (park_step old key park_token true true) Entered entered
+  pub leaves : Leaves old.history old.number key last entered new.witness
+
+module _ (asked : Bool → Type 0) (called : Type 0) (old : MemberState) (key : ℕ) (park_token : ParkToken) where
+  -- how a park without a timeout ends, by what `validate` answered
+  abbrev pub IsParked : ParkResult → MemberState → Type 0
+  IsParked result.Invalid new = asked false × IsRefused old key park_token false new
+  IsParked (result.Unparked token) new = asked true × called × ComesBack old key park_token false token new
+  IsParked result.TimedOut new = ⊥
+
+  -- and one with a timeout, where `timed_out` was called with whether nobody else waits on the key
+  abbrev pub IsParkedUntil : (Bool → Type 0) → ParkResult → MemberState → Type 0
+  IsParkedUntil told result.Invalid new = asked false × IsRefused old key park_token true new
+  IsParkedUntil told (result.Unparked token) new =
+      asked true × called × ComesBack old key park_token true token new
+  IsParkedUntil told result.TimedOut new =
+      asked true × called × ((last : Bool) × told last × TimesOut old key park_token last new)
+
+-- how the wait of a thread with a timeout ends that was let in
+module _ (history : History) (number key : ℕ) (told : Bool → Type 0) where
+  abbrev pub EndsWait : ParkResult → Witness → Witness → Type 0
+  EndsWait result.Invalid old new = ⊥
+  EndsWait (result.Unparked token) old new = Extends history old (Return number) (Unparked token) new
+  EndsWait result.TimedOut old new = (last : Bool) × told last × Leaves history number key last old new

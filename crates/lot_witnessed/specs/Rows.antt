@@ -1,0 +1,18 @@
+-- Lists of which each item has its number, and the pieces of a new machine, cut up for a row of buckets.
+use Rattle.std.specs.Prelude.{ℕ, zero, suc, ◌+◌, false, replicate, List, [], ◌∷◌, ⊤}
+use Rattle.lot_history.specs.declared.view.Piece.{Piece}
+use Rattle.lot_history.specs.declared.view.Piece.TheVariants.{Lists, Numbers}
+
+-- of each item, with its number, where the first has this number
+abbrev pub EachAt : {A : Type 0} → (ℕ → A → Type 0) → ℕ → List A → Type 0
+EachAt P number [] = ⊤
+EachAt P number (item ∷ items) = P number item × EachAt P (number + 1) items
+
+-- the empty lists of so many places of a table, from this one on, before other pieces
+abbrev pub empty_lists : ℕ → ℕ → ℕ → List Piece → List Piece
+empty_lists size place zero others = others
+empty_lists size place (suc count) others = Lists size place [] ∷ empty_lists size (place + 1) count others
+
+-- so many numbers, none of them registered
+abbrev pub free_numbers : ℕ → Piece
+free_numbers max_threads = Numbers (replicate max_threads false)

@@ -1,0 +1,255 @@
+//! Members of a lot: registered threads, whose calls tell the history what they did.
+
+ghost use Rattle.std.specs.Prelude.{◌≡◌, ◌≢◌, ◌∷◌, List, [], true, false, Err, IfOk};
+ghost use mathlib.Core.List.{IsPrefix};
+ghost use Rattle.lot_base.specs.NodeFields.{NodeFields};
+ghost use Rattle.lot_base.specs.Waiting.{result_of, split_first};
+ghost use Rattle.lot_history.specs.Witness.{Extends, Looks, id_of, seen_by, view_of};
+ghost use Rattle.lot_witnessed.specs.Members.{Begins, IsParked, IsParkedUntil, Stays};
+
+use crate::lot::Lot;
+use lot_base::queue::Node;
+use lot_base::thread_parker::ThreadParkerT;
+use lot_base::token::{LotError, ParkResult, ParkToken, UnparkResult, UnparkToken};
+use lot_exclusive::schedule::{Answer, Op, Step};
+use lot_history::history::{Part, Witness};
+use std::alloc::Global;
+use std::marker::{Brand, Model};
+use std::mem;
+use std::sync::Wait;
+use std::time::{Clock, Instant};
+
+/// A registered thread and its lot. All calls of the lot are made by members.
+///
+/// A contract sees it as the history of its lot, its number, and its witness: the beginning of the
+/// history that it has seen, and which events in it its own calls added.
+///
+/// A member that is only dropped leaves its number registered.
+///
+/// Upstream has no such type: each thread's data is in a thread local.
+#[derive(Drop)]
+pub struct Member<'a, P: ThreadParkerT> {
+    lot: &'a Lot<P>,
+    number: usize,
+    node: Option<Box<Node>>,
+    thread: Part,
+    records: Part,
+    witness: Witness,
+}
+
+impl<'a, P: ThreadParkerT> Model for Member<'a, P> {
+    ghost use Rattle.lot_witnessed.specs.Members.{IsMember, MemberState};
+
+    ghost Value = { MemberState };
+
+    ghost view = { λ member. record {
+      history = member.lot.now;
+      number = member.number;
+      witness = member.witness;
+    } };
+
+    ghost invariant = { λ member. IsMember member.lot.now member.number member.node member.thread
+        member.records member.witness };
+}
+
+impl<'a, P: ThreadParkerT> Member<'a, P> {
+    /// Registers a thread under the least free number. Its witness begins with that step.
+    ///
+    /// It asks for memory once, for the thread's node, and then takes the lock of the numbers. A
+    /// section must not call it.
+    ///
+    /// # Errors
+    ///
+    /// `NoMemory` if memory cannot be had, and else `Full` if the greatest number of threads is
+    /// registered.
+    pub fn register<R: Wait>(
+        rt: &R,
+        alloc: Global,
+        lot: &'a Lot<P>,
+    ) -> Result<Member<'a, P>, LotError>
+        ensures not_too_many { result ≢ Err LotError.TooManyThreads }
+        ensures lot { IfOk result (λ member. member.history ≡ lot.now) }
+        ensures registered { IfOk result (λ member.
+            Begins lot.now Step.Register (Answer.Registered member.number) member.witness) }
+    {
+        let mut node = Node::new(alloc, 0)?;
+        let (mut witness, number) = lot.register(rt);
+        let Some(number) = number else {
+            return Err(LotError::Full);
+        };
+        node.number = number;
+        let thread = lot.history().give(&mut witness);
+        let records = lot.history().give(&mut witness);
+        Ok(Member {
+            lot,
+            number,
+            node: Some(node),
+            thread,
+            records,
+            witness,
+        })
+    }
+
+    /// The number of the thread.
+    pub fn number(&self) -> usize
+        ensures { result ≡ self.now.number }
+    {
+        self.number
+    }
+
+    /// Sees the history as it is, which begins with all that the other has seen, too.
+    pub fn hear(&mut self, other: &mut Member<'a, P>)
+        requires { id_of other.old.history ≡ id_of self.old.history }
+        ensures stays { Stays self.old self.new }
+        ensures looks { Looks self.old.history self.old.witness self.new.witness }
+        ensures heard { IsPrefix (seen_by other.old.witness) (seen_by self.new.witness) }
+        ensures other { Stays other.old other.new }
+        ensures unchanged { view_of other.new.witness ≡ view_of other.old.witness }
+    {
+        self.lot
+            .history()
+            .hear(&mut self.witness, &mut other.witness);
+    }
+
+    /// Parks the thread in the list of the key, until another thread unparks it.
+    ///
+    /// `validate` is called once, in the section of the key's bucket. If it answers false, the
+    /// answer is `Invalid` and nothing else is called. If it answers true, the thread stands last
+    /// in the list, the section ends, `before_sleep` is called once with no lock held, and the
+    /// thread sleeps until its unpark was committed. The answer is `Unparked` with the token that
+    /// the other thread gave.
+    ///
+    /// `validate` must not call the lot, nor wait for a thread that does. It allocates nothing.
+    pub fn park<R: Wait, V: FnOnce() -> bool, B: FnOnce()>(
+        &mut self,
+        rt: &R,
+        key: usize,
+        validate: V,
+        before_sleep: B,
+        park_token: ParkToken,
+    ) -> ParkResult
+        requires validate { V.pre validate }
+        requires before_sleep { V.post validate true → B.pre before_sleep }
+
+        ensures stays { Stays self.old self.new }
+        ensures parked { IsParked (λ valid. V.post validate valid) (B.post before_sleep tt) self.old key park_token
+            result self.new }
+    {
+        let mut node = self.node.take().unwrap();
+        node.prepare(key, park_token, false);
+        let thread = mem::replace(&mut self.thread, Part::none());
+        let parker = &self.lot.thread(self.number).parker;
+        parker.prepare_park();
+        if let Err((thread, node)) = self
+            .lot
+            .enter(rt, &mut self.witness, thread, node, validate)
+        {
+            self.thread = thread;
+            self.node = Some(node);
+            return ParkResult::Invalid;
+        }
+        before_sleep();
+        let node = parker.park(rt);
+        let (token, thread) = self.lot.come_back(rt, &mut self.witness, self.number);
+        self.thread = thread;
+        self.node = Some(node);
+        ParkResult::Unparked(token)
+    }
+
+    /// Parks the thread as `park` does, but no longer than until that instant; a clock that cannot be
+    /// read counts as past it. Then, in a section of the key's bucket, the thread leaves the list
+    /// and `timed_out` is called once, with the key and with whether no other thread waits on it;
+    /// the answer is `TimedOut`. If an unpark took the thread before that section, `timed_out` is
+    /// not called, and the answer is `Unparked`.
+    ///
+    /// `validate` and `timed_out` must not call the lot, nor wait for a thread that does. It
+    /// allocates nothing.
+    pub fn park_until<R: Wait + Clock, V: FnOnce() -> bool, B: FnOnce(), T: FnOnce(usize, bool)>(
+        &mut self,
+        rt: &R,
+        key: usize,
+        validate: V,
+        before_sleep: B,
+        timed_out: T,
+        park_token: ParkToken,
+        timeout: Instant,
+    ) -> ParkResult
+        requires validate { V.pre validate }
+        requires before_sleep { V.post validate true → B.pre before_sleep }
+        requires timed_out { V.post validate true → (last : _) → T.pre timed_out key last }
+
+        ensures stays { Stays self.old self.new }
+        ensures parked { IsParkedUntil (λ valid. V.post validate valid) (B.post before_sleep tt)
+            self.old key park_token (λ last. T.post timed_out key last tt) result self.new }
+    {
+        let mut node = self.node.take().unwrap();
+        node.prepare(key, park_token, true);
+        let thread = mem::replace(&mut self.thread, Part::none());
+        self.lot.thread(self.number).parker.prepare_park();
+        if let Err((thread, node)) = self
+            .lot
+            .enter(rt, &mut self.witness, thread, node, validate)
+        {
+            self.thread = thread;
+            self.node = Some(node);
+            return ParkResult::Invalid;
+        }
+        before_sleep();
+        let (result, thread, node) = self.lot.wait_until(
+            rt,
+            &mut self.witness,
+            self.number,
+            key,
+            timed_out,
+            timeout,
+        );
+        self.thread = thread;
+        self.node = Some(node);
+        result
+    }
+
+    /// Unparks the first thread in the list of the key, if there is one, and hands it the token
+    /// that `callback` answers.
+    ///
+    /// `callback` is called once, in the section of the key's bucket, with the result that is
+    /// answered too: `(1, 0, more)`, where `more` says whether the key has another waiter, or
+    /// `(0, 0, false)` where nobody waits. What it answers then is ignored, and stands in the
+    /// history nevertheless.
+    ///
+    /// `callback` must not call the lot, nor wait for a thread that does. It allocates nothing.
+    pub fn unpark_one<R: Wait, C: FnOnce(UnparkResult) -> UnparkToken>(
+        &mut self,
+        rt: &R,
+        key: usize,
+        callback: C,
+    ) -> UnparkResult
+        requires { (waiters : List NodeFields) → C.pre callback (result_of (split_first waiters)) }
+
+        ensures stays { Stays self.old self.new }
+        ensures unparked { (token : UnparkToken) × C.post callback result token
+            × Extends self.old.history self.old.witness
+            (Step.Unpark (Op.One key token)) (Answer.Unpark result) self.new.witness }
+    {
+        let (result, handle) = self
+            .lot
+            .take_one::<Brand, R, C>(rt, &mut self.witness, key, callback);
+        if let Some(handle) = handle {
+            self.lot.wake(handle);
+        }
+        result
+    }
+
+    /// Unparks all threads in the list of the key, in order, hands each the token, and answers how
+    /// many there were.
+    ///
+    /// Each thread is woken with the bucket locked, once its unpark was committed. It allocates
+    /// nothing.
+    pub fn unpark_all<R: Wait>(&mut self, rt: &R, key: usize, token: UnparkToken) -> usize
+        ensures stays { Stays self.old self.new }
+        ensures unparked { Extends self.old.history self.old.witness
+            (Step.Unpark (Op.All key token)) (Answer.Count result) self.new.witness }
+    {
+        self.lot
+            .take_all::<Brand, R>(rt, &mut self.witness, key, token)
+    }
+}

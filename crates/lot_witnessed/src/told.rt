@@ -1,0 +1,258 @@
+//! What sections tell the history: each adds a step, and leaves the pieces where they belong.
+
+ghost use Rattle.std.specs.Prelude.{◌≡◌, ◌∷◌, ◌++◌, List, [], true, false};
+ghost use Rattle.lot_history.specs.Moves.{Moves, Regroups};
+ghost use Rattle.lot_history.specs.Witness.{Adds, Extends, IsPartOf, IsStill, IsWitnessOf, id_of, max_threads_of, pieces_in, pieces_of};
+ghost use Rattle.lot_history.specs.declared.view.Piece.{Piece};
+ghost use Rattle.lot_history.specs.declared.view.Piece.TheVariants.{Numbers, Records, Thread};
+ghost use Rattle.lot_witnessed.specs.Cells.{Has, IsLetterTo, lists_in, threads_in};
+ghost use Rattle.lot_witnessed.specs.Late.{late_pieces};
+ghost use Rattle.lot_witnessed.specs.Members.{Is, Leaves, entry_step};
+ghost use Rattle.lot_witnessed.specs.Rows.{empty_lists, free_numbers};
+
+use crate::cell::Cell;
+use crate::mail::Letter;
+use lot_base::bucket::Bucket;
+use lot_base::queue::Queue;
+use lot_base::token::{ParkToken, UnparkToken};
+use lot_exclusive::lot::Status;
+use lot_exclusive::schedule::{Answer, Step};
+use lot_history::history::{History, Part, Witness};
+use lot_history::plays::Told;
+use std::marker::Brand;
+use std::mem;
+
+// What a thread enters a list with.
+#[derive(Copy, Clone)]
+pub(crate) struct Entry {
+    pub(crate) number: usize,
+    pub(crate) key: usize,
+    pub(crate) park_token: ParkToken,
+    pub(crate) timed: bool,
+}
+
+// Makes a step that leaves the pieces `after`. The caller picks these, and what is said of the
+// step, by the values.
+#[inline]
+fn add_with<E: Told, V>(history: &History, me: &mut Witness, _values: &V)
+    ghost after: { List Piece }
+    requires witness { IsWitnessOf history.now me.old }
+    requires moves { Moves (max_threads_of history.now) E.said (pieces_of me.old) after }
+    ensures still { IsStill history.now me.old me.new }
+    ensures adds { Adds history.now me.old E.said me.new }
+    ensures pieces { pieces_of me.new ≡ after }
+{
+    history.add::<E>(me);
+}
+
+// Cuts the pieces of a new machine up for a row of buckets and so many numbers.
+pub(crate) fn cut_up(history: &History, me: &mut Witness, max_threads: usize, size: usize)
+    requires witness { IsWitnessOf history.now me.old }
+    requires regroups { Regroups (max_threads_of history.now) (pieces_of me.old)
+        (empty_lists size 0 size (free_numbers max_threads ∷ [])) }
+    ensures still { IsStill history.now me.old me.new }
+    ensures pieces { pieces_of me.new ≡ empty_lists size 0 size (free_numbers max_threads ∷ []) }
+{
+    regroup_with(history, me, &(max_threads, size));
+}
+
+// Puts the pieces together otherwise. The caller picks `after` by the values.
+fn regroup_with<V>(history: &History, me: &mut Witness, _values: &V)
+    ghost after: { List Piece }
+    requires witness { IsWitnessOf history.now me.old }
+    requires regroups { Regroups (max_threads_of history.now) (pieces_of me.old) after }
+    ensures still { IsStill history.now me.old me.new }
+    ensures pieces { pieces_of me.new ≡ after }
+{
+    history.regroup(me);
+}
+
+// Adds that a thread was registered, which leaves these numbers so.
+pub(crate) fn add_registered(history: &History, me: &mut Witness, number: usize, uses: &Vec<bool>)
+    requires witness { IsWitnessOf history.now me.old }
+    requires moves { Moves (max_threads_of history.now)
+        (Is Step.Register (Answer.Registered number)) (pieces_of me.old)
+        (Numbers uses.now.items ∷ Thread number Status.Running ∷ Records number [] ∷ []) }
+    ensures still { IsStill history.now me.old me.new }
+    ensures extends { Extends history.now me.old Step.Register (Answer.Registered number) me.new }
+    ensures pieces { pieces_of me.new
+        ≡ Numbers uses.now.items ∷ Thread number Status.Running ∷ Records number [] ∷ [] }
+{
+    add_with::<Brand, (usize, &Vec<bool>)>(history, me, &(number, uses));
+}
+
+// Adds that all numbers are registered.
+pub(crate) fn add_full(history: &History, me: &mut Witness)
+    requires witness { IsWitnessOf history.now me.old }
+    requires moves { Moves (max_threads_of history.now) (Is Step.Register Answer.Full)
+        (pieces_of me.old) (pieces_of me.old) }
+    ensures still { IsStill history.now me.old me.new }
+    ensures extends { Extends history.now me.old Step.Register Answer.Full me.new }
+    ensures pieces { pieces_of me.new ≡ pieces_of me.old }
+{
+    history.add::<Brand>(me);
+}
+
+// Adds an unpark, where the bucket beside the part is as the unpark left it. The witness has the
+// pieces of those that were taken then.
+pub(crate) fn add_taking<E: Told>(
+    history: &History,
+    me: &mut Witness,
+    cell: &mut Cell,
+    taken: &Queue,
+    answer: Answer,
+)
+    requires witness { IsWitnessOf history.now me.old }
+    requires none { pieces_of me.old ≡ [] }
+    requires part { IsPartOf (id_of history.now) cell.old.part }
+    requires moves { Moves (max_threads_of history.now) (λ s a. E.said s a × (a ≡ answer))
+        (pieces_in cell.old.part) (lists_in cell.old.bucket ∷ threads_in taken.now) }
+    ensures still { IsStill history.now me.old me.new }
+    ensures adds { Adds history.now me.old (λ s a. E.said s a × (a ≡ answer)) me.new }
+    ensures pieces { pieces_of me.new ≡ threads_in taken.now }
+    ensures bucket { cell.new.bucket ≡ cell.old.bucket }
+    ensures part { Has (id_of history.now) (lists_in cell.old.bucket ∷ []) cell.new.part }
+{
+    let part = mem::replace(&mut cell.part, Part::none());
+    history.take(me, part);
+    add_with::<Brand, (&Bucket, &Queue, Answer)>(history, me, &(&cell.bucket, taken, answer));
+    cell.part = history.give(me);
+}
+
+// Adds that a thread entered, where the bucket beside the part is as it is with the thread. It has
+// the thread's piece from then on.
+pub(crate) fn add_entered(
+    history: &History,
+    me: &mut Witness,
+    cell: &mut Cell,
+    thread: Part,
+    entry: Entry,
+)
+    requires witness { IsWitnessOf history.now me.old }
+    requires none { pieces_of me.old ≡ [] }
+    requires part { IsPartOf (id_of history.now) cell.old.part }
+    requires thread { Has (id_of history.now) (Thread entry.number Status.Running ∷ []) thread }
+    requires moves { Moves (max_threads_of history.now)
+        (Is (entry_step entry true) Answer.Entered)
+        (pieces_in cell.old.part ++ Thread entry.number Status.Running ∷ [])
+        (lists_in cell.old.bucket ∷ []) }
+    ensures still { IsStill history.now me.old me.new }
+    ensures extends { Extends history.now me.old (entry_step entry true) Answer.Entered me.new }
+    ensures none { pieces_of me.new ≡ [] }
+    ensures bucket { cell.new.bucket ≡ cell.old.bucket }
+    ensures part { Has (id_of history.now) (lists_in cell.old.bucket ∷ []) cell.new.part }
+{
+    let part = mem::replace(&mut cell.part, Part::none());
+    history.take(me, part);
+    history.take(me, thread);
+    add_with::<Brand, (&Bucket, Entry)>(history, me, &(&cell.bucket, entry));
+    cell.part = history.give(me);
+}
+
+// Adds that a thread was not let in, and gives its piece back.
+pub(crate) fn add_invalid(history: &History, me: &mut Witness, thread: Part, entry: Entry) -> Part
+    requires witness { IsWitnessOf history.now me.old }
+    requires none { pieces_of me.old ≡ [] }
+    requires thread { Has (id_of history.now) (Thread entry.number Status.Running ∷ []) thread }
+    requires moves { Moves (max_threads_of history.now)
+        (Is (entry_step entry false) Answer.Invalid)
+        (Thread entry.number Status.Running ∷ []) (Thread entry.number Status.Running ∷ []) }
+    ensures still { IsStill history.now me.old me.new }
+    ensures extends { Extends history.now me.old (entry_step entry false) Answer.Invalid me.new }
+    ensures none { pieces_of me.new ≡ [] }
+    ensures thread { Has (id_of history.now) (Thread entry.number Status.Running ∷ []) result }
+{
+    history.take(me, thread);
+    add_with::<Brand, Entry>(history, me, &entry);
+    history.give(me)
+}
+
+// Adds that the deadline of a thread passed, and that it left the list of the key, where the bucket
+// beside the part is as it is without the thread. Gives the thread's piece.
+pub(crate) fn add_timeout(
+    history: &History,
+    me: &mut Witness,
+    cell: &mut Cell,
+    number: usize,
+    key: usize,
+    last: bool,
+) -> Part
+    requires witness { IsWitnessOf history.now me.old }
+    requires none { pieces_of me.old ≡ [] }
+    requires part { IsPartOf (id_of history.now) cell.old.part }
+    requires deadline { Moves (max_threads_of history.now)
+        (Is (Step.Deadline number) Answer.Late)
+        (pieces_in cell.old.part) (late_pieces number (pieces_in cell.old.part)) }
+    requires resolve { Moves (max_threads_of history.now)
+        (Is (Step.Resolve number) (Answer.TimedOut key last))
+        (late_pieces number (pieces_in cell.old.part))
+        (lists_in cell.old.bucket ∷ Thread number Status.Running ∷ []) }
+    ensures still { IsStill history.now me.old me.new }
+    ensures leaves { Leaves history.now number key last me.old me.new }
+    ensures none { pieces_of me.new ≡ [] }
+    ensures bucket { cell.new.bucket ≡ cell.old.bucket }
+    ensures part { Has (id_of history.now) (lists_in cell.old.bucket ∷ []) cell.new.part }
+    ensures thread { Has (id_of history.now) (Thread number Status.Running ∷ []) result }
+{
+    let part = mem::replace(&mut cell.part, Part::none());
+    history.take(me, part);
+    add_late(history, me, number);
+    add_resolved(history, me, &cell.bucket, number, key, last);
+    cell.part = history.give(me);
+    history.give(me)
+}
+
+// Adds that the deadline of a thread passed.
+fn add_late(history: &History, me: &mut Witness, number: usize)
+    requires witness { IsWitnessOf history.now me.old }
+    requires moves { Moves (max_threads_of history.now) (Is (Step.Deadline number) Answer.Late)
+        (pieces_of me.old) (late_pieces number (pieces_of me.old)) }
+    ensures still { IsStill history.now me.old me.new }
+    ensures extends { Extends history.now me.old (Step.Deadline number) Answer.Late me.new }
+    ensures pieces { pieces_of me.new ≡ late_pieces number (pieces_of me.old) }
+{
+    add_with::<Brand, usize>(history, me, &number);
+}
+
+// Adds that a thread whose deadline has passed left the list of the key, and then the bucket.
+fn add_resolved(
+    history: &History,
+    me: &mut Witness,
+    bucket: &Bucket,
+    number: usize,
+    key: usize,
+    last: bool,
+)
+    requires witness { IsWitnessOf history.now me.old }
+    requires moves { Moves (max_threads_of history.now)
+        (Is (Step.Resolve number) (Answer.TimedOut key last)) (pieces_of me.old)
+        (lists_in bucket.now ∷ Thread number Status.Running ∷ []) }
+    ensures still { IsStill history.now me.old me.new }
+    ensures extends { Extends history.now me.old (Step.Resolve number)
+        (Answer.TimedOut key last) me.new }
+    ensures pieces { pieces_of me.new ≡ lists_in bucket.now ∷ Thread number Status.Running ∷ [] }
+{
+    add_with::<Brand, (&Bucket, usize, usize, bool)>(history, me, &(bucket, number, key, last));
+}
+
+// Adds that a thread comes back with the token of its letter, and gives its piece.
+pub(crate) fn add_return(
+    history: &History,
+    me: &mut Witness,
+    number: usize,
+    letter: Letter,
+) -> (UnparkToken, Part)
+    requires witness { IsWitnessOf history.now me.old }
+    requires none { pieces_of me.old ≡ [] }
+    requires letter { IsLetterTo (id_of history.now) number letter }
+    ensures still { IsStill history.now me.old me.new }
+    ensures extends { Extends history.now me.old (Step.Return number)
+        (Answer.Unparked result.0) me.new }
+    ensures none { pieces_of me.new ≡ [] }
+    ensures thread { Has (id_of history.now) (Thread number Status.Running ∷ []) result.1 }
+{
+    let Letter { token, part } = letter;
+    history.take(me, part);
+    history.give_back(me, number, token);
+    (token, history.give(me))
+}
