@@ -1,5 +1,5 @@
 -- The tokens of parks come from unparks.
-use Rattle.std.proofs.Common.{◌≡◌, ℕ, List, [], ◌∷◌, ◌++◌, refl, subst}
+use Rattle.std.proofs.Common.{List, ◌++◌, refl, subst}
 use Rattle.std.proofs.lemmas.Bool.{eq-eqb}
 use Rattle.lot_exclusive.specs.declared.schedule.Answer.TheVariants as answer
 use Rattle.lot_exclusive.specs.declared.schedule.Step.TheVariants as step

@@ -1,5 +1,5 @@
 -- Pieces where the deadline of a thread has passed that stands in a list.
-use Rattle.std.specs.Prelude.{ℕ, ◌==◌, true, cond, List, [], ◌∷◌, map}
+use Rattle.std.specs.Prelude.{ℕ, ◌==◌, true, cond, List, map}
 use Rattle.lot_history.specs.declared.view.Piece.{Piece}
 use Rattle.lot_history.specs.declared.view.Piece.TheVariants.{Lists, Thread, Records, Numbers}
 use Rattle.lot_history.specs.declared.view.Standing.{Standing}

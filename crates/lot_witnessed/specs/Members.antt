@@ -1,5 +1,5 @@
 -- Members of a lot, and what their calls add to its history.
-use Rattle.std.specs.Prelude.{◌≡◌, ℕ, ◌<◌, Bool, true, false, ⊤, List, [], ◌∷◌, Option, Some, None, IsSomeAnd, Box}
+use Rattle.std.specs.Prelude.{◌≡◌, ℕ, ◌<◌, Bool, true, false, List, [], ◌∷◌, Option, Some, None, IsSomeAnd, Box}
 use Rattle.std.specs.declared.alloc.Global.{Global}
 use Rattle.lot_base.specs.Node.{fields}
 use Rattle.lot_base.specs.NodeFields.{NodeFields}

@@ -1,4 +1,4 @@
-use Rattle.std.proofs.Common.{◌≡◌, ℕ, ◌+◌, [], ◌∷◌, arith, length, length-append, subst, sym, ap, ◌∙◌}
+use Rattle.std.proofs.Common.{◌≡◌, ℕ, ◌+◌, [], ◌∷◌, arith, length, length-append, subst, ap, ◌∙◌}
 use Rattle.lot_history.specs.Views.{rest_of}
 use Rattle.lot_history.specs.Witness.{id_of}
 use Rattle.lot_witnessed.specs.Cells.{IsCellLock}

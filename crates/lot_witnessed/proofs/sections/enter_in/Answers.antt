@@ -1,4 +1,4 @@
-use Rattle.std.proofs.Common.{◌≡◌, List, [], ◌∷◌, ◌++◌, true, false, rules, refl, sym, ap, ◌∙◌, subst}
+use Rattle.std.proofs.Common.{◌≡◌, List, [], ◌∷◌, ◌++◌, true, rules, sym, subst}
 use Rattle.lot_base.specs.BucketState.{BucketState}
 use Rattle.lot_base.specs.Node.{fields}
 use Rattle.lot_exclusive.specs.declared.lot.Status.TheVariants.{Running}
@@ -9,7 +9,7 @@ use Rattle.lot_history.specs.declared.view.Piece.{Piece}
 use Rattle.lot_history.specs.declared.view.Piece.TheVariants.{Thread}
 use Rattle.lot_history.proofs.NodeLemmas.{enters_node}
 use Rattle.lot_witnessed.specs.declared.told.Entry.{Entry}
-use Rattle.lot_witnessed.specs.Cells.{Has, IsBelow, lists_in}
+use Rattle.lot_witnessed.specs.Cells.{Has, lists_in}
 use Rattle.lot_witnessed.specs.Members.{Is, entry_of, entry_step}
 use Rattle.lot_witnessed.proofs.BelowLemmas.{below-entered}
 use Rattle.lot_witnessed.proofs.sections.enter_in.Goals as goal

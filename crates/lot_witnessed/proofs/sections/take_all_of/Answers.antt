@@ -4,7 +4,6 @@ use Rattle.lot_base.specs.NodeLists.{lists_of, saturated}
 use Rattle.lot_base.specs.Waiting.{split_all}
 use Rattle.lot_exclusive.specs.declared.schedule.Answer.TheVariants as answer
 use Rattle.lot_exclusive.specs.declared.schedule.Op.TheVariants as op
-use Rattle.lot_exclusive.specs.declared.schedule.Step.TheVariants as step
 use Rattle.lot_history.specs.Moves.{Moves}
 use Rattle.lot_history.specs.Witness.{id_of, max_threads_of}
 use Rattle.lot_history.specs.declared.view.Piece.{Piece}

@@ -1,4 +1,4 @@
-use Rattle.std.proofs.Common.{◌≡◌, List, [], ◌∷◌, rules, refl, sym, subst}
+use Rattle.std.proofs.Common.{◌≡◌, List, ◌∷◌, rules, refl, sym, subst}
 use Rattle.lot_history.specs.Moves.{Moves}
 use Rattle.lot_history.specs.Witness.{max_threads_of, pieces_in, pieces_of}
 use Rattle.lot_history.specs.declared.view.Piece.{Piece}

@@ -1,4 +1,4 @@
-use Rattle.std.proofs.Common.{◌≡◌, ℕ, ◌+◌, length, arith, rules, sym, ap, ◌∙◌, subst}
+use Rattle.std.proofs.Common.{◌≡◌, ◌+◌, length, arith, rules, sym, ap, ◌∙◌, subst}
 use Rattle.lot_history.specs.declared.history.History.{History}
 use Rattle.lot_history.specs.Witness.{id_of, max_threads_of}
 use Rattle.lot_base.specs.Place.{place_of}
