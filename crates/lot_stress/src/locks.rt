@@ -1,5 +1,5 @@
-//! `lot_stress locks`: threads that share a mutex with its condition variable and a lock for readers
-//! and writers, while what the locks are around is compared with what was added to it.
+//! `lot_stress locks`: threads that share a mutex with its condition variable and a lock for
+//! readers and writers, while what the locks are around is compared with what was added to it.
 
 ghost use Rattle.std.specs.Prelude.{◌≡◌};
 

@@ -223,9 +223,9 @@ impl<P: ThreadParkerT> Lot<P> {
         add_return(&self.history, me, number, letter)
     }
 
-    // The wait of a thread with a timeout that entered the list of the key: sleeps until an unpark of
-    // it was committed, or until the deadline, and then leaves the list, unless an unpark took it
-    // meanwhile.
+    // The wait of a thread with a timeout that entered the list of the key: sleeps until an unpark
+    // of it was committed, or until the deadline, and then leaves the list, unless an unpark took
+    // it meanwhile.
     pub(crate) fn wait_until<R: Wait + Clock, T: FnOnce(usize, bool)>(
         &self,
         rt: &R,
@@ -259,8 +259,8 @@ impl<P: ThreadParkerT> Lot<P> {
         (ParkResult::Unparked(token), thread, node)
     }
 
-    // The section in which a thread whose deadline has passed leaves the list of the key, or answers
-    // `None` if an unpark took it.
+    // The section in which a thread whose deadline has passed leaves the list of the key, or
+    // answers `None` if an unpark took it.
     fn leave<R: Wait, T: FnOnce(usize, bool)>(
         &self,
         rt: &R,

@@ -132,8 +132,8 @@ impl<'a, P: ThreadParkerT> Member<'a, P> {
         requires before_sleep { V.post validate true → B.pre before_sleep }
 
         ensures stays { Stays self.old self.new }
-        ensures parked { IsParked (λ valid. V.post validate valid) (B.post before_sleep tt) self.old key park_token
-            result self.new }
+        ensures parked { IsParked (λ valid. V.post validate valid) (B.post before_sleep tt)
+            self.old key park_token result self.new }
     {
         let mut node = self.node.take().unwrap();
         node.prepare(key, park_token, false);
@@ -156,11 +156,11 @@ impl<'a, P: ThreadParkerT> Member<'a, P> {
         ParkResult::Unparked(token)
     }
 
-    /// Parks the thread as `park` does, but no longer than until that instant; a clock that cannot be
-    /// read counts as past it. Then, in a section of the key's bucket, the thread leaves the list
-    /// and `timed_out` is called once, with the key and with whether no other thread waits on it;
-    /// the answer is `TimedOut`. If an unpark took the thread before that section, `timed_out` is
-    /// not called, and the answer is `Unparked`.
+    /// Parks the thread as `park` does, but no longer than until that instant; a clock that cannot
+    /// be read counts as past it. Then, in a section of the key's bucket, the thread leaves the
+    /// list and `timed_out` is called once, with the key and with whether no other thread waits on
+    /// it; the answer is `TimedOut`. If an unpark took the thread before that section, `timed_out`
+    /// is not called, and the answer is `Unparked`.
     ///
     /// `validate` and `timed_out` must not call the lot, nor wait for a thread that does. It
     /// allocates nothing.
