@@ -37,8 +37,8 @@ use std::time::Clock;
 /// A barrier for so many threads, which share it by reference. Once all have come it serves for the
 /// next round.
 ///
-/// Every call is with members of one lot, and the key is the barrier's alone there. It has one
-/// block on the heap, of two words.
+/// Every call is with members of one lot, and the key is the barrier's alone there. It has two
+/// blocks on the heap, one of two words and one of a byte.
 ///
 /// std has it under this name, and `parking_lot` has none.
 #[derive(Drop)]
@@ -72,11 +72,11 @@ impl Barrier {
     /// A barrier at which nobody waits, for so many threads, or for one if that is 0. Its waiters
     /// park on the key.
     ///
-    /// It asks for one block. No other call asks for memory.
+    /// It asks for memory twice, for the two blocks. No other call asks for any.
     ///
     /// # Errors
     ///
-    /// `NoMemory` if memory cannot be had.
+    /// `NoMemory` if a request for memory was refused.
     pub fn new(alloc: Global, key: usize, threads: u32) -> Result<Barrier, NoMemory>
         ensures key { IfOk result (λ barrier. barrier.key ≡ key) }
         ensures threads { IfOk result (λ barrier. barrier.threads ≡ max threads 1) }
@@ -97,8 +97,8 @@ impl Barrier {
         self.key
     }
 
-    /// Waits until as many threads have come as the barrier is for, this one among them. One of them
-    /// is told that it leads.
+    /// Waits until as many threads have come as the barrier is for, this one among them. One of
+    /// them is told that it leads.
     ///
     /// What they did before they came is seen then. It is an exchange of the word. The leader takes
     /// the lock of the key's bucket and wakes all that are parked; any other spins, and then parks,
@@ -178,8 +178,8 @@ impl Passed<'_> {
     }
 }
 
-/// Between any two steps of its callers a barrier for so many threads keeps its invariant, since the
-/// rule that the table of every barrier keeps gives it.
+/// Between any two steps of its callers a barrier for so many threads keeps its invariant, since
+/// the rule that the table of every barrier keeps gives it.
 pub fn barriers_keep_their_invariant()
     ensures { (threads : ℕ) (state : State (Unit {0}) View)
         → ⟦<Rounds as TableRule<(), View, u64>>⟧.holds threads state

@@ -33,8 +33,8 @@ pub use value::OnceValue;
 
 /// What is done once, which threads share by reference.
 ///
-/// Every call is with members of one lot, and the key is the once's alone there. It has one block
-/// on the heap, of two words.
+/// Every call is with members of one lot, and the key is the once's alone there. It has two blocks
+/// on the heap, one of two words and one of a byte.
 ///
 /// Upstream has it under this name, in `parking_lot`, as one byte in place.
 #[derive(Drop)]
@@ -49,11 +49,12 @@ impl Once {
 
     /// A once that nobody has called, whose waiters park on the key.
     ///
-    /// It asks for one block. No other call asks for memory. Upstream's `new` is a `const fn`.
+    /// It asks for memory twice, for the two blocks. No other call asks for any. Upstream's `new`
+    /// is a `const fn`.
     ///
     /// # Errors
     ///
-    /// `NoMemory` if memory cannot be had.
+    /// `NoMemory` if a request for memory was refused.
     pub fn new(alloc: Global, key: usize) -> Result<Once, NoMemory>
         ensures { IfOk result (λ once. once.key ≡ key) }
     {

@@ -4,9 +4,10 @@
 //! lent the value there. A writer takes the value out while no reader is counted, and the word
 //! tells so until it puts a value back. Whoever finds the lock held spins, then notes in the word
 //! that a thread may be parked, and parks while the word says so and keeps it out; a writer notes
-//! besides that no new reader may come. Whoever lets the lock go wakes the writer that stands first,
-//! or else the readers in front of the first writer, and writes in the section of the key who is
-//! left. A reader that was woken may pass the writers that still wait, so it needs no new turn.
+//! besides that no new reader may come. Whoever lets the lock go wakes the writer that stands
+//! first, or else the readers in front of the first writer, and writes in the section of the key
+//! who is left. A reader that was woken may pass the writers that still wait, so it needs no new
+//! turn.
 //!
 //! The slot asks of each step that the count follows those who read, and that a value is taken out
 //! only where none is counted. Each step asks besides that it is one of `IsStep`, and every run of
@@ -418,9 +419,9 @@ impl<'a, T: Fits> WriteHeld<'a, T> {
     }
 }
 
-/// A new lock has what the rule says, each step of `IsStep` keeps it, and it gives the invariant. So
-/// the invariant holds between any two steps of those who lock, since each step on the word is one
-/// of these; that nothing else writes the word, the toolchain's slot does not tell.
+/// A new lock has what the rule says, each step of `IsStep` keeps it, and it gives the invariant.
+/// So the invariant holds between any two steps of those who lock, since each step on the word is
+/// one of these; that nothing else writes the word, the toolchain's slot does not tell.
 pub fn rw_locks_keep_their_invariant()
     ensures opens { RwRule opening }
     ensures arrives { (state : RwState) → RwRule state → RwRule (arrived state) }

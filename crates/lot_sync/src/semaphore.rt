@@ -37,11 +37,11 @@ use std::time::{Clock, Instant};
 /// A thread that comes may take a permit before one that was woken for it, which then sleeps again.
 /// Nothing is promised of ever getting one.
 ///
-/// Every call is with members of one lot, and the key is the semaphore's alone there. It has one
-/// block on the heap, of two words.
+/// Every call is with members of one lot, and the key is the semaphore's alone there. It has two
+/// blocks on the heap, one of two words and one of a byte.
 ///
-/// `parking_lot` and std have none. `tokio` has it under this name: there it is fair, permits can be
-/// added and many taken at once, and it can be closed.
+/// `parking_lot` and std have none. `tokio` has it under this name: there it is fair, permits can
+/// be added and many taken at once, and it can be closed.
 #[derive(Drop)]
 pub struct Semaphore {
     key: usize,
@@ -67,11 +67,11 @@ impl Semaphore {
     /// A semaphore with so many permits, all of them free, whose waiters park on the key. There are
     /// never more.
     ///
-    /// It asks for one block. No other call asks for memory.
+    /// It asks for memory twice, for the two blocks. No other call asks for any.
     ///
     /// # Errors
     ///
-    /// `NoMemory` if memory cannot be had.
+    /// `NoMemory` if a request for memory was refused.
     pub fn new(alloc: Global, key: usize, permits: u32) -> Result<Semaphore, NoMemory>
         ensures key { IfOk result (λ semaphore. semaphore.key ≡ key) }
         ensures permits { IfOk result (λ semaphore. semaphore.permits ≡ permits) }
@@ -108,8 +108,8 @@ impl Semaphore {
 
     /// Takes a permit, and waits while none is free. A thread that has all permits waits for ever.
     ///
-    /// If one is free, it is a load and an exchange of the word. Else it spins, and then parks, once
-    /// or more; each park takes the lock of the key's bucket.
+    /// If one is free, it is a load and an exchange of the word. Else it spins, and then parks,
+    /// once or more; each park takes the lock of the key's bucket.
     pub fn acquire<P: ThreadParkerT, R: Wait + Clock>(
         &self,
         rt: &R,

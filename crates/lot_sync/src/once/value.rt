@@ -19,7 +19,8 @@ struct Filled<T: Fits> {
 /// A cell that is filled once, by the closure of the first that comes, and read by all, which
 /// threads share by reference.
 ///
-/// Every call is with members of one lot, and the key is the cell's alone there.
+/// Every call is with members of one lot, and the key is the cell's alone there. It has the two
+/// blocks of its `Once` on the heap, and the value in place.
 ///
 /// Upstream has no such type; a cell beside a `Once` is written by unsafe code there.
 #[derive(Drop)]
@@ -33,11 +34,11 @@ impl<T: Fits> OnceValue<T> {
 
     /// A cell with no value, whose waiters park on the key.
     ///
-    /// It asks for one block. No other call asks for memory.
+    /// It asks for memory twice, for the two blocks. No other call asks for any.
     ///
     /// # Errors
     ///
-    /// `NoMemory` if memory cannot be had.
+    /// `NoMemory` if a request for memory was refused.
     pub fn new(alloc: Global, key: usize) -> Result<OnceValue<T>, NoMemory> {
         let once = Once::new(alloc, key)?;
         Ok(OnceValue {
