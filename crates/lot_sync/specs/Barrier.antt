@@ -2,6 +2,7 @@
 use Rattle.std.specs.Prelude.{◌≡◌, ℕ, []}
 use Rattle.atomic_table.specs.declared.shared.Seat.{Seat}
 use Rattle.lot_sync.specs.declared.barrier.Barrier.{Barrier}
+use Rattle.lot_sync.specs.declared.barrier.Passed.{Passed}
 use Rattle.lot_sync.specs.declared.barrier.view.View.{View}
 use Rattle.lot_sync.specs.declared.barrier.view.View.TheVariants.{Came}
 
@@ -15,3 +16,7 @@ pub record HasTicket (barrier : Barrier) (ticket : ℕ) (seat : Seat (Unit {0}) 
   pub table : seat.table_id ≡ barrier.table.shared.table_id
   pub seen : ℕ
   pub knows : seat.me ≡ (Came ticket seen, [])
+
+-- the barrier that a caller has passed
+abbrev pub barrier_of : Passed → Barrier
+barrier_of passed = passed.barrier.now

@@ -67,7 +67,7 @@ pub struct Passed<'a> {
 
 impl Barrier {
     ghost use Rattle.std.specs.Prelude.{◌≡◌, IfOk, max};
-    ghost use Rattle.lot_sync.specs.Barrier.{HasTicket};
+    ghost use Rattle.lot_sync.specs.Barrier.{HasTicket, barrier_of};
 
     /// A barrier at which nobody waits, for so many threads, or for one if that is 0. Its waiters
     /// park on the key.
@@ -110,7 +110,9 @@ impl Barrier {
         &self,
         rt: &R,
         member: &mut Member<'_, P>,
-    ) -> Passed<'_> {
+    ) -> Passed<'_>
+        ensures { barrier_of result ≡ self.now }
+    {
         for _ in rt.forever() {
             let ticket = self.word();
             if ticket == u64::MAX {
@@ -134,6 +136,7 @@ impl Barrier {
         ticket: u64,
     ) -> Passed<'_>
         requires { HasTicket self.now ticket seat }
+        ensures { barrier_of result ≡ self.now }
     {
         let mut seat = seat;
         let round = self.round(ticket);

@@ -94,6 +94,7 @@ pub struct WriteHeld<'a, T: Fits> {
 
 impl<T: Fits> RwLock<T> {
     ghost use Rattle.std.specs.Prelude.{◌≡◌, ◌≢◌, None, IfSome, IsSome};
+    ghost use Rattle.lot_sync.specs.RwLock.{lock_read, lock_written};
 
     /// A lock that nobody holds, around a value that fits, whose waiters park on the key. The value
     /// is put in as a writer puts it back.
@@ -136,7 +137,9 @@ impl<T: Fits> RwLock<T> {
         &'a self,
         rt: &R,
         member: &mut Member<'_, P>,
-    ) -> ReadHeld<'a, T> {
+    ) -> ReadHeld<'a, T>
+        ensures { lock_read result ≡ self.now }
+    {
         self.read_by(rt, member, None).unwrap()
     }
 
@@ -149,7 +152,9 @@ impl<T: Fits> RwLock<T> {
         rt: &R,
         member: &mut Member<'_, P>,
         deadline: Instant,
-    ) -> Option<ReadHeld<'a, T>> {
+    ) -> Option<ReadHeld<'a, T>>
+        ensures { IfSome result (λ held. lock_read held ≡ self.now) }
+    {
         self.read_by(rt, member, Some(deadline))
     }
 
@@ -157,7 +162,9 @@ impl<T: Fits> RwLock<T> {
     /// another thread changed the word at that moment. It waits for nobody.
     ///
     /// Upstream has it under this name, and tries again where the word changed.
-    pub fn try_read(&self) -> Option<ReadHeld<'_, T>> {
+    pub fn try_read(&self) -> Option<ReadHeld<'_, T>>
+        ensures { IfSome result (λ held. lock_read held ≡ self.now) }
+    {
         let word = self.slot.load();
         if lets_read(word, false) {
             self.enter(word, word + ONE_READER)
@@ -178,7 +185,8 @@ impl<T: Fits> RwLock<T> {
         rt: &R,
         member: &mut Member<'_, P>,
     ) -> WriteHeld<'a, T>
-        ensures { T.fits result.value }
+        ensures fits { T.fits result.value }
+        ensures lock { lock_written result ≡ self.now }
     {
         self.write_by(rt, member, None).unwrap()
     }
@@ -193,7 +201,8 @@ impl<T: Fits> RwLock<T> {
         member: &mut Member<'_, P>,
         deadline: Instant,
     ) -> Option<WriteHeld<'a, T>>
-        ensures { IfSome result (λ held. T.fits held.value) }
+        ensures fits { IfSome result (λ held. T.fits held.value) }
+        ensures lock { IfSome result (λ held. lock_written held ≡ self.now) }
     {
         self.write_by(rt, member, Some(deadline))
     }
@@ -203,7 +212,8 @@ impl<T: Fits> RwLock<T> {
     ///
     /// Upstream has it under this name.
     pub fn try_write(&self) -> Option<WriteHeld<'_, T>>
-        ensures { IfSome result (λ held. T.fits held.value) }
+        ensures fits { IfSome result (λ held. T.fits held.value) }
+        ensures lock { IfSome result (λ held. lock_written held ≡ self.now) }
     {
         let word = self.slot.load();
         if lets_write(word) {
@@ -220,7 +230,8 @@ impl<T: Fits> RwLock<T> {
         member: &mut Member<'_, P>,
         deadline: Option<Instant>,
     ) -> Option<ReadHeld<'a, T>>
-        ensures { deadline ≡ None → IsSome result }
+        ensures lock { IfSome result (λ held. lock_read held ≡ self.now) }
+        ensures lasts { deadline ≡ None → IsSome result }
     {
         let mut spin = SpinWait::new();
         let mut is_woken = false;
@@ -248,6 +259,7 @@ impl<T: Fits> RwLock<T> {
         deadline: Option<Instant>,
     ) -> Option<WriteHeld<'a, T>>
         ensures fits { IfSome result (λ held. T.fits held.value) }
+        ensures lock { IfSome result (λ held. lock_written held ≡ self.now) }
         ensures lasts { deadline ≡ None → IsSome result }
     {
         let mut spin = SpinWait::new();
@@ -377,6 +389,8 @@ impl<'a, T: Fits> ReadHeld<'a, T> {
 }
 
 impl<'a, T: Fits> WriteHeld<'a, T> {
+    ghost use Rattle.lot_sync.specs.RwLock.{lock_read, lock_written};
+
     /// Puts the value back, which has to fit, and lets the lock go. The member is one of the lot
     /// with which the others lock.
     ///
@@ -407,6 +421,7 @@ impl<'a, T: Fits> WriteHeld<'a, T> {
         member: &Member<'_, P>,
     ) -> ReadHeld<'a, T>
         requires { T.fits self.value }
+        ensures { lock_read result ≡ lock_written self.entry }
     {
         let WriteHeld { value, lock } = self;
         let (word, claim) = lock.take_back(rt);

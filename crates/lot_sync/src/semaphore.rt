@@ -62,7 +62,8 @@ pub struct Permit<'a> {
 }
 
 impl Semaphore {
-    ghost use Rattle.std.specs.Prelude.{◌≡◌, ◌≢◌, None, IfOk, IsSome};
+    ghost use Rattle.std.specs.Prelude.{◌≡◌, ◌≢◌, None, IfOk, IfSome, IsSome};
+    ghost use Rattle.lot_sync.specs.Semaphore.{semaphore_of};
 
     /// A semaphore with so many permits, all of them free, whose waiters park on the key. There are
     /// never more.
@@ -114,7 +115,9 @@ impl Semaphore {
         &self,
         rt: &R,
         member: &mut Member<'_, P>,
-    ) -> Permit<'_> {
+    ) -> Permit<'_>
+        ensures { semaphore_of result ≡ self.now }
+    {
         self.acquire_by(rt, member, None).unwrap()
     }
 
@@ -125,13 +128,17 @@ impl Semaphore {
         rt: &R,
         member: &mut Member<'_, P>,
         deadline: Instant,
-    ) -> Option<Permit<'_>> {
+    ) -> Option<Permit<'_>>
+        ensures { IfSome result (λ permit. semaphore_of permit ≡ self.now) }
+    {
         self.acquire_by(rt, member, Some(deadline))
     }
 
     /// Takes a permit if one is free. `None` says that none was, or that another thread changed the
     /// word at that moment. It waits for nobody and takes no lock.
-    pub fn try_acquire(&self) -> Option<Permit<'_>> {
+    pub fn try_acquire(&self) -> Option<Permit<'_>>
+        ensures { IfSome result (λ permit. semaphore_of permit ≡ self.now) }
+    {
         let word = self.word();
         if has_free(word) {
             self.take(word)
@@ -147,7 +154,8 @@ impl Semaphore {
         member: &mut Member<'_, P>,
         deadline: Option<Instant>,
     ) -> Option<Permit<'_>>
-        ensures { deadline ≡ None → IsSome result }
+        ensures semaphore { IfSome result (λ permit. semaphore_of permit ≡ self.now) }
+        ensures lasts { deadline ≡ None → IsSome result }
     {
         let mut spin = SpinWait::new();
         for _ in rt.forever() {

@@ -30,7 +30,7 @@ pub struct OnceValue<T: Fits> {
 }
 
 impl<T: Fits> OnceValue<T> {
-    ghost use Rattle.std.specs.Prelude.{IfSome};
+    ghost use Rattle.std.specs.Prelude.{◌≡◌, IfOk, IfSome};
 
     /// A cell with no value, whose waiters park on the key.
     ///
@@ -39,12 +39,21 @@ impl<T: Fits> OnceValue<T> {
     /// # Errors
     ///
     /// `NoMemory` if a request for memory was refused.
-    pub fn new(alloc: Global, key: usize) -> Result<OnceValue<T>, NoMemory> {
+    pub fn new(alloc: Global, key: usize) -> Result<OnceValue<T>, NoMemory>
+        ensures { IfOk result (λ cell. cell.once.key ≡ key) }
+    {
         let once = Once::new(alloc, key)?;
         Ok(OnceValue {
             once,
             cell: OnceLock::new(),
         })
+    }
+
+    /// The key on which its waiters park.
+    pub fn key(&self) -> usize
+        ensures { result ≡ self.now.once.key }
+    {
+        self.once.key()
     }
 
     /// The value, if there is one by now. It fits.

@@ -2,6 +2,7 @@
 
 ghost use Rattle.std.specs.Prelude.{◌≡◌, ◌+◌, IfSome};
 ghost use Rattle.counted_slot.specs.Counting.{readers, IsShared};
+ghost use Rattle.lot_sync.specs.RwLock.{lock_read, lock_written};
 ghost use Rattle.lot_sync.specs.RwRule.{IsStep};
 ghost use Rattle.lot_sync.specs.RwWord.{IsIdle, out};
 ghost use Rattle.lot_sync.specs.declared.rw_lock.view.View.TheVariants.{Resting, Reading, Moving, Writing};
@@ -40,6 +41,7 @@ impl<T: Fits> RwLock<T> {
     /// Counts a reader more if the word is still the first, by writing the other.
     pub(super) fn enter(&self, word: u64, new: u64) -> Option<ReadHeld<'_, T>>
         requires { IsStep Resting Reading word new }
+        ensures { IfSome result (λ held. lock_read held ≡ self.now) }
     {
         self.count(word, new)
     }
@@ -47,13 +49,16 @@ impl<T: Fits> RwLock<T> {
     // The same for a writer that has put the value back, while the word still tells that it is out.
     fn enter_back(&self, word: u64, new: u64) -> Option<ReadHeld<'_, T>>
         requires { IsStep Writing Reading word new }
+        ensures { IfSome result (λ held. lock_read held ≡ self.now) }
     {
         self.count(word, new)
     }
 
     /// Lends the value to the writer that has put it back, where the word still tells that it is
     /// out, and lets other readers in. Answers the word as it was, too.
-    pub(super) fn read_first<'a, R: Wait>(&'a self, rt: &R) -> (u64, ReadHeld<'a, T>) {
+    pub(super) fn read_first<'a, R: Wait>(&'a self, rt: &R) -> (u64, ReadHeld<'a, T>)
+        ensures { lock_read result.1 ≡ self.now }
+    {
         for _ in rt.forever() {
             let word = self.slot.load();
             if lets_put_back(word) {
@@ -70,6 +75,7 @@ impl<T: Fits> RwLock<T> {
         requires before { IsShared word }
         requires shared { IsShared new }
         requires count { readers new ≡ readers word + 1 }
+        ensures { IfSome result (λ held. lock_read held ≡ self.now) }
     {
         let (found, claim) = self.slot.turn(word, new);
         if found != word {
@@ -83,6 +89,7 @@ impl<T: Fits> RwLock<T> {
     // a reader finds it there; no contract says that.
     fn lend<'a>(&'a self, claim: Claim<'a, Option<Stored<T>>>) -> Option<ReadHeld<'a, T>>
         requires { claim.right ≡ 1 }
+        ensures { IfSome result (λ held. lock_read held ≡ self.now) }
     {
         if claim.get().is_none() {
             claim.leave();
@@ -94,7 +101,8 @@ impl<T: Fits> RwLock<T> {
     /// Takes the value out if the word is still this one.
     pub(super) fn take_out(&self, word: u64) -> Option<WriteHeld<'_, T>>
         requires { IsStep Resting Moving word 3 }
-        ensures { IfSome result (λ held. T.fits held.value) }
+        ensures fits { IfSome result (λ held. T.fits held.value) }
+        ensures lock { IfSome result (λ held. lock_written held ≡ self.now) }
     {
         let claim = self.take(word)?;
         let stored = RwLock::put_out(claim, None, with_value_out(word))?;

@@ -1,7 +1,7 @@
 //! The steps of one caller on the word of a semaphore, and its parts.
 
-ghost use Rattle.std.specs.Prelude.{◌≡◌, ◌%◌, ◌≤◌, IsTrue};
-ghost use Rattle.lot_sync.specs.Semaphore.{IsSeat};
+ghost use Rattle.std.specs.Prelude.{◌≡◌, ◌%◌, ◌≤◌, IsTrue, IfSome};
+ghost use Rattle.lot_sync.specs.Semaphore.{IsSeat, semaphore_of};
 ghost use Rattle.lot_sync.specs.declared.semaphore.view.View.TheVariants.{Resting, Holding};
 
 use super::plays::{Arrive, Give, Note, Take};
@@ -48,6 +48,7 @@ impl Semaphore {
     /// Takes a permit, if the word is still this one, which tells that one is free.
     pub(super) fn take(&self, word: u64) -> Option<Permit<'_>>
         requires { 2 ≤ word }
+        ensures { IfSome result (λ permit. semaphore_of permit ≡ self.now) }
     {
         let mut seat = self.arrive();
         if !self.take_from(&mut seat, word) {
