@@ -1,5 +1,6 @@
 //! Worked rows of scripts, and readers and writers that fail.
 
+mod by_line;
 mod ends;
 mod small;
 mod terminal;
