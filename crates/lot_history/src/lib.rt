@@ -8,6 +8,4 @@ pub mod history;
 pub mod laws;
 pub mod plays;
 pub mod steps;
-#[cfg(test)]
-mod tests;
 pub mod view;

@@ -9,6 +9,4 @@ mod mail;
 pub mod member;
 mod registry;
 mod sections;
-#[cfg(test)]
-mod tests;
 mod told;

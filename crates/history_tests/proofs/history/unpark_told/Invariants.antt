@@ -1,4 +1,4 @@
-use Rattle.lot_history.proofs.tests.unpark_told.Given as goal
+use Rattle.history_tests.proofs.history.unpark_told.Given as goal
 
 -- nobody is taken
 abbrev pub ghost-add : goal.ghost-add

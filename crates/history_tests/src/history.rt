@@ -1,3 +1,5 @@
+//! Witnesses of one history, who tell, hear and add steps of their own.
+
 ghost use Rattle.std.specs.Prelude.{◌≡◌, ◌<◌, ◌∷◌, ◌++◌, [], false, List};
 ghost use mathlib.Core.List.{IsPrefix};
 ghost use Rattle.lot_base.specs.Place.{place_of};
@@ -8,10 +10,10 @@ ghost use Rattle.lot_history.specs.Tells.{event};
 ghost use Rattle.lot_history.specs.Witness.{Adds, Extends, IsStill, IsWitnessOf, events_of, max_threads_of, number_of, pieces_of, seen_by};
 ghost use Rattle.lot_history.specs.declared.view.Piece.TheVariants.{Numbers};
 
-use crate::history::{History, Part, Witness};
-use crate::plays::Told;
 use lot_base::token::{UnparkResult, UnparkToken};
 use lot_exclusive::schedule::{Answer, Op, Step};
+use lot_history::history::{History, Part, Witness};
+use lot_history::plays::Told;
 use std::marker::Brand;
 use std::test::*;
 use std::thread::{Threads, join};

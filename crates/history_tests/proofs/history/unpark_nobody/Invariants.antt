@@ -4,7 +4,7 @@ use Rattle.lot_base.specs.declared.token.UnparkToken.{UnparkToken}
 use Rattle.lot_exclusive.specs.declared.schedule.Answer.TheVariants as answer
 use Rattle.lot_exclusive.specs.declared.schedule.Op.TheVariants as op
 use Rattle.lot_exclusive.specs.declared.schedule.Step.TheVariants as step
-use Rattle.lot_history.proofs.tests.unpark_nobody.Given as goal
+use Rattle.history_tests.proofs.history.unpark_nobody.Given as goal
 
 abbrev nobody : UnparkResult
 nobody = record { unparked_threads = 0; requeued_threads = 0; have_more_threads = false }

@@ -1,7 +1,9 @@
-use crate::lot::Lot;
-use crate::member::Member;
+//! Members of a lot whose calls are one history, who park and unpark.
+
 use lot_base::thread_parker::{ThreadParker, ThreadParkerT, WordParker, YieldParker};
 use lot_base::token::{DEFAULT_PARK_TOKEN, LotError, ParkResult, UnparkToken};
+use lot_witnessed::lot::Lot;
+use lot_witnessed::member::Member;
 use std::alloc::Global;
 use std::process::Abort;
 use std::sync::Wait;

@@ -1,5 +1,5 @@
 use Rattle.std.proofs.Common.{true, false, [], ◌∷◌}
-use Rattle.lot_history.proofs.tests.register_and_retire.Given as goal
+use Rattle.history_tests.proofs.history.register_and_retire.Given as goal
 
 -- number 0 alone is registered, and none in the end
 abbrev pub ghost-register : goal.ghost-register

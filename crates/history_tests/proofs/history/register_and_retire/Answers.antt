@@ -6,8 +6,8 @@ use Rattle.lot_history.specs.declared.view.Piece.TheVariants.{Numbers, Records, 
 use Rattle.lot_history.specs.Views.{first_of, rest_of}
 use Rattle.lot_history.specs.Witness.{pieces_in, pieces_of}
 use Rattle.lot_history.proofs.NumberLemmas.{one_more_set}
-use Rattle.lot_history.proofs.tests.register_and_retire.Goals as goal
-use Rattle.lot_history.proofs.tests.register_and_retire.Goals.{After-acquire}
+use Rattle.history_tests.proofs.history.register_and_retire.Goals as goal
+use Rattle.history_tests.proofs.history.register_and_retire.Goals.{After-acquire}
 
 -- what the witness has once a key is recorded, and what the numbers' part has
 acquired : (c : After-acquire)

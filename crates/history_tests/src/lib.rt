@@ -1,0 +1,7 @@
+//! Tests of public calls of the history, and of the lot whose calls are one.
+#![tactic(auto)]
+
+#[cfg(test)]
+mod history;
+#[cfg(test)]
+mod witnessed;
