@@ -1,6 +1,6 @@
 //! A barrier: one thread alone, and four threads round after round.
 
-use crate::{expect_equal, register};
+use crate::{expect_equal, lot_for, register};
 use lot_base::thread_parker::{ThreadParker, ThreadParkerT, WordParker, YieldParker};
 use lot_sync::barrier::Barrier;
 use parking_lot_core::ParkingLot;
@@ -8,7 +8,6 @@ use std::alloc::Global;
 use std::process::Abort;
 use std::sync::Wait;
 use std::sync::atomic::{AtomicUsize, Ordering};
-use std::test::Fail;
 use std::thread;
 use std::thread::Threads;
 use std::time::Clock;
@@ -19,19 +18,17 @@ const ROUNDS: usize = 1_000;
 
 // A barrier for none is one for one.
 #[test]
-fn one_thread_leads_each_round_of_its_own(rt: HostRuntime) -> Result<(), Fail> {
-    let lot = ParkingLot::<WordParker>::new(rt.alloc(), 1)?;
+fn one_thread_leads_each_round_of_its_own(rt: HostRuntime) {
+    let lot = lot_for(&rt, rt.alloc(), 1);
     let mut member = register(&rt, rt.alloc(), &lot);
     for threads in 0..2 {
-        let barrier = Barrier::new(rt.alloc(), 3, threads)?;
+        let barrier = Barrier::new(rt.alloc(), 3, threads).expect(&rt, "a barrier");
         expect_equal(&rt, barrier.key(), 3);
         for _ in 0..3 {
             let passed = barrier.wait(&rt, &mut member);
             expect_equal(&rt, passed.is_leader(), true);
         }
     }
-    member.retire(&rt);
-    Ok(())
 }
 
 #[derive(Drop)]

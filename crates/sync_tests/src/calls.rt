@@ -1,7 +1,8 @@
 //! Each call once, by one thread.
 
 use crate::pair::Pair;
-use crate::{expect_equal, register};
+use crate::scene::now;
+use crate::{expect_equal, lot_for, register};
 use lot_base::thread_parker::WordParker;
 use lot_sync::keys::Keys;
 use lot_sync::mutex::{Condvar, Mutex, WaitResult};
@@ -15,34 +16,32 @@ use std::cell::Cell;
 use std::process::Abort;
 use std::sync::Wait;
 use std::sync::atomic::{AtomicUsize, Ordering};
-use std::test::Fail;
 use std::time::{Clock, Instant};
 
 #[test]
-fn keys_are_dealt_once(rt: HostRuntime) -> Result<(), Fail> {
+fn keys_are_dealt_once(rt: HostRuntime) {
     let keys = Keys::new();
-    expect_equal(&rt, (keys.deal(), keys.deal()), (Some(0), Some(1)));
+    expect_equal(&rt, keys.deal(), Some(0));
+    expect_equal(&rt, keys.deal(), Some(1));
     let last = Keys::starting_at(usize::MAX - 1);
     expect_equal(&rt, last.deal(), Some(usize::MAX - 1));
     expect_equal(&rt, last.deal(), None);
     expect_equal(&rt, last.deal(), None);
-    Ok(())
 }
 
 #[test]
-fn a_member_registers_and_retires(rt: HostRuntime) -> Result<(), Fail> {
-    let lot = ParkingLot::<WordParker>::new(rt.alloc(), 1)?;
+fn a_member_registers_and_retires(rt: HostRuntime) {
+    let lot = lot_for(&rt, rt.alloc(), 1);
     let mut member = register(&rt, rt.alloc(), &lot);
     expect_equal(&rt, member.number(), 0);
     expect_equal(&rt, member.lot().max_threads(), 1);
-    member.acquire_resource(5)?;
+    member.acquire_resource(5).expect(&rt, "a record");
     expect_equal(&rt, member.records(5), 1);
     member.release_resource(5);
     expect_equal(&rt, member.records(5), 0);
     member.retire(&rt);
     let again = register(&rt, rt.alloc(), &lot);
     expect_equal(&rt, again.number(), 0);
-    Ok(())
 }
 
 // Parks, is seen by a filter, and is unparked. Answers what the filter saw.
@@ -73,30 +72,26 @@ fn token_seen<R: Wait + Clock + Abort>(
 }
 
 #[test]
-fn a_member_parks_with_its_token_and_is_unparked(rt: HostRuntime) -> Result<(), Fail> {
-    let lot = ParkingLot::<WordParker>::new(rt.alloc(), 1)?;
+fn a_member_parks_with_its_token_and_is_unparked(rt: HostRuntime) {
+    let lot = lot_for(&rt, rt.alloc(), 1);
     let mut member = register(&rt, rt.alloc(), &lot);
-    for timeout in [None, Some(Instant::now(&rt)?)] {
+    for timeout in [None, Some(now(&rt))] {
         let seen = token_seen(&rt, &lot, &mut member, timeout);
         expect_equal(&rt, seen, ParkToken(usize::MAX));
     }
-    Ok(())
 }
 
 #[test]
-fn data_whose_number_the_lot_has_not_comes_back(rt: HostRuntime) -> Result<(), Fail> {
-    let small = ParkingLot::<WordParker>::new(rt.alloc(), 1)?;
-    let lot = ParkingLot::<WordParker>::new(rt.alloc(), 2)?;
-    drop(lot.thread_data(&rt, rt.alloc())?);
-    let refused = Member::of(&small, lot.thread_data(&rt, rt.alloc())?);
-    let back = refused
-        .err()
-        .expect(&rt, "a number that is none of the lot's");
-    let member = Member::of(&lot, back)
-        .ok()
-        .expect(&rt, "a number of the lot's");
+fn data_whose_number_the_lot_has_not_comes_back(rt: HostRuntime) {
+    let small = lot_for(&rt, rt.alloc(), 1);
+    let lot = lot_for(&rt, rt.alloc(), 2);
+    drop(lot.thread_data(&rt, rt.alloc()).expect(&rt, "the number 0"));
+    let data = lot.thread_data(&rt, rt.alloc()).expect(&rt, "the number 1");
+    let refused = Member::of(&small, data).err();
+    let back = refused.expect(&rt, "a number that is none of the lot's");
+    let accepted = Member::of(&lot, back).ok();
+    let member = accepted.expect(&rt, "a number of the lot's");
     expect_equal(&rt, member.number(), 1);
-    Ok(())
 }
 
 // Tries a mutex that is held, up to the instant.
@@ -138,14 +133,11 @@ fn lock_in_each_way<R: Wait + Clock + Abort>(
 }
 
 #[test]
-fn a_mutex_is_locked_in_each_way(rt: HostRuntime) -> Result<(), Fail> {
-    let lot = ParkingLot::<WordParker>::new(rt.alloc(), 1)?;
-    let mutex = Mutex::new(rt.alloc(), 3, Pair::new())?;
+fn a_mutex_is_locked_in_each_way(rt: HostRuntime) {
+    let lot = lot_for(&rt, rt.alloc(), 1);
+    let mutex = Mutex::new(rt.alloc(), 3, Pair::new()).expect(&rt, "a mutex");
     let mut member = register(&rt, rt.alloc(), &lot);
-    let past = Instant::now(&rt)?;
-    lock_in_each_way(&rt, &mut member, &mutex, past);
-    member.retire(&rt);
-    Ok(())
+    lock_in_each_way(&rt, &mut member, &mutex, now(&rt));
 }
 
 fn wait_in_vain<R: Wait + Clock + Abort>(
@@ -164,15 +156,12 @@ fn wait_in_vain<R: Wait + Clock + Abort>(
 }
 
 #[test]
-fn a_wait_ends_at_its_deadline(rt: HostRuntime) -> Result<(), Fail> {
-    let lot = ParkingLot::<WordParker>::new(rt.alloc(), 1)?;
-    let mutex = Mutex::new(rt.alloc(), 3, Pair::new())?;
+fn a_wait_ends_at_its_deadline(rt: HostRuntime) {
+    let lot = lot_for(&rt, rt.alloc(), 1);
+    let mutex = Mutex::new(rt.alloc(), 3, Pair::new()).expect(&rt, "a mutex");
     let condvar = Condvar::new(4);
     let mut member = register(&rt, rt.alloc(), &lot);
-    let past = Instant::now(&rt)?;
-    wait_in_vain(&rt, &mut member, &mutex, &condvar, past);
-    member.retire(&rt);
-    Ok(())
+    wait_in_vain(&rt, &mut member, &mutex, &condvar, now(&rt));
 }
 
 // Tries to write to a lock that is held, up to the instant.
@@ -233,20 +222,17 @@ fn read_and_write<R: Wait + Clock + Abort>(
 }
 
 #[test]
-fn a_lock_is_read_and_written(rt: HostRuntime) -> Result<(), Fail> {
-    let lot = ParkingLot::<WordParker>::new(rt.alloc(), 1)?;
+fn a_lock_is_read_and_written(rt: HostRuntime) {
+    let lot = lot_for(&rt, rt.alloc(), 1);
     let lock = RwLock::new(&rt, 3, Pair::new());
     let mut member = register(&rt, rt.alloc(), &lot);
-    let past = Instant::now(&rt)?;
-    read_and_write(&rt, &mut member, &lock, past);
-    member.retire(&rt);
-    Ok(())
+    read_and_write(&rt, &mut member, &lock, now(&rt));
 }
 
 #[test]
-fn a_once_runs_one_closure(rt: HostRuntime) -> Result<(), Fail> {
-    let lot = ParkingLot::<WordParker>::new(rt.alloc(), 1)?;
-    let once = Once::new(rt.alloc(), 3)?;
+fn a_once_runs_one_closure(rt: HostRuntime) {
+    let lot = lot_for(&rt, rt.alloc(), 1);
+    let once = Once::new(rt.alloc(), 3).expect(&rt, "a once");
     let mut member = register(&rt, rt.alloc(), &lot);
     let runs = AtomicUsize::new(0);
     expect_equal(&rt, once.is_done(), false);
@@ -258,6 +244,4 @@ fn a_once_runs_one_closure(rt: HostRuntime) -> Result<(), Fail> {
     }
     expect_equal(&rt, once.is_done(), true);
     expect_equal(&rt, runs.load(Ordering::SeqCst), 1);
-    member.retire(&rt);
-    Ok(())
 }

@@ -1,8 +1,9 @@
-//! Four threads count under a mutex, and none of their additions is lost.
+//! Four threads add under a mutex, or are dealt keys, and no step of theirs is lost.
 
 use crate::pair::Pair;
 use crate::{expect_equal, register};
 use lot_base::thread_parker::{ThreadParker, ThreadParkerT, WordParker, YieldParker};
+use lot_sync::keys::Keys;
 use lot_sync::mutex::Mutex;
 use parking_lot_core::ParkingLot;
 use std::alloc::Global;
@@ -77,4 +78,17 @@ fn four_threads_count_together(rt: HostRuntime) {
     all_count::<WordParker, _>(&rt, rt.alloc());
     all_count::<ThreadParker, _>(&rt, rt.alloc());
     all_count::<YieldParker, _>(&rt, rt.alloc());
+}
+
+// No clause says that no key is dealt twice.
+#[test]
+fn four_threads_are_dealt_different_keys(rt: HostRuntime) {
+    let keys = Keys::new();
+    let play = |_: usize| {
+        for _ in 0..ROUNDS {
+            keys.deal();
+        }
+    };
+    thread::map_indices(&rt, rt.alloc(), THREADS, &play).expect(&rt, "threads");
+    expect_equal(&rt, keys.deal(), Some(4_000));
 }

@@ -1,16 +1,12 @@
 //! Locks that go from one thread to a certain other.
 
-use crate::expect_equal;
 use crate::pair::Pair;
-use crate::scene::{Scene, far};
+use crate::scene::{Scene, expect_told, far};
 use lot_sync::mutex::{Condvar, Mutex};
 use lot_sync::rw_lock::RwLock;
-use std::alloc::{AllocError, Global};
+use std::alloc::Global;
 use std::process::Abort;
 use std::sync::Wait;
-use std::test::Fail;
-use std::thread;
-use std::thread::Threads;
 use std::time::Clock;
 
 const KEY: usize = 7;
@@ -118,68 +114,41 @@ impl Shared {
     }
 }
 
-fn hand_over_and_take<R: Threads + Wait + Clock + Abort + Sync>(
-    rt: &R,
-    alloc: Global,
-) -> Result<Vec<bool>, AllocError> {
-    let shared = Shared::new(rt, alloc);
-    let play = |index: usize| {
-        if index == 0 {
-            return shared.hand_over(rt, alloc);
-        }
-        shared.take_over(rt, alloc)
-    };
-    thread::map_indices(rt, alloc, 2, &play)
-}
-
 // It refuses an `unlock_fair` that lets the mutex go, and one that wakes nobody.
 #[test]
-fn a_mutex_that_is_handed_over_is_never_free(rt: HostRuntime) -> Result<(), Fail> {
-    let told = hand_over_and_take(&rt, rt.alloc())?;
-    expect_equal(&rt, told.as_slice(), [false, true].as_slice());
-    Ok(())
-}
-
-fn downgrade_and_read<R: Threads + Wait + Clock + Abort + Sync>(
-    rt: &R,
-    alloc: Global,
-) -> Result<Vec<bool>, AllocError> {
-    let shared = Shared::new(rt, alloc);
+fn a_mutex_that_is_handed_over_is_never_free(rt: HostRuntime) {
+    let shared = Shared::new(&rt, rt.alloc());
     let play = |index: usize| {
         if index == 0 {
-            return shared.downgrade(rt, alloc);
+            return shared.hand_over(&rt, rt.alloc());
         }
-        shared.read_beside(rt, alloc)
+        shared.take_over(&rt, rt.alloc())
     };
-    thread::map_indices(rt, alloc, 2, &play)
+    expect_told(&rt, rt.alloc(), &play, &[false, true]);
 }
 
 // It refuses a downgrade that lets no waiting reader in.
 #[test]
-fn a_downgrade_lets_readers_in(rt: HostRuntime) -> Result<(), Fail> {
-    let told = downgrade_and_read(&rt, rt.alloc())?;
-    expect_equal(&rt, told.as_slice(), [true, true].as_slice());
-    Ok(())
-}
-
-fn notify_two_sleepers<R: Threads + Wait + Clock + Abort + Sync>(
-    rt: &R,
-    alloc: Global,
-) -> Result<Vec<u64>, AllocError> {
-    let shared = Shared::new(rt, alloc);
+fn a_downgrade_lets_readers_in(rt: HostRuntime) {
+    let shared = Shared::new(&rt, rt.alloc());
     let play = |index: usize| {
-        if index == 2 {
-            return shared.notify_each(rt, alloc);
+        if index == 0 {
+            return shared.downgrade(&rt, rt.alloc());
         }
-        shared.sleep(rt, alloc, index)
+        shared.read_beside(&rt, rt.alloc())
     };
-    thread::map_indices(rt, alloc, 3, &play)
+    expect_told(&rt, rt.alloc(), &play, &[true, true]);
 }
 
 // It refuses a notify of one that wakes both, or the one that came last.
 #[test]
-fn each_notify_wakes_the_one_that_sleeps_longest(rt: HostRuntime) -> Result<(), Fail> {
-    let told = notify_two_sleepers(&rt, rt.alloc())?;
-    expect_equal(&rt, told.as_slice(), [0, 1, 0].as_slice());
-    Ok(())
+fn each_notify_wakes_the_one_that_sleeps_longest(rt: HostRuntime) {
+    let shared = Shared::new(&rt, rt.alloc());
+    let play = |index: usize| {
+        if index == 2 {
+            return shared.notify_each(&rt, rt.alloc());
+        }
+        shared.sleep(&rt, rt.alloc(), index)
+    };
+    expect_told(&rt, rt.alloc(), &play, &[0, 1, 0]);
 }

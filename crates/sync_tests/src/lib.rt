@@ -31,7 +31,7 @@ mod semaphore;
 mod woken;
 
 #[cfg(test)]
-use lot_base::thread_parker::ThreadParkerT;
+use lot_base::thread_parker::{ThreadParkerT, WordParker};
 #[cfg(test)]
 use parking_lot_core::{DEFAULT_UNPARK_TOKEN, FilterOp, Member, ParkingLot, unpark_chosen};
 #[cfg(test)]
@@ -49,6 +49,12 @@ use std::sync::Wait;
 #[cfg(test)]
 fn expect_equal<T: PartialEq + Debug + Drop>(rt: &impl Abort, found: T, expected: T) {
     assert_eq!(rt; found, expected);
+}
+
+// A lot for so many threads.
+#[cfg(test)]
+fn lot_for(rt: &impl Abort, alloc: Global, threads: usize) -> ParkingLot<WordParker> {
+    ParkingLot::new(alloc, threads).expect(rt, "a lot")
 }
 
 // Registers the calling thread.

@@ -1,15 +1,11 @@
 //! Sleepers on a condition variable who are notified, moved to the mutex, or late.
 
-use crate::expect_equal;
 use crate::pair::Pair;
-use crate::scene::{Scene, far, later, wait_until_past};
+use crate::scene::{Scene, expect_told, far, later, wait_until_past};
 use lot_sync::mutex::{Condvar, Mutex, WaitResult};
-use std::alloc::{AllocError, Global};
+use std::alloc::Global;
 use std::process::Abort;
 use std::sync::Wait;
-use std::test::Fail;
-use std::thread;
-use std::thread::Threads;
 use std::time::{Clock, Instant};
 
 const KEY: usize = 7;
@@ -67,48 +63,30 @@ impl Shared {
     }
 }
 
-fn notified<R: Threads + Wait + Clock + Abort + Sync>(
-    rt: &R,
-    alloc: Global,
-) -> Result<Vec<bool>, AllocError> {
-    let shared = Shared::new(rt, alloc);
-    let play = |index: usize| {
-        if index == 2 {
-            return shared.notify_two(rt, alloc);
-        }
-        shared.sleep(rt, alloc, far(rt))
-    };
-    thread::map_indices(rt, alloc, 3, &play)
-}
-
 // It refuses a notify of all that wakes the first and forgets that another was moved.
 #[test]
-fn both_sleepers_on_a_free_mutex_come_back(rt: HostRuntime) -> Result<(), Fail> {
-    let told = notified(&rt, rt.alloc())?;
-    expect_equal(&rt, told.as_slice(), [true, true, true].as_slice());
-    Ok(())
-}
-
-fn notified_late<R: Threads + Wait + Clock + Abort + Sync>(
-    rt: &R,
-    alloc: Global,
-) -> Result<Vec<bool>, AllocError> {
-    let shared = Shared::new(rt, alloc);
-    let play = |index: usize| match index {
-        0 => {
-            shared.sleep(rt, alloc, later(rt));
-            true
+fn both_sleepers_on_a_free_mutex_come_back(rt: HostRuntime) {
+    let shared = Shared::new(&rt, rt.alloc());
+    let play = |index: usize| {
+        if index == 2 {
+            return shared.notify_two(&rt, rt.alloc());
         }
-        1 => shared.sleep_second(rt, alloc),
-        _ => shared.notify_late(rt, alloc),
+        shared.sleep(&rt, rt.alloc(), far(&rt))
     };
-    thread::map_indices(rt, alloc, 3, &play)
+    expect_told(&rt, rt.alloc(), &play, &[true; 3]);
 }
 
 // It refuses a deadline that passes on the mutex and takes the note of those who still sleep.
 #[test]
-fn one_that_is_late_on_the_mutex_leaves_the_other_asleep(rt: HostRuntime) -> Result<(), Fail> {
-    let told = notified_late(&rt, rt.alloc())?;
-    expect_equal(&rt, told.as_slice(), [true, true, true].as_slice());
-    Ok(())
+fn one_that_is_late_on_the_mutex_leaves_the_other_asleep(rt: HostRuntime) {
+    let shared = Shared::new(&rt, rt.alloc());
+    let play = |index: usize| match index {
+        0 => {
+            shared.sleep(&rt, rt.alloc(), later(&rt));
+            true
+        }
+        1 => shared.sleep_second(&rt, rt.alloc()),
+        _ => shared.notify_late(&rt, rt.alloc()),
+    };
+    expect_told(&rt, rt.alloc(), &play, &[true; 3]);
 }

@@ -1,16 +1,15 @@
 //! What is done once, and a cell that is filled once, by four threads.
 
-use crate::scene::Scene;
+use crate::scene::{Scene, expect_told};
 use crate::{expect_equal, register};
 use lot_base::thread_parker::{ThreadParker, ThreadParkerT, WordParker, YieldParker};
 use lot_sync::fits::Fits;
 use lot_sync::once::{Once, OnceValue};
 use parking_lot_core::ParkingLot;
-use std::alloc::{AllocError, Global};
+use std::alloc::Global;
 use std::process::Abort;
 use std::sync::Wait;
 use std::sync::atomic::{AtomicBool, AtomicUsize, Ordering};
-use std::test::Fail;
 use std::thread;
 use std::thread::Threads;
 use std::time::Clock;
@@ -136,26 +135,17 @@ fn come<R: Wait + Clock + Abort>(
     is_done.load(Ordering::SeqCst) && !ran
 }
 
-fn two_come_meanwhile<R: Threads + Wait + Clock + Abort + Sync>(
-    rt: &R,
-    alloc: Global,
-) -> Result<Vec<bool>, AllocError> {
-    let scene = Scene::new(rt, alloc);
-    let once = Once::new(alloc, 0).expect(rt, "a once");
-    let is_done = AtomicBool::new(false);
-    let play = |index: usize| match index {
-        0 => run_long(rt, alloc, &scene, &once, &is_done),
-        1 => come(rt, alloc, &scene, &once, &is_done, 0),
-        _ => come(rt, alloc, &scene, &once, &is_done, 1),
-    };
-    thread::map_indices(rt, alloc, 3, &play)
-}
-
 // It refuses a caller that goes on while what is done once runs still, as one that comes behind
 // another who waits.
 #[test]
-fn all_who_come_meanwhile_wait_until_it_is_done(rt: HostRuntime) -> Result<(), Fail> {
-    let told = two_come_meanwhile(&rt, rt.alloc())?;
-    expect_equal(&rt, told.as_slice(), [true, true, true].as_slice());
-    Ok(())
+fn all_who_come_meanwhile_wait_until_it_is_done(rt: HostRuntime) {
+    let scene = Scene::new(&rt, rt.alloc());
+    let once = Once::new(rt.alloc(), 0).expect(&rt, "a once");
+    let is_done = AtomicBool::new(false);
+    let play = |index: usize| match index {
+        0 => run_long(&rt, rt.alloc(), &scene, &once, &is_done),
+        1 => come(&rt, rt.alloc(), &scene, &once, &is_done, 0),
+        _ => come(&rt, rt.alloc(), &scene, &once, &is_done, 1),
+    };
+    expect_told(&rt, rt.alloc(), &play, &[true; 3]);
 }

@@ -1,13 +1,17 @@
 //! A lot on which threads act in an order that the test says.
 
-use crate::register;
+ghost use Rattle.std.specs.Prelude.{ℕ, ◌<◌, length};
+
+use crate::{expect_equal, lot_for, register};
 use lot_base::thread_parker::WordParker;
 use parking_lot_core::{Member, ParkingLot};
 use std::alloc::Global;
+use std::fmt::Debug;
 use std::process::Abort;
 use std::sync::Wait;
 use std::sync::atomic::{AtomicUsize, Ordering};
 use std::thread;
+use std::thread::Threads;
 use std::time::{Clock, Duration, Instant};
 
 // So often a thread yields before it gives a step up.
@@ -30,7 +34,7 @@ pub struct Scene {
 impl Scene {
     pub fn new<R: Abort>(rt: &R, alloc: Global) -> Scene {
         Scene {
-            lot: ParkingLot::new(alloc, 4).expect(rt, "a lot"),
+            lot: lot_for(rt, alloc, 4),
             step: AtomicUsize::new(0),
         }
     }
@@ -74,9 +78,26 @@ impl Scene {
     }
 }
 
+// Has as many threads play as are to tell something, and compares what each tells.
+pub fn expect_told<T, F, R>(rt: &R, alloc: Global, play: &F, expected: &[T])
+where
+    T: PartialEq + Debug + Drop + Send,
+    F: Fn(usize) -> T + Sync,
+    R: Threads + Abort + Sync,
+    requires { (index : ℕ) → index < length expected.now → F.pre play.now index }
+{
+    let told = thread::map_indices(rt, alloc, expected.len(), play).expect(rt, "threads");
+    expect_equal(rt, told.as_slice(), expected);
+}
+
+// A deadline that has passed.
+pub fn now<R: Clock + Abort>(rt: &R) -> Instant {
+    Instant::now(rt).expect(rt, "a clock")
+}
+
 fn instant_in<R: Clock + Abort>(rt: &R, milliseconds: u64) -> Instant {
-    let now = Instant::now(rt).expect(rt, "a clock");
-    now.checked_add(Duration::from_millis(milliseconds))
+    now(rt)
+        .checked_add(Duration::from_millis(milliseconds))
         .expect(rt, "an instant")
 }
 
@@ -98,7 +119,7 @@ pub fn later<R: Clock + Abort>(rt: &R) -> Instant {
 // Waits until the instant has passed.
 pub fn wait_until_past<R: Clock + Abort>(rt: &R, instant: Instant) {
     for _ in 0..100 * TURNS {
-        if Instant::now(rt).expect(rt, "a clock") > instant {
+        if now(rt) > instant {
             return;
         }
         thread::yield_now();

@@ -1,6 +1,7 @@
 //! A semaphore: each call by one thread, and four threads on two permits.
 
-use crate::{expect_equal, register};
+use crate::scene::now;
+use crate::{expect_equal, lot_for, register};
 use lot_base::thread_parker::{ThreadParker, ThreadParkerT, WordParker, YieldParker};
 use lot_sync::semaphore::Semaphore;
 use parking_lot_core::{Member, ParkingLot};
@@ -8,7 +9,6 @@ use std::alloc::Global;
 use std::process::Abort;
 use std::sync::Wait;
 use std::sync::atomic::{AtomicUsize, Ordering};
-use std::test::Fail;
 use std::thread;
 use std::thread::Threads;
 use std::time::{Clock, Instant};
@@ -57,39 +57,32 @@ fn acquire_in_each_way<R: Wait + Clock + Abort>(
 }
 
 #[test]
-fn a_semaphore_is_acquired_in_each_way(rt: HostRuntime) -> Result<(), Fail> {
-    let lot = ParkingLot::<WordParker>::new(rt.alloc(), 1)?;
-    let semaphore = Semaphore::new(rt.alloc(), 3, 2)?;
-    expect_equal(&rt, (semaphore.key(), semaphore.permits()), (3, 2));
+fn a_semaphore_is_acquired_in_each_way(rt: HostRuntime) {
+    let lot = lot_for(&rt, rt.alloc(), 1);
+    let semaphore = Semaphore::new(rt.alloc(), 3, 2).expect(&rt, "a semaphore");
+    expect_equal(&rt, semaphore.key(), 3);
+    expect_equal(&rt, semaphore.permits(), 2);
     let mut member = register(&rt, rt.alloc(), &lot);
-    let past = Instant::now(&rt)?;
-    acquire_in_each_way(&rt, &mut member, &semaphore, past);
-    member.retire(&rt);
-    Ok(())
+    acquire_in_each_way(&rt, &mut member, &semaphore, now(&rt));
 }
 
 #[test]
-fn a_semaphore_of_no_permits_has_none(rt: HostRuntime) -> Result<(), Fail> {
-    let lot = ParkingLot::<WordParker>::new(rt.alloc(), 1)?;
-    let semaphore = Semaphore::new(rt.alloc(), 3, 0)?;
+fn a_semaphore_of_no_permits_has_none(rt: HostRuntime) {
+    let lot = lot_for(&rt, rt.alloc(), 1);
+    let semaphore = Semaphore::new(rt.alloc(), 3, 0).expect(&rt, "a semaphore");
     let mut member = register(&rt, rt.alloc(), &lot);
-    let past = Instant::now(&rt)?;
-    expect_none_free(&rt, &mut member, &semaphore, past);
-    member.retire(&rt);
-    Ok(())
+    expect_none_free(&rt, &mut member, &semaphore, now(&rt));
 }
 
 #[test]
-fn a_semaphore_has_room_for_all_that_a_number_counts(rt: HostRuntime) -> Result<(), Fail> {
-    let lot = ParkingLot::<WordParker>::new(rt.alloc(), 1)?;
-    let semaphore = Semaphore::new(rt.alloc(), 3, u32::MAX)?;
+fn a_semaphore_has_room_for_all_that_a_number_counts(rt: HostRuntime) {
+    let lot = lot_for(&rt, rt.alloc(), 1);
+    let semaphore = Semaphore::new(rt.alloc(), 3, u32::MAX).expect(&rt, "a semaphore");
     let mut member = register(&rt, rt.alloc(), &lot);
     let permit = semaphore.acquire(&rt, &mut member);
     expect_equal(&rt, semaphore.available(), 4_294_967_294);
     permit.release(&rt, &member);
     expect_equal(&rt, semaphore.available(), 4_294_967_295);
-    member.retire(&rt);
-    Ok(())
 }
 
 #[derive(Drop)]

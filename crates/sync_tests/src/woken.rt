@@ -6,8 +6,9 @@
 
 use crate::calls::{expect_held, expect_no_reader, expect_no_writer};
 use crate::pair::Pair;
+use crate::scene::now;
 use crate::semaphore::expect_none_free;
-use crate::{expect_equal, queue, register};
+use crate::{expect_equal, lot_for, queue, register};
 use lot_base::thread_parker::WordParker;
 use lot_sync::barrier::Barrier;
 use lot_sync::mutex::Mutex;
@@ -203,7 +204,7 @@ fn left_after<R: Wait + Clock + Abort>(
     tokens: [ParkToken; 4],
     release: Release,
 ) -> Left {
-    let lot = ParkingLot::<WordParker>::new(alloc, 6).expect(rt, "a lot");
+    let lot = lot_for(rt, alloc, 6);
     let mut first = register(rt, alloc, &lot);
     let mut second = register(rt, alloc, &lot);
     let mut third = register(rt, alloc, &lot);
@@ -212,7 +213,7 @@ fn left_after<R: Wait + Clock + Abort>(
         lot: &lot,
         actor: register(rt, alloc, &lot),
         other: register(rt, alloc, &lot),
-        past: Instant::now(rt).expect(rt, "a clock"),
+        past: now(rt),
     };
     let left = Cell::new(crew.left(rt, false));
     park_and(rt, &mut first, tokens[0], || {
