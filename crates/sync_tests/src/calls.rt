@@ -1,13 +1,15 @@
 //! Each call once, by one thread.
 
+ghost use Rattle.std.specs.Prelude.{◌≡◌, IfSome};
+
 use crate::pair::Pair;
 use crate::scene::now;
 use crate::{expect_equal, lot_for, register};
 use lot_base::thread_parker::WordParker;
 use lot_sync::keys::Keys;
-use lot_sync::mutex::{Condvar, Mutex, WaitResult};
+use lot_sync::mutex::{Condvar, Held, Mutex, WaitResult};
 use lot_sync::once::Once;
-use lot_sync::rw_lock::RwLock;
+use lot_sync::rw_lock::{ReadHeld, RwLock, WriteHeld};
 use parking_lot_core::{
     DEFAULT_PARK_TOKEN, FilterOp, Member, ParkResult, ParkToken, ParkingLot, UnparkToken,
     unpark_chosen,
@@ -94,6 +96,23 @@ fn data_whose_number_the_lot_has_not_comes_back(rt: HostRuntime) {
     expect_equal(&rt, member.number(), 1);
 }
 
+// Ends a try to lock, and tells whether it had the mutex.
+pub fn had_mutex<R: Wait>(
+    rt: &R,
+    member: &Member<'_, WordParker>,
+    tried: Option<Held<'_, Pair>>,
+) -> bool
+    requires { IfSome tried (λ held. held.value.first ≡ held.value.second) }
+{
+    match tried {
+        Some(held) => {
+            held.unlock(rt, member);
+            true
+        }
+        None => false,
+    }
+}
+
 // Tries a mutex that is held, up to the instant.
 pub fn expect_held<R: Wait + Clock + Abort>(
     rt: &R,
@@ -101,17 +120,12 @@ pub fn expect_held<R: Wait + Clock + Abort>(
     mutex: &Mutex<Pair>,
     past: Instant,
 ) {
-    if let Some(held) = mutex.try_lock() {
-        held.unlock(rt, member);
-        expect_equal(rt, "free", "held");
-    }
-    if let Some(held) = mutex.lock_until(rt, member, past) {
-        held.unlock(rt, member);
-        expect_equal(rt, "free", "held");
-    }
+    expect_equal(rt, had_mutex(rt, member, mutex.try_lock()), false);
+    let tried = mutex.lock_until(rt, member, past);
+    expect_equal(rt, had_mutex(rt, member, tried), false);
 }
 
-fn lock_in_each_way<R: Wait + Clock + Abort>(
+fn lock_and_wait<R: Wait + Clock + Abort>(
     rt: &R,
     member: &mut Member<'_, WordParker>,
     mutex: &Mutex<Pair>,
@@ -121,12 +135,22 @@ fn lock_in_each_way<R: Wait + Clock + Abort>(
     held.value.add_one();
     expect_held(rt, member, mutex, past);
     held.unlock(rt, member);
+}
+
+fn lock_at_once<R: Wait + Abort>(rt: &R, member: &Member<'_, WordParker>, mutex: &Mutex<Pair>) {
     let mut held = mutex.try_lock().expect(rt, "a free mutex");
     held.value.add_one();
     held.unlock_fair(rt, member);
-    let held = mutex
-        .lock_until(rt, member, past)
-        .expect(rt, "a free mutex");
+}
+
+fn lock_until_past<R: Wait + Clock + Abort>(
+    rt: &R,
+    member: &mut Member<'_, WordParker>,
+    mutex: &Mutex<Pair>,
+    past: Instant,
+) {
+    let tried = mutex.lock_until(rt, member, past);
+    let held = tried.expect(rt, "a free mutex");
     expect_equal(rt, held.value.first, 2);
     expect_equal(rt, held.mutex().key(), mutex.key());
     held.unlock(rt, member);
@@ -137,7 +161,9 @@ fn a_mutex_is_locked_in_each_way(rt: HostRuntime) {
     let lot = lot_for(&rt, rt.alloc(), 1);
     let mutex = Mutex::new(rt.alloc(), 3, Pair::new()).expect(&rt, "a mutex");
     let mut member = register(&rt, rt.alloc(), &lot);
-    lock_in_each_way(&rt, &mut member, &mutex, now(&rt));
+    lock_and_wait(&rt, &mut member, &mutex, now(&rt));
+    lock_at_once(&rt, &member, &mutex);
+    lock_until_past(&rt, &mut member, &mutex, now(&rt));
 }
 
 fn wait_in_vain<R: Wait + Clock + Abort>(
@@ -164,6 +190,23 @@ fn a_wait_ends_at_its_deadline(rt: HostRuntime) {
     wait_in_vain(&rt, &mut member, &mutex, &condvar, now(&rt));
 }
 
+// Ends a try to write, and tells whether it had the value.
+pub fn wrote<R: Wait>(
+    rt: &R,
+    member: &Member<'_, WordParker>,
+    tried: Option<WriteHeld<'_, Pair>>,
+) -> bool
+    requires { IfSome tried (λ held. held.value.first ≡ held.value.second) }
+{
+    match tried {
+        Some(held) => {
+            held.unlock(rt, member);
+            true
+        }
+        None => false,
+    }
+}
+
 // Tries to write to a lock that is held, up to the instant.
 pub fn expect_no_writer<R: Wait + Clock + Abort>(
     rt: &R,
@@ -171,13 +214,23 @@ pub fn expect_no_writer<R: Wait + Clock + Abort>(
     lock: &RwLock<Pair>,
     past: Instant,
 ) {
-    if let Some(held) = lock.try_write() {
-        held.unlock(rt, member);
-        expect_equal(rt, "free", "held");
-    }
-    if let Some(held) = lock.write_until(rt, member, past) {
-        held.unlock(rt, member);
-        expect_equal(rt, "free", "held");
+    expect_equal(rt, wrote(rt, member, lock.try_write()), false);
+    let tried = lock.write_until(rt, member, past);
+    expect_equal(rt, wrote(rt, member, tried), false);
+}
+
+// Ends a try to read, and tells whether it was lent the value.
+pub fn read<R: Wait>(
+    rt: &R,
+    member: &Member<'_, WordParker>,
+    tried: Option<ReadHeld<'_, Pair>>,
+) -> bool {
+    match tried {
+        Some(held) => {
+            held.unlock(rt, member);
+            true
+        }
+        None => false,
     }
 }
 
@@ -188,14 +241,9 @@ pub fn expect_no_reader<R: Wait + Clock + Abort>(
     lock: &RwLock<Pair>,
     past: Instant,
 ) {
-    if let Some(held) = lock.try_read() {
-        held.unlock(rt, member);
-        expect_equal(rt, "free", "held");
-    }
-    if let Some(held) = lock.read_until(rt, member, past) {
-        held.unlock(rt, member);
-        expect_equal(rt, "free", "held");
-    }
+    expect_equal(rt, read(rt, member, lock.try_read()), false);
+    let tried = lock.read_until(rt, member, past);
+    expect_equal(rt, read(rt, member, tried), false);
 }
 
 fn read_and_write<R: Wait + Clock + Abort>(

@@ -1,8 +1,9 @@
 //! Threads that give up waiting for a lock, beside others that do not.
 
+use crate::calls::{had_mutex, read, wrote};
 use crate::pair::Pair;
 use crate::scene::{Scene, expect_told, far, soon};
-use lot_base::thread_parker::ThreadParkerT;
+use lot_base::thread_parker::WordParker;
 use lot_sync::mutex::Mutex;
 use lot_sync::rw_lock::RwLock;
 use parking_lot_core::Member;
@@ -14,49 +15,34 @@ use std::time::{Clock, Instant};
 const KEY: usize = 7;
 
 // Locks until the deadline, and tells whether it had the mutex.
-fn locks<P: ThreadParkerT, R: Wait + Clock>(
+fn locks<R: Wait + Clock>(
     rt: &R,
-    member: &mut Member<'_, P>,
+    member: &mut Member<'_, WordParker>,
     mutex: &Mutex<Pair>,
     deadline: Instant,
 ) -> bool {
-    match mutex.lock_until(rt, member, deadline) {
-        Some(held) => {
-            held.unlock(rt, member);
-            true
-        }
-        None => false,
-    }
+    let tried = mutex.lock_until(rt, member, deadline);
+    had_mutex(rt, member, tried)
 }
 
-fn reads<P: ThreadParkerT, R: Wait + Clock>(
+fn reads<R: Wait + Clock>(
     rt: &R,
-    member: &mut Member<'_, P>,
+    member: &mut Member<'_, WordParker>,
     lock: &RwLock<Pair>,
     deadline: Instant,
 ) -> bool {
-    match lock.read_until(rt, member, deadline) {
-        Some(held) => {
-            held.unlock(rt, member);
-            true
-        }
-        None => false,
-    }
+    let tried = lock.read_until(rt, member, deadline);
+    read(rt, member, tried)
 }
 
-fn writes<P: ThreadParkerT, R: Wait + Clock>(
+fn writes<R: Wait + Clock>(
     rt: &R,
-    member: &mut Member<'_, P>,
+    member: &mut Member<'_, WordParker>,
     lock: &RwLock<Pair>,
     deadline: Instant,
 ) -> bool {
-    match lock.write_until(rt, member, deadline) {
-        Some(held) => {
-            held.unlock(rt, member);
-            true
-        }
-        None => false,
-    }
+    let tried = lock.write_until(rt, member, deadline);
+    wrote(rt, member, tried)
 }
 
 // Holds the mutex from the first step to the second.
@@ -122,19 +108,9 @@ fn read_behind_a_writer<R: Wait + Clock + Abort>(
     let mut member = scene.enter(rt, alloc);
     scene.wait_for_step(rt, 1);
     scene.wait_for_waiters(rt, alloc, KEY, 1);
-    let came = reads(rt, &mut member, lock, soon(rt)) || tries(rt, &member, lock);
+    let came = reads(rt, &mut member, lock, soon(rt)) || read(rt, &member, lock.try_read());
     scene.advance();
     came
-}
-
-fn tries<P: ThreadParkerT, R: Wait>(rt: &R, member: &Member<'_, P>, lock: &RwLock<Pair>) -> bool {
-    match lock.try_read() {
-        Some(held) => {
-            held.unlock(rt, member);
-            true
-        }
-        None => false,
-    }
 }
 
 fn write_patiently<R: Wait + Clock + Abort>(

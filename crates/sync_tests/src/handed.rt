@@ -1,5 +1,6 @@
 //! Locks that go from one thread to a certain other.
 
+use crate::calls::had_mutex;
 use crate::pair::Pair;
 use crate::scene::{Scene, expect_told, far};
 use lot_sync::mutex::{Condvar, Mutex};
@@ -38,13 +39,7 @@ impl Shared {
         self.scene.advance();
         self.scene.wait_for_waiters(rt, alloc, KEY, 1);
         held.unlock_fair(rt, &member);
-        let locked = match self.mutex.try_lock() {
-            Some(held) => {
-                held.unlock(rt, &member);
-                true
-            }
-            None => false,
-        };
+        let locked = had_mutex(rt, &member, self.mutex.try_lock());
         self.scene.advance();
         locked
     }
