@@ -1,7 +1,7 @@
 //! Sleepers on a condition variable who are notified, moved to the mutex, or late.
 
 use crate::pair::Pair;
-use crate::scene::{Scene, expect_told, far, later, wait_until_past};
+use crate::scene::{Scene, expect_told, far, later, long_after, now, wait_until_past};
 use lot_sync::mutex::{Condvar, Mutex, WaitResult};
 use std::alloc::Global;
 use std::process::Abort;
@@ -11,6 +11,9 @@ use std::time::{Clock, Instant};
 const KEY: usize = 7;
 
 const SLEEPERS: usize = 8;
+
+// So often a thread sleeps in a race.
+const ROUNDS: usize = 1_000;
 
 #[derive(Drop)]
 struct Shared {
@@ -51,9 +54,62 @@ impl Shared {
         self.scene.wait_for_waiters(rt, alloc, SLEEPERS, 2);
         let held = self.mutex.lock(rt, &mut member);
         let moved = self.condvar.notify_one(rt, &member, &self.mutex);
-        wait_until_past(rt, later(rt));
+        wait_until_past(rt, long_after(rt));
         held.unlock(rt, &member);
         self.condvar.notify_one(rt, &member, &self.mutex) && moved
+    }
+
+    // Moves the sleeper to the mutex, and hands it that.
+    fn notify_and_hand_over<R: Wait + Clock + Abort>(&self, rt: &R, alloc: Global) -> bool {
+        let mut member = self.scene.enter(rt, alloc);
+        self.scene.wait_for_waiters(rt, alloc, SLEEPERS, 1);
+        let held = self.mutex.lock(rt, &mut member);
+        let moved = self.condvar.notify_one(rt, &member, &self.mutex);
+        held.unlock_fair(rt, &member);
+        moved
+    }
+
+    // Sleeps often, and tells whether each sleep ended by a notify, before its deadline.
+    fn sleep_often<R: Wait + Clock + Abort>(&self, rt: &R, alloc: Global) -> bool {
+        let mut member = self.scene.enter(rt, alloc);
+        let mut is_well = true;
+        for _ in 0..ROUNDS {
+            let deadline = far(rt);
+            let held = self.mutex.lock(rt, &mut member);
+            let (held, ended) = self.condvar.wait_until(rt, &mut member, held, deadline);
+            held.unlock(rt, &member);
+            is_well = ended == WaitResult::Notified && now(rt) < deadline;
+            if !is_well {
+                break;
+            }
+        }
+        self.scene.advance();
+        is_well
+    }
+
+    // Locks the mutex and lets it go, until the other has slept often.
+    fn lock_often<R: Wait + Clock + Abort>(&self, rt: &R, alloc: Global) -> bool {
+        let mut member = self.scene.enter(rt, alloc);
+        for _ in rt.forever() {
+            if self.scene.has_step(1) {
+                break;
+            }
+            let held = self.mutex.lock(rt, &mut member);
+            held.unlock(rt, &member);
+        }
+        true
+    }
+
+    // Notifies without the mutex, until the other has slept often.
+    fn notify_often<R: Wait + Clock + Abort>(&self, rt: &R, alloc: Global) -> bool {
+        let member = self.scene.enter(rt, alloc);
+        for _ in rt.forever() {
+            if self.scene.has_step(1) {
+                break;
+            }
+            self.condvar.notify_one(rt, &member, &self.mutex);
+        }
+        true
     }
 
     // Sleeps behind the first.
@@ -76,17 +132,40 @@ fn both_sleepers_on_a_free_mutex_come_back(rt: HostRuntime) {
     expect_told(&rt, rt.alloc(), &play, &[true; 3]);
 }
 
-// It refuses a deadline that passes on the mutex and takes the note of those who still sleep.
+// It refuses a deadline that passes on the mutex and takes the note of those who still sleep, and
+// one that is told as a timeout though a notify had moved the thread.
 #[test]
 fn one_that_is_late_on_the_mutex_leaves_the_other_asleep(rt: HostRuntime) {
     let shared = Shared::new(&rt, rt.alloc());
     let play = |index: usize| match index {
-        0 => {
-            shared.sleep(&rt, rt.alloc(), later(&rt));
-            true
-        }
+        0 => shared.sleep(&rt, rt.alloc(), later(&rt)),
         1 => shared.sleep_second(&rt, rt.alloc()),
         _ => shared.notify_late(&rt, rt.alloc()),
+    };
+    expect_told(&rt, rt.alloc(), &play, &[true; 3]);
+}
+
+// It refuses a wait that parks again for a mutex that was handed to its thread.
+#[test]
+fn a_sleeper_takes_the_mutex_that_it_is_handed(rt: HostRuntime) {
+    let shared = Shared::new(&rt, rt.alloc());
+    let play = |index: usize| {
+        if index == 1 {
+            return shared.notify_and_hand_over(&rt, rt.alloc());
+        }
+        shared.sleep(&rt, rt.alloc(), far(&rt))
+    };
+    expect_told(&rt, rt.alloc(), &play, &[true; 2]);
+}
+
+// It refuses a notify that sees the mutex held and moves a sleeper there once it was let go.
+#[test]
+fn no_sleeper_is_moved_to_a_mutex_that_was_let_go(rt: HostRuntime) {
+    let shared = Shared::new(&rt, rt.alloc());
+    let play = |index: usize| match index {
+        0 => shared.sleep_often(&rt, rt.alloc()),
+        1 => shared.lock_often(&rt, rt.alloc()),
+        _ => shared.notify_often(&rt, rt.alloc()),
     };
     expect_told(&rt, rt.alloc(), &play, &[true; 3]);
 }

@@ -48,10 +48,15 @@ impl Scene {
         self.step.fetch_add(1, Ordering::SeqCst);
     }
 
+    // Whether so many steps were made.
+    pub fn has_step(&self, step: usize) -> bool {
+        self.step.load(Ordering::SeqCst) >= step
+    }
+
     // Waits until so many steps were made.
     pub fn wait_for_step<R: Abort>(&self, rt: &R, step: usize) {
         for _ in 0..TURNS {
-            if self.step.load(Ordering::SeqCst) >= step {
+            if self.has_step(step) {
                 return;
             }
             thread::yield_now();
@@ -114,6 +119,11 @@ pub fn soon<R: Clock + Abort>(rt: &R) -> Instant {
 // A deadline that passes once all threads of the test have come.
 pub fn later<R: Clock + Abort>(rt: &R) -> Instant {
     instant_in(rt, LATER)
+}
+
+// A deadline that is past for long once those by `later` are that were set before.
+pub fn long_after<R: Clock + Abort>(rt: &R) -> Instant {
+    instant_in(rt, 2 * LATER)
 }
 
 // Waits until the instant has passed.

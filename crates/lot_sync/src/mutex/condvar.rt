@@ -75,7 +75,7 @@ impl Condvar {
         ensures mutex { mutex_of result ≡ mutex_of held.entry }
     {
         let mutex = held.mutex();
-        let result = self.sleep(rt, member, held, None);
+        let (result, _) = self.sleep(rt, member, held, None);
         mutex.lock_after(rt, member, result)
     }
 
@@ -95,30 +95,27 @@ impl Condvar {
         ensures mutex { mutex_of result.0 ≡ mutex_of held.entry }
     {
         let mutex = held.mutex();
-        let result = self.sleep(rt, member, held, Some(deadline));
-        let ended = if result == ParkResult::TimedOut {
-            WaitResult::TimedOut
-        } else {
-            WaitResult::Notified
-        };
+        let (result, ended) = self.sleep(rt, member, held, Some(deadline));
         (mutex.lock_after(rt, member, result), ended)
     }
 
-    // Puts the value back, and sleeps once the mutex is let go.
+    // Puts the value back, and sleeps once the mutex is let go. A thread whose deadline passes on
+    // the mutex was notified: a notify has moved it there.
     fn sleep<T: Fits, P: ThreadParkerT, R: Wait + Clock>(
         &self,
         rt: &R,
         member: &mut Member<'_, P>,
         held: Held<'_, T>,
         deadline: Option<Instant>,
-    ) -> ParkResult
+    ) -> (ParkResult, WaitResult)
         requires { T.fits held.value }
     {
         let lot = member.lot();
         let Held { value, mutex, seat } = held;
         let mut seat = seat;
         mutex.put_value(&mut seat, value);
-        member.park(
+        let mut ended = WaitResult::Notified;
+        let result = member.park(
             rt,
             self.key,
             || {
@@ -131,13 +128,17 @@ impl Condvar {
                 mutex.let_go(rt, lot, seat, Next::Anyone);
             },
             |key, is_last| {
-                if key == self.key && is_last {
-                    self.has_sleepers.store(false, Ordering::SeqCst);
+                if key == self.key {
+                    ended = WaitResult::TimedOut;
+                    if is_last {
+                        self.has_sleepers.store(false, Ordering::SeqCst);
+                    }
                 }
             },
             DEFAULT_PARK_TOKEN,
             deadline,
-        )
+        );
+        (result, ended)
     }
 
     /// Wakes the thread that sleeps longest, or moves it behind those who wait for the mutex, if
