@@ -1,5 +1,6 @@
 //! Locks around a value, on a parking lot: a mutex, a condition variable, a lock for readers and
-//! writers, and what is done once. Whoever waits parks on the lock's key.
+//! writers, and what is done once; a semaphore and a barrier. Whoever waits parks on the lock's
+//! key.
 #![tactic(auto)]
 
 pub mod barrier;

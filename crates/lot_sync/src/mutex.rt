@@ -108,8 +108,9 @@ impl<T: Fits> Mutex<T> {
     /// Locks the mutex, and waits while another thread holds it. The value that it gives fits. A
     /// thread that holds the mutex already waits for ever.
     ///
-    /// If nobody holds the mutex, it is one exchange of the word. Else it spins, and then parks,
-    /// once or more; each park takes the lock of the key's bucket. It asks for no memory.
+    /// If nobody holds the mutex, it is one exchange of the word, or two where threads are parked.
+    /// Else it spins, and then parks, once or more; each park takes the lock of the key's bucket.
+    /// It asks for no memory.
     ///
     /// Upstream has it under this name.
     #[inline]

@@ -158,8 +158,9 @@ impl<T: Fits> RwLock<T> {
         self.read_by(rt, member, Some(deadline))
     }
 
-    /// Lends the value if no writer has it or waits for it. `None` says that one was there, or that
-    /// another thread changed the word at that moment. It waits for nobody.
+    /// Lends the value if no writer has it or waits for it. `None` says that one was there, that
+    /// another thread changed the word at that moment, or that 2 ^ 30 - 1 readers have it. It waits
+    /// for nobody.
     ///
     /// Upstream has it under this name, and tries again where the word changed.
     pub fn try_read(&self) -> Option<ReadHeld<'_, T>>
