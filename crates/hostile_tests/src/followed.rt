@@ -1,9 +1,14 @@
 //! A parker whose thread goes on before the commit or the wake of its first unpark ends.
 
+ghost use Rattle.std.specs.Prelude.{◌≡◌};
+ghost use Rattle.lot_base.specs.Node.{fields};
+
 use crate::common::{
-    KEY, TOKEN, WAYS, Way, come_by_turns, comes_to, expect_list, new_lot, register, unpark, wait,
+    KEY, TOKEN, WAYS, Way, come_by_turns, comes_to, expect_list, from_now, new_lot, register,
+    unpark, wait,
 };
 use crate::expect_equal;
+use crate::watch::TURNS_INSIDE;
 use lot_base::thread_parker::YieldHandle;
 use parking_lot_core::{
     NoMemory, Node, ParkResult, ParkingLot, ThreadData, ThreadParkerT, UnparkHandleT, UnparkToken,
@@ -15,7 +20,7 @@ use std::sync::Wait;
 use std::sync::atomic::{AtomicUsize, Ordering};
 use std::thread;
 use std::thread::Threads;
-use std::time::{Clock, Instant};
+use std::time::{Clock, Duration, Instant};
 
 // It has a bucket of its own.
 const OTHER_KEY: usize = 8;
@@ -23,13 +28,40 @@ const OTHER_KEY: usize = 8;
 // More than there is room for handles.
 const CROWD: usize = 12;
 
-// A `YieldParker` that counts how often its thread came to park. A commit ends once the thread
-// prepares to park again, and a wake once it has parked again.
+// A `YieldParker` that counts how often its thread came to park. The commit of its first unpark
+// ends a while after the thread prepares to park again, and the wake once it has parked again. If
+// the thread parks again before the commit ends, or not while it is woken, that adds one to the
+// tokens of the nodes that come back then.
 #[derive(Drop)]
 struct FollowedParker {
     parker: YieldParker,
     prepared: AtomicUsize,
     parked: AtomicUsize,
+    faults: AtomicUsize,
+}
+
+impl FollowedParker {
+    // Called in the commit of the first unpark: the thread parks again, which is to wait for the
+    // end of the section.
+    fn be_followed(&self) {
+        comes_to(&self.prepared, 2);
+        for _ in 0..TURNS_INSIDE {
+            if self.parked.load(Ordering::SeqCst) == 2 {
+                self.faults.fetch_add(1, Ordering::SeqCst);
+                return;
+            }
+            thread::yield_now();
+        }
+    }
+
+    // Tells in the token of the thread's node how many faults there were.
+    fn tell(&self, mut node: Box<Node>) -> Box<Node>
+        ensures { (fields result.value).number ≡ (fields node.value).number }
+    {
+        let faults = self.faults.load(Ordering::SeqCst);
+        node.unpark_token = UnparkToken(node.unpark_token.0.wrapping_add(faults));
+        node
+    }
 }
 
 impl ThreadParkerT for FollowedParker {
@@ -44,6 +76,7 @@ impl ThreadParkerT for FollowedParker {
             parker: YieldParker::new(alloc, number)?,
             prepared: AtomicUsize::new(0),
             parked: AtomicUsize::new(0),
+            faults: AtomicUsize::new(0),
         })
     }
 
@@ -57,16 +90,21 @@ impl ThreadParkerT for FollowedParker {
 
     fn park<R: Wait>(&self, rt: &R) -> Box<Node> {
         self.parked.fetch_add(1, Ordering::SeqCst);
-        self.parker.park(rt)
+        self.tell(self.parker.park(rt))
     }
 
     fn park_until<R: Wait + Clock>(&self, rt: &R, timeout: Instant) -> Option<Box<Node>> {
-        self.parker.park_until(rt, timeout)
+        self.parked.fetch_add(1, Ordering::SeqCst);
+        let node = self.parker.park_until(rt, timeout)?;
+        Some(self.tell(node))
     }
 
     fn unpark_lock<R: Wait>(&self, rt: &R, node: Box<Node>) -> FollowedHandle {
+        let is_first = self.prepared.load(Ordering::SeqCst) == 1;
         let handle = self.parker.unpark_lock(rt, node);
-        comes_to(&self.prepared, 2);
+        if is_first {
+            self.be_followed();
+        }
         FollowedHandle { handle }
     }
 }
@@ -85,7 +123,9 @@ impl UnparkHandleT<FollowedParker> for FollowedHandle {
     }
 
     fn unpark(self, parker: &FollowedParker) {
-        comes_to(&parker.parked, 2);
+        if !comes_to(&parker.parked, 2) {
+            parker.faults.fetch_add(1, Ordering::SeqCst);
+        }
     }
 }
 
@@ -96,48 +136,62 @@ fn park_twice<R: Wait + Clock + Abort>(
     rt: &R,
     lot: &Lot,
     mut data: ThreadData,
+    key: usize,
+    deadline: Option<Instant>,
 ) -> (ParkResult, ParkResult) {
-    let first = wait(rt, lot, &mut data, KEY, None);
-    (first, wait(rt, lot, &mut data, KEY, None))
+    let first = wait(rt, lot, &mut data, key, deadline);
+    (first, wait(rt, lot, &mut data, key, deadline))
 }
 
-// Unparks the thread once it waits, this way.
-fn unpark_once<R: Wait + Abort>(rt: &R, alloc: Global, lot: &Lot, way: Way, token: usize) {
-    come_by_turns(rt, alloc, lot, KEY, 1);
-    let unparked = unpark(rt, lot, way, KEY, UnparkToken(token));
+// Unparks the thread once it waits on the key, this way.
+fn unpark_once<R: Wait + Abort>(
+    rt: &R,
+    alloc: Global,
+    lot: &Lot,
+    key: usize,
+    way: Way,
+    token: usize,
+) {
+    come_by_turns(rt, alloc, lot, key, 1);
+    let unparked = unpark(rt, lot, way, key, UnparkToken(token));
     expect_equal(rt, (way, unparked), (way, 1));
 }
 
-fn unpark_twice<R: Wait + Abort>(rt: &R, alloc: Global, lot: &Lot, way: Way) {
-    unpark_once(rt, alloc, lot, way, 1);
-    unpark_once(rt, alloc, lot, way, 2);
+fn unpark_twice<R: Wait + Abort>(rt: &R, alloc: Global, lot: &Lot, key: usize, way: Way) {
+    unpark_once(rt, alloc, lot, key, way, 1);
+    unpark_once(rt, alloc, lot, key, way, 2);
 }
 
-fn both_twice<R: Threads + Wait + Clock + Abort + Sync>(rt: &R, alloc: Global, way: Way) {
+fn both_twice<R: Threads + Wait + Clock + Abort + Sync>(
+    rt: &R,
+    alloc: Global,
+    key: usize,
+    way: Way,
+    deadline: Option<Instant>,
+) {
     let lot = new_lot(rt, alloc, 1);
     let data = register(rt, alloc, &lot);
-    let ((first, second), ()) = thread::join(
+    let (results, ()) = thread::join(
         rt,
-        || park_twice(rt, &lot, data),
-        || unpark_twice(rt, alloc, &lot, way),
+        || park_twice(rt, &lot, data, key, deadline),
+        || unpark_twice(rt, alloc, &lot, key, way),
     );
-    expect_equal(
-        rt,
-        (way, first),
-        (way, ParkResult::Unparked(UnparkToken(1))),
-    );
-    expect_equal(
-        rt,
-        (way, second),
-        (way, ParkResult::Unparked(UnparkToken(2))),
-    );
+    let first = ParkResult::Unparked(UnparkToken(1));
+    let second = ParkResult::Unparked(UnparkToken(2));
+    expect_equal(rt, (key, way, results), (key, way, (first, second)));
 }
 
-// It refuses an unpark of the last waiter that takes whoever came after it.
+// A requeue stays in the bucket of the one key, and goes from that of the other to it. It refuses
+// an unpark of the last waiter that takes whoever came after it, one that commits without the lock
+// of the bucket, and one that wakes with it.
 #[test]
 fn a_thread_that_parks_during_its_wake_waits_for_the_next_unpark(rt: HostRuntime) {
-    for way in WAYS {
-        both_twice(&rt, rt.alloc(), way);
+    let deadline = from_now(&rt, Duration::from_hours(1));
+    for key in [KEY, OTHER_KEY] {
+        for way in WAYS {
+            both_twice(&rt, rt.alloc(), key, way, None);
+            both_twice(&rt, rt.alloc(), key, way, Some(deadline));
+        }
     }
 }
 

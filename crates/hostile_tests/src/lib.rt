@@ -17,13 +17,23 @@ mod keys;
 #[cfg(test)]
 mod late;
 #[cfg(test)]
+mod moved;
+#[cfg(test)]
 mod numbers;
+#[cfg(test)]
+mod ordered;
 #[cfg(test)]
 mod parkers;
 #[cfg(test)]
 mod races;
 #[cfg(test)]
+mod sections;
+#[cfg(test)]
+mod sizes;
+#[cfg(test)]
 mod trims;
+#[cfg(test)]
+mod watch;
 
 #[cfg(test)]
 use std::fmt::Debug;

@@ -431,6 +431,3 @@ pub fn unpark_requeue<
     }
     result
 }
-
-#[cfg(test)]
-mod tests;

@@ -129,7 +129,8 @@ pub enum Scenario {
     /// `ParkingLot::trim`, where the table becomes smaller, and a growth to the size before.
     ParkingLotTrim,
 
-    /// `park` and the unparks in one thread, `release_resource`, and `list` where nobody waits.
+    /// `park` and the unparks in one thread, `release_resource`, and `list` where nobody waits. A
+    /// `park` that puts a fresh node in the place of its thread's own asks for memory here.
     Park,
 
     /// `park` and the unparks with twelve threads, and `retire`.

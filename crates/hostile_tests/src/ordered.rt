@@ -1,0 +1,180 @@
+//! A parker that looks whether it is called in order.
+
+use crate::common::{KEY, TOKEN, UNPARKED, WAYS, Way, new_lot, now, park_and, register, unpark};
+use crate::expect_equal;
+use lot_base::thread_parker::YieldHandle;
+use parking_lot_core::{
+    DEFAULT_PARK_TOKEN, NoMemory, Node, ParkResult, ParkingLot, ThreadData, ThreadParkerT,
+    UnparkHandleT, UnparkToken, YieldParker, park,
+};
+use std::alloc::Global;
+use std::process::Abort;
+use std::sync::Wait;
+use std::sync::atomic::{AtomicUsize, Ordering};
+use std::time::{Clock, Instant};
+
+// How often a parker was called, in the order in which its first calls come.
+#[derive(Copy, Clone, PartialEq, Eq)]
+struct Calls {
+    prepare_park: usize,
+    unpark_lock: usize,
+    park_until: usize,
+    park: usize,
+}
+
+// A `YieldParker` that notes its calls. Its deadlines pass before it has looked. Its thread parks
+// twice: the first time in vain, since that is not valid, and then until it is unparked. Each call
+// that was not in its order adds one to the token of the node that comes back.
+#[derive(Drop)]
+struct OrderedParker {
+    parker: YieldParker,
+    prepared: AtomicUsize,
+    committed: AtomicUsize,
+    timed: AtomicUsize,
+    parked: AtomicUsize,
+    faults: AtomicUsize,
+}
+
+impl OrderedParker {
+    // Notes a fault unless it has been called so often by now.
+    fn expect_calls(&self, expected: Calls) {
+        let calls = Calls {
+            prepare_park: self.prepared.load(Ordering::SeqCst),
+            unpark_lock: self.committed.load(Ordering::SeqCst),
+            park_until: self.timed.load(Ordering::SeqCst),
+            park: self.parked.load(Ordering::SeqCst),
+        };
+        if calls != expected {
+            self.faults.fetch_add(1, Ordering::SeqCst);
+        }
+    }
+}
+
+impl ThreadParkerT for OrderedParker {
+    type UnparkHandle = OrderedHandle;
+
+    const IS_CHEAP_TO_CONSTRUCT: bool = true;
+
+    ghost owner = { λ ordered. ⟦<YieldParker as ThreadParkerT>⟧.owner ordered.parker };
+
+    fn new(alloc: Global, number: usize) -> Result<OrderedParker, NoMemory> {
+        Ok(OrderedParker {
+            parker: YieldParker::new(alloc, number)?,
+            prepared: AtomicUsize::new(0),
+            committed: AtomicUsize::new(0),
+            timed: AtomicUsize::new(0),
+            parked: AtomicUsize::new(0),
+            faults: AtomicUsize::new(0),
+        })
+    }
+
+    fn prepare_park(&self) {
+        self.prepared.fetch_add(1, Ordering::SeqCst);
+        self.parker.prepare_park();
+    }
+
+    fn timed_out<R: Wait>(&self, rt: &R) -> bool {
+        self.parker.timed_out(rt)
+    }
+
+    fn park<R: Wait>(&self, rt: &R) -> Box<Node> {
+        self.parked.fetch_add(1, Ordering::SeqCst);
+        let mut node = self.parker.park(rt);
+        self.expect_calls(Calls {
+            prepare_park: 2,
+            unpark_lock: 1,
+            park_until: usize::from(node.timed),
+            park: 1,
+        });
+        let faults = self.faults.load(Ordering::SeqCst);
+        node.unpark_token = UnparkToken(node.unpark_token.0.wrapping_add(faults));
+        node
+    }
+
+    fn park_until<R: Wait + Clock>(&self, _rt: &R, _timeout: Instant) -> Option<Box<Node>> {
+        self.timed.fetch_add(1, Ordering::SeqCst);
+        None
+    }
+
+    // The thread is unparked before it sleeps.
+    fn unpark_lock<R: Wait>(&self, rt: &R, node: Box<Node>) -> OrderedHandle {
+        self.committed.fetch_add(1, Ordering::SeqCst);
+        self.expect_calls(Calls {
+            prepare_park: 2,
+            unpark_lock: 1,
+            park_until: 0,
+            park: 0,
+        });
+        OrderedHandle {
+            handle: self.parker.unpark_lock(rt, node),
+        }
+    }
+}
+
+#[derive(Drop)]
+struct OrderedHandle {
+    handle: YieldHandle,
+}
+
+impl UnparkHandleT<OrderedParker> for OrderedHandle {
+    ghost number = { λ ordered.
+        ⟦<YieldHandle as UnparkHandleT<YieldParker>>⟧.number ordered.handle };
+
+    fn number(&self) -> usize {
+        self.handle.number()
+    }
+
+    fn unpark(self, parker: &OrderedParker) {
+        self.handle.unpark(&parker.parker);
+    }
+}
+
+type Lot = ParkingLot<OrderedParker>;
+
+// Parks while that is not valid.
+fn park_in_vain<R: Wait + Clock + Abort>(
+    rt: &R,
+    lot: &Lot,
+    data: &mut ThreadData,
+    deadline: Option<Instant>,
+) -> ParkResult {
+    assert!(rt; lot.accepts(data), "data of this lot");
+    park(
+        rt,
+        lot,
+        data,
+        KEY,
+        || false,
+        || (),
+        |_, _| (),
+        DEFAULT_PARK_TOKEN,
+        deadline,
+    )
+}
+
+// Parks in vain, and then unparks itself before it sleeps.
+fn is_called_in_order<R: Wait + Clock + Abort>(
+    rt: &R,
+    alloc: Global,
+    way: Way,
+    deadline: Option<Instant>,
+) {
+    let lot = new_lot(rt, alloc, 1);
+    let mut data = register(rt, alloc, &lot);
+    let invalid = park_in_vain(rt, &lot, &mut data, deadline);
+    expect_equal(rt, (way, invalid), (way, ParkResult::Invalid));
+    let before_sleep = || expect_equal(rt, unpark(rt, &lot, way, KEY, TOKEN), 1);
+    let left = park_and(rt, &lot, &mut data, KEY, before_sleep, deadline);
+    expect_equal(rt, (way, left), (way, UNPARKED));
+}
+
+// It refuses a `park` that calls its parker in another order or not at all, and a second look that
+// calls `timed_out` or answers `TimedOut` although the node is in the slot.
+#[test]
+fn a_park_prepares_its_parker_and_waits_by_it_in_order(rt: HostRuntime) {
+    let passed = Some(now(&rt));
+    for way in WAYS {
+        is_called_in_order(&rt, rt.alloc(), way, None);
+        is_called_in_order(&rt, rt.alloc(), way, passed);
+    }
+}
