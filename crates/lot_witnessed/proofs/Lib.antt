@@ -2,3 +2,5 @@ pub mod RowLemmas
 pub mod TakingLemmas
 pub mod BelowLemmas
 pub mod HandedLemmas
+pub mod RetireLemmas
+pub mod ListLemmas

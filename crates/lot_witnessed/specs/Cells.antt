@@ -12,7 +12,7 @@ use Rattle.lot_history.specs.declared.history.History.{History}
 use Rattle.lot_history.specs.declared.history.Part.{Part}
 use Rattle.lot_history.specs.declared.history.Witness.{Witness}
 use Rattle.lot_history.specs.declared.view.Piece.{Piece}
-use Rattle.lot_history.specs.declared.view.Piece.TheVariants.{Lists, Thread, Numbers}
+use Rattle.lot_history.specs.declared.view.Piece.TheVariants.{Lists, Thread, Records, Numbers}
 use Rattle.lot_history.specs.Pieces.{standing_in}
 use Rattle.lot_history.specs.Witness.{IsPartOf, events_of, id_of, max_threads_of, pieces_in, pieces_of}
 use Rattle.lot_witnessed.specs.declared.cell.Cell.{Cell}
@@ -31,6 +31,11 @@ home_of part = part.badge.table_id
 pub record Has (home : TableId) (all : List Piece) (part : Part) : Type 0 where
   pub of_history : IsPartOf home part
   pub pieces : pieces_in part ≡ all
+
+-- the part has the records of a thread, whatever they are
+pub record HasRecords (home : TableId) (number : ℕ) (part : Part) : Type 0 where
+  pub keys : List ℕ
+  pub has : Has home (Records number keys ∷ []) part
 
 -- the lists of a bucket
 abbrev pub lists_in : BucketState → Piece

@@ -1,9 +1,12 @@
 -- Members of a lot, and what their calls add to its history.
 use Rattle.std.specs.Prelude.{◌≡◌, ℕ, ◌<◌, Bool, true, false, List, [], ◌∷◌, Option, Some, None, IsSomeAnd, Box}
+use Rattle.std.specs.Prelude.{Result, Vec, IfOk, OnErr, IsTrue, map}
 use Rattle.std.specs.declared.alloc.Global.{Global}
 use Rattle.lot_base.specs.Node.{fields}
 use Rattle.lot_base.specs.NodeFields.{NodeFields}
 use Rattle.lot_base.specs.declared.queue.Node.{Node}
+use Rattle.lot_base.specs.Waiting.{has_any}
+use Rattle.lot_base.specs.declared.token.NoMemory.{NoMemory}
 use Rattle.lot_base.specs.declared.token.ParkResult.{ParkResult}
 use Rattle.lot_base.specs.declared.token.ParkResult.TheVariants as result
 use Rattle.lot_base.specs.declared.token.ParkToken.{ParkToken}
@@ -19,7 +22,7 @@ use Rattle.lot_history.specs.declared.history.Part.{Part}
 use Rattle.lot_history.specs.declared.history.Witness.{Witness}
 use Rattle.lot_history.specs.declared.view.Piece.{Piece}
 use Rattle.lot_history.specs.declared.view.Piece.TheVariants.{Thread, Records}
-use Rattle.lot_history.specs.Witness.{Extends, IsStill, IsWitnessOf, events_of, id_of, max_threads_of, pieces_of}
+use Rattle.lot_history.specs.Witness.{Extends, Looks, IsStill, IsWitnessOf, events_of, id_of, max_threads_of, pieces_of}
 use Rattle.lot_witnessed.specs.declared.told.Entry.{Entry}
 use Rattle.lot_witnessed.specs.Cells.{Has}
 
@@ -77,6 +80,14 @@ pub record Stays (old new : MemberState) : Type 0 where
   pub history : new.history ≡ old.history
   pub number : new.number ≡ old.number
   pub witness : IsStill old.history old.witness new.witness
+
+-- the history was seen, and the numbers are those of the threads that stand in the list of the key, in order, in the
+-- machine that it leads to; or memory is wanting, and somebody stands there
+pub record IsListed (history : History) (key : ℕ) (old new : Witness) (given : Result (Vec ℕ Global) NoMemory)
+    : Type 0 where
+  pub looks : Looks history old new
+  pub numbers : IfOk given (λ list. list.items ≡ map (λ waiter. waiter.number) (looks.machine.lists key))
+  pub refused : OnErr given (IsTrue (has_any (looks.machine.lists key)))
 
 -- the step of a thread that comes to park
 abbrev pub park_step : MemberState → ℕ → ParkToken → Bool → Bool → Step

@@ -8,15 +8,15 @@ ghost use Rattle.lot_base.specs.Place.{IsTableSize};
 ghost use Rattle.lot_base.specs.Waiting.{result_of, split_first};
 ghost use Rattle.lot_history.specs.Witness.{Adds, Extends, IsPartOf, IsStill, IsWitnessOf, events_of, id_of, max_threads_of, pieces_of, seen_by};
 ghost use Rattle.lot_history.specs.declared.view.Piece.TheVariants.{Thread};
-ghost use Rattle.lot_witnessed.specs.Cells.{Has, IsBelow, IsLetterTo, IsLockFor, IsMailLock, thread_taken, threads_in};
+ghost use Rattle.lot_witnessed.specs.Cells.{Has, HasRecords, IsBelow, IsLetterTo, IsLockFor, IsMailLock, thread_taken, threads_in};
 ghost use Rattle.lot_witnessed.specs.Handles.{handle_numbers};
-ghost use Rattle.lot_witnessed.specs.Members.{EndsWait, IsRegistered, Leaves, entry_of, entry_step};
+ghost use Rattle.lot_witnessed.specs.Members.{EndsWait, IsListed, IsRegistered, Leaves, entry_of, entry_step};
 ghost use Rattle.lot_witnessed.specs.Rows.{EachAt};
 
 use crate::cell::{Cell, new_cells};
 use crate::mail::{Letter, Mail, MailKey, new_mail};
 use crate::registry::{Registry, new_registry};
-use crate::sections::{enter_in, leave_in, take_all_of, take_one_of};
+use crate::sections::{enter_in, leave_in, list_in, take_all_of, take_one_of};
 use crate::told::{add_return, cut_up};
 use lot_base::bucket::place;
 use lot_base::queue::{Node, Queue};
@@ -167,6 +167,29 @@ impl<P: ThreadParkerT> Lot<P> {
         registered
     }
 
+    // Ends the registration of a running thread, whose pieces these parts have, and tells so.
+    pub(crate) fn retire<R: Wait>(
+        &self,
+        rt: &R,
+        me: &mut Witness,
+        number: usize,
+        thread: Part,
+        records: Part,
+    )
+        requires witness { IsWitnessOf self.now me.old }
+        requires none { pieces_of me.old ≡ [] }
+        requires below { number < max_threads_of self.now }
+        requires thread { Has (id_of self.now) (Thread number Status.Running ∷ []) thread }
+        requires records { HasRecords (id_of self.now) number records }
+        ensures still { IsStill self.now me.old me.new }
+        ensures extends { Extends self.now me.old (Step.Retire number) Answer.Retired me.new }
+    {
+        let mut held = self.registry.lock(rt);
+        held.value
+            .retire(&self.history, me, number, thread, records);
+        self.registry.unlock(held);
+    }
+
     // The section in which a thread comes to park: puts it last in the list of its node's key, or
     // gives its piece and its node back if `validate` answers false.
     pub(crate) fn enter<R: Wait, V: FnOnce() -> bool>(
@@ -223,9 +246,9 @@ impl<P: ThreadParkerT> Lot<P> {
         add_return(&self.history, me, number, letter)
     }
 
-    // The wait of a thread with a timeout that entered the list of the key: sleeps until an unpark
-    // of it was committed, or until the deadline, and then leaves the list, unless an unpark took
-    // it meanwhile.
+    // The wait of a thread with a timeout that entered the list of the key: sleeps until an unpark of
+    // it was committed, or until the deadline, and then leaves the list, unless an unpark took it
+    // meanwhile.
     pub(crate) fn wait_until<R: Wait + Clock, T: FnOnce(usize, bool)>(
         &self,
         rt: &R,
@@ -259,8 +282,8 @@ impl<P: ThreadParkerT> Lot<P> {
         (ParkResult::Unparked(token), thread, node)
     }
 
-    // The section in which a thread whose deadline has passed leaves the list of the key, or
-    // answers `None` if an unpark took it.
+    // The section in which a thread whose deadline has passed leaves the list of the key, or answers
+    // `None` if an unpark took it.
     fn leave<R: Wait, T: FnOnce(usize, bool)>(
         &self,
         rt: &R,
@@ -294,6 +317,27 @@ impl<P: ThreadParkerT> Lot<P> {
         );
         lock.unlock(held);
         left
+    }
+
+    // The section of a list.
+    pub(crate) fn list<R: Wait>(
+        &self,
+        rt: &R,
+        alloc: Global,
+        me: &mut Witness,
+        key: usize,
+    ) -> Result<Vec<usize>, NoMemory>
+        requires witness { IsWitnessOf self.now me.old }
+        requires none { pieces_of me.old ≡ [] }
+        ensures still { IsStill self.now me.old me.new }
+        ensures none { pieces_of me.new ≡ [] }
+        ensures listed { IsListed self.now key me.old me.new result }
+    {
+        let lock = self.lock_of(key);
+        let mut held = lock.lock(rt);
+        let listed = list_in(&self.history, me, &mut held.value, alloc, key);
+        lock.unlock(held);
+        listed
     }
 
     // The letter of a thread whose node came back. It was put into the mailbox before the node was

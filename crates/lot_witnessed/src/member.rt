@@ -4,13 +4,13 @@ ghost use Rattle.std.specs.Prelude.{◌≡◌, ◌≢◌, ◌∷◌, List, [], t
 ghost use mathlib.Core.List.{IsPrefix};
 ghost use Rattle.lot_base.specs.NodeFields.{NodeFields};
 ghost use Rattle.lot_base.specs.Waiting.{result_of, split_first};
-ghost use Rattle.lot_history.specs.Witness.{Extends, Looks, id_of, seen_by, view_of};
-ghost use Rattle.lot_witnessed.specs.Members.{Begins, IsParked, IsParkedUntil, Stays};
+ghost use Rattle.lot_history.specs.Witness.{Extends, IsStill, IsWitnessOf, Looks, id_of, seen_by, view_of};
+ghost use Rattle.lot_witnessed.specs.Members.{Begins, IsListed, IsParked, IsParkedUntil, Stays};
 
 use crate::lot::Lot;
 use lot_base::queue::Node;
 use lot_base::thread_parker::ThreadParkerT;
-use lot_base::token::{LotError, ParkResult, ParkToken, UnparkResult, UnparkToken};
+use lot_base::token::{LotError, NoMemory, ParkResult, ParkToken, UnparkResult, UnparkToken};
 use lot_exclusive::schedule::{Answer, Op, Step};
 use lot_history::history::{Part, Witness};
 use std::alloc::Global;
@@ -24,7 +24,7 @@ use std::time::{Clock, Instant};
 /// A contract sees it as the history of its lot, its number, and its witness: the beginning of the
 /// history that it has seen, and which events in it its own calls added.
 ///
-/// A member that is only dropped leaves its number registered.
+/// A member that is only dropped leaves its number registered; `retire` frees it.
 ///
 /// Upstream has no such type: each thread's data is in a thread local.
 #[derive(Drop)]
@@ -111,6 +111,19 @@ impl<'a, P: ThreadParkerT> Member<'a, P> {
             .hear(&mut self.witness, &mut other.witness);
     }
 
+    /// Sees the history as it is, which begins with all that this witness of a retired member has
+    /// seen, too.
+    pub fn hear_witness(&mut self, other: &mut Witness)
+        requires { IsWitnessOf self.old.history other.old }
+        ensures stays { Stays self.old self.new }
+        ensures looks { Looks self.old.history self.old.witness self.new.witness }
+        ensures heard { IsPrefix (seen_by other.old) (seen_by self.new.witness) }
+        ensures other { IsStill self.old.history other.old other.new }
+        ensures unchanged { view_of other.new ≡ view_of other.old }
+    {
+        self.lot.history().hear(&mut self.witness, other);
+    }
+
     /// Parks the thread in the list of the key, until another thread unparks it.
     ///
     /// `validate` is called once, in the section of the key's bucket. If it answers false, the
@@ -132,8 +145,8 @@ impl<'a, P: ThreadParkerT> Member<'a, P> {
         requires before_sleep { V.post validate true → B.pre before_sleep }
 
         ensures stays { Stays self.old self.new }
-        ensures parked { IsParked (λ valid. V.post validate valid) (B.post before_sleep tt)
-            self.old key park_token result self.new }
+        ensures parked { IsParked (λ valid. V.post validate valid) (B.post before_sleep tt) self.old key park_token
+            result self.new }
     {
         let mut node = self.node.take().unwrap();
         node.prepare(key, park_token, false);
@@ -156,11 +169,11 @@ impl<'a, P: ThreadParkerT> Member<'a, P> {
         ParkResult::Unparked(token)
     }
 
-    /// Parks the thread as `park` does, but no longer than until that instant; a clock that cannot
-    /// be read counts as past it. Then, in a section of the key's bucket, the thread leaves the
-    /// list and `timed_out` is called once, with the key and with whether no other thread waits on
-    /// it; the answer is `TimedOut`. If an unpark took the thread before that section, `timed_out`
-    /// is not called, and the answer is `Unparked`.
+    /// Parks the thread as `park` does, but no longer than until that instant; a clock that cannot be
+    /// read counts as past it. Then, in a section of the key's bucket, the thread leaves the list
+    /// and `timed_out` is called once, with the key and with whether no other thread waits on it;
+    /// the answer is `TimedOut`. If an unpark took the thread before that section, `timed_out` is
+    /// not called, and the answer is `Unparked`.
     ///
     /// `validate` and `timed_out` must not call the lot, nor wait for a thread that does. It
     /// allocates nothing.
@@ -251,5 +264,50 @@ impl<'a, P: ThreadParkerT> Member<'a, P> {
     {
         self.lot
             .take_all::<Brand, R>(rt, &mut self.witness, key, token)
+    }
+
+    /// The numbers of the threads that stand in the list of the key, in order, as it is after all that
+    /// the member has seen then: it sees the history in the section of the key's bucket.
+    ///
+    /// It asks for memory with the bucket locked, again whenever the list has to grow. A section
+    /// must not call it. Upstream has no such call.
+    ///
+    /// # Errors
+    ///
+    /// `NoMemory` if memory for the list cannot be had. The empty list needs none.
+    pub fn list<R: Wait>(
+        &mut self,
+        rt: &R,
+        alloc: Global,
+        key: usize,
+    ) -> Result<Vec<usize>, NoMemory>
+        ensures stays { Stays self.old self.new }
+        ensures listed { IsListed self.old.history key self.old.witness self.new.witness result }
+    {
+        self.lot.list(rt, alloc, &mut self.witness, key)
+    }
+
+    /// Ends the registration of the thread, whose number may be given to another thread then, and
+    /// gives back its witness, whose last event that is. Others hear it by `hear_witness`.
+    ///
+    /// The thread's node goes away. It takes the lock of the numbers and asks for no memory. A
+    /// section must not call it.
+    ///
+    /// Upstream does this as the thread's local data is dropped.
+    pub fn retire<R: Wait>(self, rt: &R) -> Witness
+        ensures still { IsStill self.entry.history self.entry.witness result }
+        ensures retired { Extends self.entry.history self.entry.witness
+            (Step.Retire self.entry.number) Answer.Retired result }
+    {
+        let Member {
+            lot,
+            number,
+            node: _node,
+            thread,
+            records,
+            mut witness,
+        } = self;
+        lot.retire(rt, &mut witness, number, thread, records);
+        witness
     }
 }

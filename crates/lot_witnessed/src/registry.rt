@@ -3,16 +3,17 @@
 ghost use Rattle.std.specs.Prelude.{◌≡◌, ◌∷◌, ◌<◌, ℕ, [], true, false, length, IfOk, IfSome, MatchOption};
 ghost use Rattle.lot_history.specs.Pieces.{has_number};
 ghost use Rattle.lot_history.specs.Witness.{Extends, IsPartOf, IsStill, IsWitnessOf, id_of, max_threads_of, pieces_of};
-ghost use Rattle.lot_history.specs.declared.view.Piece.TheVariants.{Numbers};
+ghost use Rattle.lot_history.specs.declared.view.Piece.TheVariants.{Numbers, Thread};
 ghost use Rattle.lot_word_lock.specs.WordLock.{key_of};
-ghost use Rattle.lot_witnessed.specs.Cells.{IsRegistry, IsRegistryLock};
+ghost use Rattle.lot_witnessed.specs.Cells.{Has, HasRecords, IsRegistry, IsRegistryLock};
 ghost use Rattle.lot_witnessed.specs.Members.{IsRegistered, answer_for, pieces_for};
 ghost use Rattle.lot_witnessed.specs.Rows.{free_numbers};
 
-use crate::told::{add_full, add_registered};
+use crate::told::{add_full, add_registered, add_retired};
 use lot_base::token::NoMemory;
 use lot_base::word_lock::{Fits, WordLock};
-use lot_exclusive::schedule::Step;
+use lot_exclusive::lot::Status;
+use lot_exclusive::schedule::{Answer, Step};
 use lot_history::history::{History, Part, Witness};
 use std::alloc::Global;
 use std::mem;
@@ -96,6 +97,38 @@ impl Registry {
         let number = register_in(history, &mut me, &mut self.uses);
         self.part = history.give(&mut me);
         (me, number)
+    }
+
+    // Ends the registration of a running thread, whose pieces these parts have, and tells so.
+    pub(crate) fn retire(
+        &mut self,
+        history: &History,
+        me: &mut Witness,
+        number: usize,
+        thread: Part,
+        records: Part,
+    )
+        requires registry { IsRegistry (id_of history.now) (max_threads_of history.now) self.old }
+        requires witness { IsWitnessOf history.now me.old }
+        requires none { pieces_of me.old ≡ [] }
+        requires below { number < max_threads_of history.now }
+        requires thread { Has (id_of history.now) (Thread number Status.Running ∷ []) thread }
+        requires records { HasRecords (id_of history.now) number records }
+        ensures registry { IsRegistry (id_of history.now) (max_threads_of history.now) self.new }
+        ensures still { IsStill history.now me.old me.new }
+        ensures extends { Extends history.now me.old
+            (Step.Retire number) Answer.Retired me.new }
+        ensures none { pieces_of me.new ≡ [] }
+    {
+        history.take(me, thread);
+        history.take(me, records);
+        let part = mem::replace(&mut self.part, Part::none());
+        history.take(me, part);
+        // It learns that the number is registered, since the thread runs.
+        history.look(me);
+        self.uses[number] = false;
+        add_retired(history, me, number, &self.uses);
+        self.part = history.give(me);
     }
 }
 

@@ -10,18 +10,19 @@ ghost use Rattle.lot_base.specs.Waiting.{result_of, split_first};
 ghost use Rattle.lot_history.specs.Witness.{Adds, Extends, IsStill, IsWitnessOf, events_of, id_of, max_threads_of, pieces_of, seen_by};
 ghost use Rattle.lot_history.specs.declared.view.Piece.TheVariants.{Thread};
 ghost use Rattle.lot_witnessed.specs.Cells.{Has, IsBelow, IsCell, threads_in};
-ghost use Rattle.lot_witnessed.specs.Members.{Leaves, entry_of, entry_step};
+ghost use Rattle.lot_witnessed.specs.Members.{IsListed, Leaves, entry_of, entry_step};
 
 use crate::cell::Cell;
 use crate::told::{Entry, add_entered, add_invalid, add_taking, add_timeout};
 use lot_base::queue::{Node, Queue};
-use lot_base::token::{UnparkResult, UnparkToken};
+use lot_base::token::{NoMemory, UnparkResult, UnparkToken};
 use lot_exclusive::lot::Status;
 use lot_exclusive::schedule::{Answer, Op, Step};
 use lot_history::history::{History, Part, Witness};
 use lot_history::plays::Told;
+use std::alloc::Global;
 use std::sync::Wait;
-use std::thread;
+use std::{mem, thread};
 
 // Takes the first waiter of the key out of its bucket, and tells so. The witness has the pieces of
 // those that were taken, one at most.
@@ -162,6 +163,32 @@ pub(crate) fn leave_in<R: Wait, T: FnOnce(usize, bool)>(
     timed_out(key, last);
     let thread = add_timeout(history, me, cell, number, key, last);
     Some((thread, node))
+}
+
+// Sees the history with the bucket's part, and lists the threads of the key.
+pub(crate) fn list_in(
+    history: &History,
+    me: &mut Witness,
+    cell: &mut Cell,
+    alloc: Global,
+    key: usize,
+) -> Result<Vec<usize>, NoMemory>
+    requires witness { IsWitnessOf history.now me.old }
+    requires none { pieces_of me.old ≡ [] }
+    requires cell { IsCell (id_of history.now) (max_threads_of history.now) cell.old }
+    requires place { place_of key cell.old.bucket.size ≡ cell.old.bucket.place }
+
+    ensures still { IsStill history.now me.old me.new }
+    ensures none { pieces_of me.new ≡ [] }
+    ensures cell { IsCell (id_of history.now) (max_threads_of history.now) cell.new }
+    ensures place { KeepsPlace cell.old.bucket cell.new.bucket }
+    ensures listed { IsListed history.now key me.old me.new result }
+{
+    let part = mem::replace(&mut cell.part, Part::none());
+    history.take(me, part);
+    history.look(me);
+    cell.part = history.give(me);
+    cell.bucket.list(alloc, key)
 }
 
 // Waits for ever. A thread whose deadline has passed entered with a timeout, so this is not called,

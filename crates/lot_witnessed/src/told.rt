@@ -81,6 +81,19 @@ pub(crate) fn add_registered(history: &History, me: &mut Witness, number: usize,
     add_with::<Brand, (usize, &Vec<bool>)>(history, me, &(number, uses));
 }
 
+// Adds that a running thread ended its registration, which leaves these numbers registered.
+pub(crate) fn add_retired(history: &History, me: &mut Witness, number: usize, uses: &Vec<bool>)
+    requires witness { IsWitnessOf history.now me.old }
+    requires moves { Moves (max_threads_of history.now)
+        (Is (Step.Retire number) Answer.Retired) (pieces_of me.old)
+        (Numbers uses.now.items ∷ []) }
+    ensures still { IsStill history.now me.old me.new }
+    ensures extends { Extends history.now me.old (Step.Retire number) Answer.Retired me.new }
+    ensures pieces { pieces_of me.new ≡ Numbers uses.now.items ∷ [] }
+{
+    add_with::<Brand, (usize, &Vec<bool>)>(history, me, &(number, uses));
+}
+
 // Adds that all numbers are registered.
 pub(crate) fn add_full(history: &History, me: &mut Witness)
     requires witness { IsWitnessOf history.now me.old }

@@ -1,0 +1,77 @@
+//! What else members of such a lot call: lists, filters, requeues, records, and the end of a registration.
+
+use lot_base::thread_parker::{ThreadParkerT, WordParker};
+use lot_base::token::{DEFAULT_PARK_TOKEN, LotError, ParkResult, UnparkToken};
+use lot_witnessed::lot::Lot;
+use lot_witnessed::member::Member;
+use std::alloc::Global;
+use std::process::Abort;
+use std::sync::Wait;
+use std::test::*;
+use std::thread;
+use std::thread::{Threads, join};
+
+const KEY: usize = 7;
+
+const TURNS: usize = 10_000_000;
+
+// Parks until it is unparked.
+fn sleep<P: ThreadParkerT, R: Wait>(rt: &R, mut me: Member<'_, P>) -> ParkResult {
+    me.park(rt, KEY, || true, || (), DEFAULT_PARK_TOKEN)
+}
+
+// Lists the key until one thread stands there, unparks it, and answers its number.
+fn find_and_wake<P: ThreadParkerT, R: Wait + Abort>(
+    rt: &R,
+    alloc: Global,
+    mut me: Member<'_, P>,
+) -> Option<usize> {
+    for _ in 0..TURNS {
+        let numbers = me.list(rt, alloc, KEY).expect(rt, "memory");
+        if let Some(&number) = numbers.first() {
+            me.unpark_all(rt, KEY, UnparkToken(42));
+            return Some(number);
+        }
+        thread::yield_now();
+    }
+    None
+}
+
+// One of two threads parks, and the other finds it in the list of the key.
+fn find_a_sleeper<R: Threads + Wait + Abort + Sync>(rt: &R, alloc: Global) {
+    let lot = Lot::<WordParker>::new(alloc, 2).expect(rt, "a lot");
+    let waker = Member::register(rt, alloc, &lot).expect(rt, "a number");
+    let sleeper = Member::register(rt, alloc, &lot).expect(rt, "a number");
+    let (slept, found) = join(
+        rt,
+        || sleep(rt, sleeper),
+        || find_and_wake(rt, alloc, waker),
+    );
+    assert_eq!(rt; found, Some(1));
+    assert_eq!(rt; slept, ParkResult::Unparked(UnparkToken(42)));
+}
+
+// It refuses a number that stays registered, and one that another thread has.
+#[test]
+fn a_retired_number_is_given_again(rt: HostRuntime) -> Result<(), Fail> {
+    let lot = Lot::<WordParker>::new(rt.alloc(), 2)?;
+    let one = Member::register(&rt, rt.alloc(), &lot)?;
+    let mut two = Member::register(&rt, rt.alloc(), &lot)?;
+    let mut past = one.retire(&rt);
+    two.hear_witness(&mut past);
+    let three = Member::register(&rt, rt.alloc(), &lot)?;
+    assert_eq!(rt; three.number(), 0);
+    let four = Member::register(&rt, rt.alloc(), &lot);
+    assert!(rt; matches!(four, Err(LotError::Full)));
+    Ok(())
+}
+
+// It refuses a list that misses a thread that waits, and one that names another.
+#[test]
+fn a_thread_that_parked_is_listed(rt: HostRuntime) -> Result<(), Fail> {
+    let lot = Lot::<WordParker>::new(rt.alloc(), 1)?;
+    let mut one = Member::register(&rt, rt.alloc(), &lot)?;
+    assert_eq!(rt; one.list(&rt, rt.alloc(), KEY)?.len(), 0);
+    find_a_sleeper(&rt, rt.alloc());
+    Ok(())
+}

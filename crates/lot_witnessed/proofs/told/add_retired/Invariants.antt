@@ -1,0 +1,13 @@
+use Rattle.std.proofs.Common.{[], ◌∷◌}
+use Rattle.lot_exclusive.specs.declared.schedule.Answer.TheVariants as answer
+use Rattle.lot_exclusive.specs.declared.schedule.Step.TheVariants as step
+use Rattle.lot_history.specs.declared.view.Piece.TheVariants.{Numbers}
+use Rattle.lot_witnessed.specs.Members.{Is}
+use Rattle.lot_witnessed.proofs.told.add_retired.Given as goal
+
+-- the number is registered no longer
+abbrev pub ghosts-add_with : goal.ghosts-add_with
+ghosts-add_with a = record { said = Is (step.Retire a._values.now.0) answer.Retired }
+
+abbrev pub ghost-add_with : goal.ghost-add_with
+ghost-add_with a = Numbers a._values.now.1.now.items ∷ []
