@@ -75,3 +75,18 @@ fn a_thread_that_parked_is_listed(rt: HostRuntime) -> Result<(), Fail> {
     find_a_sleeper(&rt, rt.alloc());
     Ok(())
 }
+
+// It refuses records that a release leaves, and records that outlive a registration.
+#[test]
+fn records_end_with_the_registration(rt: HostRuntime) -> Result<(), Fail> {
+    let lot = Lot::<WordParker>::new(rt.alloc(), 1)?;
+    let mut one = Member::register(&rt, rt.alloc(), &lot)?;
+    one.acquire_resource(KEY)?;
+    one.acquire_resource(KEY)?;
+    one.release_resource(KEY);
+    assert_eq!(rt; (one.records(KEY), one.records(0)), (1, 0));
+    one.retire(&rt);
+    let again = Member::register(&rt, rt.alloc(), &lot)?;
+    assert_eq!(rt; again.records(KEY), 0);
+    Ok(())
+}

@@ -4,3 +4,4 @@ pub mod BelowLemmas
 pub mod HandedLemmas
 pub mod RetireLemmas
 pub mod ListLemmas
+pub mod RecordingLemmas

@@ -38,19 +38,21 @@ entry_step entry valid = Enter entry.number entry.key valid entry.park_token ent
 abbrev pub entry_of : NodeFields → Entry
 entry_of node = record { number = node.number; key = node.key; park_token = node.park_token; timed = node.timed }
 
--- a member: the history of its lot, its number, and its witness, whose events its calls added
+-- a member: the history of its lot, its number, the keys that it has recorded, and its witness, whose events its calls
+-- added
 pub record MemberState : Type 0 where
   pub history : History
   pub number : ℕ
+  pub records : List ℕ
   pub witness : Witness
 
 -- a member that runs has its node, and the pieces that say so
-pub record IsMember (history : History) (own : ℕ) (node : Option (Box Node Global)) (thread records : Part)
-    (witness : Witness) : Type 0 where
+pub record IsMember (history : History) (own : ℕ) (node : Option (Box Node Global)) (keys : List ℕ)
+    (thread records : Part) (witness : Witness) : Type 0 where
   pub below : own < max_threads_of history
   pub has_node : IsSomeAnd node (λ held. (fields held.value).number ≡ own)
   pub runs : Has (id_of history) (Thread own Running ∷ []) thread
-  pub has_recorded : Has (id_of history) (Records own [] ∷ []) records
+  pub has_recorded : Has (id_of history) (Records own keys ∷ []) records
   pub of_history : IsWitnessOf history witness
   pub no_pieces : pieces_of witness ≡ []
 
@@ -75,11 +77,22 @@ pub record IsRegistered (history : History) (number : Option ℕ) (witness : Wit
   pub begins : Begins history Register (answer_for number) witness
   pub pieces : pieces_of witness ≡ pieces_for number
 
--- the same member
-pub record Stays (old new : MemberState) : Type 0 where
+-- the same member, whatever it has recorded
+pub record IsSame (old new : MemberState) : Type 0 where
   pub history : new.history ≡ old.history
   pub number : new.number ≡ old.number
   pub witness : IsStill old.history old.witness new.witness
+
+-- the same member, with the same records
+pub record Stays (old new : MemberState) : Type 0 where
+  pub history : new.history ≡ old.history
+  pub number : new.number ≡ old.number
+  pub records : new.records ≡ old.records
+  pub witness : IsStill old.history old.witness new.witness
+
+-- a call of the member made this step
+abbrev pub Makes : MemberState → Step → Answer → MemberState → Type 0
+Makes old step answer new = Extends old.history old.witness step answer new.witness
 
 -- the history was seen, and the numbers are those of the threads that stand in the list of the key, in order, in the
 -- machine that it leads to; or memory is wanting, and somebody stands there

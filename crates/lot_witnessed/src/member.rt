@@ -1,16 +1,19 @@
 //! Members of a lot: registered threads, whose calls tell the history what they did.
 
-ghost use Rattle.std.specs.Prelude.{◌≡◌, ◌≢◌, ◌∷◌, List, [], true, false, Err, IfOk};
+ghost use Rattle.std.specs.Prelude.{◌≡◌, ◌≢◌, ◌∷◌, List, [], true, false, Err, IfOk, OnErr, OnOk};
+ghost use Rattle.lot_exclusive.specs.Records.{one_less, one_more, times_recorded};
 ghost use mathlib.Core.List.{IsPrefix};
 ghost use Rattle.lot_base.specs.NodeFields.{NodeFields};
 ghost use Rattle.lot_base.specs.Waiting.{result_of, split_first};
 ghost use Rattle.lot_history.specs.Witness.{Extends, IsStill, IsWitnessOf, Looks, id_of, seen_by, view_of};
-ghost use Rattle.lot_witnessed.specs.Members.{Begins, IsListed, IsParked, IsParkedUntil, Stays};
+ghost use Rattle.lot_witnessed.specs.Members.{Begins, IsListed, IsParked, IsParkedUntil, IsSame, Makes, Stays};
 
 use crate::lot::Lot;
+use crate::told::add_recording;
 use lot_base::queue::Node;
 use lot_base::thread_parker::ThreadParkerT;
 use lot_base::token::{LotError, NoMemory, ParkResult, ParkToken, UnparkResult, UnparkToken};
+use lot_exclusive::records::Records;
 use lot_exclusive::schedule::{Answer, Op, Step};
 use lot_history::history::{Part, Witness};
 use std::alloc::Global;
@@ -21,8 +24,9 @@ use std::time::{Clock, Instant};
 
 /// A registered thread and its lot. All calls of the lot are made by members.
 ///
-/// A contract sees it as the history of its lot, its number, and its witness: the beginning of the
-/// history that it has seen, and which events in it its own calls added.
+/// A contract sees it as the history of its lot, its number, the keys that it has recorded, and its
+/// witness: the beginning of the history that it has seen, and which events in it its own calls
+/// added.
 ///
 /// A member that is only dropped leaves its number registered; `retire` frees it.
 ///
@@ -32,6 +36,7 @@ pub struct Member<'a, P: ThreadParkerT> {
     lot: &'a Lot<P>,
     number: usize,
     node: Option<Box<Node>>,
+    keys: Records,
     thread: Part,
     records: Part,
     witness: Witness,
@@ -45,11 +50,12 @@ impl<'a, P: ThreadParkerT> Model for Member<'a, P> {
     ghost view = { λ member. record {
       history = member.lot.now;
       number = member.number;
+      records = member.keys;
       witness = member.witness;
     } };
 
-    ghost invariant = { λ member. IsMember member.lot.now member.number member.node member.thread
-        member.records member.witness };
+    ghost invariant = { λ member. IsMember member.lot.now member.number member.node member.keys
+        member.thread member.records member.witness };
 }
 
 impl<'a, P: ThreadParkerT> Member<'a, P> {
@@ -69,6 +75,7 @@ impl<'a, P: ThreadParkerT> Member<'a, P> {
     ) -> Result<Member<'a, P>, LotError>
         ensures not_too_many { result ≢ Err LotError.TooManyThreads }
         ensures lot { IfOk result (λ member. member.history ≡ lot.now) }
+        ensures records { IfOk result (λ member. member.records ≡ []) }
         ensures registered { IfOk result (λ member.
             Begins lot.now Step.Register (Answer.Registered member.number) member.witness) }
     {
@@ -84,6 +91,7 @@ impl<'a, P: ThreadParkerT> Member<'a, P> {
             lot,
             number,
             node: Some(node),
+            keys: Records::new(alloc),
             thread,
             records,
             witness,
@@ -287,6 +295,84 @@ impl<'a, P: ThreadParkerT> Member<'a, P> {
         self.lot.list(rt, alloc, &mut self.witness, key)
     }
 
+    /// Records that the thread holds the resource of this key, once it has it. A key that is recorded
+    /// again counts once more.
+    ///
+    /// It may ask for memory, for the records alone. It takes no lock. Upstream finds the records in
+    /// a thread local, does nothing without a feature, and cannot be refused.
+    ///
+    /// # Errors
+    ///
+    /// `NoMemory` if memory cannot be had. The records did not change then, and the history tells
+    /// that.
+    pub fn acquire_resource(&mut self, key: usize) -> Result<(), NoMemory>
+        ensures same { IsSame self.old self.new }
+        ensures ok { OnOk result (times_recorded self.new.records
+            ≡ one_more (times_recorded self.old.records) key) }
+        ensures err { OnErr result (self.new.records ≡ self.old.records) }
+        ensures recorded { OnOk result (Makes self.old
+            (Step.Acquire self.old.number key) Answer.Recorded self.new) }
+        ensures refused { OnErr result (Makes self.old
+            (Step.Acquire self.old.number key) Answer.NoMemory self.new) }
+    {
+        let acquired = self.keys.acquire(key);
+        let answer = if acquired.is_ok() {
+            Answer::Recorded
+        } else {
+            Answer::NoMemory
+        };
+        add_recording(
+            self.lot.history(),
+            &mut self.witness,
+            &mut self.thread,
+            &mut self.records,
+            Step::Acquire {
+                thread: self.number,
+                key,
+            },
+            answer,
+            self.number,
+            &self.keys,
+        );
+        acquired
+    }
+
+    /// Records one less of this key. Where the key is not recorded, no count changes.
+    ///
+    /// It searches the records from the last one. It asks for no memory and takes no lock. Upstream
+    /// finds the records in a thread local, and does nothing without a feature.
+    pub fn release_resource(&mut self, key: usize)
+        ensures same { IsSame self.old self.new }
+        ensures records { times_recorded self.new.records
+            ≡ one_less (times_recorded self.old.records) key }
+        ensures released { Makes self.old
+            (Step.Release self.old.number key) Answer.Released self.new }
+    {
+        self.keys.release(key);
+        add_recording(
+            self.lot.history(),
+            &mut self.witness,
+            &mut self.thread,
+            &mut self.records,
+            Step::Release {
+                thread: self.number,
+                key,
+            },
+            Answer::Released,
+            self.number,
+            &self.keys,
+        );
+    }
+
+    /// How often the thread has recorded the key. It visits the records.
+    ///
+    /// Upstream keeps them to itself.
+    pub fn records(&self, key: usize) -> usize
+        ensures { result ≡ times_recorded self.now.records key }
+    {
+        self.keys.times(key)
+    }
+
     /// Ends the registration of the thread, whose number may be given to another thread then, and
     /// gives back its witness, whose last event that is. Others hear it by `hear_witness`.
     ///
@@ -303,6 +389,7 @@ impl<'a, P: ThreadParkerT> Member<'a, P> {
             lot,
             number,
             node: _node,
+            keys: _keys,
             thread,
             records,
             mut witness,

@@ -16,6 +16,7 @@ use lot_base::bucket::Bucket;
 use lot_base::queue::Queue;
 use lot_base::token::{ParkToken, UnparkToken};
 use lot_exclusive::lot::Status;
+use lot_exclusive::records;
 use lot_exclusive::schedule::{Answer, Step};
 use lot_history::history::{History, Part, Witness};
 use lot_history::plays::Told;
@@ -92,6 +93,43 @@ pub(crate) fn add_retired(history: &History, me: &mut Witness, number: usize, us
     ensures pieces { pieces_of me.new ≡ Numbers uses.now.items ∷ [] }
 {
     add_with::<Brand, (usize, &Vec<bool>)>(history, me, &(number, uses));
+}
+
+// Adds a step of a running thread, which has recorded these keys then.
+pub(crate) fn add_recording(
+    history: &History,
+    me: &mut Witness,
+    thread: &mut Part,
+    records: &mut Part,
+    step: Step,
+    answer: Answer,
+    number: usize,
+    keys: &records::Records,
+)
+    requires witness { IsWitnessOf history.now me.old }
+    requires none { pieces_of me.old ≡ [] }
+    requires thread { Has (id_of history.now) (Thread number Status.Running ∷ []) thread.old }
+    requires records { IsPartOf (id_of history.now) records.old }
+    requires moves { Moves (max_threads_of history.now) (Is step answer)
+        (Thread number Status.Running ∷ pieces_in records.old)
+        (Thread number Status.Running ∷ Records number keys.now ∷ []) }
+    ensures still { IsStill history.now me.old me.new }
+    ensures extends { Extends history.now me.old step answer me.new }
+    ensures none { pieces_of me.new ≡ [] }
+    ensures thread { Has (id_of history.now) (Thread number Status.Running ∷ []) thread.new }
+    ensures records { Has (id_of history.now) (Records number keys.now ∷ []) records.new }
+{
+    let part = mem::replace(thread, Part::none());
+    history.take(me, part);
+    let part = mem::replace(records, Part::none());
+    history.take(me, part);
+    add_with::<Brand, (Step, Answer, usize, &records::Records)>(
+        history,
+        me,
+        &(step, answer, number, keys),
+    );
+    *thread = history.give(me);
+    *records = history.give(me);
 }
 
 // Adds that all numbers are registered.
