@@ -1,7 +1,7 @@
 //! What else members of such a lot call: lists, filters, requeues, records, and the end of a registration.
 
 use lot_base::thread_parker::{ThreadParkerT, WordParker};
-use lot_base::token::{DEFAULT_PARK_TOKEN, LotError, ParkResult, UnparkToken};
+use lot_base::token::{DEFAULT_PARK_TOKEN, FilterOp, LotError, ParkResult, ParkToken, UnparkToken};
 use lot_witnessed::lot::Lot;
 use lot_witnessed::member::Member;
 use std::alloc::Global;
@@ -49,6 +49,56 @@ fn find_a_sleeper<R: Threads + Wait + Abort + Sync>(rt: &R, alloc: Global) {
     );
     assert_eq!(rt; found, Some(1));
     assert_eq!(rt; slept, ParkResult::Unparked(UnparkToken(42)));
+}
+
+// Waits until a thread stands in the list of the key, and unparks those with the token `wanted`.
+// Answers how many it unparked, and how many other threads it unparked before that.
+fn wake_wanted<P: ThreadParkerT, R: Wait + Abort>(
+    rt: &R,
+    alloc: Global,
+    mut me: Member<'_, P>,
+    wanted: ParkToken,
+) -> Option<(usize, usize)> {
+    for _ in 0..TURNS {
+        if me.list(rt, alloc, KEY).expect(rt, "memory").len() == 1 {
+            let others = me.unpark_filter(rt, KEY, |_| FilterOp::Skip, |_| UnparkToken(1));
+            let found = me.unpark_filter(
+                rt,
+                KEY,
+                |token| {
+                    if token == wanted {
+                        FilterOp::Unpark
+                    } else {
+                        FilterOp::Skip
+                    }
+                },
+                |_| UnparkToken(42),
+            );
+            return Some((found.unparked_threads, others.unparked_threads));
+        }
+        thread::yield_now();
+    }
+    None
+}
+
+// One of two threads parks, and the other unparks it by a filter that looks at its park token.
+fn wake_by_token<R: Threads + Wait + Abort + Sync>(rt: &R, alloc: Global) {
+    let lot = Lot::<WordParker>::new(alloc, 2).expect(rt, "a lot");
+    let waker = Member::register(rt, alloc, &lot).expect(rt, "a number");
+    let sleeper = Member::register(rt, alloc, &lot).expect(rt, "a number");
+    let (slept, found) = join(
+        rt,
+        || sleep(rt, sleeper),
+        || wake_wanted(rt, alloc, waker, DEFAULT_PARK_TOKEN),
+    );
+    assert_eq!(rt; found, Some((1, 0)));
+    assert_eq!(rt; slept, ParkResult::Unparked(UnparkToken(42)));
+}
+
+// It refuses a filter's unpark that takes who is skipped, and one that leaves who is taken.
+#[test]
+fn a_filter_decides_by_the_park_token(rt: HostRuntime) {
+    wake_by_token(&rt, rt.alloc());
 }
 
 // It refuses a number that stays registered, and one that another thread has.

@@ -3,7 +3,9 @@ use Rattle.std.proofs.Common.{◌≡◌, ℕ, ◌==◌, Bool, true, false, cond,
 use Rattle.std.proofs.lemmas.List.Elements.{All-nil, All-cons, All-head, All-tail, All-filter}
 use Rattle.lot_base.specs.NodeFields.{NodeFields}
 use Rattle.lot_base.specs.NodeLists.{lists_of, ChangesOnly, has_number, with_token}
-use Rattle.lot_base.specs.Waiting.{Split, split_first, split_all, without_first}
+use Rattle.lot_base.specs.Waiting.{Split, split_first, split_all, split_filter, without_first}
+use Rattle.lot_base.specs.declared.token.FilterOp.{FilterOp}
+use Rattle.lot_base.specs.declared.token.FilterOp.TheVariants.{Unpark, Skip, Stop}
 use Rattle.lot_base.specs.declared.token.UnparkToken.{UnparkToken}
 use Rattle.lot_base.proofs.WaitingLemmas.{All-after_taking}
 use Rattle.lot_witnessed.specs.Cells.{IsBelow}
@@ -38,6 +40,26 @@ first_parts (node ∷ waiting) = record {
 
 pub all_parts : (waiting : List NodeFields) → HoldsOfParts (split_all waiting) waiting
 all_parts waiting = record { taken = λ P all. all; left = λ P all. All-nil P }
+
+pub filter_parts : (decisions : List FilterOp) (waiting : List NodeFields)
+    → HoldsOfParts (split_filter decisions waiting) waiting
+filter_parts [] waiting = record { taken = λ P all. All-nil P; left = λ P all. all }
+filter_parts (_ ∷ _) [] = record { taken = λ P all. all; left = λ P all. all }
+filter_parts (Unpark ∷ decisions) (node ∷ waiting) =
+    let rest = filter_parts decisions waiting in
+    record {
+      taken = λ P all. All-cons P node (split_filter decisions waiting).taken (All-head P node waiting all)
+          (rest.taken P (All-tail P node waiting all));
+      left = λ P all. rest.left P (All-tail P node waiting all);
+    }
+filter_parts (Skip ∷ decisions) (node ∷ waiting) =
+    let rest = filter_parts decisions waiting in
+    record {
+      taken = λ P all. rest.taken P (All-tail P node waiting all);
+      left = λ P all. All-cons P node (split_filter decisions waiting).left (All-head P node waiting all)
+          (rest.left P (All-tail P node waiting all));
+    }
+filter_parts (Stop ∷ decisions) (node ∷ waiting) = record { taken = λ P all. All-nil P; left = λ P all. all }
 
 -- a list without its first of a number
 abbrev pub split_without : ℕ → List NodeFields → Split NodeFields

@@ -5,3 +5,4 @@ pub mod HandedLemmas
 pub mod RetireLemmas
 pub mod ListLemmas
 pub mod RecordingLemmas
+pub mod AnswerLemmas

@@ -1,5 +1,5 @@
 -- What sections do to a bucket, where the pieces of its lists and of those that were taken go by its nodes.
-use Rattle.std.proofs.Common.{◌≡◌, ℕ, List, [], ◌∷◌, ◌++◌, append-nil, map, refl, sym, ap, ◌∙◌}
+use Rattle.std.proofs.Common.{◌≡◌, ℕ, List, [], ◌∷◌, ◌++◌, append-nil, map, refl, sym, ap, ◌∙◌, subst}
 use Rattle.lot_base.specs.BucketState.{BucketState, KeepsPlace}
 use Rattle.lot_base.specs.NodeFields.{NodeFields}
 use Rattle.lot_base.specs.NodeLists.{with_token}
@@ -13,7 +13,7 @@ use Rattle.lot_history.specs.declared.view.Piece.{Piece}
 use Rattle.lot_history.specs.declared.view.Piece.TheVariants.{Lists, Thread}
 use Rattle.lot_history.specs.Moves.{Moves}
 use Rattle.lot_history.specs.Pieces.{standing_in, threads_taken}
-use Rattle.lot_history.proofs.ThreadLemmas.{Is, said_moves}
+use Rattle.lot_history.proofs.ThreadLemmas.{Is, said_moves, says}
 use Rattle.lot_witnessed.specs.Cells.{lists_in, threads_in}
 
 -- those that were taken have the token in their nodes
@@ -42,3 +42,11 @@ module _ (bound : ℕ) (old new : BucketState) (token : UnparkToken) (chosen tak
   taking_moves which given said is_said moves =
       said_moves bound (Unpark which) given said (lists_in old ∷ []) after (lists_in old ∷ [])
       (lists_in new ∷ threads_in taken) refl pieces_after is_said moves
+
+  -- one of which more is known
+  pub taking_said : (first said : Step → Answer → Type 0) → ((s : Step) (a : Answer) → first s a → said s a)
+      → Moves bound first (lists_in old ∷ []) after
+      → Moves bound said (lists_in old ∷ []) (lists_in new ∷ threads_in taken)
+  taking_said first said more moves =
+      subst (λ (pieces : List Piece). Moves bound said (lists_in old ∷ []) pieces) (sym pieces_after)
+      (says bound first said (lists_in old ∷ []) after more moves)

@@ -7,6 +7,8 @@ pub mod Cells
 pub mod Late
 -- Then members, and what their calls add to the history.
 pub mod Members
+-- Then unparks by a filter.
+pub mod Filters
 -- Then the handles of threads that are to be woken.
 pub mod Handles
 -- Last what follows by the laws of every history.

@@ -1,14 +1,18 @@
 //! The lot, which threads share by reference: its buckets, and for each thread a parker and a
 //! mailbox.
 
-ghost use Rattle.std.specs.Prelude.{◌≡◌, ◌≢◌, ◌↔◌, ◌∷◌, ◌<◌, ◌≤◌, ℕ, List, [], true, false, length, map, All, Err, IsErrOf, Bool, IfErr, IfNone, IfOk, IfSome, OnOk, is_ok};
+ghost use Rattle.std.specs.Prelude.{◌≡◌, ◌≢◌, ◌↔◌, ◌∷◌, ◌<◌, ◌≤◌, ◌^◌, ℕ, List, [], true, false, length, map, All, Err, IsErrOf, Bool, IfErr, IfNone, IfOk, IfSome, OnOk, is_ok};
 ghost use Rattle.lot_base.specs.Node.{fields};
 ghost use Rattle.lot_base.specs.NodeFields.{NodeFields};
 ghost use Rattle.lot_base.specs.Place.{IsTableSize};
 ghost use Rattle.lot_base.specs.Waiting.{result_of, split_first};
+ghost use Rattle.lot_base.specs.declared.token.UnparkResult.{UnparkResult};
+ghost use Rattle.lot_exclusive.specs.declared.schedule.Answer.{Answer};
+ghost use Rattle.lot_exclusive.specs.declared.schedule.Step.{Step};
 ghost use Rattle.lot_history.specs.Witness.{Adds, Extends, IsPartOf, IsStill, IsWitnessOf, events_of, id_of, max_threads_of, pieces_of, seen_by};
 ghost use Rattle.lot_history.specs.declared.view.Piece.TheVariants.{Thread};
 ghost use Rattle.lot_witnessed.specs.Cells.{Has, HasRecords, IsBelow, IsLetterTo, IsLockFor, IsMailLock, thread_taken, threads_in};
+ghost use Rattle.lot_witnessed.specs.Filters.{AreCallable, IsUnpark};
 ghost use Rattle.lot_witnessed.specs.Handles.{handle_numbers};
 ghost use Rattle.lot_witnessed.specs.Members.{EndsWait, IsListed, IsRegistered, Leaves, entry_of, entry_step};
 ghost use Rattle.lot_witnessed.specs.Rows.{EachAt};
@@ -16,12 +20,14 @@ ghost use Rattle.lot_witnessed.specs.Rows.{EachAt};
 use crate::cell::{Cell, new_cells};
 use crate::mail::{Letter, Mail, MailKey, new_mail};
 use crate::registry::{Registry, new_registry};
-use crate::sections::{enter_in, leave_in, list_in, take_all_of, take_one_of};
+use crate::sections::{enter_in, leave_in, list_in, take_all_of, take_filter_of, take_one_of};
 use crate::told::{add_return, cut_up};
 use lot_base::bucket::place;
 use lot_base::queue::{Node, Queue};
 use lot_base::thread_parker::{ThreadParkerT, UnparkHandleT};
-use lot_base::token::{LotError, NoMemory, ParkResult, UnparkResult, UnparkToken};
+use lot_base::token::{
+    FilterOp, LotError, NoMemory, ParkResult, ParkToken, UnparkResult, UnparkToken,
+};
 use lot_base::word_lock::WordLock;
 use lot_exclusive::lot::Status;
 use lot_exclusive::schedule::{Answer, Op, Step};
@@ -63,7 +69,7 @@ impl<P: ThreadParkerT> Model for Lot<P> {
 
     ghost Value = { History };
 
-    ghost use Rattle.std.specs.Prelude.{◌≡◌, length};
+    ghost use Rattle.std.specs.Prelude.{◌≡◌, ◌<◌, ◌^◌, length};
     ghost use Rattle.lot_base.specs.Place.{IsTableSize};
     ghost use Rattle.lot_history.specs.Witness.{id_of, max_threads_of};
     ghost use Rattle.lot_witnessed.specs.Cells.{IsCellLock, IsMailLock, IsRegistryLock};
@@ -78,7 +84,8 @@ impl<P: ThreadParkerT> Model for Lot<P> {
         × (length lot.threads.items ≡ max_threads_of lot.history)
         × EachAt (λ number thread. (P.owner thread.parker ≡ number)
         × IsMailLock (id_of lot.history) number thread.mail) 0 lot.threads.items
-        × IsRegistryLock (id_of lot.history) (max_threads_of lot.history) lot.registry };
+        × IsRegistryLock (id_of lot.history) (max_threads_of lot.history) lot.registry
+        × (max_threads_of lot.history < 2 ^ 63) };
 }
 
 impl<P: ThreadParkerT> Lot<P> {
@@ -106,7 +113,8 @@ impl<P: ThreadParkerT> Lot<P> {
 
     // The same, of so many buckets.
     fn of_size(alloc: Global, max_threads: usize, size: usize) -> Result<Lot<P>, NoMemory>
-        requires { IsTableSize size }
+        requires size { IsTableSize size }
+        requires few { max_threads < 2 ^ 63 }
         ensures { IfOk result (λ lot. max_threads_of lot ≡ max_threads) }
     {
         let (history, mut me) = History::new(alloc, max_threads)?;
@@ -415,6 +423,38 @@ impl<P: ThreadParkerT> Lot<P> {
         self.commit(rt, me, taken);
         lock.unlock(held);
         count
+    }
+
+    // The section of an unpark by a filter. Each thread is woken in it, once its unpark was committed.
+    pub(crate) fn take_filter<
+        E: Told,
+        R: Wait,
+        F: FnMut(ParkToken) -> FilterOp,
+        C: FnOnce(UnparkResult) -> UnparkToken,
+    >(&self, rt: &R, me: &mut Witness, key: usize, filter: F, callback: C) -> UnparkResult
+        requires witness { IsWitnessOf self.now me.old }
+        requires none { pieces_of me.old ≡ [] }
+        requires callable { AreCallable F.FnMut C.FnOnce filter callback }
+        requires said { (answer : UnparkResult) (s : Step) (a : Answer)
+            → IsUnpark F.FnMut C.FnOnce filter callback key answer s a → E.said s a }
+        ensures still { IsStill self.now me.old me.new }
+        ensures adds { Adds self.now me.old
+            (λ s a. E.said s a × (a ≡ Answer.Unpark result)) me.new }
+        ensures none { pieces_of me.new ≡ [] }
+    {
+        let lock = self.lock_of(key);
+        let mut held = lock.lock(rt);
+        let (result, taken) = take_filter_of::<E, F, C>(
+            &self.history,
+            me,
+            &mut held.value,
+            key,
+            filter,
+            callback,
+        );
+        self.commit(rt, me, taken);
+        lock.unlock(held);
+        result
     }
 
     // Commits the unparks of all nodes that were taken, in order, and wakes their threads.

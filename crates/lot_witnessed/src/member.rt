@@ -6,13 +6,16 @@ ghost use mathlib.Core.List.{IsPrefix};
 ghost use Rattle.lot_base.specs.NodeFields.{NodeFields};
 ghost use Rattle.lot_base.specs.Waiting.{result_of, split_first};
 ghost use Rattle.lot_history.specs.Witness.{Extends, IsStill, IsWitnessOf, Looks, id_of, seen_by, view_of};
+ghost use Rattle.lot_witnessed.specs.Filters.{AreCallable, Unparks};
 ghost use Rattle.lot_witnessed.specs.Members.{Begins, IsListed, IsParked, IsParkedUntil, IsSame, Makes, Stays};
 
 use crate::lot::Lot;
 use crate::told::add_recording;
 use lot_base::queue::Node;
 use lot_base::thread_parker::ThreadParkerT;
-use lot_base::token::{LotError, NoMemory, ParkResult, ParkToken, UnparkResult, UnparkToken};
+use lot_base::token::{
+    FilterOp, LotError, NoMemory, ParkResult, ParkToken, UnparkResult, UnparkToken,
+};
 use lot_exclusive::records::Records;
 use lot_exclusive::schedule::{Answer, Op, Step};
 use lot_history::history::{Part, Witness};
@@ -43,6 +46,7 @@ pub struct Member<'a, P: ThreadParkerT> {
 }
 
 impl<'a, P: ThreadParkerT> Model for Member<'a, P> {
+    ghost use Rattle.lot_witnessed.specs.Filters.{AreCallable, Unparks};
     ghost use Rattle.lot_witnessed.specs.Members.{IsMember, MemberState};
 
     ghost Value = { MemberState };
@@ -272,6 +276,29 @@ impl<'a, P: ThreadParkerT> Member<'a, P> {
     {
         self.lot
             .take_all::<Brand, R>(rt, &mut self.witness, key, token)
+    }
+
+    /// Unparks those threads in the list of the key that the filter unparks, in order, hands each the
+    /// token that `callback` answers, and answers how many there were and whether one is left.
+    ///
+    /// In the section of the key's bucket the filter is called with the park tokens of the threads in
+    /// order, up to and with the first at which it answers `Stop`: that thread and all behind it stay.
+    /// Then `callback` is called once with the result, also where nobody waits. A count that no
+    /// `usize` can hold would be `usize::MAX`.
+    ///
+    /// Each thread is woken with the bucket locked, once its unpark was committed. Neither closure
+    /// may call the lot, nor wait for a thread that does. It allocates nothing.
+    pub fn unpark_filter<
+        R: Wait,
+        F: FnMut(ParkToken) -> FilterOp,
+        C: FnOnce(UnparkResult) -> UnparkToken,
+    >(&mut self, rt: &R, key: usize, filter: F, callback: C) -> UnparkResult
+        requires callable { AreCallable F.FnMut C.FnOnce filter callback }
+        ensures stays { Stays self.old self.new }
+        ensures unparked { Unparks F.FnMut C.FnOnce filter callback key self.old result self.new }
+    {
+        self.lot
+            .take_filter::<Brand, R, F, C>(rt, &mut self.witness, key, filter, callback)
     }
 
     /// The numbers of the threads that stand in the list of the key, in order, as it is after all that

@@ -1,21 +1,25 @@
 //! What each call does to a bucket and its part, while it has them: the step, and what it tells the
 //! history.
 
-ghost use Rattle.std.specs.Prelude.{◌≡◌, ◌∷◌, ◌≤◌, ℕ, [], true, false, length, Bool, All, IfErr, IfNone, IfSome, OnOk, is_ok};
+ghost use Rattle.std.specs.Prelude.{◌≡◌, ◌∷◌, ◌<◌, ◌≤◌, ◌^◌, ℕ, [], true, false, length, Bool, All, IfErr, IfNone, IfSome, OnOk, is_ok};
 ghost use Rattle.lot_base.specs.BucketState.{KeepsPlace};
 ghost use Rattle.lot_base.specs.Node.{fields};
 ghost use Rattle.lot_base.specs.NodeLists.{lists_of};
 ghost use Rattle.lot_base.specs.Place.{place_of};
 ghost use Rattle.lot_base.specs.Waiting.{result_of, split_first};
+ghost use Rattle.lot_exclusive.specs.declared.schedule.Answer.{Answer};
+ghost use Rattle.lot_exclusive.specs.declared.schedule.Step.{Step};
+ghost use Rattle.lot_base.specs.declared.token.UnparkResult.{UnparkResult};
 ghost use Rattle.lot_history.specs.Witness.{Adds, Extends, IsStill, IsWitnessOf, events_of, id_of, max_threads_of, pieces_of, seen_by};
 ghost use Rattle.lot_history.specs.declared.view.Piece.TheVariants.{Thread};
 ghost use Rattle.lot_witnessed.specs.Cells.{Has, IsBelow, IsCell, threads_in};
+ghost use Rattle.lot_witnessed.specs.Filters.{AreCallable, IsUnpark};
 ghost use Rattle.lot_witnessed.specs.Members.{IsListed, Leaves, entry_of, entry_step};
 
 use crate::cell::Cell;
 use crate::told::{Entry, add_entered, add_invalid, add_taking, add_timeout};
 use lot_base::queue::{Node, Queue};
-use lot_base::token::{NoMemory, UnparkResult, UnparkToken};
+use lot_base::token::{FilterOp, NoMemory, ParkToken, UnparkResult, UnparkToken};
 use lot_exclusive::lot::Status;
 use lot_exclusive::schedule::{Answer, Op, Step};
 use lot_history::history::{History, Part, Witness};
@@ -83,6 +87,42 @@ pub(crate) fn take_all_of<E: Told>(
     let (count, taken) = cell.bucket.take_all(key, token);
     add_taking::<E>(history, me, cell, &taken, Answer::Count(count));
     (count, taken)
+}
+
+// Takes those waiters of the key that the filter unparks out of their bucket, and tells so. The
+// witness has the pieces of those that were taken.
+pub(crate) fn take_filter_of<
+    E: Told,
+    F: FnMut(ParkToken) -> FilterOp,
+    C: FnOnce(UnparkResult) -> UnparkToken,
+>(
+    history: &History,
+    me: &mut Witness,
+    cell: &mut Cell,
+    key: usize,
+    filter: F,
+    callback: C,
+) -> (UnparkResult, Queue)
+    requires witness { IsWitnessOf history.now me.old }
+    requires none { pieces_of me.old ≡ [] }
+    requires few { max_threads_of history.now < 2 ^ 63 }
+    requires cell { IsCell (id_of history.now) (max_threads_of history.now) cell.old }
+    requires place { place_of key cell.old.bucket.size ≡ cell.old.bucket.place }
+    requires callable { AreCallable F.FnMut C.FnOnce filter callback }
+    requires said { (answer : UnparkResult) (s : Step) (a : Answer)
+        → IsUnpark F.FnMut C.FnOnce filter callback key answer s a → E.said s a }
+
+    ensures still { IsStill history.now me.old me.new }
+    ensures adds { Adds history.now me.old
+        (λ s a. E.said s a × (a ≡ Answer.Unpark result.0)) me.new }
+    ensures pieces { pieces_of me.new ≡ threads_in result.1 }
+    ensures cell { IsCell (id_of history.now) (max_threads_of history.now) cell.new }
+    ensures place { KeepsPlace cell.old.bucket cell.new.bucket }
+    ensures below { All (IsBelow (max_threads_of history.now)) result.1 }
+{
+    let (result, taken) = cell.bucket.take_filter(key, filter, callback);
+    add_taking::<E>(history, me, cell, &taken, Answer::Unpark(result));
+    (result, taken)
 }
 
 // Puts a thread last in the list of its key, if `validate` answers true, and tells so; or gives

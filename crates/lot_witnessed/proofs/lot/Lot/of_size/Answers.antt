@@ -13,4 +13,4 @@ cut_up-requires-clause-regroups g c =
     let max_threads = c.args.max_threads in
     subst (λ (pieces : List Piece).
     Regroups bound pieces (empty_lists size 0 size (free_numbers max_threads ∷ [])))
-    (sym c.in_ok-history.ensures.pieces) (cuts_up max_threads size c.requires bound)
+    (sym c.in_ok-history.ensures.pieces) (cuts_up max_threads size c.requires.size bound)

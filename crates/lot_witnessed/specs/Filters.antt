@@ -1,0 +1,51 @@
+-- Unparks by a filter: how they call their closures, and what they add to the history.
+use Rattle.std.specs.Prelude.{◌≡◌, ℕ, List, Vec}
+use Rattle.std.specs.Fn.{Once, Mut}
+use Rattle.std.specs.declared.alloc.Global.{Global}
+use Rattle.lot_base.specs.Filter.{IsFilterCallable, IsFiltered, park_tokens}
+use Rattle.lot_base.specs.NodeFields.{NodeFields}
+use Rattle.lot_base.specs.NodeLists.{with_saturated_counts}
+use Rattle.lot_base.specs.Waiting.{split_filter, result_of}
+use Rattle.lot_base.specs.declared.token.FilterOp.{FilterOp}
+use Rattle.lot_base.specs.declared.token.ParkToken.{ParkToken}
+use Rattle.lot_base.specs.declared.token.UnparkResult.{UnparkResult}
+use Rattle.lot_base.specs.declared.token.UnparkToken.{UnparkToken}
+use Rattle.lot_exclusive.specs.declared.schedule.Answer.{Answer}
+use Rattle.lot_exclusive.specs.declared.schedule.Answer.TheVariants as answer
+use Rattle.lot_exclusive.specs.declared.schedule.Op.TheVariants.{Filter}
+use Rattle.lot_exclusive.specs.declared.schedule.Step.{Step}
+use Rattle.lot_exclusive.specs.declared.schedule.Step.TheVariants.{Unpark}
+use Rattle.lot_witnessed.specs.Members.{MemberState, Makes}
+
+module _ {F C : Type 0} (f : Mut F (ParkToken × Unit {0}) FilterOp) (c : Once C (UnparkResult × Unit {0}) UnparkToken)
+  where
+    -- the filter may be called with any park tokens, and after that the callback with the result of what it decided
+    pub record AreCallable (filter : F) (callback : C) : Type 0 where
+      pub may_filter : (tokens : List ParkToken) → IsFilterCallable f filter tokens
+      pub may_call_back : (waiters : List NodeFields) (decisions : List FilterOp)
+          → IsFiltered f filter (park_tokens waiters) decisions
+          → c.pre callback (with_saturated_counts (result_of (split_filter decisions waiters)), tt)
+
+    -- with these park tokens the filter decided so, and then the callback was handed the result, and answered the token
+    pub record AreCalled (filter : F) (callback : C) (decisions : List FilterOp) (result : UnparkResult)
+        (token : UnparkToken) : Type 0 where
+      pub tokens : List ParkToken
+      pub decided : IsFiltered f filter tokens decisions
+      pub called : c.post callback (result, tt) token
+
+    -- the step is the unpark by these decisions, with this token, and answers this result
+    pub record IsUnpark (filter : F) (callback : C) (key : ℕ) (result : UnparkResult) (s : Step) (a : Answer)
+        : Type 0 where
+      pub decisions : Vec FilterOp Global
+      pub token : UnparkToken
+      pub calls : AreCalled filter callback decisions.items result token
+      pub step : s ≡ Unpark (Filter key decisions token)
+      pub answer : a ≡ answer.Unpark result
+
+    -- a member made it
+    pub record Unparks (filter : F) (callback : C) (key : ℕ) (old : MemberState) (result : UnparkResult)
+        (new : MemberState) : Type 0 where
+      pub decisions : Vec FilterOp Global
+      pub token : UnparkToken
+      pub calls : AreCalled filter callback decisions.items result token
+      pub makes : Makes old (Unpark (Filter key decisions token)) (answer.Unpark result) new
