@@ -1,7 +1,9 @@
 //! What else members of such a lot call: lists, filters, requeues, records, and the end of a registration.
 
 use lot_base::thread_parker::{ThreadParkerT, WordParker};
-use lot_base::token::{DEFAULT_PARK_TOKEN, FilterOp, LotError, ParkResult, ParkToken, UnparkToken};
+use lot_base::token::{
+    DEFAULT_PARK_TOKEN, FilterOp, LotError, ParkResult, ParkToken, RequeueOp, UnparkToken,
+};
 use lot_witnessed::lot::Lot;
 use lot_witnessed::member::Member;
 use std::alloc::Global;
@@ -10,6 +12,7 @@ use std::sync::Wait;
 use std::test::*;
 use std::thread;
 use std::thread::{Threads, join};
+use std::time::{Clock, Instant};
 
 const KEY: usize = 7;
 
@@ -138,5 +141,80 @@ fn records_end_with_the_registration(rt: HostRuntime) -> Result<(), Fail> {
     one.retire(&rt);
     let again = Member::register(&rt, rt.alloc(), &lot)?;
     assert_eq!(rt; again.records(KEY), 0);
+    Ok(())
+}
+
+// A thread parks on the key `from` with a deadline that has passed, and is requeued before it looks
+// for it. It tells the key that it left, and whether it was the last there.
+fn time_out_elsewhere<R: Wait + Clock + Abort>(
+    rt: &R,
+    alloc: Global,
+    from: usize,
+    to: usize,
+) -> Result<Option<(usize, bool)>, Fail> {
+    let lot = Lot::<WordParker>::new(alloc, 2)?;
+    let mut one = Member::register(rt, alloc, &lot)?;
+    let mut two = Member::register(rt, alloc, &lot)?;
+    let mut left = None;
+    let deadline = Instant::now(rt)?;
+    let late = one.park_until(
+        rt,
+        from,
+        || true,
+        || {
+            two.unpark_requeue(
+                rt,
+                from,
+                to,
+                || RequeueOp::RequeueAll,
+                |_, _| UnparkToken(0),
+            );
+        },
+        |key, last| left = Some((key, last)),
+        DEFAULT_PARK_TOKEN,
+        deadline,
+    );
+    assert_eq!(rt; late, ParkResult::TimedOut);
+    Ok(left)
+}
+
+// The keys 0 and 13 have one bucket of 16, and 0 and 1 have two. It refuses a requeued thread that
+// looks for itself in the list that it was in, which would wait for ever.
+#[test]
+fn a_requeued_thread_leaves_its_new_list(rt: HostRuntime) -> Result<(), Fail> {
+    let one_bucket = time_out_elsewhere(&rt, rt.alloc(), 0, 13)?;
+    assert_eq!(rt; one_bucket, Some((13, true)));
+    let two_buckets = time_out_elsewhere(&rt, rt.alloc(), 0, 1)?;
+    assert_eq!(rt; two_buckets, Some((1, true)));
+    Ok(())
+}
+
+// It refuses a requeue that loses the thread, and one that leaves it where it was.
+#[test]
+fn a_requeued_thread_is_unparked_at_its_new_key(rt: HostRuntime) -> Result<(), Fail> {
+    let lot = Lot::<WordParker>::new(rt.alloc(), 2)?;
+    let mut one = Member::register(&rt, rt.alloc(), &lot)?;
+    let mut two = Member::register(&rt, rt.alloc(), &lot)?;
+    let mut found = (0, 0, 0);
+    let result = one.park(
+        &rt,
+        0,
+        || true,
+        || {
+            let moved = two.unpark_requeue(
+                &rt,
+                0,
+                1,
+                || RequeueOp::RequeueOne,
+                |_, _| UnparkToken(0),
+            );
+            found.0 = moved.requeued_threads;
+            found.1 = two.unpark_all(&rt, 0, UnparkToken(4));
+            found.2 = two.unpark_all(&rt, 1, UnparkToken(5));
+        },
+        DEFAULT_PARK_TOKEN,
+    );
+    assert_eq!(rt; found, (1, 0, 1));
+    assert_eq!(rt; result, ParkResult::Unparked(UnparkToken(5)));
     Ok(())
 }

@@ -6,3 +6,5 @@ pub mod RetireLemmas
 pub mod ListLemmas
 pub mod RecordingLemmas
 pub mod AnswerLemmas
+pub mod RequeueLemmas
+pub mod LockLemmas

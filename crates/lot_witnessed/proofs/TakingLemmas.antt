@@ -23,6 +23,12 @@ taken_threads token [] = refl
 taken_threads token (node ∷ nodes) =
     ap (λ (pieces : List Piece). Thread node.number (Taken token) ∷ pieces) (taken_threads token nodes)
 
+pub taken_pieces : (token : UnparkToken) (chosen taken : List NodeFields) → taken ≡ map (with_token token) chosen
+    → threads_in taken ≡ threads_taken token (standing_in chosen) ++ []
+taken_pieces token chosen taken is =
+    ap threads_in is
+    ∙ (sym (taken_threads token chosen) ∙ sym (append-nil (threads_taken token (standing_in chosen))))
+
 module _ (bound : ℕ) (old new : BucketState) (token : UnparkToken) (chosen taken : List NodeFields)
     (keeps : KeepsPlace old new) (is_taken : taken ≡ map (with_token token) chosen) where
   abbrev after : List Piece
@@ -30,10 +36,7 @@ module _ (bound : ℕ) (old new : BucketState) (token : UnparkToken) (chosen tak
 
   pieces_after : lists_in new ∷ threads_in taken ≡ after
   pieces_after =
-      let same : threads_in taken ≡ threads_taken token (standing_in chosen) ++ [] =
-      ap threads_in is_taken
-      ∙ (sym (taken_threads token chosen) ∙ sym (append-nil (threads_taken token (standing_in chosen)))) in
-      rw (keeps.place, keeps.size, same) refl
+      rw (keeps.place, keeps.size, taken_pieces token chosen taken is_taken) refl
 
   -- an unpark that takes these nodes
   pub taking_moves : (which : Op) (given : Answer) (said : Step → Answer → Type 0) → said (Unpark which) given

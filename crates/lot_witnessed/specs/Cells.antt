@@ -1,6 +1,6 @@
 -- What fits behind the locks of a lot: buckets, mailboxes, and the registry of numbers, each with its part of the lot's
 -- history.
-use Rattle.std.specs.Prelude.{◌≡◌, ℕ, ◌<◌, All, ⊤, List, [], ◌∷◌, map, length, Option, Some, None}
+use Rattle.std.specs.Prelude.{◌≡◌, ◌≢◌, ℕ, ◌<◌, All, ⊤, List, [], ◌∷◌, map, length, Option, Some, None}
 use Rattle.atomic_table.specs.Seated.{TableId}
 use Rattle.lot_base.specs.BucketState.{BucketState, IsBucketAt}
 use Rattle.lot_base.specs.NodeFields.{NodeFields}
@@ -107,6 +107,11 @@ FitsRegistry key registry = IsRegistry (home_of key.home) key.max_threads regist
 pub record IsRegistryLock (home : TableId) (max_threads : ℕ) (lock : WordLock Registry RegistryKey) : Type 0 where
   pub for_threads : (key_of lock).max_threads ≡ max_threads
   pub of_lot : home_of (key_of lock).home ≡ home
+
+-- two locks are those of different buckets of one row
+pub record AreApart (lock other : WordLock Cell CellKey) : Type 0 where
+  pub size : (key_of other).size ≡ (key_of lock).size
+  pub places : (key_of other).place ≢ (key_of lock).place
 
 -- the lock is that of the key's bucket in a lot
 pub record IsLockFor (history : History) (key : ℕ) (lock : WordLock Cell CellKey) : Type 0 where

@@ -9,6 +9,8 @@ pub mod Late
 pub mod Members
 -- Then unparks by a filter.
 pub mod Filters
+-- Then requeues.
+pub mod Requeues
 -- Then the handles of threads that are to be woken.
 pub mod Handles
 -- Last what follows by the laws of every history.

@@ -126,13 +126,14 @@ pub record Leaves (history : History) (number key : ℕ) (last : Bool) (old new 
   pub passes : Extends history old (Deadline number) Late late
   pub resolves : Extends history late (Resolve number) (TimedOut key last) new
 
--- one that was let in with a timeout added that, and, once the deadline had passed, that it left the list
-pub record TimesOut (old : MemberState) (key : ℕ) (park_token : ParkToken) (last : Bool) (new : MemberState)
-    : Type 0 where
+-- one that was let in with a timeout added that, and, once the deadline had passed, that it left the list where it stood
+-- then, which is of another key if it was requeued
+pub record TimesOut (old : MemberState) (key : ℕ) (park_token : ParkToken) (left : ℕ) (last : Bool)
+    (new : MemberState) : Type 0 where
   pub entered : Witness
   pub still : IsStill old.history old.witness entered
   pub enters : Extends old.history old.witness (park_step old key park_token true true) Entered entered
-  pub leaves : Leaves old.history old.number key last entered new.witness
+  pub leaves : Leaves old.history old.number left last entered new.witness
 
 module _ (asked : Bool → Type 0) (called : Type 0) (old : MemberState) (key : ℕ) (park_token : ParkToken) where
   -- how a park without a timeout ends, by what `validate` answered
@@ -141,17 +142,18 @@ module _ (asked : Bool → Type 0) (called : Type 0) (old : MemberState) (key : 
   IsParked (result.Unparked token) new = asked true × called × ComesBack old key park_token false token new
   IsParked result.TimedOut new = ⊥
 
-  -- and one with a timeout, where `timed_out` was called with whether nobody else waits on the key
-  abbrev pub IsParkedUntil : (Bool → Type 0) → ParkResult → MemberState → Type 0
+  -- and one with a timeout, where `timed_out` was called with the key that it left and whether nobody else waits there
+  abbrev pub IsParkedUntil : (ℕ → Bool → Type 0) → ParkResult → MemberState → Type 0
   IsParkedUntil told result.Invalid new = asked false × IsRefused old key park_token true new
   IsParkedUntil told (result.Unparked token) new =
       asked true × called × ComesBack old key park_token true token new
   IsParkedUntil told result.TimedOut new =
-      asked true × called × ((last : Bool) × told last × TimesOut old key park_token last new)
+      asked true × called × ((left : ℕ) × (last : Bool) × told left last × TimesOut old key park_token left last new)
 
 -- how the wait of a thread with a timeout ends that was let in
-module _ (history : History) (number key : ℕ) (told : Bool → Type 0) where
+module _ (history : History) (number : ℕ) (told : ℕ → Bool → Type 0) where
   abbrev pub EndsWait : ParkResult → Witness → Witness → Type 0
   EndsWait result.Invalid old new = ⊥
   EndsWait (result.Unparked token) old new = Extends history old (Return number) (Unparked token) new
-  EndsWait result.TimedOut old new = (last : Bool) × told last × Leaves history number key last old new
+  EndsWait result.TimedOut old new =
+      (left : ℕ) × (last : Bool) × told left last × Leaves history number left last old new

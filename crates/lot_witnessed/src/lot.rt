@@ -11,11 +11,14 @@ ghost use Rattle.lot_exclusive.specs.declared.schedule.Answer.{Answer};
 ghost use Rattle.lot_exclusive.specs.declared.schedule.Step.{Step};
 ghost use Rattle.lot_history.specs.Witness.{Adds, Extends, IsPartOf, IsStill, IsWitnessOf, events_of, id_of, max_threads_of, pieces_of, seen_by};
 ghost use Rattle.lot_history.specs.declared.view.Piece.TheVariants.{Thread};
-ghost use Rattle.lot_witnessed.specs.Cells.{Has, HasRecords, IsBelow, IsLetterTo, IsLockFor, IsMailLock, thread_taken, threads_in};
+ghost use Rattle.lot_witnessed.specs.Cells.{FitsCell, Has, HasRecords, IsBelow, IsLetterTo, IsLockFor, IsMailLock, thread_taken, threads_in};
+ghost use Rattle.lot_word_lock.specs.WordLock.{IsHeldOf, key_of};
 ghost use Rattle.lot_witnessed.specs.Filters.{AreCallable, IsUnpark};
 ghost use Rattle.lot_witnessed.specs.Handles.{handle_numbers};
 ghost use Rattle.lot_witnessed.specs.Members.{EndsWait, IsListed, IsRegistered, Leaves, entry_of, entry_step};
 ghost use Rattle.lot_witnessed.specs.Rows.{EachAt};
+
+mod requeue;
 
 use crate::cell::{Cell, new_cells};
 use crate::mail::{Letter, Mail, MailKey, new_mail};
@@ -28,7 +31,7 @@ use lot_base::thread_parker::{ThreadParkerT, UnparkHandleT};
 use lot_base::token::{
     FilterOp, LotError, NoMemory, ParkResult, ParkToken, UnparkResult, UnparkToken,
 };
-use lot_base::word_lock::WordLock;
+use lot_base::word_lock::{Held, WordLock};
 use lot_exclusive::lot::Status;
 use lot_exclusive::schedule::{Answer, Op, Step};
 use lot_exclusive::table::MAX_THREADS;
@@ -38,14 +41,17 @@ use lot_history::plays::Told;
 use std::alloc::Global;
 use std::marker::Model;
 use std::sync::Wait;
+use std::sync::atomic::{AtomicUsize, Ordering};
 use std::thread;
 use std::time::{Clock, Instant};
 
-// What the lot keeps for one thread number from the first.
+// What the lot keeps for one thread number from the first: its parker, its mailbox, and the key on
+// which its thread last waited with a timeout, after all moves.
 #[derive(Drop)]
 pub(crate) struct PerThread<P: ThreadParkerT> {
     pub(crate) parker: P,
     mail: WordLock<Mail>,
+    key: AtomicUsize,
 }
 
 /// A parking lot of threads. A contract sees it as the history of its calls.
@@ -164,6 +170,21 @@ impl<P: ThreadParkerT> Lot<P> {
         &self.threads[number]
     }
 
+    // The key on which the thread of this number last waited with a timeout, after all moves.
+    fn key(&self, number: usize) -> usize
+        requires { number < max_threads_of self.now }
+    {
+        self.thread(number).key.load(Ordering::SeqCst)
+    }
+
+    // Notes in which list a thread stands that has a timeout: only after its deadline does a thread
+    // look where it stands.
+    fn note_key(&self, number: usize, timed: bool, key: usize) {
+        if timed && let Some(thread) = self.threads.get(number) {
+            thread.key.store(key, Ordering::SeqCst);
+        }
+    }
+
     // Registers the least free number, if there is one, and answers a new witness that told so.
     pub(crate) fn register<R: Wait>(&self, rt: &R) -> (Witness, Option<usize>)
         ensures registered { IsRegistered self.now result.1 result.0 }
@@ -226,9 +247,18 @@ impl<P: ThreadParkerT> Lot<P> {
             × Has (id_of self.now)
             (Thread (fields node.value).number Status.Running ∷ []) back.0) }
     {
-        let lock = self.lock_of(node.key);
+        let Node {
+            number,
+            key,
+            timed,
+            ..
+        } = *node;
+        let lock = self.lock_of(key);
         let mut held = lock.lock(rt);
         let entered = enter_in(&self.history, me, &mut held.value, thread, node, validate);
+        if entered.is_ok() {
+            self.note_key(number, timed, key);
+        }
         lock.unlock(held);
         entered
     }
@@ -254,25 +284,24 @@ impl<P: ThreadParkerT> Lot<P> {
         add_return(&self.history, me, number, letter)
     }
 
-    // The wait of a thread with a timeout that entered the list of the key: sleeps until an unpark of
-    // it was committed, or until the deadline, and then leaves the list, unless an unpark took it
-    // meanwhile.
+    // The wait of a thread with a timeout that entered a list: sleeps until an unpark of it was
+    // committed, or until the deadline, and then leaves the list in which it stands, unless an unpark
+    // took it meanwhile.
     pub(crate) fn wait_until<R: Wait + Clock, T: FnOnce(usize, bool)>(
         &self,
         rt: &R,
         me: &mut Witness,
         number: usize,
-        key: usize,
         timed_out: T,
         timeout: Instant,
     ) -> (ParkResult, Part, Box<Node>)
         requires witness { IsWitnessOf self.now me.old }
         requires none { pieces_of me.old ≡ [] }
         requires below { number < max_threads_of self.now }
-        requires callable { (last : _) → T.pre timed_out key last }
+        requires callable { (key last : _) → T.pre timed_out key last }
         ensures still { IsStill self.now me.old me.new }
         ensures none { pieces_of me.new ≡ [] }
-        ensures ends { EndsWait self.now number key (λ last. T.post timed_out key last tt) result.0
+        ensures ends { EndsWait self.now number (λ key last. T.post timed_out key last tt) result.0
             me.old me.new }
         ensures thread { Has (id_of self.now) (Thread number Status.Running ∷ []) result.1 }
         ensures number { (fields result.2.value).number ≡ number }
@@ -282,7 +311,7 @@ impl<P: ThreadParkerT> Lot<P> {
             let (token, thread) = self.come_back(rt, me, number);
             return (ParkResult::Unparked(token), thread, node);
         }
-        if let Some((thread, node)) = self.leave(rt, me, number, key, timed_out) {
+        if let Some((thread, node)) = self.leave(rt, me, number, timed_out) {
             return (ParkResult::TimedOut, thread, node);
         }
         let node = parker.park(rt);
@@ -290,30 +319,29 @@ impl<P: ThreadParkerT> Lot<P> {
         (ParkResult::Unparked(token), thread, node)
     }
 
-    // The section in which a thread whose deadline has passed leaves the list of the key, or answers
-    // `None` if an unpark took it.
+    // The section in which a thread whose deadline has passed leaves the list in which it stands, or
+    // answers `None` if an unpark took it.
     fn leave<R: Wait, T: FnOnce(usize, bool)>(
         &self,
         rt: &R,
         me: &mut Witness,
         number: usize,
-        key: usize,
         timed_out: T,
     ) -> Option<(Part, Box<Node>)>
         requires witness { IsWitnessOf self.now me.old }
         requires none { pieces_of me.old ≡ [] }
-        requires callable { (last : _) → T.pre timed_out key last }
+        requires below { number < max_threads_of self.now }
+        requires callable { (key last : _) → T.pre timed_out key last }
         ensures still { IsStill self.now me.old me.new }
         ensures none { pieces_of me.new ≡ [] }
-        ensures left { IfSome result (λ back. (last : Bool) × T.post timed_out key last tt
-            × Leaves self.now number key last me.old me.new) }
+        ensures left { IfSome result (λ back. (key : ℕ) × (last : Bool)
+            × T.post timed_out key last tt × Leaves self.now number key last me.old me.new) }
         ensures returned { IfSome result (λ back. ((fields back.1.value).number ≡ number)
             × Has (id_of self.now) (Thread number Status.Running ∷ []) back.0) }
         ensures unchanged { IfNone result ((seen_by me.new ≡ seen_by me.old)
             × (events_of me.new ≡ events_of me.old)) }
     {
-        let lock = self.lock_of(key);
-        let mut held = lock.lock(rt);
+        let (key, lock, mut held) = self.lock_own(rt, number);
         let left = leave_in(
             rt,
             &self.history,
@@ -325,6 +353,26 @@ impl<P: ThreadParkerT> Lot<P> {
         );
         lock.unlock(held);
         left
+    }
+
+    // Locks the bucket of the key on which a thread waits that has a timeout. A requeue moves the
+    // thread with both buckets locked, so while this one is, it stands here or was taken.
+    fn lock_own<R: Wait>(&self, rt: &R, number: usize) -> (usize, &WordLock<Cell>, Held<Cell>)
+        requires { number < max_threads_of self.now }
+        ensures lock { IsLockFor self.now result.0 result.1.now }
+        ensures held { IsHeldOf result.1.now result.2 }
+        ensures fits { FitsCell (key_of result.1.now) result.2.value }
+    {
+        for _ in rt.forever() {
+            let key = self.key(number);
+            let lock = self.lock_of(key);
+            let held = lock.lock(rt);
+            if self.key(number) == key {
+                return (key, lock, held);
+            }
+            lock.unlock(held);
+        }
+        unreachable!()
     }
 
     // The section of a list.
@@ -543,6 +591,7 @@ fn new_threads<P: ThreadParkerT>(
         threads.push(PerThread {
             parker: P::new(alloc, number)?,
             mail: new_mail(alloc, &key)?,
+            key: AtomicUsize::new(0),
         })?;
     }
     Ok(threads)

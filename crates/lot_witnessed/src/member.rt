@@ -7,6 +7,7 @@ ghost use Rattle.lot_base.specs.NodeFields.{NodeFields};
 ghost use Rattle.lot_base.specs.Waiting.{result_of, split_first};
 ghost use Rattle.lot_history.specs.Witness.{Extends, IsStill, IsWitnessOf, Looks, id_of, seen_by, view_of};
 ghost use Rattle.lot_witnessed.specs.Filters.{AreCallable, Unparks};
+ghost use Rattle.lot_witnessed.specs.Requeues.{MayRequeue, Requeues};
 ghost use Rattle.lot_witnessed.specs.Members.{Begins, IsListed, IsParked, IsParkedUntil, IsSame, Makes, Stays};
 
 use crate::lot::Lot;
@@ -14,7 +15,7 @@ use crate::told::add_recording;
 use lot_base::queue::Node;
 use lot_base::thread_parker::ThreadParkerT;
 use lot_base::token::{
-    FilterOp, LotError, NoMemory, ParkResult, ParkToken, UnparkResult, UnparkToken,
+    FilterOp, LotError, NoMemory, ParkResult, ParkToken, RequeueOp, UnparkResult, UnparkToken,
 };
 use lot_exclusive::records::Records;
 use lot_exclusive::schedule::{Answer, Op, Step};
@@ -182,9 +183,10 @@ impl<'a, P: ThreadParkerT> Member<'a, P> {
     }
 
     /// Parks the thread as `park` does, but no longer than until that instant; a clock that cannot be
-    /// read counts as past it. Then, in a section of the key's bucket, the thread leaves the list
-    /// and `timed_out` is called once, with the key and with whether no other thread waits on it;
-    /// the answer is `TimedOut`. If an unpark took the thread before that section, `timed_out` is
+    /// read counts as past it. Then, in a section of its list's bucket, the thread leaves the list in
+    /// which it stands and `timed_out` is called once, with the key of that list, which is another
+    /// where the thread was requeued, and with whether no other thread waits on it; the answer is
+    /// `TimedOut`. If an unpark took the thread before that section, `timed_out` is
     /// not called, and the answer is `Unparked`.
     ///
     /// `validate` and `timed_out` must not call the lot, nor wait for a thread that does. It
@@ -201,11 +203,11 @@ impl<'a, P: ThreadParkerT> Member<'a, P> {
     ) -> ParkResult
         requires validate { V.pre validate }
         requires before_sleep { V.post validate true → B.pre before_sleep }
-        requires timed_out { V.post validate true → (last : _) → T.pre timed_out key last }
+        requires timed_out { V.post validate true → (key last : _) → T.pre timed_out key last }
 
         ensures stays { Stays self.old self.new }
         ensures parked { IsParkedUntil (λ valid. V.post validate valid) (B.post before_sleep tt)
-            self.old key park_token (λ last. T.post timed_out key last tt) result self.new }
+            self.old key park_token (λ left last. T.post timed_out left last tt) result self.new }
     {
         let mut node = self.node.take().unwrap();
         node.prepare(key, park_token, true);
@@ -220,14 +222,9 @@ impl<'a, P: ThreadParkerT> Member<'a, P> {
             return ParkResult::Invalid;
         }
         before_sleep();
-        let (result, thread, node) = self.lot.wait_until(
-            rt,
-            &mut self.witness,
-            self.number,
-            key,
-            timed_out,
-            timeout,
-        );
+        let (result, thread, node) = self
+            .lot
+            .wait_until(rt, &mut self.witness, self.number, timed_out, timeout);
         self.thread = thread;
         self.node = Some(node);
         result
@@ -299,6 +296,36 @@ impl<'a, P: ThreadParkerT> Member<'a, P> {
     {
         self.lot
             .take_filter::<Brand, R, F, C>(rt, &mut self.witness, key, filter, callback)
+    }
+
+    /// Unparks or requeues threads in the list of the key `from` onto that of `to`, as `validate`
+    /// chooses, hands the one that is unparked the token that `callback` answers, and answers how
+    /// many were unparked and requeued, and whether one is left.
+    ///
+    /// In one section of both keys' buckets `validate` is called once, and then `callback` once, with
+    /// what was chosen and the result, but not at an abort, which changes nothing. A count that no
+    /// `usize` can hold would be `usize::MAX`. A thread with a timeout that was requeued leaves the
+    /// list of `to` if its deadline passes.
+    ///
+    /// The buckets are locked by place, lower first. Neither closure may call the lot, nor wait for
+    /// a thread that does. It allocates nothing.
+    pub fn unpark_requeue<
+        R: Wait,
+        V: FnOnce() -> RequeueOp,
+        C: FnOnce(RequeueOp, UnparkResult) -> UnparkToken,
+    >(&mut self, rt: &R, from: usize, to: usize, validate: V, callback: C) -> UnparkResult
+        requires callable { MayRequeue V.FnOnce C.FnOnce validate callback }
+        ensures stays { Stays self.old self.new }
+        ensures requeued { Requeues V.FnOnce C.FnOnce validate callback from to self.old result
+            self.new }
+    {
+        let (result, handle) = self
+            .lot
+            .requeue::<Brand, R, V, C>(rt, &mut self.witness, from, to, validate, callback);
+        if let Some(handle) = handle {
+            self.lot.wake(handle);
+        }
+        result
     }
 
     /// The numbers of the threads that stand in the list of the key, in order, as it is after all that

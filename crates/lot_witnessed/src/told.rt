@@ -32,6 +32,15 @@ pub(crate) struct Entry {
     pub(crate) timed: bool,
 }
 
+// What a requeue across two buckets leaves: both, and those that were taken, with its answer.
+#[derive(Drop)]
+struct Requeued<'a> {
+    source: &'a Bucket,
+    target: &'a Bucket,
+    taken: &'a Queue,
+    answer: Answer,
+}
+
 // Makes a step that leaves the pieces `after`. The caller picks these, and what is said of the
 // step, by the values.
 #[inline]
@@ -168,6 +177,63 @@ pub(crate) fn add_taking<E: Told>(
     history.take(me, part);
     add_with::<Brand, (&Bucket, &Queue, Answer)>(history, me, &(&cell.bucket, taken, answer));
     cell.part = history.give(me);
+}
+
+// Adds a requeue from the list of one bucket to that of another, where the buckets beside the parts
+// are as it left them. The witness has the pieces of those that were taken then.
+pub(crate) fn add_requeue<E: Told>(
+    history: &History,
+    me: &mut Witness,
+    source: &mut Cell,
+    target: &mut Cell,
+    taken: &Queue,
+    answer: Answer,
+)
+    requires witness { IsWitnessOf history.now me.old }
+    requires none { pieces_of me.old ≡ [] }
+    requires source { IsPartOf (id_of history.now) source.old.part }
+    requires target { IsPartOf (id_of history.now) target.old.part }
+    requires moves { Moves (max_threads_of history.now) (λ s a. E.said s a × (a ≡ answer))
+        (pieces_in source.old.part ++ pieces_in target.old.part)
+        (lists_in source.old.bucket ∷ lists_in target.old.bucket ∷ threads_in taken.now) }
+    ensures still { IsStill history.now me.old me.new }
+    ensures adds { Adds history.now me.old (λ s a. E.said s a × (a ≡ answer)) me.new }
+    ensures pieces { pieces_of me.new ≡ threads_in taken.now }
+    ensures buckets { (source.new.bucket ≡ source.old.bucket)
+        × (target.new.bucket ≡ target.old.bucket) }
+    ensures source { Has (id_of history.now) (lists_in source.old.bucket ∷ []) source.new.part }
+    ensures target { Has (id_of history.now) (lists_in target.old.bucket ∷ []) target.new.part }
+{
+    let part = mem::replace(&mut source.part, Part::none());
+    history.take(me, part);
+    let other = mem::replace(&mut target.part, Part::none());
+    history.take(me, other);
+    let left = Requeued {
+        source: &source.bucket,
+        target: &target.bucket,
+        taken,
+        answer,
+    };
+    add_requeued::<E>(history, me, &left);
+    source.part = history.give(me);
+    target.part = history.give(me);
+}
+
+// Adds a requeue that leaves this.
+fn add_requeued<E: Told>(history: &History, me: &mut Witness, left: &Requeued<'_>)
+    requires witness { IsWitnessOf history.now me.old }
+    requires moves { Moves (max_threads_of history.now)
+        (λ s a. E.said s a × (a ≡ left.now.answer)) (pieces_of me.old)
+        (lists_in left.now.source.now ∷ lists_in left.now.target.now
+        ∷ threads_in left.now.taken.now) }
+    ensures still { IsStill history.now me.old me.new }
+    ensures adds { Adds history.now me.old
+        (λ s a. E.said s a × (a ≡ left.now.answer)) me.new }
+    ensures pieces { pieces_of me.new
+        ≡ lists_in left.now.source.now ∷ lists_in left.now.target.now
+        ∷ threads_in left.now.taken.now }
+{
+    add_with::<Brand, Requeued<'_>>(history, me, left);
 }
 
 // Adds that a thread entered, where the bucket beside the part is as it is with the thread. It has
