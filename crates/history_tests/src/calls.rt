@@ -1,4 +1,5 @@
-//! What else members of such a lot call: lists, filters, requeues, records, and the end of a registration.
+//! What else members of such a lot call: lists, filters, requeues, records, and the end of a
+//! registration.
 
 use lot_base::thread_parker::{ThreadParkerT, WordParker};
 use lot_base::token::{

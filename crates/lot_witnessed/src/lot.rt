@@ -285,8 +285,8 @@ impl<P: ThreadParkerT> Lot<P> {
     }
 
     // The wait of a thread with a timeout that entered a list: sleeps until an unpark of it was
-    // committed, or until the deadline, and then leaves the list in which it stands, unless an unpark
-    // took it meanwhile.
+    // committed, or until the deadline, and then leaves the list in which it stands, unless an
+    // unpark took it meanwhile.
     pub(crate) fn wait_until<R: Wait + Clock, T: FnOnce(usize, bool)>(
         &self,
         rt: &R,
@@ -319,8 +319,8 @@ impl<P: ThreadParkerT> Lot<P> {
         (ParkResult::Unparked(token), thread, node)
     }
 
-    // The section in which a thread whose deadline has passed leaves the list in which it stands, or
-    // answers `None` if an unpark took it.
+    // The section in which a thread whose deadline has passed leaves the list in which it stands,
+    // or answers `None` if an unpark took it.
     fn leave<R: Wait, T: FnOnce(usize, bool)>(
         &self,
         rt: &R,
@@ -473,7 +473,8 @@ impl<P: ThreadParkerT> Lot<P> {
         count
     }
 
-    // The section of an unpark by a filter. Each thread is woken in it, once its unpark was committed.
+    // The section of an unpark by a filter. Each thread is woken in it, once its unpark was
+    // committed.
     pub(crate) fn take_filter<
         E: Told,
         R: Wait,

@@ -158,8 +158,8 @@ impl<'a, P: ThreadParkerT> Member<'a, P> {
         requires before_sleep { V.post validate true → B.pre before_sleep }
 
         ensures stays { Stays self.old self.new }
-        ensures parked { IsParked (λ valid. V.post validate valid) (B.post before_sleep tt) self.old key park_token
-            result self.new }
+        ensures parked { IsParked (λ valid. V.post validate valid) (B.post before_sleep tt)
+            self.old key park_token result self.new }
     {
         let mut node = self.node.take().unwrap();
         node.prepare(key, park_token, false);
@@ -182,12 +182,12 @@ impl<'a, P: ThreadParkerT> Member<'a, P> {
         ParkResult::Unparked(token)
     }
 
-    /// Parks the thread as `park` does, but no longer than until that instant; a clock that cannot be
-    /// read counts as past it. Then, in a section of its list's bucket, the thread leaves the list in
-    /// which it stands and `timed_out` is called once, with the key of that list, which is another
-    /// where the thread was requeued, and with whether no other thread waits on it; the answer is
-    /// `TimedOut`. If an unpark took the thread before that section, `timed_out` is
-    /// not called, and the answer is `Unparked`.
+    /// Parks the thread as `park` does, but no longer than until that instant; a clock that cannot
+    /// be read counts as past it. Then, in a section of its list's bucket, the thread leaves the
+    /// list in which it stands and `timed_out` is called once, with the key of that list, which is
+    /// another where the thread was requeued, and with whether no other thread waits on it; the
+    /// answer is `TimedOut`. If an unpark took the thread before that section, `timed_out` is not
+    /// called, and the answer is `Unparked`.
     ///
     /// `validate` and `timed_out` must not call the lot, nor wait for a thread that does. It
     /// allocates nothing.
@@ -275,13 +275,13 @@ impl<'a, P: ThreadParkerT> Member<'a, P> {
             .take_all::<Brand, R>(rt, &mut self.witness, key, token)
     }
 
-    /// Unparks those threads in the list of the key that the filter unparks, in order, hands each the
-    /// token that `callback` answers, and answers how many there were and whether one is left.
+    /// Unparks those threads in the list of the key that the filter unparks, in order, hands each
+    /// the token that `callback` answers, and answers how many there were and whether one is left.
     ///
-    /// In the section of the key's bucket the filter is called with the park tokens of the threads in
-    /// order, up to and with the first at which it answers `Stop`: that thread and all behind it stay.
-    /// Then `callback` is called once with the result, also where nobody waits. A count that no
-    /// `usize` can hold would be `usize::MAX`.
+    /// In the section of the key's bucket the filter is called with the park tokens of the threads
+    /// in order, up to and with the first at which it answers `Stop`: that thread and all behind it
+    /// stay. Then `callback` is called once with the result, also where nobody waits. A count that
+    /// no `usize` can hold would be `usize::MAX`.
     ///
     /// Each thread is woken with the bucket locked, once its unpark was committed. Neither closure
     /// may call the lot, nor wait for a thread that does. It allocates nothing.
@@ -302,10 +302,10 @@ impl<'a, P: ThreadParkerT> Member<'a, P> {
     /// chooses, hands the one that is unparked the token that `callback` answers, and answers how
     /// many were unparked and requeued, and whether one is left.
     ///
-    /// In one section of both keys' buckets `validate` is called once, and then `callback` once, with
-    /// what was chosen and the result, but not at an abort, which changes nothing. A count that no
-    /// `usize` can hold would be `usize::MAX`. A thread with a timeout that was requeued leaves the
-    /// list of `to` if its deadline passes.
+    /// In one section of both keys' buckets `validate` is called once, and then `callback` once,
+    /// with what was chosen and the result, but not at an abort, which changes nothing. A count
+    /// that no `usize` can hold would be `usize::MAX`. A thread with a timeout that was requeued
+    /// leaves the list of `to` if its deadline passes.
     ///
     /// The buckets are locked by place, lower first. Neither closure may call the lot, nor wait for
     /// a thread that does. It allocates nothing.
@@ -328,8 +328,8 @@ impl<'a, P: ThreadParkerT> Member<'a, P> {
         result
     }
 
-    /// The numbers of the threads that stand in the list of the key, in order, as it is after all that
-    /// the member has seen then: it sees the history in the section of the key's bucket.
+    /// The numbers of the threads that stand in the list of the key, in order, as it is after all
+    /// that the member has seen then: it sees the history in the section of the key's bucket.
     ///
     /// It asks for memory with the bucket locked, again whenever the list has to grow. A section
     /// must not call it. Upstream has no such call.
@@ -349,11 +349,11 @@ impl<'a, P: ThreadParkerT> Member<'a, P> {
         self.lot.list(rt, alloc, &mut self.witness, key)
     }
 
-    /// Records that the thread holds the resource of this key, once it has it. A key that is recorded
-    /// again counts once more.
+    /// Records that the thread holds the resource of this key, once it has it. A key that is
+    /// recorded again counts once more.
     ///
-    /// It may ask for memory, for the records alone. It takes no lock. Upstream finds the records in
-    /// a thread local, does nothing without a feature, and cannot be refused.
+    /// It may ask for memory, for the records alone. It takes no lock. Upstream finds the records
+    /// in a thread local, does nothing without a feature, and cannot be refused.
     ///
     /// # Errors
     ///

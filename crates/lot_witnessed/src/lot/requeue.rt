@@ -101,8 +101,10 @@ impl<P: ThreadParkerT> Lot<P> {
         source: &WordLock<Cell>,
         target: &WordLock<Cell>,
     ) -> (Held<Cell>, Held<Cell>)
-        ensures source { IsHeldOf source.now result.0 × FitsCell (key_of source.now) result.0.value }
-        ensures target { IsHeldOf target.now result.1 × FitsCell (key_of target.now) result.1.value }
+        ensures source { IsHeldOf source.now result.0
+            × FitsCell (key_of source.now) result.0.value }
+        ensures target { IsHeldOf target.now result.1
+            × FitsCell (key_of target.now) result.1.value }
     {
         let size = self.cells.len();
         if place(from, size) < place(to, size) {
@@ -113,8 +115,8 @@ impl<P: ThreadParkerT> Lot<P> {
         (source.lock(rt), first)
     }
 
-    // Requeues waiters of the key `from` onto the key `to`, where both have one bucket, and tells so.
-    // The witness has the pieces of those that were taken, one at most.
+    // Requeues waiters of the key `from` onto the key `to`, where both have one bucket, and tells
+    // so. The witness has the pieces of those that were taken, one at most.
     fn requeue_in_one<
         E: Told,
         V: FnOnce() -> RequeueOp,
