@@ -13,7 +13,7 @@ const KEY: usize = 7;
 const SLEEPERS: usize = 8;
 
 // So often a thread sleeps in a race.
-const ROUNDS: usize = 1_000;
+const ROUNDS: usize = 3_000;
 
 #[derive(Drop)]
 struct Shared {
@@ -87,15 +87,18 @@ impl Shared {
         is_well
     }
 
-    // Locks the mutex and lets it go, until the other has slept often.
+    // Locks the mutex and lets it go while the other sleeps, until that has slept often. Nobody
+    // lets it go once the sleeper was moved there, but who held it then.
     fn lock_often<R: Wait + Clock + Abort>(&self, rt: &R, alloc: Global) -> bool {
         let mut member = self.scene.enter(rt, alloc);
         for _ in rt.forever() {
             if self.scene.has_step(1) {
                 break;
             }
-            let held = self.mutex.lock(rt, &mut member);
-            held.unlock(rt, &member);
+            if self.scene.waiters(rt, alloc, SLEEPERS) > 0 {
+                let held = self.mutex.lock(rt, &mut member);
+                held.unlock(rt, &member);
+            }
         }
         true
     }

@@ -64,6 +64,12 @@ impl Scene {
         panic!(rt; "a step was not made");
     }
 
+    // How many threads wait on the key.
+    pub fn waiters<R: Wait + Abort>(&self, rt: &R, alloc: Global, key: usize) -> usize {
+        let waiting = self.lot.list(rt, alloc, key).expect(rt, "a list");
+        waiting.len()
+    }
+
     // Waits until so many threads wait on the key.
     pub fn wait_for_waiters<R: Wait + Abort>(
         &self,
@@ -73,8 +79,7 @@ impl Scene {
         count: usize,
     ) {
         for _ in 0..TURNS {
-            let waiting = self.lot.list(rt, alloc, key).expect(rt, "a list");
-            if waiting.len() == count {
+            if self.waiters(rt, alloc, key) == count {
                 return;
             }
             thread::yield_now();
