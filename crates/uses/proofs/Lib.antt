@@ -4,3 +4,5 @@ pub mod VainLemmas
 pub mod TaskLemmas
 pub mod ReplayLemmas
 pub mod EndLemmas
+pub mod GatheredLemmas
+pub mod TableLemmas
