@@ -12,6 +12,8 @@ mod interleaving;
 #[cfg(test)]
 mod lots;
 #[cfg(test)]
+mod read_mostly_table;
+#[cfg(test)]
 mod recording;
 #[cfg(test)]
 mod semaphore;
@@ -19,6 +21,8 @@ mod semaphore;
 mod simulation;
 #[cfg(test)]
 mod slow_parker;
+#[cfg(test)]
+mod thread_pool;
 #[cfg(test)]
 mod thread_semaphore;
 #[cfg(test)]
