@@ -65,8 +65,8 @@ fn wake_wanted<P: ThreadParkerT, R: Wait + Abort>(
 ) -> Option<(usize, usize)> {
     for _ in 0..TURNS {
         if me.list(rt, alloc, KEY).expect(rt, "memory").len() == 1 {
-            let others = me.unpark_filter(rt, KEY, |_| FilterOp::Skip, |_| UnparkToken(1));
-            let found = me.unpark_filter(
+            let others = me.unpark_chosen(rt, KEY, |_| FilterOp::Skip, |_| UnparkToken(1));
+            let found = me.unpark_chosen(
                 rt,
                 KEY,
                 |token| {

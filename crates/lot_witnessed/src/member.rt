@@ -298,6 +298,21 @@ impl<'a, P: ThreadParkerT> Member<'a, P> {
             .take_filter::<Brand, R, F, C>(rt, &mut self.witness, key, filter, callback)
     }
 
+    /// Does what `unpark_filter` does, for closures that may be called at any time, as those without
+    /// conditions of their own: its caller proves nothing of lists of waiters.
+    pub fn unpark_chosen<
+        R: Wait,
+        F: FnMut(ParkToken) -> FilterOp,
+        C: FnOnce(UnparkResult) -> UnparkToken,
+    >(&mut self, rt: &R, key: usize, filter: F, callback: C) -> UnparkResult
+        requires filter { (state : F) (park_token : _) → F.pre state park_token }
+        requires callback { (answer : _) → C.pre callback answer }
+        ensures stays { Stays self.old self.new }
+        ensures unparked { Unparks F.FnMut C.FnOnce filter callback key self.old result self.new }
+    {
+        self.unpark_filter(rt, key, filter, callback)
+    }
+
     /// Unparks or requeues threads in the list of the key `from` onto that of `to`, as `validate`
     /// chooses, hands the one that is unparked the token that `callback` answers, and answers how
     /// many were unparked and requeued, and whether one is left.
