@@ -77,8 +77,16 @@ where
     for number in 0..JOBS {
         numbers.push(number as u64)?;
     }
-    let double = |number: &u64| number.wrapping_mul(2).wrapping_add(1);
-    let done = do_jobs(rt, alloc, &pool, &mut member, workers, &numbers, &double)?;
+    let doubled_and_one = |number: &u64| number.wrapping_mul(2).wrapping_add(1);
+    let done = do_jobs(
+        rt,
+        alloc,
+        &pool,
+        &mut member,
+        workers,
+        &numbers,
+        &doubled_and_one,
+    )?;
     let mut sums = vec![in alloc; 0u64; JOBS]?;
     for each in &done {
         if let Some(sum) = sums.get_mut(each.place) {
