@@ -6,3 +6,4 @@ pub mod ReplayLemmas
 pub mod EndLemmas
 pub mod GatheredLemmas
 pub mod TableLemmas
+mod TokenLemmas

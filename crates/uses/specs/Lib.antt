@@ -5,3 +5,4 @@ pub mod JobQueueState
 pub mod JobQueueSteps
 pub mod DoneJobs
 pub mod SortedEntries
+pub mod HandsOver

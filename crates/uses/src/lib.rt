@@ -2,7 +2,8 @@
 //! for the tasks of a simulation, and simulations of two tasks. Of the threaded lot: a mutex, an
 //! event and a semaphore for threads, and a bounded queue by a fair mutex. Of the interleaved lot:
 //! what a schedule amounts to. Of a recording lot: a journal of threads, and its replay. Of the locks
-//! around values: a pool of worker threads, and a table that many read.
+//! around values: a pool of worker threads, and a table that many read. Of the lot whose calls are
+//! one history: a token that goes from one thread to another.
 #![tactic(auto)]
 
 pub mod bounded_queue;
@@ -16,3 +17,4 @@ pub mod simulation;
 pub mod thread_pool;
 pub mod thread_semaphore;
 pub mod timeout;
+pub mod token;
