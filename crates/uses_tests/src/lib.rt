@@ -27,6 +27,8 @@ mod thread_pool;
 mod thread_semaphore;
 #[cfg(test)]
 mod timeout;
+#[cfg(test)]
+mod token;
 
 #[cfg(test)]
 use std::fmt::Debug;

@@ -1,0 +1,20 @@
+//! Tests of a token that goes from one thread to another.
+
+use lot_base::thread_parker::WordParker;
+use lot_base::token::{LotError, UnparkToken};
+use lot_witnessed::lot::Lot;
+use lot_witnessed::member::Member;
+use uses::token::pass_token;
+
+const KEY: usize = 7;
+
+// The contract leaves open whose unpark it was: here nobody else has the lot.
+#[test]
+fn one_thread_gets_the_token_of_the_other(rt: HostRuntime) -> Result<(), LotError> {
+    let lot = Lot::<WordParker>::new(rt.alloc(), 2)?;
+    let sleeper = Member::register(&rt, rt.alloc(), &lot)?;
+    let waker = Member::register(&rt, rt.alloc(), &lot)?;
+    let (given, _sleeper, _waker) = pass_token(&rt, sleeper, waker, KEY, UnparkToken(42));
+    assert_eq!(rt; given, UnparkToken(42));
+    Ok(())
+}
