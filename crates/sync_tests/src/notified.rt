@@ -13,7 +13,7 @@ const KEY: usize = 7;
 const SLEEPERS: usize = 8;
 
 // So often a thread sleeps in a race.
-const ROUNDS: usize = 3_000;
+const ROUNDS: usize = 20_000;
 
 #[derive(Drop)]
 struct Shared {
@@ -161,7 +161,8 @@ fn a_sleeper_takes_the_mutex_that_it_is_handed(rt: HostRuntime) {
     expect_told(&rt, rt.alloc(), &play, &[true; 2]);
 }
 
-// It refuses a notify that sees the mutex held and moves a sleeper there once it was let go.
+// It refuses a notify that sees the mutex held and moves a sleeper there once it was let go, in
+// about every second run: the two have to meet within some nanoseconds.
 #[test]
 fn no_sleeper_is_moved_to_a_mutex_that_was_let_go(rt: HostRuntime) {
     let shared = Shared::new(&rt, rt.alloc());
