@@ -69,6 +69,30 @@ impl Shared {
         moved
     }
 
+    // Sleeps until its deadline has passed, and tells whether nobody notified it.
+    fn sleep_in_vain<R: Wait + Clock + Abort>(&self, rt: &R, alloc: Global) -> bool {
+        let is_notified = self.sleep(rt, alloc, later(rt));
+        self.scene.advance();
+        !is_notified
+    }
+
+    // Comes to sleep once the other's deadline has passed.
+    fn sleep_after_it<R: Wait + Clock + Abort>(&self, rt: &R, alloc: Global) -> bool {
+        self.scene.wait_for_step(rt, 1);
+        self.sleep(rt, alloc, far(rt))
+    }
+
+    // Has the one that is late and the one that comes wait for the bucket, in this order, and
+    // notifies who sleeps then.
+    fn notify_who_came<R: Wait + Clock + Abort>(&self, rt: &R, alloc: Global) -> bool {
+        let member = self.scene.enter(rt, alloc);
+        self.scene.wait_for_waiters(rt, alloc, SLEEPERS, 1);
+        self.scene.stay_in_section(rt, SLEEPERS);
+        self.scene.wait_for_step(rt, 2);
+        self.scene.wait_for_waiters(rt, alloc, SLEEPERS, 1);
+        self.condvar.notify_one(rt, &member, &self.mutex)
+    }
+
     // Sleeps often, and tells whether each sleep ended by a notify, before its deadline.
     fn sleep_often<R: Wait + Clock + Abort>(&self, rt: &R, alloc: Global) -> bool {
         let mut member = self.scene.enter(rt, alloc);
@@ -170,6 +194,19 @@ fn no_sleeper_is_moved_to_a_mutex_that_was_let_go(rt: HostRuntime) {
         0 => shared.sleep_often(&rt, rt.alloc()),
         1 => shared.lock_often(&rt, rt.alloc()),
         _ => shared.notify_often(&rt, rt.alloc()),
+    };
+    expect_told(&rt, rt.alloc(), &play, &[true; 3]);
+}
+
+// It refuses a wait that notes its sleeper before it stands in the queue, where one that gives up
+// takes the note away.
+#[test]
+fn who_comes_while_another_gives_up_is_notified(rt: HostRuntime) {
+    let shared = Shared::new(&rt, rt.alloc());
+    let play = |index: usize| match index {
+        0 => shared.sleep_in_vain(&rt, rt.alloc()),
+        1 => shared.sleep_after_it(&rt, rt.alloc()),
+        _ => shared.notify_who_came(&rt, rt.alloc()),
     };
     expect_told(&rt, rt.alloc(), &play, &[true; 3]);
 }

@@ -4,7 +4,7 @@ ghost use Rattle.std.specs.Prelude.{ℕ, ◌<◌, length};
 
 use crate::{expect_equal, lot_for, register};
 use lot_base::thread_parker::WordParker;
-use parking_lot_core::{Member, ParkingLot};
+use parking_lot_core::{DEFAULT_UNPARK_TOKEN, FilterOp, Member, ParkingLot, unpark_chosen};
 use std::alloc::Global;
 use std::fmt::Debug;
 use std::process::Abort;
@@ -62,6 +62,24 @@ impl Scene {
             thread::yield_now();
         }
         panic!(rt; "a step was not made");
+    }
+
+    // Stays in a section of the key until deadlines by `later` that were set before have passed,
+    // makes a step, and stays until who waits for that has come.
+    pub fn stay_in_section<R: Wait + Clock + Abort>(&self, rt: &R, key: usize) {
+        unpark_chosen(
+            rt,
+            &self.lot,
+            key,
+            |_| FilterOp::Stop,
+            |_| {
+                wait_until_past(rt, later(rt));
+                wait_until_past(rt, soon(rt));
+                self.advance();
+                wait_until_past(rt, soon(rt));
+                DEFAULT_UNPARK_TOKEN
+            },
+        );
     }
 
     // How many threads wait on the key.
