@@ -21,6 +21,9 @@ const THREADS: usize = 4;
 
 const ROUNDS: usize = 1_000;
 
+// So often two threads lock and unlock at once.
+const OFTEN: usize = 5_000_000;
+
 const TURNS: usize = 10_000_000;
 
 // Two counters that only the holder of the mutex changes, one after the other.
@@ -111,6 +114,37 @@ fn threads_count_in_turn(rt: HostRuntime) -> Result<(), Fail> {
     }
     let all = THREADS * ROUNDS;
     expect_equal(&rt, shared.counts(), (all, all));
+    Ok(())
+}
+
+// Locks and unlocks, often. Data of another lot answers false.
+fn lock_often<P: ThreadParkerT, R: Wait + Clock>(
+    rt: &R,
+    shared: &Shared<P>,
+    data: ThreadData,
+) -> bool {
+    let Ok(mut member) = Member::of(&shared.lot, data) else {
+        return false;
+    };
+    for _ in 0..OFTEN {
+        let held = shared.mutex.lock(rt, &mut member);
+        shared.mutex.unlock(rt, &shared.lot, held);
+    }
+    true
+}
+
+// With a `lock` that marks a mutex which was let go since it looked, most runs do not end.
+#[test]
+fn two_threads_lock_a_mutex_that_is_let_go_meanwhile(rt: HostRuntime) -> Result<(), Fail> {
+    let shared = Shared::new(ParkingLot::<WordParker>::new(rt.alloc(), 2)?);
+    let first = register(&rt, rt.alloc(), &shared.lot)?;
+    let second = register(&rt, rt.alloc(), &shared.lot)?;
+    let ended = thread::join(
+        &rt,
+        || lock_often(&rt, &shared, first),
+        || lock_often(&rt, &shared, second),
+    );
+    expect_equal(&rt, ended, (true, true));
     Ok(())
 }
 
