@@ -298,8 +298,8 @@ impl<'a, P: ThreadParkerT> Member<'a, P> {
             .take_filter::<Brand, R, F, C>(rt, &mut self.witness, key, filter, callback)
     }
 
-    /// Does what `unpark_filter` does, for closures that may be called at any time, as those without
-    /// conditions of their own: its caller proves nothing of lists of waiters.
+    /// Does what `unpark_filter` does, for closures that may be called at any time, as those
+    /// without conditions of their own: its caller proves nothing of lists of waiters.
     pub fn unpark_chosen<
         R: Wait,
         F: FnMut(ParkToken) -> FilterOp,

@@ -1,7 +1,7 @@
 //! A pool of worker threads: a queue of jobs behind a mutex, and two condition variables.
 //!
-//! Whoever finds the queue full sleeps until a job was taken, and a worker that finds it empty until
-//! one came; both look again in their turn. To close the pool wakes them all.
+//! Whoever finds the queue full sleeps until a job was taken, and a worker that finds it empty
+//! until one came; both look again in their turn. To close the pool wakes them all.
 
 ghost use Rattle.std.specs.Prelude.{◌≡◌, ◌<◌, All, IfErr, IfOk, IfSome, vec_len};
 ghost use Rattle.uses.specs.DoneJobs.{IsDone};

@@ -111,7 +111,8 @@ fn three_read_old_or_new_values_while_one_writes(rt: HostRuntime) {
     all_read::<YieldParker, _>(&rt, rt.alloc());
 }
 
-// It refuses calls that find nothing, change nothing, or tell another value than the one until then.
+// It refuses calls that find nothing, change nothing, or tell another value than the one until
+// then.
 #[test]
 fn a_table_has_what_was_put_in_last(rt: HostRuntime) -> Result<(), Fail> {
     let lot = ParkingLot::<WordParker>::new(rt.alloc(), 1)?;
