@@ -17,6 +17,9 @@ const THREADS: usize = 4;
 
 const ROUNDS: usize = 1_000;
 
+// So many keys each thread is dealt.
+const KEYS: usize = 200_000;
+
 #[derive(Drop)]
 struct Shared<P: ThreadParkerT> {
     lot: ParkingLot<P>,
@@ -85,10 +88,10 @@ fn four_threads_count_together(rt: HostRuntime) {
 fn four_threads_are_dealt_different_keys(rt: HostRuntime) {
     let keys = Keys::new();
     let play = |_: usize| {
-        for _ in 0..ROUNDS {
+        for _ in 0..KEYS {
             keys.deal();
         }
     };
     thread::map_indices(&rt, rt.alloc(), THREADS, &play).expect(&rt, "threads");
-    expect_equal(&rt, keys.deal(), Some(4_000));
+    expect_equal(&rt, keys.deal(), Some(THREADS * KEYS));
 }
