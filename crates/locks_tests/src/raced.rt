@@ -9,9 +9,12 @@ use std::sync::Wait;
 use std::sync::atomic::{AtomicBool, AtomicUsize, Ordering};
 use std::thread;
 use std::thread::Threads;
-use std::time::Clock;
+use std::time::{Clock, Duration, Instant};
 
 const ROUNDS: usize = 500;
+
+// After so many seconds a race is over too, on a machine that has much else to do.
+const SECONDS: u64 = 10;
 
 #[derive(Drop)]
 struct Race<P: ThreadParkerT> {
@@ -51,9 +54,13 @@ fn sleep_by_rounds<P: ThreadParkerT, R: Wait + Clock + Abort>(
     alloc: Global,
     race: &Race<P>,
 ) -> bool {
+    let begin = Instant::now(rt).expect(rt, "a clock");
     let mut data = register(rt, alloc, &race.shared);
     let mut alone = true;
     for _ in 0..ROUNDS {
+        if begin.elapsed(rt).expect(rt, "a clock") >= Duration::from_secs(SECONDS) {
+            break;
+        }
         lock(rt, &race.shared, &mut data);
         sleep(rt, &race.shared, &mut data);
         alone = race.unlock_alone(rt) && alone;
