@@ -11,11 +11,16 @@ use std::process::Abort;
 use std::sync::Wait;
 use std::thread;
 use std::thread::Threads;
-use std::time::Clock;
+use std::time::{Clock, Duration, Instant};
 
 const THREADS: usize = 4;
 
 const ROUNDS: usize = 1_000;
+
+// So often, or for so many seconds, two threads hand the mutex over.
+const OFTEN: usize = 20_000;
+
+const SECONDS: u64 = 5;
 
 // So many keys each thread is dealt.
 const KEYS: usize = 200_000;
@@ -81,6 +86,30 @@ fn four_threads_count_together(rt: HostRuntime) {
     all_count::<WordParker, _>(&rt, rt.alloc());
     all_count::<ThreadParker, _>(&rt, rt.alloc());
     all_count::<YieldParker, _>(&rt, rt.alloc());
+}
+
+// Adds often, and hands the mutex over each time.
+fn hand_over_often<R: Wait + Clock + Abort>(rt: &R, alloc: Global, shared: &Shared<WordParker>) {
+    let begin = Instant::now(rt).expect(rt, "a clock");
+    let mut member = register(rt, alloc, &shared.lot);
+    for _ in 0..OFTEN {
+        if begin.elapsed(rt).expect(rt, "a clock") >= Duration::from_secs(SECONDS) {
+            break;
+        }
+        let mut held = shared.mutex.lock(rt, &mut member);
+        held.value.add_one();
+        held.unlock_fair(rt, &member);
+    }
+    member.retire(rt);
+}
+
+// It refuses a fair unlock that lets the mutex go behind its section, where nobody waits: who comes
+// to wait meanwhile sleeps then, though nobody holds it.
+#[test]
+fn two_threads_hand_a_mutex_over_often(rt: HostRuntime) {
+    let shared = Shared::<WordParker>::new(&rt, rt.alloc());
+    let play = |_: usize| hand_over_often(&rt, rt.alloc(), &shared);
+    thread::map_indices(&rt, rt.alloc(), 2, &play).expect(&rt, "threads");
 }
 
 // No clause says that no key is dealt twice.

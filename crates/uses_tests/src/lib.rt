@@ -22,6 +22,8 @@ mod simulation;
 #[cfg(test)]
 mod slow_parker;
 #[cfg(test)]
+mod slow_wake;
+#[cfg(test)]
 mod thread_pool;
 #[cfg(test)]
 mod thread_semaphore;
