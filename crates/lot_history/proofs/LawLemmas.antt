@@ -18,7 +18,6 @@ use Rattle.lot_exclusive.specs.declared.schedule.Step.{Step}
 use Rattle.lot_exclusive.specs.declared.schedule.Step.TheVariants.{Register, Retire, Enter, Unpark, Deadline}
 use Rattle.lot_exclusive.specs.declared.schedule.Step.TheVariants.{Resolve, Return, Acquire, Release, Trim}
 use Rattle.lot_exclusive.specs.Machine.{Machine, new_machine, entries_of, statuses_with_taken}
-use Rattle.lot_exclusive.specs.Run.{IsRun}
 use Rattle.lot_exclusive.specs.Status.{is_running, awaits_deadline, is_taken}
 use Rattle.lot_exclusive.specs.Steps.{IsRegister, IsUnpark, IsReturn, IsResolve, IsAcquire, IsStep, is_outcome}
 use Rattle.lot_exclusive.specs.Steps.{ends_park}
@@ -32,21 +31,11 @@ use Rattle.lot_history.specs.Laws.{EachLeadsToOneMachine, BeginningsAreHistories
 use Rattle.lot_history.specs.Laws.{UnparkedThreadsComeBack, TokensComeFromUnparks, Hands}
 use Rattle.lot_exclusive.specs.Operation.{split_of, token_of}
 use Rattle.lot_history.specs.Laws.{HaveNoOutcome}
+use Rattle.lot_history.proofs.RunLemmas.{Runs, parts}
 
 pub one_machine : EachLeadsToOneMachine
 one_machine max_threads events machine other run ran =
     IsRun-fixes (new_machine max_threads) (steps_of events) (answers_of events) machine other run ran
-
--- a run of events from a machine
-abbrev Runs : Machine → List Event → Machine → Type 0
-Runs m events last = IsRun IsStep m (steps_of events) (answers_of events) last
-
--- and its two parts
-parts : (m : Machine) (events more : List Event) (last : Machine) → Runs m (events ++ more) last
-    → (mid : Machine) × Runs m events mid × Runs mid more last
-parts m [] more last run = (m, refl, run)
-parts m (event ∷ events) more last (next, does, rest) =
-    let tail = parts next events more last rest in (tail.0, (next, does, tail.1), tail.2)
 
 pub beginnings : BeginningsAreHistories
 beginnings max_threads events more (last, run) =

@@ -21,4 +21,6 @@ pub mod GrowthLemmas
 pub mod RowLemmas
 pub mod NumberLemmas
 pub mod RecordLemmas
+pub mod RunLemmas
 pub mod LawLemmas
+pub mod TakenLemmas

@@ -10,5 +10,6 @@ pub mod Tells
 pub mod Witness
 -- Then the rule of a history's table, which each step keeps.
 pub mod Rule
--- Last what holds of every history.
+-- Last what holds of every history, and of whom its unparks take.
 pub mod Laws
+pub mod Takings

@@ -2,6 +2,7 @@
 //! definitions that the contracts of `History` cite.
 
 ghost use Rattle.lot_history.specs.Laws.{EachLeadsToOneMachine, BeginningsAreHistories, ParksAndOutcomesAlternate, UnparkedThreadsComeBack, TokensComeFromUnparks};
+ghost use Rattle.lot_history.specs.Takings.{TakenThreadsComeBack};
 
 /// A history leads to one machine, and each of its beginnings is a history.
 pub fn histories_lead_to_one_machine()
@@ -26,4 +27,11 @@ pub fn unparked_threads_come_back()
 /// answered once at most.
 pub fn tokens_come_from_unparks()
     ensures { TokensComeFromUnparks }
+{}
+
+/// Whom an unpark took, of one, of all, by a filter or by a requeue, comes back with its token: the
+/// next outcome of each of those threads is `Unparked` with it, or they are still on their way. They
+/// are as many as the unpark answered, each waited, and no other thread's status was changed.
+pub fn taken_threads_come_back()
+    ensures { TakenThreadsComeBack }
 {}
