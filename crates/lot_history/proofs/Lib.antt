@@ -24,3 +24,5 @@ pub mod RecordLemmas
 pub mod RunLemmas
 pub mod LawLemmas
 pub mod TakenLemmas
+pub mod TurnLemmas
+pub mod OrderLemmas

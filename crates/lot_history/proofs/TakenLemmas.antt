@@ -50,7 +50,7 @@ parts_of (Filter key decisions token) m = AreParts-filter decisions.items (m.lis
 parts_of (Requeue from to op token) m = AreParts-by op (m.lists from)
 
 -- who is among some
-among : {A : Type 0} (xs : List A) → has_any xs ≡ true → length xs ≢ 0
+pub among : {A : Type 0} (xs : List A) → has_any xs ≡ true → length xs ≢ 0
 among [] some = absurd (false≢true some)
 among (x ∷ xs) some = λ none. absurd (omega (arith, none))
 

@@ -10,6 +10,7 @@ pub mod Tells
 pub mod Witness
 -- Then the rule of a history's table, which each step keeps.
 pub mod Rule
--- Last what holds of every history, and of whom its unparks take.
+-- Last what holds of every history, of whom its unparks take, and of who comes first.
 pub mod Laws
 pub mod Takings
+pub mod Turns

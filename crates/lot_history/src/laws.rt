@@ -3,6 +3,7 @@
 
 ghost use Rattle.lot_history.specs.Laws.{EachLeadsToOneMachine, BeginningsAreHistories, ParksAndOutcomesAlternate, UnparkedThreadsComeBack, TokensComeFromUnparks};
 ghost use Rattle.lot_history.specs.Takings.{TakenThreadsComeBack};
+ghost use Rattle.lot_history.specs.Turns.{FirstComeFirstOut};
 
 /// A history leads to one machine, and each of its beginnings is a history.
 pub fn histories_lead_to_one_machine()
@@ -34,4 +35,12 @@ pub fn tokens_come_from_unparks()
 /// are as many as the unpark answered, each waited, and no other thread's status was changed.
 pub fn taken_threads_come_back()
     ensures { TakenThreadsComeBack }
+{}
+
+/// First come, first out. Two threads entered the list of a key, and since the first did, no filter
+/// was used on the key, no requeue was made from it, and the first did not time out there. Where an
+/// unpark of one or of all of the key takes the second, such an unpark took the first before, or
+/// this one takes it too, in front of the second.
+pub fn first_come_first_out()
+    ensures { FirstComeFirstOut }
 {}
