@@ -4,7 +4,7 @@ use Rattle.std.proofs.Common.{refl, sym, ap, ◌∙◌, subst, inl, inr, ⊎_eli
 use Rattle.std.specs.List.{count_by, range_with_len}
 use Rattle.std.proofs.lemmas.Bool.{cases_eq, cases_Bool, ne_eqb, and_right, cond-true, cond-false, false≢true}
 use Rattle.std.proofs.lemmas.Bool.{and_parts, eqb-true}
-use Rattle.std.proofs.lemmas.List.Elements.{All-nil, All-cons}
+use Rattle.std.proofs.lemmas.List.Elements.{All-nil, All-cons, All-head, All-tail}
 use Rattle.lot_base.specs.declared.token.UnparkToken.{UnparkToken}
 use Rattle.lot_base.specs.Waiting.{with_value, has_any}
 use Rattle.lot_base.proofs.ValueLemmas.{with_value-same, with_value-other}
@@ -17,20 +17,22 @@ use Rattle.lot_exclusive.specs.declared.schedule.Op.TheVariants.{One, All, Filte
 use Rattle.lot_exclusive.specs.declared.schedule.Step.{Step}
 use Rattle.lot_exclusive.specs.declared.schedule.Step.TheVariants.{Register, Retire, Enter, Unpark, Deadline}
 use Rattle.lot_exclusive.specs.declared.schedule.Step.TheVariants.{Resolve, Return, Acquire, Release, Trim}
-use Rattle.lot_exclusive.specs.Machine.{Machine, new_machine, entries_of, statuses_with_taken}
+use Rattle.lot_exclusive.specs.Machine.{Machine, IsConsistent, new_machine, entries_of, statuses_with_taken}
+use Rattle.lot_exclusive.specs.Run.{IsRun}
 use Rattle.lot_exclusive.specs.Status.{is_running, awaits_deadline, is_taken}
 use Rattle.lot_exclusive.specs.Steps.{IsRegister, IsUnpark, IsReturn, IsResolve, IsAcquire, IsStep, is_outcome}
 use Rattle.lot_exclusive.specs.Steps.{ends_park}
 use Rattle.lot_exclusive.specs.Totals.{taken_threads_of}
-use Rattle.lot_exclusive.proofs.StepLemmas.{IsConsistent-new, MatchBool-either, IsTrim-unchanged}
-use Rattle.lot_exclusive.proofs.LawLemmas.{IsRun-fixes, OutcomesAlternate-run}
+use Rattle.lot_exclusive.proofs.AnswerLemmas.{IsStep-same_answer}
+use Rattle.lot_exclusive.proofs.StepLemmas.{IsConsistent-new, IsConsistent-step, MatchBool-either, IsTrim-unchanged}
+use Rattle.lot_exclusive.proofs.LawLemmas.{IsRun-fixes, IsStep-fixes, OutcomesAlternate-run}
 use Rattle.lot_exclusive.proofs.TotalLemmas.{IsRun-balances}
 use Rattle.lot_history.specs.declared.event.Event.{Event}
 use Rattle.lot_history.specs.History.{steps_of, answers_of}
 use Rattle.lot_history.specs.Laws.{EachLeadsToOneMachine, BeginningsAreHistories, ParksAndOutcomesAlternate}
 use Rattle.lot_history.specs.Laws.{UnparkedThreadsComeBack, TokensComeFromUnparks, Hands}
 use Rattle.lot_exclusive.specs.Operation.{split_of, token_of}
-use Rattle.lot_history.specs.Laws.{HaveNoOutcome}
+use Rattle.lot_history.specs.Laws.{HaveNoOutcome, HaveMemory, HistoriesCanBeReplayed}
 use Rattle.lot_history.proofs.RunLemmas.{Runs, parts}
 
 pub one_machine : EachLeadsToOneMachine
@@ -40,6 +42,32 @@ one_machine max_threads events machine other run ran =
 pub beginnings : BeginningsAreHistories
 beginnings max_threads events more (last, run) =
     let both = parts (new_machine max_threads) events more last run in (both.0, both.1)
+
+-- two runs of the same steps from a consistent machine
+alike : (m : Machine) (steps : List Step) (answers : List Answer) (last : Machine) (others : List Answer)
+    (other : Machine) → IsConsistent m → IsRun IsStep m steps answers last → IsRun IsStep m steps others other
+    → HaveMemory answers → HaveMemory others → (others ≡ answers) × (other ≡ last)
+alike m [] [] last [] other consistent run ran _ _ = (refl, sym ran ∙ run)
+alike m [] (_ ∷ _) last _ other consistent none _ _ _ = absurd none
+alike m [] [] last (_ ∷ _) other consistent _ none _ _ = absurd none
+alike m (_ ∷ _) [] last _ other consistent none _ _ _ = absurd none
+alike m (_ ∷ _) (_ ∷ _) last [] other consistent _ none _ _ = absurd none
+alike m (step ∷ steps) (given ∷ answers) last (told ∷ others) other consistent (next, does, run) (after, did, ran)
+    memory also =
+    let Has : Answer → Type 0 = λ a. a ≢ answer.NoMemory in
+    let same : told ≡ given = IsStep-same_answer m step told given after next consistent did does
+    (All-head Has told others also) (All-head Has given answers memory) in
+    let there : after ≡ next = IsStep-fixes m step given after next (subst (λ a. IsStep m step a after) same did) does
+    in
+    let rest = alike next steps answers last others other (IsConsistent-step m step given next consistent does) run
+    (subst (λ n. IsRun IsStep n steps others other) there ran) (All-tail Has given answers memory)
+    (All-tail Has told others also) in
+    (ap (λ a. a ∷ others) same ∙ ap (λ more. given ∷ more) rest.0, rest.1)
+
+pub replayed : HistoriesCanBeReplayed
+replayed max_threads events machine answers last run ran memory also =
+    alike (new_machine max_threads) (steps_of events) (answers_of events) machine answers last
+    (IsConsistent-new max_threads) run ran memory also
 
 pub alternate : ParksAndOutcomesAlternate
 alternate max_threads events (last, run) number =

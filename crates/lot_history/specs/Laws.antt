@@ -1,15 +1,16 @@
 -- What holds of every history.
-use Rattle.std.specs.Prelude.{◌≡◌, ℕ, ◌+◌, true, false, List, [], ◌∷◌, ◌++◌, All}
+use Rattle.std.specs.Prelude.{◌≡◌, ◌≢◌, ℕ, ◌+◌, true, false, List, [], ◌∷◌, ◌++◌, All}
 use Rattle.std.specs.List.{sum_by}
 use Rattle.lot_base.specs.declared.token.UnparkToken.{UnparkToken}
 use Rattle.lot_base.specs.Waiting.{has_any}
-use Rattle.lot_exclusive.specs.declared.schedule.Answer.TheVariants.{Unparked}
+use Rattle.lot_exclusive.specs.declared.schedule.Answer.{Answer}
+use Rattle.lot_exclusive.specs.declared.schedule.Answer.TheVariants.{Unparked, NoMemory}
 use Rattle.lot_exclusive.specs.declared.schedule.Op.{Op}
 use Rattle.lot_exclusive.specs.declared.schedule.Step.TheVariants.{Unpark}
-use Rattle.lot_exclusive.specs.Machine.{Machine, entries_of}
+use Rattle.lot_exclusive.specs.Machine.{Machine, entries_of, new_machine}
 use Rattle.lot_exclusive.specs.Operation.{split_of, token_of}
-use Rattle.lot_exclusive.specs.Run.{OutcomesAlternate}
-use Rattle.lot_exclusive.specs.Steps.{parks, ends_park}
+use Rattle.lot_exclusive.specs.Run.{IsRun, OutcomesAlternate}
+use Rattle.lot_exclusive.specs.Steps.{IsStep, parks, ends_park}
 use Rattle.lot_exclusive.specs.Totals.{unparked_by, returned_by, taken_threads_of}
 use Rattle.lot_history.specs.declared.event.Event.{Event}
 use Rattle.lot_history.specs.History.{LeadsTo, IsHistory, steps_of, answers_of}
@@ -23,6 +24,18 @@ EachLeadsToOneMachine = (max_threads : ℕ) (events : List Event) (machine other
 abbrev pub BeginningsAreHistories : Type 0
 BeginningsAreHistories = (max_threads : ℕ) (events more : List Event) → IsHistory max_threads (events ++ more)
     → IsHistory max_threads events
+
+-- none of these answers refuses a step for want of memory
+abbrev pub HaveMemory : List Answer → Type 0
+HaveMemory answers = All (λ given. given ≢ NoMemory) answers
+
+-- a history can be replayed: a run of its steps from a new machine gives its answers and leads to where it leads, if
+-- memory was wanting in neither
+abbrev pub HistoriesCanBeReplayed : Type 0
+HistoriesCanBeReplayed = (max_threads : ℕ) (events : List Event) (machine : Machine) (answers : List Answer)
+    (last : Machine) → LeadsTo max_threads events machine
+    → IsRun IsStep (new_machine max_threads) (steps_of events) answers last → HaveMemory (answers_of events)
+    → HaveMemory answers → (answers ≡ answers_of events) × (last ≡ machine)
 
 -- in a history each thread's parks and their outcomes take turns, and a park comes first
 abbrev pub ParksAndOutcomesAlternate : Type 0

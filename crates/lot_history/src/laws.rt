@@ -1,7 +1,7 @@
 //! Laws of every history. The functions do nothing: their contract is the law, over the
 //! definitions that the contracts of `History` cite.
 
-ghost use Rattle.lot_history.specs.Laws.{EachLeadsToOneMachine, BeginningsAreHistories, ParksAndOutcomesAlternate, UnparkedThreadsComeBack, TokensComeFromUnparks};
+ghost use Rattle.lot_history.specs.Laws.{EachLeadsToOneMachine, BeginningsAreHistories, HistoriesCanBeReplayed, ParksAndOutcomesAlternate, UnparkedThreadsComeBack, TokensComeFromUnparks};
 ghost use Rattle.lot_history.specs.Takings.{TakenThreadsComeBack};
 ghost use Rattle.lot_history.specs.Turns.{FirstComeFirstOut};
 
@@ -9,6 +9,13 @@ ghost use Rattle.lot_history.specs.Turns.{FirstComeFirstOut};
 pub fn histories_lead_to_one_machine()
     ensures one { EachLeadsToOneMachine }
     ensures beginnings { BeginningsAreHistories }
+{}
+
+/// A history can be replayed. Any run of its steps from a new machine for as many threads, such as
+/// `lot_exclusive::schedule::run` makes with a new lot, gives the answers of the history and leads
+/// to the machine to which it leads, where neither has a step that is refused for want of memory.
+pub fn histories_can_be_replayed()
+    ensures { HistoriesCanBeReplayed }
 {}
 
 /// In a history each thread's parks and their outcomes take turns, and a park comes first: a park
