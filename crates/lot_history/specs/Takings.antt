@@ -16,7 +16,7 @@ use Rattle.lot_history.specs.declared.event.Event.{Event}
 use Rattle.lot_history.specs.History.{LeadsTo}
 use Rattle.lot_history.specs.Laws.{Hands}
 
--- whom an unpark takes, in order: one of all of a key its whole list, one of one the first in it
+-- whom an unpark takes, in order: that of all of a key takes its whole list, that of one the first in it
 abbrev pub taken_by : Op → Machine → List Waiter
 taken_by op m = (split_of op m.lists).taken
 
