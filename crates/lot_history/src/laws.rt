@@ -38,8 +38,8 @@ pub fn tokens_come_from_unparks()
 {}
 
 /// Whom an unpark took, of one, of all, by a filter or by a requeue, comes back with its token: the
-/// next outcome of each of those threads is `Unparked` with it, or they are still on their way. They
-/// are as many as the unpark answered, each waited, and no other thread's status was changed.
+/// next outcome of each of those threads is `Unparked` with it, or it is still on its way. They are
+/// as many as the unpark answered, each waited, and no other thread's status was changed.
 pub fn taken_threads_come_back()
     ensures { TakenThreadsComeBack }
 {}
