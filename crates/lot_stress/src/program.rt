@@ -2,7 +2,7 @@
 
 use crate::fault::Fault;
 use crate::memory::{self, Scenario};
-use crate::{locks, parks, race, rest};
+use crate::{cost, locks, parks, race, rest};
 use parking_lot_core::{ThreadParker, WordParker, YieldParker};
 use std::process::ExitCode;
 use std::rt::Env;
@@ -24,6 +24,7 @@ enum Parker {
 enum Command {
     List,
     Memory(Scenario, Parker),
+    Cost,
     Parks { count: usize },
     Rest { milliseconds: u64 },
     Race { seconds: u64, seed: u64 },
@@ -37,6 +38,7 @@ pub fn run<
 >(rt: &R) -> ExitCode {
     let Some(command) = chosen_command(rt) else {
         let _ = eprintln!(rt; "usage: lot_stress memory [SCENARIO word|thread|yield]");
+        let _ = eprintln!(rt; "       lot_stress cost");
         let _ = eprintln!(rt; "       lot_stress parks COUNT");
         let _ = eprintln!(rt; "       lot_stress rest MILLISECONDS");
         let _ = eprintln!(rt; "       lot_stress race SECONDS SEED");
@@ -57,7 +59,7 @@ fn chosen_command<R: Env + AllocGlobal>(rt: &R) -> Option<Command> {
     let mut words = env::args(rt).ok()?.skip(1);
     let command = words.next()?;
     let Some(first) = words.next() else {
-        return (command.as_str() == "memory").then_some(Command::List);
+        return command_alone(command.as_str());
     };
     let Some(second) = words.next() else {
         return command_with_one(command.as_str(), first.as_str());
@@ -66,6 +68,14 @@ fn chosen_command<R: Env + AllocGlobal>(rt: &R) -> Option<Command> {
         return None;
     }
     command_with_two(command.as_str(), first.as_str(), second.as_str())
+}
+
+fn command_alone(command: &str) -> Option<Command> {
+    match command {
+        "memory" => Some(Command::List),
+        "cost" => Some(Command::Cost),
+        _ => None,
+    }
 }
 
 fn command_with_one(command: &str, word: &str) -> Option<Command> {
@@ -119,6 +129,7 @@ fn follow<R: Print + Eprint + AllocGlobal + Threads + Wait + Clock + Copy + Send
         Command::Memory(scenario, Parker::Yielding) => {
             memory::play::<YieldParker, _>(rt, rt.alloc(), scenario)
         }
+        Command::Cost => cost::run(rt, rt.alloc()),
         Command::Parks { count } => parks::run(rt, rt.alloc(), count),
         Command::Rest { milliseconds } => rest::run(rt, rt.alloc(), milliseconds),
         Command::Race { seconds, seed } => race::run(rt, rt.alloc(), seconds, seed),
