@@ -4,6 +4,8 @@
 #[cfg(test)]
 mod calls;
 #[cfg(test)]
+mod growth;
+#[cfg(test)]
 mod history;
 #[cfg(test)]
 mod witnessed;

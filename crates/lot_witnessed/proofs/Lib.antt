@@ -8,3 +8,4 @@ pub mod RecordingLemmas
 pub mod AnswerLemmas
 pub mod RequeueLemmas
 pub mod LockLemmas
+pub mod HalfLemmas

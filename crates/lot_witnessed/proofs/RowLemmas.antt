@@ -1,7 +1,8 @@
 -- Lists of which each item has its number, and the pieces of a new machine, cut up for a row of buckets.
 use Rattle.std.proofs.Common.{◌≡◌, ◌≢◌, ℕ, zero, suc, ◌+◌, ◌-◌, ◌<◌, ◌≤◌, false, cond, List, [], ◌∷◌, ◌++◌, length}
-use Rattle.std.proofs.Common.{get_or, replicate, refl, sym, ap, ◌∙◌, subst, ⊎_elim, arith}
+use Rattle.std.proofs.Common.{Bor, IfSome, None, Option, Some, get_or, replicate, refl, sym, ap, ◌∙◌, subst, ⊎_elim, arith}
 use Rattle.std.proofs.lemmas.Bool.{cases_eq, eq-eqb, ne_eqb}
+use Rattle.std.specs.Slice.{IsItemAt}
 use Rattle.lot_base.specs.Place.{IsTableSize, place_of}
 use Rattle.lot_base.proofs.PlaceLemmas.{place_of-below}
 use Rattle.lot_exclusive.specs.Machine.{Machine}
@@ -31,6 +32,14 @@ item_at P number (first ∷ items) zero item below read each =
 item_at P number (first ∷ items) (suc k) item below read each =
     let same : (number + 1) + k ≡ number + suc k = omega arith in
     subst (λ n. P n item) same (item_at P (number + 1) items k item (omega arith) read each.1)
+
+-- and the one that was got
+pub item_got : {A : Type 0} (P : ℕ → A → Type 0) (items : List A) (k : ℕ) (found : Option (Bor A))
+    → IsItemAt items k found → EachAt P 0 items → IfSome found (λ item. P k item.now)
+item_got P items k None is each = tt
+item_got P items k (Some item) is each =
+    let same : 0 + k ≡ k = omega arith in
+    subst (λ n. P n item.now) same (item_at P 0 items k item.now is.3.0 is.1 each)
 
 -- in a table of one every key stands at place 0
 place_of-one : (key : ℕ) → place_of key 1 ≡ 0

@@ -1,13 +1,15 @@
 -- What fits behind the locks of a lot: buckets, mailboxes, and the registry of numbers, each with its part of the lot's
 -- history.
-use Rattle.std.specs.Prelude.{◌≡◌, ◌≢◌, ℕ, ◌<◌, All, ⊤, List, [], ◌∷◌, map, length, Option, Some, None}
+use Rattle.std.specs.Prelude.{◌≡◌, ◌≢◌, ℕ, ◌+◌, ◌<◌, ◌≤◌, ◌^◌, All, ⊤, List, [], ◌∷◌, map, length, Option, Some, None, Vec}
+use Rattle.std.specs.declared.alloc.Global.{Global}
 use Rattle.atomic_table.specs.Seated.{TableId}
 use Rattle.lot_base.specs.BucketState.{BucketState, IsBucketAt}
 use Rattle.lot_base.specs.NodeFields.{NodeFields}
-use Rattle.lot_base.specs.Place.{place_of}
+use Rattle.lot_base.specs.Place.{IsTableSize, place_of}
 use Rattle.lot_word_lock.specs.WordLock.{key_of}
 use Rattle.lot_word_lock.specs.declared.word_lock.WordLock.{WordLock}
 use Rattle.lot_exclusive.specs.declared.lot.Status.TheVariants.{Taken}
+use Rattle.lot_exclusive.specs.declared.table.TheConstants.{MAX_THREADS}
 use Rattle.lot_history.specs.declared.history.History.{History}
 use Rattle.lot_history.specs.declared.history.Part.{Part}
 use Rattle.lot_history.specs.declared.history.Witness.{Witness}
@@ -17,11 +19,13 @@ use Rattle.lot_history.specs.Pieces.{standing_in}
 use Rattle.lot_history.specs.Witness.{IsPartOf, events_of, id_of, max_threads_of, pieces_in, pieces_of}
 use Rattle.lot_witnessed.specs.declared.cell.Cell.{Cell}
 use Rattle.lot_witnessed.specs.declared.cell.CellKey.{CellKey}
+use Rattle.lot_witnessed.specs.declared.cell.Slot.{Slot}
 use Rattle.lot_witnessed.specs.declared.mail.Letter.{Letter}
 use Rattle.lot_witnessed.specs.declared.mail.Mail.{Mail}
 use Rattle.lot_witnessed.specs.declared.mail.MailKey.{MailKey}
 use Rattle.lot_witnessed.specs.declared.registry.Registry.{Registry}
 use Rattle.lot_witnessed.specs.declared.registry.RegistryKey.{RegistryKey}
+use Rattle.lot_witnessed.specs.Rows.{EachAt}
 
 -- the history that a part is of
 abbrev pub home_of : Part → TableId
@@ -50,17 +54,42 @@ pub record IsCell (home : TableId) (max_threads : ℕ) (cell : Cell) : Type 0 wh
   pub part : Has home (lists_in cell.bucket ∷ []) cell.part
   pub below : All (IsBelow max_threads) cell.bucket.nodes
 
--- behind the lock of a bucket
+-- a bucket with its part, of this place of a row
 pub record FitsCell (key : CellKey) (cell : Cell) : Type 0 where
   pub bucket : IsBucketAt key.place key.size cell.bucket
   pub own : IsCell (home_of key.home) key.max_threads cell
 
+-- behind the lock of a place: its bucket, if the row is in use there
+abbrev pub HoldsCell : CellKey → Option Cell → Type 0
+HoldsCell key None = ⊤
+HoldsCell key (Some cell) = FitsCell key cell
+
+abbrev pub FitsSlot : CellKey → Slot → Type 0
+FitsSlot key slot = HoldsCell key slot.cell
+
 -- the lock is that of the bucket of this place in a row of the lot
-pub record IsCellLock (home : TableId) (max_threads size place : ℕ) (lock : WordLock Cell CellKey) : Type 0 where
+pub record IsCellLock (home : TableId) (max_threads size place : ℕ) (lock : WordLock Slot CellKey) : Type 0 where
   pub at_place : (key_of lock).place ≡ place
   pub of_size : (key_of lock).size ≡ size
   pub for_threads : (key_of lock).max_threads ≡ max_threads
   pub of_lot : home_of (key_of lock).home ≡ home
+
+-- a row of so many places of the lot, in order
+pub record IsRow (home : TableId) (max_threads size : ℕ) (row : List (WordLock Slot CellKey)) : Type 0 where
+  pub table : IsTableSize size
+  pub count : length row ≡ size
+  pub locks : EachAt (IsCellLock home max_threads size) 0 row
+
+-- the lock is that of this place, in whatever row
+abbrev pub IsLockAt : ℕ → List (WordLock Slot CellKey) → WordLock Slot CellKey → Type 0
+IsLockAt place row lock = (home : TableId) (max_threads size : ℕ) → IsRow home max_threads size row
+    → IsCellLock home max_threads size place lock
+
+-- the rows of a lot, by their sizes: of 16 places, of 32, and so on
+pub record AreRows (home : TableId) (max_threads : ℕ) (rows : List (Vec (WordLock Slot CellKey) Global)) : Type 0 where
+  pub any : 0 < length rows
+  pub few : length rows ≤ 13
+  pub each : EachAt (λ index row. IsRow home max_threads (2 ^ (index + 4)) row.items) 0 rows
 
 -- threads that were taken, each with the token that its node has
 abbrev pub thread_taken : NodeFields → Piece
@@ -95,6 +124,7 @@ pub record IsIdle (home : TableId) (witness : Witness) : Type 0 where
 
 -- the registry of a lot for so many threads
 pub record IsRegistry (home : TableId) (max_threads : ℕ) (registry : Registry) : Type 0 where
+  pub few : max_threads ≤ MAX_THREADS
   pub count : length registry.uses.items ≡ max_threads
   pub part : Has home (Numbers registry.uses.items ∷ []) registry.part
   pub witness : IsIdle home registry.witness
@@ -109,12 +139,12 @@ pub record IsRegistryLock (home : TableId) (max_threads : ℕ) (lock : WordLock 
   pub of_lot : home_of (key_of lock).home ≡ home
 
 -- two locks are those of different buckets of one row
-pub record AreApart (lock other : WordLock Cell CellKey) : Type 0 where
+pub record AreApart (lock other : WordLock Slot CellKey) : Type 0 where
   pub size : (key_of other).size ≡ (key_of lock).size
   pub places : (key_of other).place ≢ (key_of lock).place
 
 -- the lock is that of the key's bucket in a lot
-pub record IsLockFor (history : History) (key : ℕ) (lock : WordLock Cell CellKey) : Type 0 where
+pub record IsLockFor (history : History) (key : ℕ) (lock : WordLock Slot CellKey) : Type 0 where
   pub for_key : place_of key (key_of lock).size ≡ (key_of lock).place
   pub for_threads : (key_of lock).max_threads ≡ max_threads_of history
   pub of_lot : home_of (key_of lock).home ≡ id_of history

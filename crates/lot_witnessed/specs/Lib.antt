@@ -3,6 +3,8 @@
 pub mod Rows
 -- Then what fits behind the locks of a lot: buckets, mailboxes, and the registry of numbers.
 pub mod Cells
+-- Then the two places of a place in a table of twice the size.
+pub mod Halves
 -- Then pieces where a deadline has passed.
 pub mod Late
 -- Then members, and what their calls add to the history.

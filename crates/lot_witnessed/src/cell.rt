@@ -1,25 +1,35 @@
 //! The buckets of a lot, each with its part of the history, behind a lock.
 
-ghost use Rattle.std.specs.Prelude.{◌≡◌, ◌∷◌, ◌<◌, [], length, IfOk};
+ghost use Rattle.std.specs.Prelude.{◌≡◌, ◌∷◌, ◌+◌, ◌<◌, ◌≤◌, ◌^◌, [], length, IfOk, IfSome, None, Some};
 ghost use Rattle.lot_base.specs.Place.{IsTableSize};
 ghost use Rattle.lot_history.specs.Views.{rest_of};
 ghost use Rattle.lot_history.specs.Witness.{IsPartOf, IsStill, IsWitnessOf, id_of, max_threads_of, pieces_of};
 ghost use Rattle.lot_history.specs.declared.view.Piece.TheVariants.{Lists};
-ghost use Rattle.lot_word_lock.specs.WordLock.{key_of};
+ghost use Rattle.lot_word_lock.specs.WordLock.{IsHeldOf, key_of};
 ghost use Rattle.lot_witnessed.specs.Rows.{EachAt, empty_lists, free_numbers};
-ghost use Rattle.lot_witnessed.specs.Cells.{IsCellLock};
+ghost use Rattle.lot_witnessed.specs.Cells.{AreRows, FitsCell, IsCellLock, IsLockAt, IsRow, home_of};
 
 use lot_base::bucket::Bucket;
 use lot_base::token::NoMemory;
-use lot_base::word_lock::{Fits, WordLock};
+use lot_base::word_lock::{Fits, Held, WordLock};
+use lot_exclusive::table::growth::INITIAL_BUCKETS;
 use lot_history::history::{History, Part, Witness};
 use std::alloc::Global;
+use std::sync::Wait;
+use std::thread;
 
 // A bucket, and beside it its piece of the machine: the lists of all keys of its place.
 #[derive(Drop)]
 pub(crate) struct Cell {
     pub(crate) bucket: Bucket,
     pub(crate) part: Part,
+}
+
+// The place of a bucket in a row. The bucket is there while the row is in use, but for the moment
+// of a section.
+#[derive(Drop)]
+pub(crate) struct Slot {
+    cell: Option<Cell>,
 }
 
 // Which bucket a lock is around, in a row of how many, and of which lot: `home` is a part of the
@@ -32,23 +42,181 @@ pub(crate) struct CellKey {
     pub(crate) home: Part,
 }
 
-impl Fits for Cell {
+impl Fits for Slot {
     type Key = CellKey;
 
-    ghost use Rattle.lot_witnessed.specs.Cells.{FitsCell};
+    ghost use Rattle.lot_witnessed.specs.Cells.{FitsSlot};
 
-    ghost fits = { λ key cell. FitsCell key cell };
+    ghost fits = { λ key slot. FitsSlot key slot };
 }
 
-// The buckets of a new lot, each with its piece, which the witness gives away.
-pub(crate) fn new_cells(
+// A bucket that was taken out of its lock, which is locked. It has no `Drop`: it ends in `close` or
+// in `leave`.
+pub(crate) struct Claimed<'b> {
+    pub(crate) lock: &'b WordLock<Slot>,
+    held: Held<Slot>,
+    pub(crate) cell: Cell,
+}
+
+impl<'b> Claimed<'b> {
+    // Locks the bucket of this lock and takes it out, or answers `None` where it has none, since
+    // the row is not in use there.
+    pub(crate) fn of<R: Wait>(rt: &R, lock: &'b WordLock<Slot>) -> Option<Claimed<'b>>
+        ensures lock { IfSome result (λ claimed. claimed.lock.now ≡ lock.now) }
+        ensures held { IfSome result (λ claimed. IsHeldOf claimed.lock.now claimed.held) }
+        ensures empty { IfSome result (λ claimed. claimed.held.value.cell ≡ None) }
+        ensures fits { IfSome result (λ claimed. FitsCell (key_of claimed.lock.now) claimed.cell) }
+    {
+        let mut held = lock.lock(rt);
+        let Some(cell) = held.value.cell.take() else {
+            lock.unlock(held);
+            return None;
+        };
+        Some(Claimed { lock, held, cell })
+    }
+
+    // Puts the bucket back and lets it go.
+    pub(crate) fn close(self)
+        requires held { IsHeldOf self.lock.now self.held }
+        requires fits { FitsCell (key_of self.lock.now) self.cell }
+    {
+        let Claimed {
+            lock,
+            mut held,
+            cell,
+        } = self;
+        held.value.cell = Some(cell);
+        lock.unlock(held);
+    }
+
+    // Keeps the bucket, whose place has none from then on.
+    fn leave(self) -> Cell
+        requires held { IsHeldOf self.lock.now self.held }
+        requires empty { self.held.value.cell ≡ None }
+        ensures { result ≡ self.entry.cell }
+    {
+        let Claimed { lock, held, cell } = self;
+        lock.unlock(held);
+        cell
+    }
+}
+
+// Takes the bucket of a row in use away from its place. Whoever has the registry locked alone does
+// that, so it is there once no section has it, but no contract tells so.
+pub(crate) fn take_away<R: Wait>(rt: &R, lock: &WordLock<Slot>) -> Cell
+    ensures { FitsCell (key_of lock.now) result }
+{
+    for _ in rt.forever() {
+        if let Some(claimed) = Claimed::of(rt, lock) {
+            return claimed.leave();
+        }
+        thread::yield_now();
+    }
+    unreachable!()
+}
+
+// Puts a bucket to its place, in a row that is not in use there.
+pub(crate) fn put<R: Wait>(rt: &R, lock: &WordLock<Slot>, cell: Cell)
+    requires { FitsCell (key_of lock.now) cell }
+{
+    let mut held = lock_empty(rt, lock);
+    held.value.cell = Some(cell);
+    lock.unlock(held);
+}
+
+// Locks a place that has no bucket. None that is there is lost: it would wait instead.
+fn lock_empty<R: Wait>(rt: &R, lock: &WordLock<Slot>) -> Held<Slot>
+    ensures held { IsHeldOf lock.now result }
+    ensures empty { result.value.cell ≡ None }
+{
+    for _ in rt.forever() {
+        let held = lock.lock(rt);
+        if held.value.cell.is_none() {
+            return held;
+        }
+        lock.unlock(held);
+        thread::yield_now();
+    }
+    unreachable!()
+}
+
+// The lock at this place of a row.
+pub(crate) fn lock_at(row: &[WordLock<Slot>], place: usize) -> &WordLock<Slot>
+    requires { place < length row.now }
+    ensures { IsLockAt place row.now result.now }
+{
+    &row[place]
+}
+
+// How many rows there may be: of 16 to 65,536 buckets.
+const MOST_ROWS: usize = 13;
+
+// The rows of a new lot, of 16 buckets and of each larger size up to the greatest that is needed.
+// The first is in use: each of its buckets has its piece, which the witness gives away. `other` is
+// one that has no piece.
+pub(crate) fn new_rows(
+    alloc: Global,
+    history: &History,
+    me: &mut Witness,
+    other: &mut Witness,
+    max_threads: usize,
+    most: usize,
+) -> Result<Vec<Vec<WordLock<Slot>>>, NoMemory>
+    requires witness { IsWitnessOf history.now me.old }
+    requires other { IsWitnessOf history.now other.old }
+    requires max_threads { max_threads ≡ max_threads_of history.now }
+    requires pieces { pieces_of me.old ≡ empty_lists 16 0 16 (free_numbers max_threads ∷ []) }
+    ensures still { IsStill history.now me.old me.new }
+    ensures other { IsStill history.now other.old other.new }
+    ensures pieces { IfOk result (λ _. pieces_of me.new ≡ free_numbers max_threads ∷ []) }
+    ensures rows { IfOk result (λ rows. AreRows (id_of history.now) max_threads rows.items) }
+{
+    let mut size = INITIAL_BUCKETS;
+    let home = history.give(other);
+    let first = new_cells(alloc, history, me, size, max_threads, home)?;
+    let mut rows = Vec::with_capacity(alloc, MOST_ROWS)?;
+    rows.push(first)?;
+    while rows.len() < MOST_ROWS && size < most {
+        size *= 2;
+        let home = history.give(other);
+        rows.push(new_row(alloc, size, max_threads, home)?)?;
+    }
+    Ok(rows)
+}
+
+// A row that is not in use, of which no place has its bucket.
+fn new_row(
+    alloc: Global,
+    size: usize,
+    max_threads: usize,
+    home: Part,
+) -> Result<Vec<WordLock<Slot>>, NoMemory>
+    requires { IsTableSize size }
+    ensures { IfOk result (λ row. IsRow (home_of home) max_threads size row.items) }
+{
+    let mut key = CellKey {
+        place: 0,
+        size,
+        max_threads,
+        home,
+    };
+    let mut row = Vec::with_capacity(alloc, size)?;
+    for place in 0..size {
+        key.place = place;
+        row.push(WordLock::new(alloc, Slot { cell: None }, &key)?)?;
+    }
+    Ok(row)
+}
+
+// The row of 16 buckets of a new lot, each with its piece, which the witness gives away.
+fn new_cells(
     alloc: Global,
     history: &History,
     me: &mut Witness,
     size: usize,
     max_threads: usize,
     home: Part,
-) -> Result<Vec<WordLock<Cell>>, NoMemory>
+) -> Result<Vec<WordLock<Slot>>, NoMemory>
     requires witness { IsWitnessOf history.now me.old }
     requires size { IsTableSize size }
     requires max_threads { max_threads ≡ max_threads_of history.now }
@@ -80,7 +248,7 @@ fn new_cell(
     history: &History,
     me: &mut Witness,
     key: &CellKey,
-) -> Result<WordLock<Cell>, NoMemory>
+) -> Result<WordLock<Slot>, NoMemory>
     requires witness { IsWitnessOf history.now me.old }
     requires size { IsTableSize key.now.size }
     requires place { key.now.place < key.now.size }
@@ -93,5 +261,6 @@ fn new_cell(
 {
     let bucket = Bucket::new(key.place, key.size);
     let part = history.give(me);
-    WordLock::new(alloc, Cell { bucket, part }, key)
+    let cell = Some(Cell { bucket, part });
+    WordLock::new(alloc, Slot { cell }, key)
 }

@@ -3,6 +3,7 @@
 #![tactic(auto)]
 
 mod cell;
+mod halves;
 pub mod laws;
 pub mod lot;
 mod mail;

@@ -1,26 +1,26 @@
 //! The lot, which threads share by reference: its buckets, and for each thread a parker and a
 //! mailbox.
 
-ghost use Rattle.std.specs.Prelude.{◌≡◌, ◌≢◌, ◌↔◌, ◌∷◌, ◌<◌, ◌≤◌, ◌^◌, ℕ, List, [], true, false, length, map, All, Err, IsErrOf, Bool, IfErr, IfNone, IfOk, IfSome, OnOk, is_ok};
+ghost use Rattle.std.specs.Prelude.{◌≡◌, ◌≢◌, ◌↔◌, ◌∷◌, ◌+◌, ◌<◌, ◌≤◌, ◌^◌, ℕ, List, [], true, false, length, map, All, Err, IsErrOf, Bool, IfErr, IfNone, IfOk, IfSome, OnOk, is_ok};
 ghost use Rattle.lot_base.specs.Node.{fields};
 ghost use Rattle.lot_base.specs.NodeFields.{NodeFields};
-ghost use Rattle.lot_base.specs.Place.{IsTableSize};
 ghost use Rattle.lot_base.specs.Waiting.{result_of, split_first};
 ghost use Rattle.lot_base.specs.declared.token.UnparkResult.{UnparkResult};
 ghost use Rattle.lot_exclusive.specs.declared.schedule.Answer.{Answer};
 ghost use Rattle.lot_exclusive.specs.declared.schedule.Step.{Step};
 ghost use Rattle.lot_history.specs.Witness.{Adds, Extends, IsPartOf, IsStill, IsWitnessOf, events_of, id_of, max_threads_of, pieces_of, seen_by};
 ghost use Rattle.lot_history.specs.declared.view.Piece.TheVariants.{Thread};
-ghost use Rattle.lot_witnessed.specs.Cells.{FitsCell, Has, HasRecords, IsBelow, IsLetterTo, IsLockFor, IsMailLock, thread_taken, threads_in};
+ghost use Rattle.lot_witnessed.specs.Cells.{FitsCell, Has, HasRecords, IsBelow, IsLetterTo, IsLockFor, IsMailLock, IsRow, thread_taken, threads_in};
 ghost use Rattle.lot_word_lock.specs.WordLock.{IsHeldOf, key_of};
 ghost use Rattle.lot_witnessed.specs.Filters.{AreCallable, IsUnpark};
 ghost use Rattle.lot_witnessed.specs.Handles.{handle_numbers};
 ghost use Rattle.lot_witnessed.specs.Members.{EndsWait, IsListed, IsRegistered, Leaves, entry_of, entry_step};
 ghost use Rattle.lot_witnessed.specs.Rows.{EachAt};
 
+mod growth;
 mod requeue;
 
-use crate::cell::{Cell, new_cells};
+use crate::cell::{Claimed, Slot, lock_at, new_rows};
 use crate::mail::{Letter, Mail, MailKey, new_mail};
 use crate::registry::{Registry, new_registry};
 use crate::sections::{enter_in, leave_in, list_in, take_all_of, take_filter_of, take_one_of};
@@ -31,7 +31,7 @@ use lot_base::thread_parker::{ThreadParkerT, UnparkHandleT};
 use lot_base::token::{
     FilterOp, LotError, NoMemory, ParkResult, ParkToken, UnparkResult, UnparkToken,
 };
-use lot_base::word_lock::{Held, WordLock};
+use lot_base::word_lock::WordLock;
 use lot_exclusive::lot::Status;
 use lot_exclusive::schedule::{Answer, Op, Step};
 use lot_exclusive::table::MAX_THREADS;
@@ -56,16 +56,25 @@ pub(crate) struct PerThread<P: ThreadParkerT> {
 
 /// A parking lot of threads. A contract sees it as the history of its calls.
 ///
-/// It is made for a greatest number of threads, and has three buckets for each from the first. Each
-/// bucket lies behind a lock of its own with its part of the history, and a section is what a call
-/// does under the lock of its key's bucket. In it an unpark puts a letter into the mailbox of the
-/// thread, and then its node into its parker: then the unpark is committed.
+/// It is made for a greatest number of threads, with a row of buckets of each size that they may
+/// need, of which one is in use. Each bucket lies behind a lock of its own with its part of the
+/// history, and a section is what a call does under the lock of its key's bucket. In it an unpark
+/// puts a letter into the mailbox of the thread, and then its node into its parker: then the unpark
+/// is committed.
 ///
-/// Upstream has one lot for the process, in statics, whose table grows.
+/// Where there would be less than three buckets for each thread, a registration puts the row of
+/// twice the size in use. Under the lock of the numbers it takes each bucket of the old row away
+/// from its place, one after another, and puts its nodes and its part into the two of its keys. A
+/// section that finds its bucket away waits for that lock, and looks again.
+///
+/// Upstream has one lot for the process, in statics, and asks for a larger table as it grows.
 #[derive(Drop)]
 pub struct Lot<P: ThreadParkerT> {
     history: History,
-    cells: Vec<WordLock<Cell>>,
+    rows: Vec<Vec<WordLock<Slot>>>,
+    // The index of the row in use. It may be out of date where it is read, and then the bucket is
+    // not there.
+    current: AtomicUsize,
     threads: Vec<PerThread<P>>,
     registry: WordLock<Registry>,
 }
@@ -75,31 +84,30 @@ impl<P: ThreadParkerT> Model for Lot<P> {
 
     ghost Value = { History };
 
-    ghost use Rattle.std.specs.Prelude.{◌≡◌, ◌<◌, ◌^◌, length};
-    ghost use Rattle.lot_base.specs.Place.{IsTableSize};
+    ghost use Rattle.std.specs.Prelude.{◌≡◌, ◌≤◌, length};
+    ghost use Rattle.lot_exclusive.specs.declared.table.TheConstants.{MAX_THREADS};
     ghost use Rattle.lot_history.specs.Witness.{id_of, max_threads_of};
-    ghost use Rattle.lot_witnessed.specs.Cells.{IsCellLock, IsMailLock, IsRegistryLock};
+    ghost use Rattle.lot_witnessed.specs.Cells.{AreRows, IsMailLock, IsRegistryLock};
     ghost use Rattle.lot_witnessed.specs.Rows.{EachAt};
 
     ghost view = { λ lot. lot.history };
 
     ghost invariant = { λ lot.
-        IsTableSize (length lot.cells.items)
-        × EachAt (IsCellLock (id_of lot.history) (max_threads_of lot.history)
-        (length lot.cells.items)) 0 lot.cells.items
+        AreRows (id_of lot.history) (max_threads_of lot.history) lot.rows.items
         × (length lot.threads.items ≡ max_threads_of lot.history)
         × EachAt (λ number thread. (P.owner thread.parker ≡ number)
         × IsMailLock (id_of lot.history) number thread.mail) 0 lot.threads.items
         × IsRegistryLock (id_of lot.history) (max_threads_of lot.history) lot.registry
-        × (max_threads_of lot.history < 2 ^ 63) };
+        × (max_threads_of lot.history ≤ MAX_THREADS) };
 }
 
 impl<P: ThreadParkerT> Lot<P> {
     /// A lot for at most this many threads, none of which is registered, with a history in which
     /// nothing was done.
     ///
-    /// It allocates the history's word, three buckets and more for each thread, each with a lock,
-    /// and a parker and a mailbox with a lock for each number.
+    /// It allocates the history's word, places for three buckets and more for each thread, each with
+    /// a lock, and as many again for the smaller rows, and a parker and a mailbox with a lock for
+    /// each number.
     ///
     /// # Errors
     ///
@@ -117,24 +125,23 @@ impl<P: ThreadParkerT> Lot<P> {
         Ok(lot)
     }
 
-    // The same, of so many buckets.
-    fn of_size(alloc: Global, max_threads: usize, size: usize) -> Result<Lot<P>, NoMemory>
-        requires size { IsTableSize size }
-        requires few { max_threads < 2 ^ 63 }
+    // The same, for no more threads than that, where so many buckets are needed for all.
+    fn of_size(alloc: Global, max_threads: usize, most: usize) -> Result<Lot<P>, NoMemory>
+        requires few { max_threads ≤ MAX_THREADS }
         ensures { IfOk result (λ lot. max_threads_of lot ≡ max_threads) }
     {
         let (history, mut me) = History::new(alloc, max_threads)?;
-        cut_up(&history, &mut me, max_threads, size);
+        cut_up(&history, &mut me, max_threads, INITIAL_BUCKETS);
         let mut other = history.tell(&mut me);
-        let home = history.give(&mut other);
-        let cells = new_cells(alloc, &history, &mut me, size, max_threads, home)?;
+        let rows = new_rows(alloc, &history, &mut me, &mut other, max_threads, most)?;
         let home = history.give(&mut other);
         let threads = new_threads(alloc, &history, max_threads, home)?;
         let home = history.give(&mut other);
         let registry = new_registry(alloc, &history, me, max_threads, home)?;
         Ok(Lot {
             history,
-            cells,
+            rows,
+            current: AtomicUsize::new(0),
             threads,
             registry,
         })
@@ -154,11 +161,54 @@ impl<P: ThreadParkerT> Lot<P> {
         &self.history
     }
 
-    // The lock of the bucket of the key.
-    fn lock_of(&self, key: usize) -> &WordLock<Cell>
+    // The row of this index, if there is one.
+    fn row(&self, index: usize) -> Option<&Vec<WordLock<Slot>>>
+        ensures row { IfSome result (λ row. IsRow (id_of self.now) (max_threads_of self.now)
+            (2 ^ (index + 4)) row.now.items) }
+        ensures below { IfSome result (λ row. index < 13) }
+    {
+        self.rows.get(index)
+    }
+
+    // The row that is in use, or was as `current` was read.
+    fn row_in_use(&self) -> &Vec<WordLock<Slot>>
+        ensures { IsRow (id_of self.now) (max_threads_of self.now) (length result.now.items)
+            result.now.items }
+    {
+        if let Some(row) = self.row(self.current.load(Ordering::SeqCst)) {
+            return row;
+        }
+        &self.rows[0]
+    }
+
+    // The lock of the key's place in the row in use.
+    fn lock_of(&self, key: usize) -> &WordLock<Slot>
         ensures { IsLockFor self.now key result.now }
     {
-        &self.cells[place(key, self.cells.len())]
+        let row = self.row_in_use();
+        lock_at(row, place(key, row.len()))
+    }
+
+    // Locks the bucket of the key and takes it out, which begins a section.
+    fn claim<R: Wait>(&self, rt: &R, key: usize) -> Claimed<'_>
+        ensures lock { IsLockFor self.now key result.lock.now }
+        ensures held { IsHeldOf result.lock.now result.held }
+        ensures fits { FitsCell (key_of result.lock.now) result.cell }
+    {
+        for _ in rt.forever() {
+            let lock = self.lock_of(key);
+            if let Some(claimed) = Claimed::of(rt, lock) {
+                return claimed;
+            }
+            self.wait_for_change(rt);
+        }
+        unreachable!()
+    }
+
+    // Waits until the thread that changes the row is done, which has the numbers locked meanwhile.
+    fn wait_for_change<R: Wait>(&self, rt: &R) {
+        let held = self.registry.lock(rt);
+        self.registry.unlock(held);
     }
 
     // What the lot keeps for the thread of this number.
@@ -191,6 +241,7 @@ impl<P: ThreadParkerT> Lot<P> {
         ensures below { IfSome result.1 (λ number. number < max_threads_of self.now) }
     {
         let mut held = self.registry.lock(rt);
+        self.make_room(rt, &mut held.value);
         let registered = held.value.register(&self.history);
         self.registry.unlock(held);
         registered
@@ -253,13 +304,12 @@ impl<P: ThreadParkerT> Lot<P> {
             timed,
             ..
         } = *node;
-        let lock = self.lock_of(key);
-        let mut held = lock.lock(rt);
-        let entered = enter_in(&self.history, me, &mut held.value, thread, node, validate);
+        let mut claimed = self.claim(rt, key);
+        let entered = enter_in(&self.history, me, &mut claimed.cell, thread, node, validate);
         if entered.is_ok() {
             self.note_key(number, timed, key);
         }
-        lock.unlock(held);
+        claimed.close();
         entered
     }
 
@@ -341,36 +391,35 @@ impl<P: ThreadParkerT> Lot<P> {
         ensures unchanged { IfNone result ((seen_by me.new ≡ seen_by me.old)
             × (events_of me.new ≡ events_of me.old)) }
     {
-        let (key, lock, mut held) = self.lock_own(rt, number);
+        let (key, mut claimed) = self.claim_own(rt, number);
         let left = leave_in(
             rt,
             &self.history,
             me,
-            &mut held.value,
+            &mut claimed.cell,
             number,
             key,
             timed_out,
         );
-        lock.unlock(held);
+        claimed.close();
         left
     }
 
     // Locks the bucket of the key on which a thread waits that has a timeout. A requeue moves the
     // thread with both buckets locked, so while this one is, it stands here or was taken.
-    fn lock_own<R: Wait>(&self, rt: &R, number: usize) -> (usize, &WordLock<Cell>, Held<Cell>)
+    fn claim_own<R: Wait>(&self, rt: &R, number: usize) -> (usize, Claimed<'_>)
         requires { number < max_threads_of self.now }
-        ensures lock { IsLockFor self.now result.0 result.1.now }
-        ensures held { IsHeldOf result.1.now result.2 }
-        ensures fits { FitsCell (key_of result.1.now) result.2.value }
+        ensures lock { IsLockFor self.now result.0 result.1.lock.now }
+        ensures held { IsHeldOf result.1.lock.now result.1.held }
+        ensures fits { FitsCell (key_of result.1.lock.now) result.1.cell }
     {
         for _ in rt.forever() {
             let key = self.key(number);
-            let lock = self.lock_of(key);
-            let held = lock.lock(rt);
+            let claimed = self.claim(rt, key);
             if self.key(number) == key {
-                return (key, lock, held);
+                return (key, claimed);
             }
-            lock.unlock(held);
+            claimed.close();
         }
         unreachable!()
     }
@@ -389,10 +438,9 @@ impl<P: ThreadParkerT> Lot<P> {
         ensures none { pieces_of me.new ≡ [] }
         ensures listed { IsListed self.now key me.old me.new result }
     {
-        let lock = self.lock_of(key);
-        let mut held = lock.lock(rt);
-        let listed = list_in(&self.history, me, &mut held.value, alloc, key);
-        lock.unlock(held);
+        let mut claimed = self.claim(rt, key);
+        let listed = list_in(&self.history, me, &mut claimed.cell, alloc, key);
+        claimed.close();
         listed
     }
 
@@ -434,17 +482,16 @@ impl<P: ThreadParkerT> Lot<P> {
             (λ s a. E.said s a × (a ≡ Answer.Unpark result.0)) me.new }
         ensures none { pieces_of me.new ≡ [] }
     {
-        let lock = self.lock_of(key);
-        let mut held = lock.lock(rt);
+        let mut claimed = self.claim(rt, key);
         let (result, taken) = take_one_of::<E, C>(
             &self.history,
             me,
-            &mut held.value,
+            &mut claimed.cell,
             key,
             callback,
         );
         let handle = self.commit_one(rt, me, taken);
-        lock.unlock(held);
+        claimed.close();
         (result, handle)
     }
 
@@ -465,11 +512,10 @@ impl<P: ThreadParkerT> Lot<P> {
             (λ s a. E.said s a × (a ≡ Answer.Count result)) me.new }
         ensures none { pieces_of me.new ≡ [] }
     {
-        let lock = self.lock_of(key);
-        let mut held = lock.lock(rt);
-        let (count, taken) = take_all_of::<E>(&self.history, me, &mut held.value, key, token);
+        let mut claimed = self.claim(rt, key);
+        let (count, taken) = take_all_of::<E>(&self.history, me, &mut claimed.cell, key, token);
         self.commit(rt, me, taken);
-        lock.unlock(held);
+        claimed.close();
         count
     }
 
@@ -491,18 +537,17 @@ impl<P: ThreadParkerT> Lot<P> {
             (λ s a. E.said s a × (a ≡ Answer.Unpark result)) me.new }
         ensures none { pieces_of me.new ≡ [] }
     {
-        let lock = self.lock_of(key);
-        let mut held = lock.lock(rt);
+        let mut claimed = self.claim(rt, key);
         let (result, taken) = take_filter_of::<E, F, C>(
             &self.history,
             me,
-            &mut held.value,
+            &mut claimed.cell,
             key,
             filter,
             callback,
         );
         self.commit(rt, me, taken);
-        lock.unlock(held);
+        claimed.close();
         result
     }
 

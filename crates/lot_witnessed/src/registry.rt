@@ -1,6 +1,6 @@
 //! The numbers of a lot's threads, behind a lock.
 
-ghost use Rattle.std.specs.Prelude.{◌≡◌, ◌∷◌, ◌<◌, ℕ, [], true, false, length, IfOk, IfSome, MatchOption};
+ghost use Rattle.std.specs.Prelude.{◌≡◌, ◌∷◌, ◌<◌, ◌≤◌, ℕ, [], true, false, length, IfOk, IfSome, MatchOption};
 ghost use Rattle.lot_history.specs.Pieces.{has_number};
 ghost use Rattle.lot_history.specs.Witness.{Extends, IsPartOf, IsStill, IsWitnessOf, id_of, max_threads_of, pieces_of};
 ghost use Rattle.lot_history.specs.declared.view.Piece.TheVariants.{Numbers, Thread};
@@ -14,17 +14,19 @@ use lot_base::token::NoMemory;
 use lot_base::word_lock::{Fits, WordLock};
 use lot_exclusive::lot::Status;
 use lot_exclusive::schedule::{Answer, Step};
+use lot_exclusive::table::MAX_THREADS;
 use lot_history::history::{History, Part, Witness};
 use std::alloc::Global;
 use std::mem;
 
-// Which numbers are registered, and beside that the piece of the machine which tells it; and a
-// witness, of which each registered thread is told its own.
+// Which numbers are registered, and beside that the piece of the machine which tells it; a witness,
+// of which each registered thread is told its own; and the index of the row in use.
 #[derive(Drop)]
 pub(crate) struct Registry {
-    uses: Vec<bool>,
+    pub(crate) uses: Vec<bool>,
     part: Part,
-    witness: Witness,
+    pub(crate) witness: Witness,
+    pub(crate) row: usize,
 }
 
 // For how many threads a registry is, and of which lot: `home` is a part of the lot's history,
@@ -53,6 +55,7 @@ pub(crate) fn new_registry(
 ) -> Result<WordLock<Registry>, NoMemory>
     requires witness { IsWitnessOf history.now me }
     requires max_threads { max_threads ≡ max_threads_of history.now }
+    requires few { max_threads ≤ MAX_THREADS }
     requires home { IsPartOf (id_of history.now) home }
     requires piece { pieces_of me ≡ free_numbers max_threads ∷ [] }
     ensures { IfOk result (IsRegistryLock (id_of history.now) max_threads) }
@@ -63,6 +66,7 @@ pub(crate) fn new_registry(
         uses: vec![in alloc; false; max_threads]?,
         part,
         witness: history.tell(&mut me),
+        row: 0,
     };
     let key = RegistryKey { max_threads, home };
     WordLock::new(alloc, registry, &key)
@@ -82,7 +86,27 @@ fn least_free(uses: &[bool]) -> Option<usize>
     None
 }
 
+// How many numbers are registered.
+fn count(uses: &[bool]) -> usize
+    ensures { result ≤ length uses.now }
+{
+    let mut threads = 0;
+    for number in 0..uses.len() {
+        if uses[number] {
+            threads += 1;
+        }
+    }
+    threads
+}
+
 impl Registry {
+    // How many numbers are registered.
+    pub(crate) fn threads(&self) -> usize
+        ensures { result ≤ length self.now.uses.items }
+    {
+        count(&self.uses)
+    }
+
     // Registers the least free number, if there is one, and answers a new witness that told so,
     // which has the pieces of the thread.
     pub(crate) fn register(&mut self, history: &History) -> (Witness, Option<usize>)

@@ -2,7 +2,7 @@
 
 ghost use Rattle.std.specs.Prelude.{◌≡◌, ◌∷◌, ◌++◌, List, [], true, false};
 ghost use Rattle.lot_history.specs.Moves.{Moves, Regroups};
-ghost use Rattle.lot_history.specs.Witness.{Adds, Extends, IsPartOf, IsStill, IsWitnessOf, id_of, max_threads_of, pieces_in, pieces_of};
+ghost use Rattle.lot_history.specs.Witness.{Adds, Extends, IsPartOf, IsStill, IsWitnessOf, events_of, id_of, max_threads_of, pieces_in, pieces_of};
 ghost use Rattle.lot_history.specs.declared.view.Piece.{Piece};
 ghost use Rattle.lot_history.specs.declared.view.Piece.TheVariants.{Numbers, Records, Thread};
 ghost use Rattle.lot_witnessed.specs.Cells.{Has, IsLetterTo, lists_in, threads_in};
@@ -72,9 +72,34 @@ fn regroup_with<V>(history: &History, me: &mut Witness, _values: &V)
     requires witness { IsWitnessOf history.now me.old }
     requires regroups { Regroups (max_threads_of history.now) (pieces_of me.old) after }
     ensures still { IsStill history.now me.old me.new }
+    ensures nothing_added { events_of me.new ≡ events_of me.old }
     ensures pieces { pieces_of me.new ≡ after }
 {
     history.regroup(me);
+}
+
+// Cuts the lists of a bucket in two, those of these buckets.
+pub(crate) fn regroup_split(history: &History, me: &mut Witness, low: &Bucket, high: &Bucket)
+    requires witness { IsWitnessOf history.now me.old }
+    requires regroups { Regroups (max_threads_of history.now) (pieces_of me.old)
+        (lists_in low.now ∷ lists_in high.now ∷ []) }
+    ensures still { IsStill history.now me.old me.new }
+    ensures nothing_added { events_of me.new ≡ events_of me.old }
+    ensures pieces { pieces_of me.new ≡ lists_in low.now ∷ lists_in high.now ∷ [] }
+{
+    regroup_with::<(&Bucket, &Bucket)>(history, me, &(low, high));
+}
+
+// Puts the lists of two buckets together, to those of this bucket.
+pub(crate) fn regroup_joined(history: &History, me: &mut Witness, bucket: &Bucket)
+    requires witness { IsWitnessOf history.now me.old }
+    requires regroups { Regroups (max_threads_of history.now) (pieces_of me.old)
+        (lists_in bucket.now ∷ []) }
+    ensures still { IsStill history.now me.old me.new }
+    ensures nothing_added { events_of me.new ≡ events_of me.old }
+    ensures pieces { pieces_of me.new ≡ lists_in bucket.now ∷ [] }
+{
+    regroup_with::<&Bucket>(history, me, &bucket);
 }
 
 // Adds that a thread was registered, which leaves these numbers so.

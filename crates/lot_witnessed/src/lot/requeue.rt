@@ -1,7 +1,7 @@
 //! Requeues, from the list of one key to that of another: their buckets, which may be one or two,
 //! and what a section does to them.
 
-ghost use Rattle.std.specs.Prelude.{◌≡◌, ◌≢◌, ◌≤◌, [], length, All, MatchOption};
+ghost use Rattle.std.specs.Prelude.{◌≡◌, ◌≢◌, ◌≤◌, [], length, All, IfSome, MatchOption};
 ghost use Rattle.lot_base.specs.BucketState.{KeepsPlace};
 ghost use Rattle.lot_base.specs.Place.{place_of};
 ghost use Rattle.lot_base.specs.declared.token.UnparkResult.{UnparkResult};
@@ -13,13 +13,13 @@ ghost use Rattle.lot_witnessed.specs.Cells.{AreApart, FitsCell, IsBelow, IsCell,
 ghost use Rattle.lot_witnessed.specs.Requeues.{IsRequeue, MayRequeue};
 
 use super::Lot;
-use crate::cell::Cell;
+use crate::cell::{Cell, Claimed, Slot, lock_at};
 use crate::told::{add_requeue, add_taking};
 use lot_base::bucket::place;
 use lot_base::queue::Queue;
 use lot_base::thread_parker::ThreadParkerT;
 use lot_base::token::{RequeueOp, UnparkResult, UnparkToken};
-use lot_base::word_lock::{Held, WordLock};
+use lot_base::word_lock::WordLock;
 use lot_exclusive::schedule::Answer;
 use lot_history::history::Witness;
 use lot_history::plays::Told;
@@ -51,68 +51,84 @@ impl<P: ThreadParkerT> Lot<P> {
             (λ s a. E.said s a × (a ≡ Answer.Unpark result.0)) me.new }
         ensures none { pieces_of me.new ≡ [] }
     {
-        let (lock, other) = self.locks_of(from, to);
-        let Some(other) = other else {
-            let mut held = lock.lock(rt);
-            let cell = &mut held.value;
+        let (mut source, target) = self.claim_two(rt, from, to);
+        let Some(mut target) = target else {
             let (result, taken) = self.requeue_in_one::<E, V, C>(
-                me, cell, from, to, validate, callback,
+                me,
+                &mut source.cell,
+                from,
+                to,
+                validate,
+                callback,
             );
             let handle = self.commit_one(rt, me, taken);
-            lock.unlock(held);
+            source.close();
             return (result, handle);
         };
-        let (mut source, mut target) = self.lock_both(rt, from, to, lock, other);
         let (result, taken) = self.requeue_across::<E, V, C>(
             me,
-            &mut source.value,
-            &mut target.value,
+            &mut source.cell,
+            &mut target.cell,
             from,
             to,
             validate,
             callback,
         );
         let handle = self.commit_one(rt, me, taken);
-        lock.unlock(source);
-        other.unlock(target);
+        source.close();
+        target.close();
         (result, handle)
     }
 
-    // The lock of the bucket of the key `from`, and that of the key `to` if it is another.
-    fn locks_of(&self, from: usize, to: usize) -> (&WordLock<Cell>, Option<&WordLock<Cell>>)
-        ensures from { IsLockFor self.now from result.0.now }
-        ensures to { MatchOption result.1 (IsLockFor self.now to result.0.now)
-            (λ other. IsLockFor self.now to other.now × AreApart result.0.now other.now) }
-    {
-        let source = place(from, self.cells.len());
-        let target = place(to, self.cells.len());
-        if source == target {
-            return (&self.cells[source], None);
-        }
-        (&self.cells[source], Some(&self.cells[target]))
-    }
-
-    // Locks the buckets of two keys, that of the lower place first, as whoever locks two does.
-    fn lock_both<R: Wait>(
+    // Locks the bucket of the key `from`, and that of the key `to` if it is another, and takes them
+    // out.
+    fn claim_two<R: Wait>(
         &self,
         rt: &R,
         from: usize,
         to: usize,
-        source: &WordLock<Cell>,
-        target: &WordLock<Cell>,
-    ) -> (Held<Cell>, Held<Cell>)
-        ensures source { IsHeldOf source.now result.0
-            × FitsCell (key_of source.now) result.0.value }
-        ensures target { IsHeldOf target.now result.1
-            × FitsCell (key_of target.now) result.1.value }
+    ) -> (Claimed<'_>, Option<Claimed<'_>>)
+        ensures from { IsLockFor self.now from result.0.lock.now }
+        ensures to { MatchOption result.1 (IsLockFor self.now to result.0.lock.now)
+            (λ other. IsLockFor self.now to other.lock.now
+            × AreApart result.0.lock.now other.lock.now) }
+        ensures held { IsHeldOf result.0.lock.now result.0.held
+            × IfSome result.1 (λ other. IsHeldOf other.lock.now other.held) }
+        ensures fits { FitsCell (key_of result.0.lock.now) result.0.cell
+            × IfSome result.1 (λ other. FitsCell (key_of other.lock.now) other.cell) }
     {
-        let size = self.cells.len();
-        if place(from, size) < place(to, size) {
-            let first = source.lock(rt);
-            return (first, target.lock(rt));
+        for _ in rt.forever() {
+            let (source, target, ascends) = self.locks_of(from, to);
+            if let Some(target) = target {
+                if let Some((source, target)) = claim_both(rt, source, target, ascends) {
+                    return (source, Some(target));
+                }
+            } else if let Some(source) = Claimed::of(rt, source) {
+                return (source, None);
+            }
+            self.wait_for_change(rt);
         }
-        let first = target.lock(rt);
-        (source.lock(rt), first)
+        unreachable!()
+    }
+
+    // The lock of the bucket of the key `from`, and that of the key `to` if it is another, in one
+    // row; and whether the first has the lower place.
+    fn locks_of(&self, from: usize, to: usize) -> (&WordLock<Slot>, Option<&WordLock<Slot>>, bool)
+        ensures from { IsLockFor self.now from result.0.now }
+        ensures to { MatchOption result.1 (IsLockFor self.now to result.0.now)
+            (λ other. IsLockFor self.now to other.now × AreApart result.0.now other.now) }
+    {
+        let row = self.row_in_use();
+        let source = place(from, row.len());
+        let target = place(to, row.len());
+        if source == target {
+            return (lock_at(row, source), None, false);
+        }
+        (
+            lock_at(row, source),
+            Some(lock_at(row, target)),
+            source < target,
+        )
     }
 
     // Requeues waiters of the key `from` onto the key `to`, where both have one bucket, and tells
@@ -213,4 +229,47 @@ impl<P: ThreadParkerT> Lot<P> {
         );
         (result, taken)
     }
+}
+
+// Locks two buckets of a row and takes them out, or answers `None` where either is away. That of
+// the lower place is locked first, as whoever locks two does.
+fn claim_both<'b, R: Wait>(
+    rt: &R,
+    source: &'b WordLock<Slot>,
+    target: &'b WordLock<Slot>,
+    ascends: bool,
+) -> Option<(Claimed<'b>, Claimed<'b>)>
+    ensures locks { IfSome result (λ both. (both.0.lock.now ≡ source.now)
+        × (both.1.lock.now ≡ target.now)) }
+    ensures held { IfSome result (λ both. IsHeldOf both.0.lock.now both.0.held
+        × IsHeldOf both.1.lock.now both.1.held) }
+    ensures fits { IfSome result (λ both. FitsCell (key_of both.0.lock.now) both.0.cell
+        × FitsCell (key_of both.1.lock.now) both.1.cell) }
+{
+    if ascends {
+        return claim_in_order(rt, source, target);
+    }
+    let (target, source) = claim_in_order(rt, target, source)?;
+    Some((source, target))
+}
+
+// Locks these two buckets, one after the other, and takes them out.
+fn claim_in_order<'b, R: Wait>(
+    rt: &R,
+    first: &'b WordLock<Slot>,
+    second: &'b WordLock<Slot>,
+) -> Option<(Claimed<'b>, Claimed<'b>)>
+    ensures locks { IfSome result (λ both. (both.0.lock.now ≡ first.now)
+        × (both.1.lock.now ≡ second.now)) }
+    ensures held { IfSome result (λ both. IsHeldOf both.0.lock.now both.0.held
+        × IsHeldOf both.1.lock.now both.1.held) }
+    ensures fits { IfSome result (λ both. FitsCell (key_of both.0.lock.now) both.0.cell
+        × FitsCell (key_of both.1.lock.now) both.1.cell) }
+{
+    let first = Claimed::of(rt, first)?;
+    let Some(second) = Claimed::of(rt, second) else {
+        first.close();
+        return None;
+    };
+    Some((first, second))
 }
