@@ -7,6 +7,7 @@ use lot_witnessed::member::Member;
 use std::alloc::Global;
 use std::process::Abort;
 use std::sync::Wait;
+use std::sync::atomic::{AtomicBool, Ordering};
 use std::test::*;
 use std::thread;
 use std::thread::{Threads, join};
@@ -72,9 +73,11 @@ fn grow_and_trim<P: ThreadParkerT, R: Wait + Abort>(
         guests.push(guest).expect(rt, "memory");
         all = all && wake(rt, &mut me);
     }
-    while let Some(guest) = guests.pop() {
+    for _ in 0..GUESTS {
         all = all && requeue(rt, &mut me);
-        guest.retire(rt);
+        if let Some(guest) = guests.pop() {
+            guest.retire(rt);
+        }
         me.trim(rt);
         all = all && wake(rt, &mut me);
     }
@@ -137,8 +140,10 @@ fn come_and_go<P: ThreadParkerT, R: Wait + Abort>(
         let guest = Member::register(rt, alloc, lot).expect(rt, "a number");
         guests.push(guest).expect(rt, "memory");
     }
-    while let Some(guest) = guests.pop() {
-        guest.retire(rt);
+    for _ in 0..GUESTS {
+        if let Some(guest) = guests.pop() {
+            guest.retire(rt);
+        }
     }
     me.trim(rt);
 }
@@ -202,4 +207,88 @@ fn a_deadline_passes_while_the_table_changes_its_row(rt: HostRuntime) -> Result<
     assert_eq!(rt; late, ParkResult::TimedOut);
     assert_eq!(rt; left, Some((KEY, true)));
     Ok(())
+}
+
+// Whether a section of key 0 goes on while one of key 13 begins and ends: it looks so often whether
+// that has ended. Both keys have place 0 of 16 buckets, and of more they have two places.
+fn are_apart<P: ThreadParkerT + Send + Sync, R: Threads + Wait + Sync>(
+    rt: &R,
+    one: &mut Member<'_, P>,
+    two: &mut Member<'_, P>,
+    looks: usize,
+) -> bool {
+    let begun = AtomicBool::new(false);
+    let ended = AtomicBool::new(false);
+    let mut apart = false;
+    join(
+        rt,
+        || {
+            one.park(
+                rt,
+                0,
+                || {
+                    begun.store(true, Ordering::SeqCst);
+                    apart = is_set(&ended, looks);
+                    false
+                },
+                || (),
+                DEFAULT_PARK_TOKEN,
+            );
+        },
+        || {
+            is_set(&begun, TURNS);
+            two.unpark_one(rt, 13, |_| UnparkToken(0));
+            ended.store(true, Ordering::SeqCst);
+        },
+    );
+    apart
+}
+
+// Looks so often whether the flag is set.
+fn is_set(flag: &AtomicBool, looks: usize) -> bool {
+    for _ in 0..looks {
+        if flag.load(Ordering::SeqCst) {
+            return true;
+        }
+        thread::yield_now();
+    }
+    false
+}
+
+// It refuses a table that does not grow as threads register, and one that a trim leaves large.
+#[test]
+fn two_keys_of_one_bucket_have_two_while_many_threads_are_registered(
+    rt: HostRuntime,
+) -> Result<(), Fail> {
+    let lot = new_lot::<WordParker>(&rt, rt.alloc());
+    let mut few = Member::register(&rt, rt.alloc(), &lot)?;
+    assert!(rt; !are_apart_in(&rt, rt.alloc(), &lot, 100));
+    let mut guests = Vec::new(rt.alloc());
+    for _ in 0..GUESTS {
+        guests.push(Member::register(&rt, rt.alloc(), &lot)?)?;
+    }
+    assert!(rt; are_apart_in(&rt, rt.alloc(), &lot, TURNS));
+    for _ in 0..GUESTS {
+        if let Some(guest) = guests.pop() {
+            guest.retire(&rt);
+        }
+    }
+    few.trim(&rt);
+    assert!(rt; !are_apart_in(&rt, rt.alloc(), &lot, 100));
+    Ok(())
+}
+
+// The same, of two members who register and retire for it.
+fn are_apart_in<P: ThreadParkerT + Send + Sync, R: Threads + Wait + Abort + Sync>(
+    rt: &R,
+    alloc: Global,
+    lot: &Lot<P>,
+    looks: usize,
+) -> bool {
+    let mut one = Member::register(rt, alloc, lot).expect(rt, "a number");
+    let mut two = Member::register(rt, alloc, lot).expect(rt, "a number");
+    let apart = are_apart(rt, &mut one, &mut two, looks);
+    one.retire(rt);
+    two.retire(rt);
+    apart
 }
