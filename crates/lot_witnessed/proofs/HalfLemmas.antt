@@ -1,8 +1,8 @@
 -- A bucket cut in two, and two put together.
-use Rattle.std.proofs.Common.{◌≡◌, ◌≢◌, ℕ, ◌+◌, ◌*◌, ◌/◌, ◌^◌, ◌<◌, ◌≤◌, ◌==◌, List, [], ◌∷◌, ◌++◌, All, refl, sym, ap, ◌∙◌}
+use Rattle.std.proofs.Common.{◌≡◌, ◌≢◌, ℕ, ◌+◌, ◌*◌, ◌/◌, ◌^◌, ◌≤◌, ◌==◌, List, [], ◌∷◌, ◌++◌, All, refl, sym, ap, ◌∙◌}
 use Rattle.std.proofs.Common.{subst, ⊎_elim, arith, append-nil, append_assoc}
 use Rattle.std.proofs.Math.Nat.{pow-le-pow_right}
-use Rattle.std.proofs.lemmas.Bool.{cases_eq, eq-eqb, ne_eqb, cond-true, cond-false}
+use Rattle.std.proofs.lemmas.Bool.{cases_eq, ne_eqb, cond-false}
 use Rattle.std.proofs.lemmas.List.Elements.{All-append, All-cons, All-head, All-nil, All-tail}
 use Rattle.std.proofs.lemmas.Nat.{pow-add}
 use Rattle.lot_base.specs.BucketState.{BucketState, IsBucketAt}
@@ -12,7 +12,6 @@ use Rattle.lot_base.specs.Place.{IsTableSize, place_of}
 use Rattle.lot_base.proofs.FilterLemmas.{lists_of-append}
 use Rattle.lot_history.specs.Moves.{Regroups}
 use Rattle.lot_history.specs.Pieces.{standing_in}
-use Rattle.lot_history.specs.declared.view.Piece.TheVariants.{Lists}
 use Rattle.lot_history.proofs.GrowthLemmas.{IsHalved, grows, halved_nodes, shrinks}
 use Rattle.lot_history.proofs.PlaceLemmas.{place_of-half}
 use Rattle.lot_witnessed.specs.Cells.{IsBelow, lists_in}

@@ -1,4 +1,4 @@
-use Rattle.std.proofs.Common.{◌≡◌, ℕ, ◌+◌, ◌*◌, ◌^◌, [], ◌∷◌, arith, length, length-append, subst, ap, ◌∙◌}
+use Rattle.std.proofs.Common.{◌≡◌, ◌+◌, ◌*◌, ◌^◌, [], ◌∷◌, arith, length, length-append, subst, ap, ◌∙◌}
 use Rattle.std.proofs.lemmas.Nat.{pow-add}
 use Rattle.atomic_table.specs.Seated.{TableId}
 use Rattle.lot_history.specs.Witness.{id_of}

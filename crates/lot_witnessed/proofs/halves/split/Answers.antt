@@ -1,4 +1,4 @@
-use Rattle.std.proofs.Common.{◌≡◌, ℕ, ◌+◌, ◌*◌, List, [], ◌∷◌, ◌++◌, sym, ap, ◌∙◌, subst, refl}
+use Rattle.std.proofs.Common.{◌≡◌, ◌+◌, ◌*◌, List, [], ◌∷◌, ◌++◌, sym, ap, ◌∙◌, subst, refl}
 use Rattle.lot_base.specs.BucketState.{BucketState, IsBucketAt}
 use Rattle.lot_base.specs.Place.{IsTableSize}
 use Rattle.lot_history.specs.Moves.{Regroups}

@@ -1,4 +1,4 @@
-use Rattle.std.proofs.Common.{◌≡◌, ◌≢◌, ℕ, ◌+◌, ◌*◌, List, [], ◌∷◌, ◌++◌, refl, sym, ap, ◌∙◌, subst}
+use Rattle.std.proofs.Common.{◌≡◌, ◌+◌, ◌*◌, List, refl, sym, ap, ◌∙◌, subst}
 use Rattle.lot_base.specs.BucketState.{BucketState}
 use Rattle.lot_base.specs.Node.{fields}
 use Rattle.lot_base.specs.NodeFields.{NodeFields}

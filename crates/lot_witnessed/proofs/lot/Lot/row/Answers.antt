@@ -1,4 +1,4 @@
-use Rattle.std.proofs.Common.{◌+◌, ◌^◌, List, IfSome, subst}
+use Rattle.std.proofs.Common.{◌+◌, ◌^◌, IfSome, subst}
 use Rattle.lot_history.specs.Witness.{id_of, max_threads_of}
 use Rattle.lot_history.specs.declared.history.History.{History}
 use Rattle.lot_witnessed.specs.Cells.{IsRow}
