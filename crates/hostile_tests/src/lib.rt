@@ -3,6 +3,8 @@
 #![tactic(auto)]
 
 #[cfg(test)]
+mod always;
+#[cfg(test)]
 mod common;
 #[cfg(test)]
 mod crowds;

@@ -1,7 +1,7 @@
 //! Notifies by a thread that does not hold the fair mutex, beside one that locks it.
 
 use crate::expect_equal;
-use crate::handed::{Shared, TURNS, Way, lock, notify, register, sleep};
+use crate::handed::{Shared, Way, lock, notify, register, sleep};
 use lot_base::thread_parker::{ThreadParker, ThreadParkerT, WordParker, YieldParker};
 use std::alloc::Global;
 use std::process::Abort;
@@ -78,7 +78,7 @@ fn lock_until_over<P: ThreadParkerT, R: Wait + Clock + Abort>(
 ) -> bool {
     let mut data = register(rt, alloc, &race.shared);
     let mut alone = true;
-    for _ in 0..TURNS {
+    for _ in rt.forever() {
         if race.is_over() {
             return alone;
         }
@@ -86,22 +86,19 @@ fn lock_until_over<P: ThreadParkerT, R: Wait + Clock + Abort>(
         alone = race.unlock_alone(rt) && alone;
         thread::yield_now();
     }
-    false
+    unreachable!()
 }
 
 // Notifies until the race is over.
 fn notify_until_over<P: ThreadParkerT, R: Wait + Abort>(rt: &R, race: &Race<P>) -> bool {
-    for turn in 0..TURNS {
+    for _ in rt.forever() {
         if race.is_over() {
             return true;
         }
-        notify(
-            rt,
-            &race.shared,
-            if turn % 2 == 0 { Way::One } else { Way::All },
-        );
+        notify(rt, &race.shared, Way::One);
+        notify(rt, &race.shared, Way::All);
     }
-    false
+    unreachable!()
 }
 
 fn hands_it_to_one<P, R>(rt: &R, alloc: Global)

@@ -14,6 +14,7 @@ mod gate;
 mod interleaved;
 mod locks;
 mod marks;
+mod runs;
 mod scenario;
 mod table;
 mod threaded;
@@ -140,6 +141,7 @@ where
         Scenario::FineLotNew => interleaved::new(rt, alloc),
         Scenario::FineLotList => interleaved::list(rt, alloc),
         Scenario::RunFine => interleaved::run_all(rt, alloc),
+        Scenario::ShortRuns => runs::run_often(rt, alloc),
         Scenario::RecordNew => tools::new_record(rt, alloc),
         Scenario::RecordingLotNew => tools::new_recording_lot(rt, alloc),
         Scenario::Script => tools::run_script(rt, alloc),

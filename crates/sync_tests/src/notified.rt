@@ -40,6 +40,15 @@ impl Shared {
         ended == WaitResult::Notified
     }
 
+    // Sleeps until it is notified. It has no deadline, which would end the wait for the mutex too.
+    fn sleep_on<R: Wait + Clock + Abort>(&self, rt: &R, alloc: Global) -> bool {
+        let mut member = self.scene.enter(rt, alloc);
+        let held = self.mutex.lock(rt, &mut member);
+        let held = self.condvar.wait(rt, &mut member, held);
+        held.unlock(rt, &member);
+        true
+    }
+
     // Notifies all of two sleepers, while nobody holds the mutex.
     fn notify_two<R: Wait + Clock + Abort>(&self, rt: &R, alloc: Global) -> bool {
         let member = self.scene.enter(rt, alloc);
@@ -154,7 +163,7 @@ fn both_sleepers_on_a_free_mutex_come_back(rt: HostRuntime) {
         if index == 2 {
             return shared.notify_two(&rt, rt.alloc());
         }
-        shared.sleep(&rt, rt.alloc(), far(&rt))
+        shared.sleep_on(&rt, rt.alloc())
     };
     expect_told(&rt, rt.alloc(), &play, &[true; 3]);
 }
@@ -180,7 +189,7 @@ fn a_sleeper_takes_the_mutex_that_it_is_handed(rt: HostRuntime) {
         if index == 1 {
             return shared.notify_and_hand_over(&rt, rt.alloc());
         }
-        shared.sleep(&rt, rt.alloc(), far(&rt))
+        shared.sleep_on(&rt, rt.alloc())
     };
     expect_told(&rt, rt.alloc(), &play, &[true; 2]);
 }

@@ -20,6 +20,8 @@ mod semaphore;
 #[cfg(test)]
 mod simulation;
 #[cfg(test)]
+mod slow_park;
+#[cfg(test)]
 mod slow_parker;
 #[cfg(test)]
 mod slow_wake;

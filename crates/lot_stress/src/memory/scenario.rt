@@ -57,6 +57,9 @@ pub enum Scenario {
     /// `run_fine` of a schedule with registrations and recordings.
     RunFine,
 
+    /// `run` and `run_fine` of one step each, many times.
+    ShortRuns,
+
     /// `Record::new`.
     RecordNew,
 
@@ -178,6 +181,7 @@ pub const ROWS: &[Row] = &[
     (Scenario::FineLotNew, "each", "fine_lot_new", "any"),
     (Scenario::FineLotList, "each", "fine_lot_list", "any"),
     (Scenario::RunFine, "each", "run_fine", "any"),
+    (Scenario::ShortRuns, "each", "short_runs", "any"),
     (Scenario::RecordNew, "each", "record_new", "any"),
     (
         Scenario::RecordingLotNew,

@@ -1,0 +1,111 @@
+//! Sections beside a table that grows and is trimmed always: each finds the one thread that waits.
+
+use crate::expect_equal;
+use lot_base::thread_parker::WordParker;
+use parking_lot_core::{
+    DEFAULT_PARK_TOKEN, DEFAULT_UNPARK_TOKEN, FilterOp, Member, ParkingLot, RequeueOp,
+    unpark_chosen, unpark_one, unpark_requeue,
+};
+use std::alloc::Global;
+use std::process::Abort;
+use std::sync::Wait;
+use std::sync::atomic::{AtomicBool, Ordering};
+use std::thread;
+use std::thread::Threads;
+use std::time::Clock;
+
+const ROUNDS: usize = 1_000_000;
+
+const TURNS: usize = 10_000_000;
+
+#[derive(Drop)]
+struct Scene {
+    lot: ParkingLot<WordParker>,
+    is_over: AtomicBool,
+}
+
+impl Scene {
+    // Lets the table grow and trims it, until the looks are over.
+    fn change_size<R: Wait + Abort>(&self, rt: &R, alloc: Global) -> usize {
+        for _ in rt.forever() {
+            if self.is_over.load(Ordering::SeqCst) {
+                return 0;
+            }
+            let mut more = Vec::new(alloc);
+            for _ in 0..6 {
+                let data = self.lot.thread_data(rt, alloc).expect(rt, "a number");
+                more.push(data).expect(rt, "memory");
+            }
+            while let Some(data) = more.pop() {
+                self.lot.retire(rt, data);
+            }
+            self.lot.trim(rt, alloc).expect(rt, "memory");
+        }
+        unreachable!()
+    }
+
+    // Looks for the thread that waits, and moves it to another key and back. Tells how often it was
+    // not there.
+    fn look_often<R: Wait + Abort>(&self, rt: &R, alloc: Global) -> usize {
+        for _ in 0..TURNS {
+            if self.lot.list(rt, alloc, 1).expect(rt, "a list").len() == 1 {
+                break;
+            }
+            thread::yield_now();
+        }
+        let mut missed = 0;
+        let mut keys = (1, 2);
+        for _ in 0..ROUNDS {
+            let (from, to) = keys;
+            let seen = unpark_chosen(
+                rt,
+                &self.lot,
+                from,
+                |_| FilterOp::Skip,
+                |_| DEFAULT_UNPARK_TOKEN,
+            );
+            let moved = unpark_requeue(
+                rt,
+                &self.lot,
+                from,
+                to,
+                || RequeueOp::RequeueAll,
+                |_, _| DEFAULT_UNPARK_TOKEN,
+            );
+            if !seen.have_more_threads || moved.requeued_threads != 1 {
+                missed += 1;
+            }
+            if moved.requeued_threads == 1 {
+                keys = (to, from);
+            }
+        }
+        self.is_over.store(true, Ordering::SeqCst);
+        for key in 1..3 {
+            unpark_one(rt, &self.lot, key, |_| DEFAULT_UNPARK_TOKEN);
+        }
+        missed
+    }
+
+    fn wait<R: Wait + Clock + Abort>(&self, rt: &R, alloc: Global) -> usize {
+        let mut member = Member::register(rt, alloc, &self.lot).expect(rt, "a number");
+        member.park(rt, 1, || true, || (), |_, _| (), DEFAULT_PARK_TOKEN, None);
+        0
+    }
+}
+
+// It refuses a change of rows in which a thread that waits is not there for a while, and a section
+// that works on a row that is not in use any more.
+#[test]
+fn a_thread_is_found_always_while_the_table_changes(rt: HostRuntime) {
+    let scene = Scene {
+        lot: ParkingLot::new(rt.alloc(), 16).expect(&rt, "a lot"),
+        is_over: AtomicBool::new(false),
+    };
+    let play = |index: usize| match index {
+        0 => scene.wait(&rt, rt.alloc()),
+        1 => scene.look_often(&rt, rt.alloc()),
+        _ => scene.change_size(&rt, rt.alloc()),
+    };
+    let told = thread::map_indices(&rt, rt.alloc(), 3, &play).expect(&rt, "threads");
+    expect_equal(&rt, told.as_slice(), [0usize; 3].as_slice());
+}
