@@ -105,9 +105,9 @@ impl<P: ThreadParkerT> Lot<P> {
     /// A lot for at most this many threads, none of which is registered, with a history in which
     /// nothing was done.
     ///
-    /// It allocates the history's word, places for three buckets and more for each thread, each with
-    /// a lock, and as many again for the smaller rows, and a parker and a mailbox with a lock for
-    /// each number.
+    /// It allocates the history's word, places for three buckets and more for each thread, each
+    /// with a lock, up to as many again for the smaller rows, and a parker and a mailbox with a
+    /// lock for each number.
     ///
     /// # Errors
     ///

@@ -66,9 +66,9 @@ impl<'a, P: ThreadParkerT> Model for Member<'a, P> {
 impl<'a, P: ThreadParkerT> Member<'a, P> {
     /// Registers a thread under the least free number. Its witness begins with that step.
     ///
-    /// It asks for memory once, for the thread's node, and then takes the lock of the numbers. Where
-    /// the table would have less than three buckets for each thread, it puts the row of twice the
-    /// size in use first, which adds nothing to the history: it visits every bucket and every
+    /// It asks for memory once, for the thread's node, and then takes the lock of the numbers.
+    /// Where the table would have less than three buckets for each thread, it puts the row of twice
+    /// the size in use first, which adds nothing to the history: it visits every bucket and every
     /// waiting thread, and other calls wait for it. A section must not call it.
     ///
     /// # Errors
@@ -366,13 +366,14 @@ impl<'a, P: ThreadParkerT> Member<'a, P> {
         self.lot.list(rt, alloc, &mut self.witness, key)
     }
 
-    /// Makes the table smaller, if it has more buckets than it needs: than the next power of two of 3
-    /// for each registered thread, or 16. The list of every key stays as it was.
+    /// Makes the table smaller, if it has more buckets than it needs: than the next power of two of
+    /// 3 for each registered thread, or 16. The list of every key stays as it was.
     ///
-    /// It puts one row after another in use, each of half the size of the one before, and then
-    /// visits every bucket of that and every waiting thread. It takes the lock of the numbers, and
-    /// with it those of the buckets, one at a time; meanwhile other calls wait for it. It asks for
-    /// no memory, and gives none back. A section must not call it.
+    /// It puts one row after another in use, each of half the size of the one before, until that
+    /// size is reached. For each it visits every bucket of the one before and every waiting thread.
+    /// It takes the lock of the numbers, and with it those of the buckets, one at a time; meanwhile
+    /// other calls wait for it. It asks for no memory, and gives none back. A section must not call
+    /// it.
     ///
     /// Upstream's table never becomes smaller.
     pub fn trim<R: Wait>(&mut self, rt: &R)
