@@ -1,5 +1,5 @@
 -- Unparks by a filter: how they call their closures, and what they add to the history.
-use Rattle.std.specs.Prelude.{◌≡◌, ℕ, List, Vec}
+use Rattle.std.specs.Prelude.{◌≡◌, ℕ, List, Vec, map}
 use Rattle.std.specs.Fn.{Once, Mut}
 use Rattle.std.specs.declared.alloc.Global.{Global}
 use Rattle.lot_base.specs.Filter.{IsFilterCallable, IsFiltered, park_tokens}
@@ -15,7 +15,14 @@ use Rattle.lot_exclusive.specs.declared.schedule.Answer.TheVariants as answer
 use Rattle.lot_exclusive.specs.declared.schedule.Op.TheVariants.{Filter}
 use Rattle.lot_exclusive.specs.declared.schedule.Step.{Step}
 use Rattle.lot_exclusive.specs.declared.schedule.Step.TheVariants.{Unpark}
-use Rattle.lot_witnessed.specs.Members.{MemberState, Makes}
+use Rattle.lot_exclusive.specs.Machine.{Machine}
+use Rattle.lot_history.specs.declared.history.History.{History}
+use Rattle.lot_history.specs.declared.history.Witness.{Witness}
+use Rattle.lot_history.specs.Witness.{Extends, IsStill, Looks}
+
+-- the park tokens of the threads that stand in the list of the key, in order
+abbrev pub tokens_in : Machine → ℕ → List ParkToken
+tokens_in m key = map (λ waiter. waiter.park_token) (m.lists key)
 
 module _ {F C : Type 0} (f : Mut F (ParkToken × Unit {0}) FilterOp) (c : Once C (UnparkResult × Unit {0}) UnparkToken)
   where
@@ -27,25 +34,28 @@ module _ {F C : Type 0} (f : Mut F (ParkToken × Unit {0}) FilterOp) (c : Once C
           → c.pre callback (with_saturated_counts (result_of (split_filter decisions waiters)), tt)
 
     -- with these park tokens the filter decided so, and then the callback was handed the result, and answered the token
-    pub record AreCalled (filter : F) (callback : C) (decisions : List FilterOp) (result : UnparkResult)
-        (token : UnparkToken) : Type 0 where
-      pub tokens : List ParkToken
+    pub record AreCalled (filter : F) (callback : C) (tokens : List ParkToken) (decisions : List FilterOp)
+        (result : UnparkResult) (token : UnparkToken) : Type 0 where
       pub decided : IsFiltered f filter tokens decisions
       pub called : c.post callback (result, tt) token
 
-    -- the step is the unpark by these decisions, with this token, and answers this result
-    pub record IsUnpark (filter : F) (callback : C) (key : ℕ) (result : UnparkResult) (s : Step) (a : Answer)
-        : Type 0 where
+    -- the step is the unpark by the decisions on these park tokens, with this token, and answers this result
+    pub record IsUnpark (filter : F) (callback : C) (key : ℕ) (tokens : List ParkToken) (result : UnparkResult) (s : Step)
+        (a : Answer) : Type 0 where
       pub decisions : Vec FilterOp Global
       pub token : UnparkToken
-      pub calls : AreCalled filter callback decisions.items result token
+      pub calls : AreCalled filter callback tokens decisions.items result token
       pub step : s ≡ Unpark (Filter key decisions token)
       pub answer : a ≡ answer.Unpark result
 
-    -- a member made it
-    pub record Unparks (filter : F) (callback : C) (key : ℕ) (old : MemberState) (result : UnparkResult)
-        (new : MemberState) : Type 0 where
+    -- the history was seen, and the filter decided on the park tokens of the threads that stand in the list of the key, in
+    -- order, in the machine that it leads to; then the step was added
+    pub record Unparks (filter : F) (callback : C) (key : ℕ) (history : History) (old : Witness) (result : UnparkResult)
+        (new : Witness) : Type 0 where
+      pub looked : Witness
+      pub still : IsStill history old looked
+      pub looks : Looks history old looked
       pub decisions : Vec FilterOp Global
       pub token : UnparkToken
-      pub calls : AreCalled filter callback decisions.items result token
-      pub makes : Makes old (Unpark (Filter key decisions token)) (answer.Unpark result) new
+      pub calls : AreCalled filter callback (tokens_in looks.machine key) decisions.items result token
+      pub extends : Extends history looked (Unpark (Filter key decisions token)) (answer.Unpark result) new

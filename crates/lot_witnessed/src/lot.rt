@@ -12,7 +12,7 @@ ghost use Rattle.lot_history.specs.Witness.{Adds, Extends, IsPartOf, IsStill, Is
 ghost use Rattle.lot_history.specs.declared.view.Piece.TheVariants.{Thread};
 ghost use Rattle.lot_witnessed.specs.Cells.{FitsCell, Has, HasRecords, IsBelow, IsLetterTo, IsLockFor, IsMailLock, IsRow, thread_taken, threads_in};
 ghost use Rattle.lot_word_lock.specs.WordLock.{IsHeldOf, key_of};
-ghost use Rattle.lot_witnessed.specs.Filters.{AreCallable, IsUnpark};
+ghost use Rattle.lot_witnessed.specs.Filters.{AreCallable, Unparks};
 ghost use Rattle.lot_witnessed.specs.Handles.{handle_numbers};
 ghost use Rattle.lot_witnessed.specs.Members.{EndsWait, IsListed, IsRegistered, Leaves, entry_of, entry_step};
 ghost use Rattle.lot_witnessed.specs.Rows.{EachAt};
@@ -522,7 +522,6 @@ impl<P: ThreadParkerT> Lot<P> {
     // The section of an unpark by a filter. Each thread is woken in it, once its unpark was
     // committed.
     pub(crate) fn take_filter<
-        E: Told,
         R: Wait,
         F: FnMut(ParkToken) -> FilterOp,
         C: FnOnce(UnparkResult) -> UnparkToken,
@@ -530,15 +529,13 @@ impl<P: ThreadParkerT> Lot<P> {
         requires witness { IsWitnessOf self.now me.old }
         requires none { pieces_of me.old ≡ [] }
         requires callable { AreCallable F.FnMut C.FnOnce filter callback }
-        requires said { (answer : UnparkResult) (s : Step) (a : Answer)
-            → IsUnpark F.FnMut C.FnOnce filter callback key answer s a → E.said s a }
         ensures still { IsStill self.now me.old me.new }
-        ensures adds { Adds self.now me.old
-            (λ s a. E.said s a × (a ≡ Answer.Unpark result)) me.new }
+        ensures unparked { Unparks F.FnMut C.FnOnce filter callback key self.now me.old result
+            me.new }
         ensures none { pieces_of me.new ≡ [] }
     {
         let mut claimed = self.claim(rt, key);
-        let (result, taken) = take_filter_of::<E, F, C>(
+        let (result, taken) = take_filter_of(
             &self.history,
             me,
             &mut claimed.cell,

@@ -285,6 +285,10 @@ impl<'a, P: ThreadParkerT> Member<'a, P> {
     /// stay. Then `callback` is called once with the result, also where nobody waits. A count that
     /// no `usize` can hold would be `usize::MAX`.
     ///
+    /// The member sees the history in the section, before it adds its step: one load more of the
+    /// history's word than in other unparks. The park tokens are those of the list in the machine
+    /// that the history leads to then.
+    ///
     /// Each thread is woken with the bucket locked, once its unpark was committed. Neither closure
     /// may call the lot, nor wait for a thread that does. It allocates nothing.
     pub fn unpark_filter<
@@ -294,10 +298,11 @@ impl<'a, P: ThreadParkerT> Member<'a, P> {
     >(&mut self, rt: &R, key: usize, filter: F, callback: C) -> UnparkResult
         requires callable { AreCallable F.FnMut C.FnOnce filter callback }
         ensures stays { Stays self.old self.new }
-        ensures unparked { Unparks F.FnMut C.FnOnce filter callback key self.old result self.new }
+        ensures unparked { Unparks F.FnMut C.FnOnce filter callback key self.old.history
+            self.old.witness result self.new.witness }
     {
         self.lot
-            .take_filter::<Brand, R, F, C>(rt, &mut self.witness, key, filter, callback)
+            .take_filter(rt, &mut self.witness, key, filter, callback)
     }
 
     /// Does what `unpark_filter` does, for closures that may be called at any time, as those
@@ -310,7 +315,8 @@ impl<'a, P: ThreadParkerT> Member<'a, P> {
         requires filter { (state : F) (park_token : _) → F.pre state park_token }
         requires callback { (answer : _) → C.pre callback answer }
         ensures stays { Stays self.old self.new }
-        ensures unparked { Unparks F.FnMut C.FnOnce filter callback key self.old result self.new }
+        ensures unparked { Unparks F.FnMut C.FnOnce filter callback key self.old.history
+            self.old.witness result self.new.witness }
     {
         self.unpark_filter(rt, key, filter, callback)
     }

@@ -3,6 +3,7 @@
 
 ghost use Rattle.std.specs.Prelude.{◌≡◌, ◌∷◌, ◌<◌, ◌≤◌, ◌^◌, ℕ, [], true, false, length, Bool, All, IfErr, IfNone, IfSome, OnOk, is_ok};
 ghost use Rattle.lot_base.specs.BucketState.{KeepsPlace};
+ghost use Rattle.lot_base.specs.Filter.{park_tokens};
 ghost use Rattle.lot_base.specs.Node.{fields};
 ghost use Rattle.lot_base.specs.NodeLists.{lists_of};
 ghost use Rattle.lot_base.specs.Place.{place_of};
@@ -12,12 +13,12 @@ ghost use Rattle.lot_exclusive.specs.declared.schedule.Step.{Step};
 ghost use Rattle.lot_base.specs.declared.token.UnparkResult.{UnparkResult};
 ghost use Rattle.lot_history.specs.Witness.{Adds, Extends, IsStill, IsWitnessOf, events_of, id_of, max_threads_of, pieces_of, seen_by};
 ghost use Rattle.lot_history.specs.declared.view.Piece.TheVariants.{Thread};
-ghost use Rattle.lot_witnessed.specs.Cells.{Has, IsBelow, IsCell, threads_in};
-ghost use Rattle.lot_witnessed.specs.Filters.{AreCallable, IsUnpark};
+ghost use Rattle.lot_witnessed.specs.Cells.{Has, IsBelow, IsCell, lists_in, threads_in};
+ghost use Rattle.lot_witnessed.specs.Filters.{AreCallable, IsUnpark, Unparks};
 ghost use Rattle.lot_witnessed.specs.Members.{IsListed, Leaves, entry_of, entry_step};
 
 use crate::cell::Cell;
-use crate::told::{Entry, add_entered, add_invalid, add_taking, add_timeout};
+use crate::told::{Entry, add_entered, add_invalid, add_taken, add_taking, add_timeout};
 use lot_base::queue::{Node, Queue};
 use lot_base::token::{FilterOp, NoMemory, ParkToken, UnparkResult, UnparkToken};
 use lot_exclusive::lot::Status;
@@ -25,6 +26,7 @@ use lot_exclusive::schedule::{Answer, Op, Step};
 use lot_history::history::{History, Part, Witness};
 use lot_history::plays::Told;
 use std::alloc::Global;
+use std::marker::Brand;
 use std::sync::Wait;
 use std::{mem, thread};
 
@@ -89,10 +91,9 @@ pub(crate) fn take_all_of<E: Told>(
     (count, taken)
 }
 
-// Takes those waiters of the key that the filter unparks out of their bucket, and tells so. The
-// witness has the pieces of those that were taken.
+// Sees the history with the bucket's part, takes those waiters of the key that the filter unparks
+// out of their bucket, and tells so. The witness has the pieces of those that were taken.
 pub(crate) fn take_filter_of<
-    E: Told,
     F: FnMut(ParkToken) -> FilterOp,
     C: FnOnce(UnparkResult) -> UnparkToken,
 >(
@@ -109,8 +110,44 @@ pub(crate) fn take_filter_of<
     requires cell { IsCell (id_of history.now) (max_threads_of history.now) cell.old }
     requires place { place_of key cell.old.bucket.size ≡ cell.old.bucket.place }
     requires callable { AreCallable F.FnMut C.FnOnce filter callback }
+
+    ensures still { IsStill history.now me.old me.new }
+    ensures unparked { Unparks F.FnMut C.FnOnce filter callback key history.now me.old result.0
+        me.new }
+    ensures pieces { pieces_of me.new ≡ threads_in result.1 }
+    ensures cell { IsCell (id_of history.now) (max_threads_of history.now) cell.new }
+    ensures place { KeepsPlace cell.old.bucket cell.new.bucket }
+    ensures below { All (IsBelow (max_threads_of history.now)) result.1 }
+{
+    let part = mem::replace(&mut cell.part, Part::none());
+    history.take(me, part);
+    history.look(me);
+    take_filter_with::<Brand, F, C>(history, me, cell, key, filter, callback)
+}
+
+// Takes those waiters of the key that the filter unparks out of their bucket, whose piece the
+// witness has, and tells so.
+fn take_filter_with<
+    E: Told,
+    F: FnMut(ParkToken) -> FilterOp,
+    C: FnOnce(UnparkResult) -> UnparkToken,
+>(
+    history: &History,
+    me: &mut Witness,
+    cell: &mut Cell,
+    key: usize,
+    filter: F,
+    callback: C,
+) -> (UnparkResult, Queue)
+    requires witness { IsWitnessOf history.now me.old }
+    requires piece { pieces_of me.old ≡ lists_in cell.old.bucket ∷ [] }
+    requires few { max_threads_of history.now < 2 ^ 63 }
+    requires below { All (IsBelow (max_threads_of history.now)) cell.old.bucket.nodes }
+    requires place { place_of key cell.old.bucket.size ≡ cell.old.bucket.place }
+    requires callable { AreCallable F.FnMut C.FnOnce filter callback }
     requires said { (answer : UnparkResult) (s : Step) (a : Answer)
-        → IsUnpark F.FnMut C.FnOnce filter callback key answer s a → E.said s a }
+        → IsUnpark F.FnMut C.FnOnce filter callback key
+        (park_tokens (lists_of cell.old.bucket.nodes key)) answer s a → E.said s a }
 
     ensures still { IsStill history.now me.old me.new }
     ensures adds { Adds history.now me.old
@@ -121,7 +158,7 @@ pub(crate) fn take_filter_of<
     ensures below { All (IsBelow (max_threads_of history.now)) result.1 }
 {
     let (result, taken) = cell.bucket.take_filter(key, filter, callback);
-    add_taking::<E>(history, me, cell, &taken, Answer::Unpark(result));
+    add_taken::<E>(history, me, cell, &taken, Answer::Unpark(result));
     (result, taken)
 }
 

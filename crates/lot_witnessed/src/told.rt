@@ -200,6 +200,27 @@ pub(crate) fn add_taking<E: Told>(
 {
     let part = mem::replace(&mut cell.part, Part::none());
     history.take(me, part);
+    add_taken::<E>(history, me, cell, taken, answer);
+}
+
+// Adds an unpark, where the witness has the bucket's piece and the bucket is as the unpark left it.
+// The part has the piece then, and the witness the pieces of those that were taken.
+pub(crate) fn add_taken<E: Told>(
+    history: &History,
+    me: &mut Witness,
+    cell: &mut Cell,
+    taken: &Queue,
+    answer: Answer,
+)
+    requires witness { IsWitnessOf history.now me.old }
+    requires moves { Moves (max_threads_of history.now) (λ s a. E.said s a × (a ≡ answer))
+        (pieces_of me.old) (lists_in cell.old.bucket ∷ threads_in taken.now) }
+    ensures still { IsStill history.now me.old me.new }
+    ensures adds { Adds history.now me.old (λ s a. E.said s a × (a ≡ answer)) me.new }
+    ensures pieces { pieces_of me.new ≡ threads_in taken.now }
+    ensures bucket { cell.new.bucket ≡ cell.old.bucket }
+    ensures part { Has (id_of history.now) (lists_in cell.old.bucket ∷ []) cell.new.part }
+{
     add_with::<Brand, (&Bucket, &Queue, Answer)>(history, me, &(&cell.bucket, taken, answer));
     cell.part = history.give(me);
 }

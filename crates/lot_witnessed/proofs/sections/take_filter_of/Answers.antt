@@ -1,82 +1,75 @@
-use Rattle.std.proofs.Common.{◌≡◌, ◌≤◌, List, [], ◌∷◌, length, sym, ap, ◌∙◌, subst, arith}
-use Rattle.std.proofs.lemmas.List.{length-map}
-use Rattle.lot_base.specs.BucketState.{BucketState}
-use Rattle.lot_base.specs.Filter.{IsFiltered, park_tokens}
-use Rattle.lot_base.specs.NodeFields.{NodeFields}
-use Rattle.lot_base.specs.NodeLists.{lists_of, with_saturated_counts}
-use Rattle.lot_base.specs.Waiting.{result_of, split_filter}
-use Rattle.lot_base.specs.declared.token.FilterOp.{FilterOp}
+use Rattle.std.proofs.Common.{◌≡◌, List, [], ◌∷◌, ◌++◌, refl, rules, sym, ap, ◌∙◌, subst}
+use Rattle.lot_base.specs.Filter.{park_tokens}
+use Rattle.lot_base.specs.NodeLists.{lists_of}
+use Rattle.lot_base.specs.declared.token.ParkToken.{ParkToken}
+use Rattle.lot_base.specs.declared.token.UnparkResult.{UnparkResult}
+use Rattle.lot_exclusive.specs.declared.schedule.Answer.{Answer}
 use Rattle.lot_exclusive.specs.declared.schedule.Answer.TheVariants as answer
-use Rattle.lot_history.specs.Moves.{IsFilter, Moves}
-use Rattle.lot_history.specs.Witness.{id_of, max_threads_of}
+use Rattle.lot_exclusive.specs.declared.schedule.Op.TheVariants.{Filter}
+use Rattle.lot_exclusive.specs.declared.schedule.Step.{Step}
+use Rattle.lot_exclusive.specs.declared.schedule.Step.TheVariants.{Unpark}
+use Rattle.lot_history.specs.declared.history.Witness.{Witness}
 use Rattle.lot_history.specs.declared.view.Piece.{Piece}
-use Rattle.lot_history.proofs.NodeLemmas.{filtered_length, takes_filter}
-use Rattle.lot_witnessed.specs.Cells.{Has, lists_in, threads_in}
-use Rattle.lot_witnessed.proofs.BelowLemmas.{below-left, below-taken, filter_parts}
-use Rattle.lot_witnessed.proofs.TakingLemmas.{taking_said}
+use Rattle.lot_history.specs.Pieces.{AllSo}
+use Rattle.lot_history.specs.Witness.{Extends, pieces_in, pieces_of}
+use Rattle.lot_witnessed.specs.Cells.{lists_in}
+use Rattle.lot_witnessed.specs.Filters.{AreCalled}
+use Rattle.lot_witnessed.proofs.AnswerLemmas.{same_result}
+use Rattle.lot_witnessed.proofs.ListLemmas.{tokens_at}
 use Rattle.lot_witnessed.proofs.sections.take_filter_of.Goals as goal
 
-pub take_filter-taken-requires-clause-filter : goal.take_filter-taken-requires-clause-filter
-take_filter-taken-requires-clause-filter g c = c.requires.callable.may_filter _
-
-pub add_taking-requires-clause-moves : goal.add_taking-requires-clause-moves
-add_taking-requires-clause-moves g c =
-    let bound = max_threads_of c.args.history.now in
+-- the machine that was seen is as the bucket's part says, on whose park tokens the filter decided
+pub returns-clause-unparked : goal.returns-clause-unparked
+returns-clause-unparked g c =
+    let bucket = c.args.cell.now.bucket in
     let key = c.args.key in
     let filter = c.args.filter in
-    let old = c.args.cell.now.bucket in
-    let new = c.take_filter-taken.new.self in
-    let told = c.take_filter-taken.ensures.filtered in
-    let token = told.taken.0 in
-    let found = c.take_filter-taken.result.0 in
-    let waiting : List NodeFields = lists_of old.nodes key in
-    let decisions : List FilterOp = told.decisions in
-    let all = length-map waiting (λ (node : NodeFields). node.park_token) in
-    let asked = filtered_length g.F.FnMut filter (park_tokens waiting) decisions told.decided in
-    let short : length decisions ≤ length waiting = omega (arith, asked, all) in
-    subst (λ (pieces : List Piece). Moves bound (λ s a. g.E.Told.said s a × (a ≡ answer.Unpark found)) pieces
-    (lists_in new ∷ threads_in c.take_filter-taken.result.1)) (sym c.requires.cell.part.pieces)
-    (taking_said bound old new token (split_filter decisions waiting).taken c.take_filter-taken.result.1
-    c.take_filter-taken.ensures.place told.taken.2
-    (IsFilter key decisions token (with_saturated_counts (result_of (split_filter decisions waiting))))
-    (λ s a. g.E.Told.said s a × (a ≡ answer.Unpark found))
-    (λ s a is.
-    let given : a ≡ answer.Unpark found = is.3 ∙ ap answer.Unpark (sym told.answer) in (
-      c.requires.said found s a (record {
-        decisions = is.0;
-        token = token;
-        calls = record {
-          tokens = park_tokens waiting;
-          decided = subst (λ (made : List FilterOp). IsFiltered g.F.FnMut filter (park_tokens waiting) made) (sym is.1)
-              told.decided;
-          called = told.taken.1;
-        };
-        step = is.2;
-        answer = given;
-      }),
-      given,
-    ))
-    (takes_filter bound old.size old.place key old.nodes new.nodes token [] c.requires.place decisions c.requires.few
-    short told.lists))
-
-pub returns-clause-cell : goal.returns-clause-cell
-returns-clause-cell g c =
-    let bound = max_threads_of c.args.history.now in
-    let same = c.add_taking.ensures.bucket in
-    let nodes = c.args.cell.now.bucket.nodes in
-    let told = c.take_filter-taken.ensures.filtered in
-    let waiting : List NodeFields = lists_of nodes c.args.key in
+    let callback = c.args.callback in
+    let history = c.args.history.now in
+    let result = c.take_filter_with.result.0 in
+    let last = c.take_filter_with.new.me in
+    let looks = c.look.ensures.looks in
+    let m = looks.machine in
+    let taken : pieces_of c.take.new.me ≡ lists_in bucket ∷ [] =
+    c.take.ensures.pieces ∙ (ap (λ (ps : List Piece). ps ++ pieces_in c.replace-part.result) c.requires.none
+    ∙ (ap (λ part. pieces_in part) c.replace-part.ensures.value ∙ c.requires.cell.part.pieces)) in
+    let so : AllSo m (lists_in bucket ∷ []) =
+    subst (λ (ps : List Piece). AllSo m ps) (looks.pieces ∙ taken) looks.so in
+    let seat = c.look.new.me.seat in
+    let looked : Witness = record c.look.new.me {
+      seat = record seat { me = (record seat.me.0 { pieces = pieces_of c.args.me.now }, seat.me.1) };
+    } in
+    let adds = c.take_filter_with.ensures.adds in
+    let told = adds.is_said.0.1 in
+    let same : adds.is_said.0.0 ≡ result =
+    same_result adds.is_said.0.0 result (sym told.answer ∙ adds.is_said.1) in
+    let extends : Extends history c.look.new.me (Unpark (Filter key told.decisions told.token)) (answer.Unpark result) last =
+    subst (λ (s : Step). Extends history c.look.new.me s (answer.Unpark result) last) told.step
+    (subst (λ (a : Answer). Extends history c.look.new.me adds.step a last) adds.is_said.1 adds.extends) in
     record {
-      part = subst (λ (bucket : BucketState). Has (id_of c.args.history.now) (lists_in bucket ∷ []) c.add_taking.new.cell.part)
-          (sym same) c.add_taking.ensures.part;
-      below = rw same (below-left bound c.args.key nodes (split_filter told.decisions waiting)
-          (filter_parts told.decisions waiting) c.requires.cell.below c.take_filter-taken.new.self.nodes told.lists);
+      looked = looked;
+      still = record { witness = record { table = search rules; slots = search rules }; number = search rules };
+      looks = record {
+        machine = m;
+        seen = search rules;
+        mine = looks.mine ∙ c.take.ensures.nothing_added;
+        all_mine = search rules;
+        history = looks.history;
+        so = search rules;
+        pieces = refl;
+      };
+      decisions = told.decisions;
+      token = told.token;
+      calls = subst (λ (tokens : List ParkToken).
+          AreCalled g.F.FnMut g.C.FnOnce filter callback tokens told.decisions.items result told.token)
+          (tokens_at m bucket.size bucket.place key bucket.nodes c.requires.place so)
+          (subst (λ (found : UnparkResult). AreCalled g.F.FnMut g.C.FnOnce filter callback
+          (park_tokens (lists_of bucket.nodes key)) told.decisions.items found told.token) same told.calls);
+      extends = record {
+        between = extends.between;
+        seen = extends.seen;
+        mine = extends.mine;
+        all_mine = extends.all_mine;
+        history = extends.history;
+      };
     }
-
-pub returns-clause-below : goal.returns-clause-below
-returns-clause-below g c =
-    let told = c.take_filter-taken.ensures.filtered in
-    let nodes = c.args.cell.now.bucket.nodes in
-    let waiting : List NodeFields = lists_of nodes c.args.key in
-    below-taken (max_threads_of c.args.history.now) c.args.key nodes (split_filter told.decisions waiting)
-    (filter_parts told.decisions waiting) c.requires.cell.below told.taken.0 c.take_filter-taken.result.1 told.taken.2

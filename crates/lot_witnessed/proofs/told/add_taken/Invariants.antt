@@ -1,6 +1,6 @@
 use Rattle.std.proofs.Common.{◌≡◌, ◌∷◌}
 use Rattle.lot_witnessed.specs.Cells.{lists_in, threads_in}
-use Rattle.lot_witnessed.proofs.told.add_taking.Given as goal
+use Rattle.lot_witnessed.proofs.told.add_taken.Given as goal
 
 -- what the caller says, and this answer
 abbrev pub ghosts-add_with : goal.ghosts-add_with
