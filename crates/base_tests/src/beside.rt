@@ -33,13 +33,14 @@ fn node_of(rt: &impl Abort, alloc: Global, token: usize) -> Box<Node>
 
 // A parker, and what its owner and the thread that commits tell each other.
 #[derive(Drop)]
-struct Rounds<P: ThreadParkerT> {
-    parker: P,
+struct Rounds {
+    parker: WordParker,
     begun: AtomicUsize,
     is_over: AtomicBool,
+    ghost owner: { 3 ≡ ⟦<WordParker as ThreadParkerT>⟧.owner parker },
 }
 
-impl<P: ThreadParkerT> Rounds<P> {
+impl Rounds {
     // Tells that a round begins, and waits for its node, until the rounds are over. Tells whether
     // each node was that of its round.
     fn park<R: Wait>(&self, rt: &R) -> bool {
@@ -72,9 +73,7 @@ impl<P: ThreadParkerT> Rounds<P> {
 }
 
 // Commits a node in each round as soon as it has begun, for so many rounds or seconds.
-fn commit<P: ThreadParkerT, R: Wait + Clock + Abort>(rt: &R, alloc: Global, rounds: &Rounds<P>)
-    requires { OWNER ≡ P.owner rounds.now.parker }
-{
+fn commit<R: Wait + Clock + Abort>(rt: &R, alloc: Global, rounds: &Rounds) {
     let begin = Instant::now(rt).expect(rt, "a clock");
     for round in 0..ROUNDS {
         let node = node_of(rt, alloc, round);

@@ -26,17 +26,17 @@ struct Scene {
 
 impl Scene {
     // Lets the table grow and trims it, until the looks are over.
-    fn change_size<R: Wait + Abort>(&self, rt: &R, alloc: Global) -> usize {
+    fn change_size<R: Wait + Abort>(&self, rt: &R, alloc: Global) -> bool {
         for _ in rt.forever() {
             if self.is_over.load(Ordering::SeqCst) {
-                return 0;
+                return true;
             }
             let mut more = Vec::new(alloc);
             for _ in 0..6 {
                 let data = self.lot.thread_data(rt, alloc).expect(rt, "a number");
                 more.push(data).expect(rt, "memory");
             }
-            while let Some(data) = more.pop() {
+            for data in more {
                 self.lot.retire(rt, data);
             }
             self.lot.trim(rt, alloc).expect(rt, "memory");
@@ -44,38 +44,52 @@ impl Scene {
         unreachable!()
     }
 
-    // Looks for the thread that waits, and moves it to another key and back. Tells how often it was
-    // not there.
-    fn look_often<R: Wait + Abort>(&self, rt: &R, alloc: Global) -> usize {
+    fn wait_for_sleeper<R: Wait + Abort>(&self, rt: &R, alloc: Global) {
         for _ in 0..TURNS {
             if self.lot.list(rt, alloc, 1).expect(rt, "a list").len() == 1 {
                 break;
             }
             thread::yield_now();
         }
-        let mut missed = 0;
+    }
+
+    // Tells whether a thread waits on the key.
+    fn has_sleeper<R: Wait>(&self, rt: &R, key: usize) -> bool {
+        let seen = unpark_chosen(
+            rt,
+            &self.lot,
+            key,
+            |_| FilterOp::Skip,
+            |_| DEFAULT_UNPARK_TOKEN,
+        );
+        seen.have_more_threads
+    }
+
+    // Moves who waits on the key to the other, and tells whether that was one thread.
+    fn move_one<R: Wait>(&self, rt: &R, from: usize, to: usize) -> bool {
+        let moved = unpark_requeue(
+            rt,
+            &self.lot,
+            from,
+            to,
+            || RequeueOp::RequeueAll,
+            |_, _| DEFAULT_UNPARK_TOKEN,
+        );
+        moved.requeued_threads == 1
+    }
+
+    // Looks for the thread that waits, and moves it to another key and back. Tells whether it was
+    // there each time.
+    fn look_often<R: Wait + Abort>(&self, rt: &R, alloc: Global) -> bool {
+        self.wait_for_sleeper(rt, alloc);
+        let mut always = true;
         let mut keys = (1, 2);
         for _ in 0..ROUNDS {
             let (from, to) = keys;
-            let seen = unpark_chosen(
-                rt,
-                &self.lot,
-                from,
-                |_| FilterOp::Skip,
-                |_| DEFAULT_UNPARK_TOKEN,
-            );
-            let moved = unpark_requeue(
-                rt,
-                &self.lot,
-                from,
-                to,
-                || RequeueOp::RequeueAll,
-                |_, _| DEFAULT_UNPARK_TOKEN,
-            );
-            if !seen.have_more_threads || moved.requeued_threads != 1 {
-                missed += 1;
-            }
-            if moved.requeued_threads == 1 {
+            let is_seen = self.has_sleeper(rt, from);
+            let is_moved = self.move_one(rt, from, to);
+            always = always && is_seen && is_moved;
+            if is_moved {
                 keys = (to, from);
             }
         }
@@ -83,13 +97,13 @@ impl Scene {
         for key in 1..3 {
             unpark_one(rt, &self.lot, key, |_| DEFAULT_UNPARK_TOKEN);
         }
-        missed
+        always
     }
 
-    fn wait<R: Wait + Clock + Abort>(&self, rt: &R, alloc: Global) -> usize {
+    fn wait<R: Wait + Clock + Abort>(&self, rt: &R, alloc: Global) -> bool {
         let mut member = Member::register(rt, alloc, &self.lot).expect(rt, "a number");
-        member.park(rt, 1, || true, || (), |_, _| (), DEFAULT_PARK_TOKEN, None);
-        0
+        let result = member.park(rt, 1, || true, || (), |_, _| (), DEFAULT_PARK_TOKEN, None);
+        result.is_unparked()
     }
 }
 
@@ -107,5 +121,5 @@ fn a_thread_is_found_always_while_the_table_changes(rt: HostRuntime) {
         _ => scene.change_size(&rt, rt.alloc()),
     };
     let told = thread::map_indices(&rt, rt.alloc(), 3, &play).expect(&rt, "threads");
-    expect_equal(&rt, told.as_slice(), [0usize; 3].as_slice());
+    expect_equal(&rt, told.as_slice(), [true; 3].as_slice());
 }
