@@ -1,8 +1,8 @@
 -- What fits behind the locks of a lot: buckets, mailboxes, and the registry of numbers, each with its part of the lot's
 -- history.
-use Rattle.std.specs.Prelude.{◌≡◌, ◌≢◌, ℕ, ◌+◌, ◌<◌, ◌≤◌, ◌^◌, All, ⊤, List, [], ◌∷◌, map, length, Option, Some, None, Vec}
-use Rattle.std.specs.declared.alloc.Global.{Global}
+use Rattle.std.specs.Prelude.{◌≡◌, ◌≢◌, ℕ, ◌+◌, ◌<◌, ◌≤◌, ◌^◌, All, ⊤, List, [], ◌∷◌, map, length, Option, Some, None}
 use Rattle.atomic_table.specs.Seated.{TableId}
+use Rattle.boxcar.specs.Slot.{Named}
 use Rattle.lot_base.specs.BucketState.{BucketState, IsBucketAt}
 use Rattle.lot_base.specs.NodeFields.{NodeFields}
 use Rattle.lot_base.specs.Place.{IsTableSize, place_of}
@@ -85,11 +85,32 @@ abbrev pub IsLockAt : ℕ → List (WordLock Slot CellKey) → WordLock Slot Cel
 IsLockAt place row lock = (home : TableId) (max_threads size : ℕ) → IsRow home max_threads size row
     → IsCellLock home max_threads size place lock
 
--- the rows of a lot, by their sizes: of 16 places, of 32, and so on
-pub record AreRows (home : TableId) (max_threads : ℕ) (rows : List (Vec (WordLock Slot CellKey) Global)) : Type 0 where
-  pub any : 0 < length rows
+-- the tag of the slot of a row: which lot it is of, for how many threads, and how many places it has
+abbrev pub row_tag : TableId → ℕ → ℕ → List ℕ
+row_tag home max_threads size = max_threads ∷ size ∷ home.words ∷ home.slots ∷ home.views_name ∷ home.atom ∷ home.block
+    ∷ home.offset ∷ home.slot_names
+
+-- the row in a slot is as its tag says
+abbrev pub FitsTag : List ℕ → List (WordLock Slot CellKey) → Type 0
+FitsTag (max_threads ∷ size ∷ words ∷ slots ∷ views_name ∷ atom ∷ block ∷ offset ∷ slot_names) row =
+    IsRow (record {
+      words = words;
+      slots = slots;
+      views_name = views_name;
+      atom = atom;
+      block = block;
+      offset = offset;
+      slot_names = slot_names;
+    }) max_threads size row
+FitsTag _ row = ⊥
+
+-- the slots of the rows of a lot, by their sizes: of 16 places, of 32, and so on
+abbrev pub IsSlotAt : TableId → ℕ → ℕ → Named → Type 0
+IsSlotAt home max_threads index slot = slot.tag ≡ row_tag home max_threads (2 ^ (index + 4))
+
+pub record AreRows (home : TableId) (max_threads : ℕ) (rows : List Named) : Type 0 where
   pub few : length rows ≤ 13
-  pub each : EachAt (λ index row. IsRow home max_threads (2 ^ (index + 4)) row.items) 0 rows
+  pub each : EachAt (IsSlotAt home max_threads) 0 rows
 
 -- threads that were taken, each with the token that its node has
 abbrev pub thread_taken : NodeFields → Piece

@@ -9,6 +9,8 @@ ghost use Rattle.lot_word_lock.specs.WordLock.{IsHeldOf, key_of};
 ghost use Rattle.lot_witnessed.specs.Rows.{EachAt, empty_lists, free_numbers};
 ghost use Rattle.lot_witnessed.specs.Cells.{AreRows, FitsCell, IsCellLock, IsLockAt, IsRow, home_of};
 
+use boxcar::slot::{OnceSlot, SlotRule};
+use boxcar::tag::{Names, Tag};
 use lot_base::bucket::Bucket;
 use lot_base::token::NoMemory;
 use lot_base::word_lock::{Fits, Held, WordLock};
@@ -151,17 +153,37 @@ pub(crate) fn lock_at(row: &[WordLock<Slot>], place: usize) -> &WordLock<Slot>
 // How many rows there may be: of 16 to 65,536 buckets.
 const MOST_ROWS: usize = 13;
 
-// The rows of a new lot, of 16 buckets and of each larger size up to the greatest that is needed.
-// The first is in use: each of its buckets has its piece, which the witness gives away. `other` is
-// one that has no piece.
+// What the slot of a row keeps: the row is of the lot and of the size that its tag tells.
+pub(crate) struct OfTag;
+
+impl SlotRule<Vec<WordLock<Slot>>> for OfTag {
+    ghost use Rattle.lot_witnessed.specs.Cells.{FitsTag};
+
+    ghost holds = { λ tag row. FitsTag tag row.items };
+}
+
+// The tag of a row, as the keys of its locks tell it.
+struct RowTag;
+
+impl Names<CellKey> for RowTag {
+    ghost use Rattle.lot_witnessed.specs.Cells.{home_of, row_tag};
+
+    ghost numbers = { λ key. row_tag (home_of key.home) key.max_threads key.size };
+}
+
+// The place of a row, which is made where it is first needed, and kept to the lot's end.
+pub(crate) type RowSlot = OnceSlot<Vec<WordLock<Slot>>, OfTag>;
+
+// The places of a new lot's rows, of 16 buckets and of each larger size. The first is made and in
+// use: each of its buckets has its piece, which the witness gives away. `other` is one that has no
+// piece.
 pub(crate) fn new_rows(
     alloc: Global,
     history: &History,
     me: &mut Witness,
     other: &mut Witness,
     max_threads: usize,
-    most: usize,
-) -> Result<Vec<Vec<WordLock<Slot>>>, NoMemory>
+) -> Result<Vec<RowSlot>, NoMemory>
     requires witness { IsWitnessOf history.now me.old }
     requires other { IsWitnessOf history.now other.old }
     requires max_threads { max_threads ≡ max_threads_of history.now }
@@ -171,21 +193,36 @@ pub(crate) fn new_rows(
     ensures pieces { IfOk result (λ _. pieces_of me.new ≡ free_numbers max_threads ∷ []) }
     ensures rows { IfOk result (λ rows. AreRows (id_of history.now) max_threads rows.items) }
 {
-    let mut size = INITIAL_BUCKETS;
     let home = history.give(other);
-    let first = new_cells(alloc, history, me, size, max_threads, home)?;
+    let first = new_cells(alloc, history, me, INITIAL_BUCKETS, max_threads, home)?;
+    let home = history.give(other);
+    let rows = new_slots(alloc, max_threads, home)?;
+    if let Some(slot) = rows.first() {
+        let _ = slot.set(first);
+    }
+    Ok(rows)
+}
+
+// The places of rows of all sizes, of which none is made.
+fn new_slots(alloc: Global, max_threads: usize, home: Part) -> Result<Vec<RowSlot>, NoMemory>
+    ensures { IfOk result (λ rows. AreRows (home_of home) max_threads rows.items) }
+{
+    let mut key = CellKey {
+        place: 0,
+        size: INITIAL_BUCKETS,
+        max_threads,
+        home,
+    };
     let mut rows = Vec::with_capacity(alloc, MOST_ROWS)?;
-    rows.push(first)?;
-    while rows.len() < MOST_ROWS && size < most {
-        size *= 2;
-        let home = history.give(other);
-        rows.push(new_row(alloc, size, max_threads, home)?)?;
+    for _index in 0..MOST_ROWS {
+        rows.push(OnceSlot::new(&Tag::of::<CellKey, RowTag>(&key)))?;
+        key.size *= 2;
     }
     Ok(rows)
 }
 
 // A row that is not in use, of which no place has its bucket.
-fn new_row(
+pub(crate) fn new_row(
     alloc: Global,
     size: usize,
     max_threads: usize,

@@ -10,7 +10,7 @@ ghost use Rattle.lot_exclusive.specs.declared.schedule.Answer.{Answer};
 ghost use Rattle.lot_exclusive.specs.declared.schedule.Step.{Step};
 ghost use Rattle.lot_history.specs.Witness.{Adds, Extends, IsPartOf, IsStill, IsWitnessOf, events_of, id_of, max_threads_of, pieces_of, seen_by};
 ghost use Rattle.lot_history.specs.declared.view.Piece.TheVariants.{Thread};
-ghost use Rattle.lot_witnessed.specs.Cells.{FitsCell, Has, HasRecords, IsBelow, IsLetterTo, IsLockFor, IsMailLock, IsRow, thread_taken, threads_in};
+ghost use Rattle.lot_witnessed.specs.Cells.{FitsCell, Has, HasRecords, IsBelow, IsLetterTo, IsLockFor, IsMailLock, IsRow, IsSlotAt, thread_taken, threads_in};
 ghost use Rattle.lot_word_lock.specs.WordLock.{IsHeldOf, key_of};
 ghost use Rattle.lot_witnessed.specs.Filters.{AreCallable, Unparks};
 ghost use Rattle.lot_witnessed.specs.Handles.{handle_numbers};
@@ -20,7 +20,7 @@ ghost use Rattle.lot_witnessed.specs.Rows.{EachAt};
 mod growth;
 mod requeue;
 
-use crate::cell::{Claimed, Slot, lock_at, new_rows};
+use crate::cell::{Claimed, RowSlot, Slot, lock_at, new_rows};
 use crate::mail::{Letter, Mail, MailKey, new_mail};
 use crate::registry::{Registry, new_registry};
 use crate::sections::{enter_in, leave_in, list_in, take_all_of, take_filter_of, take_one_of};
@@ -35,7 +35,7 @@ use lot_base::word_lock::WordLock;
 use lot_exclusive::lot::Status;
 use lot_exclusive::schedule::{Answer, Op, Step};
 use lot_exclusive::table::MAX_THREADS;
-use lot_exclusive::table::growth::{INITIAL_BUCKETS, size_for};
+use lot_exclusive::table::growth::INITIAL_BUCKETS;
 use lot_history::history::{History, Part, Witness};
 use lot_history::plays::Told;
 use std::alloc::Global;
@@ -56,22 +56,22 @@ pub(crate) struct PerThread<P: ThreadParkerT> {
 
 /// A parking lot of threads. A contract sees it as the history of its calls.
 ///
-/// It is made for a greatest number of threads, with a row of buckets of each size that they may
-/// need, of which one is in use. Each bucket lies behind a lock of its own with its part of the
-/// history, and a section is what a call does under the lock of its key's bucket. In it an unpark
-/// puts a letter into the mailbox of the thread, and then its node into its parker: then the unpark
-/// is committed.
+/// It is made for a greatest number of threads, with a row of 16 buckets. Each bucket lies behind a
+/// lock of its own with its part of the history, and a section is what a call does under the lock
+/// of its key's bucket. In it an unpark puts a letter into the mailbox of the thread, and then its
+/// node into its parker: then the unpark is committed.
 ///
 /// Where there would be less than three buckets for each thread, a registration puts the row of
-/// twice the size in use. Under the lock of the numbers it takes each bucket of the old row away
-/// from its place, one after another, and puts its nodes and its part into the two of its keys. A
-/// section that finds its bucket away waits for that lock, and looks again.
+/// twice the size in use, which is made if it was not needed before, and kept to the lot's end.
+/// Under the lock of the numbers it takes each bucket of the old row away from its place, one after
+/// another, and puts its nodes and its part into the two of its keys. A section that finds its
+/// bucket away waits for that lock, and looks again.
 ///
-/// Upstream has one lot for the process, in statics, and asks for a larger table as it grows.
+/// Upstream has one lot for the process, in statics.
 #[derive(Drop)]
 pub struct Lot<P: ThreadParkerT> {
     history: History,
-    rows: Vec<Vec<WordLock<Slot>>>,
+    rows: Vec<RowSlot>,
     // The index of the row in use. It may be out of date where it is read, and then the bucket is
     // not there.
     current: AtomicUsize,
@@ -105,9 +105,8 @@ impl<P: ThreadParkerT> Lot<P> {
     /// A lot for at most this many threads, none of which is registered, with a history in which
     /// nothing was done.
     ///
-    /// It allocates the history's word, places for three buckets and more for each thread, each
-    /// with a lock, up to as many again for the smaller rows, and a parker and a mailbox with a
-    /// lock for each number.
+    /// It allocates the history's word, 16 buckets with a lock each, and a parker and a mailbox with
+    /// a lock for each number.
     ///
     /// # Errors
     ///
@@ -121,19 +120,19 @@ impl<P: ThreadParkerT> Lot<P> {
         if max_threads > MAX_THREADS {
             return Err(LotError::TooManyThreads);
         }
-        let lot = Lot::of_size(alloc, max_threads, size_for(max_threads, INITIAL_BUCKETS))?;
+        let lot = Lot::for_threads(alloc, max_threads)?;
         Ok(lot)
     }
 
-    // The same, for no more threads than that, where so many buckets are needed for all.
-    fn of_size(alloc: Global, max_threads: usize, most: usize) -> Result<Lot<P>, NoMemory>
+    // The same, for no more threads than that.
+    fn for_threads(alloc: Global, max_threads: usize) -> Result<Lot<P>, NoMemory>
         requires few { max_threads ≤ MAX_THREADS }
         ensures { IfOk result (λ lot. max_threads_of lot ≡ max_threads) }
     {
         let (history, mut me) = History::new(alloc, max_threads)?;
         cut_up(&history, &mut me, max_threads, INITIAL_BUCKETS);
         let mut other = history.tell(&mut me);
-        let rows = new_rows(alloc, &history, &mut me, &mut other, max_threads, most)?;
+        let rows = new_rows(alloc, &history, &mut me, &mut other, max_threads)?;
         let home = history.give(&mut other);
         let threads = new_threads(alloc, &history, max_threads, home)?;
         let home = history.give(&mut other);
@@ -161,31 +160,43 @@ impl<P: ThreadParkerT> Lot<P> {
         &self.history
     }
 
-    // The row of this index, if there is one.
+    // The place of the row of this index, if there is one.
+    fn row_slot(&self, index: usize) -> Option<&RowSlot>
+        ensures slot { IfSome result (λ slot. IsSlotAt (id_of self.now)
+            (max_threads_of self.now) index slot.now) }
+        ensures below { IfSome result (λ slot. index < 13) }
+    {
+        self.rows.get(index)
+    }
+
+    // The row of this index, if it was made.
     fn row(&self, index: usize) -> Option<&Vec<WordLock<Slot>>>
         ensures row { IfSome result (λ row. IsRow (id_of self.now) (max_threads_of self.now)
             (2 ^ (index + 4)) row.now.items) }
         ensures below { IfSome result (λ row. index < 13) }
     {
-        self.rows.get(index)
+        self.row_slot(index)?.get()
     }
 
-    // The row that is in use, or was as `current` was read.
-    fn row_in_use(&self) -> &Vec<WordLock<Slot>>
+    // The row that is in use, or was as `current` was read. It was made before, but no contract
+    // tells so.
+    fn row_in_use<R: Wait>(&self, rt: &R) -> &Vec<WordLock<Slot>>
         ensures { IsRow (id_of self.now) (max_threads_of self.now) (length result.now.items)
             result.now.items }
     {
-        if let Some(row) = self.row(self.current.load(Ordering::SeqCst)) {
-            return row;
+        for _ in rt.forever() {
+            if let Some(row) = self.row(self.current.load(Ordering::SeqCst)) {
+                return row;
+            }
         }
-        &self.rows[0]
+        unreachable!()
     }
 
     // The lock of the key's place in the row in use.
-    fn lock_of(&self, key: usize) -> &WordLock<Slot>
+    fn lock_of<R: Wait>(&self, rt: &R, key: usize) -> &WordLock<Slot>
         ensures { IsLockFor self.now key result.now }
     {
-        let row = self.row_in_use();
+        let row = self.row_in_use(rt);
         lock_at(row, place(key, row.len()))
     }
 
@@ -196,7 +207,7 @@ impl<P: ThreadParkerT> Lot<P> {
         ensures fits { FitsCell (key_of result.lock.now) result.cell }
     {
         for _ in rt.forever() {
-            let lock = self.lock_of(key);
+            let lock = self.lock_of(rt, key);
             if let Some(claimed) = Claimed::of(rt, lock) {
                 return claimed;
             }
@@ -236,15 +247,24 @@ impl<P: ThreadParkerT> Lot<P> {
     }
 
     // Registers the least free number, if there is one, and answers a new witness that told so.
-    pub(crate) fn register<R: Wait>(&self, rt: &R) -> (Witness, Option<usize>)
-        ensures registered { IsRegistered self.now result.1 result.0 }
-        ensures below { IfSome result.1 (λ number. number < max_threads_of self.now) }
+    // The table may grow first.
+    pub(crate) fn register<R: Wait>(
+        &self,
+        rt: &R,
+        alloc: Global,
+    ) -> Result<(Witness, Option<usize>), NoMemory>
+        ensures registered { IfOk result (λ told. IsRegistered self.now told.1 told.0) }
+        ensures below { IfOk result (λ told.
+            IfSome told.1 (λ number. number < max_threads_of self.now)) }
     {
         let mut held = self.registry.lock(rt);
-        self.make_room(rt, &mut held.value);
+        if let Err(refused) = self.make_room(rt, alloc, &mut held.value) {
+            self.registry.unlock(held);
+            return Err(refused);
+        }
         let registered = held.value.register(&self.history);
         self.registry.unlock(held);
-        registered
+        Ok(registered)
     }
 
     // Ends the registration of a running thread, whose pieces these parts have, and tells so.

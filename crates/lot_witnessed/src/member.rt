@@ -68,8 +68,9 @@ impl<'a, P: ThreadParkerT> Member<'a, P> {
     ///
     /// It asks for memory once, for the thread's node, and then takes the lock of the numbers.
     /// Where the table would have less than three buckets for each thread, it puts the row of twice
-    /// the size in use first, which adds nothing to the history: it visits every bucket and every
-    /// waiting thread, and other calls wait for it. A section must not call it.
+    /// the size in use first, which adds nothing to the history: it asks for the memory of that row
+    /// if it was not needed before, then visits every bucket and every waiting thread, and other
+    /// calls wait for it. A section must not call it.
     ///
     /// # Errors
     ///
@@ -87,7 +88,7 @@ impl<'a, P: ThreadParkerT> Member<'a, P> {
             Begins lot.now Step.Register (Answer.Registered member.number) member.witness) }
     {
         let mut node = Node::new(alloc, 0)?;
-        let (mut witness, number) = lot.register(rt);
+        let (mut witness, number) = lot.register(rt, alloc)?;
         let Some(number) = number else {
             return Err(LotError::Full);
         };

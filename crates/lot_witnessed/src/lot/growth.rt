@@ -1,6 +1,6 @@
 //! How the table grows with the threads that are registered, and how it is trimmed.
 
-ghost use Rattle.std.specs.Prelude.{◌≡◌, ◌+◌, ◌*◌, ◌<◌, ◌≤◌, [], length, IfSome};
+ghost use Rattle.std.specs.Prelude.{◌≡◌, ◌+◌, ◌*◌, ◌<◌, ◌≤◌, ◌^◌, [], length, IfOk, IfSome};
 ghost use Rattle.lot_exclusive.specs.declared.schedule.Answer.{Answer};
 ghost use Rattle.lot_exclusive.specs.declared.schedule.Step.{Step};
 ghost use Rattle.lot_history.specs.Witness.{Extends, IsStill, IsWitnessOf, id_of, max_threads_of, pieces_of};
@@ -8,14 +8,16 @@ ghost use Rattle.lot_witnessed.specs.Cells.{IsIdle, IsRegistry, IsRow};
 ghost use Rattle.lot_witnessed.specs.Halves.{IsHalfSize};
 
 use super::Lot;
-use crate::cell::{Slot, lock_at, put, take_away};
+use crate::cell::{Slot, lock_at, new_row, put, take_away};
 use crate::halves::{join, split};
 use crate::registry::Registry;
 use lot_base::thread_parker::ThreadParkerT;
+use lot_base::token::NoMemory;
 use lot_base::word_lock::WordLock;
 use lot_exclusive::schedule::{Answer, Step};
 use lot_exclusive::table::growth::{INITIAL_BUCKETS, size_for};
 use lot_history::history::Witness;
+use std::alloc::Global;
 use std::sync::Wait;
 use std::sync::atomic::Ordering;
 
@@ -23,24 +25,59 @@ const BUCKETS_PER_THREAD: usize = 3;
 
 impl<P: ThreadParkerT> Lot<P> {
     // Puts the row of twice the size in use where the present one has less than three buckets for
-    // each registered thread and one more. The registry is locked.
-    pub(super) fn make_room<R: Wait>(&self, rt: &R, registry: &mut Registry)
+    // each registered thread and one more. The registry is locked. It asks for memory only where
+    // that row was never needed before.
+    pub(super) fn make_room<R: Wait>(
+        &self,
+        rt: &R,
+        alloc: Global,
+        registry: &mut Registry,
+    ) -> Result<(), NoMemory>
         requires { IsRegistry (id_of self.now) (max_threads_of self.now) registry.old }
         ensures { IsRegistry (id_of self.now) (max_threads_of self.now) registry.new }
     {
         let index = registry.row;
         let Some(row) = self.row(index) else {
-            return;
+            return Ok(());
         };
         if row.len() >= BUCKETS_PER_THREAD * (registry.threads() + 1) {
-            return;
+            return Ok(());
         }
-        let Some(larger) = self.row(index + 1) else {
-            return;
+        let made = self.row_or_new(alloc, &mut registry.witness, index + 1, 2 * row.len())?;
+        let Some(larger) = made else {
+            return Ok(());
         };
         self.double(rt, &mut registry.witness, row, larger);
         registry.row = index + 1;
         self.current.store(index + 1, Ordering::SeqCst);
+        Ok(())
+    }
+
+    // The row of this index, which has this size, and is made if it was not needed before; or
+    // `None` where a table has no such row.
+    fn row_or_new(
+        &self,
+        alloc: Global,
+        me: &mut Witness,
+        index: usize,
+        size: usize,
+    ) -> Result<Option<&Vec<WordLock<Slot>>>, NoMemory>
+        requires idle { IsIdle (id_of self.now) me.old }
+        requires size { size ≡ 2 ^ (index + 4) }
+        ensures idle { IsIdle (id_of self.now) me.new }
+        ensures row { IfOk result (λ made. IfSome made (λ row. IsRow (id_of self.now)
+            (max_threads_of self.now) size row.now.items)) }
+        ensures below { IfOk result (λ made. IfSome made (λ row. index < 13)) }
+    {
+        let Some(slot) = self.row_slot(index) else {
+            return Ok(None);
+        };
+        if let Some(row) = self.row(index) {
+            return Ok(Some(row));
+        }
+        let home = self.history.give(me);
+        let row = new_row(alloc, size, self.threads.len(), home)?;
+        Ok(slot.set(row).ok())
     }
 
     // Makes the table as small as the registered threads allow, and tells the history.

@@ -98,7 +98,7 @@ impl<P: ThreadParkerT> Lot<P> {
             × IfSome result.1 (λ other. FitsCell (key_of other.lock.now) other.cell) }
     {
         for _ in rt.forever() {
-            let (source, target, ascends) = self.locks_of(from, to);
+            let (source, target, ascends) = self.locks_of(rt, from, to);
             if let Some(target) = target {
                 if let Some((source, target)) = claim_both(rt, source, target, ascends) {
                     return (source, Some(target));
@@ -113,12 +113,17 @@ impl<P: ThreadParkerT> Lot<P> {
 
     // The lock of the bucket of the key `from`, and that of the key `to` if it is another, in one
     // row; and whether the first has the lower place.
-    fn locks_of(&self, from: usize, to: usize) -> (&WordLock<Slot>, Option<&WordLock<Slot>>, bool)
+    fn locks_of<R: Wait>(
+        &self,
+        rt: &R,
+        from: usize,
+        to: usize,
+    ) -> (&WordLock<Slot>, Option<&WordLock<Slot>>, bool)
         ensures from { IsLockFor self.now from result.0.now }
         ensures to { MatchOption result.1 (IsLockFor self.now to result.0.now)
             (λ other. IsLockFor self.now to other.now × AreApart result.0.now other.now) }
     {
-        let row = self.row_in_use();
+        let row = self.row_in_use(rt);
         let source = place(from, row.len());
         let target = place(to, row.len());
         if source == target {

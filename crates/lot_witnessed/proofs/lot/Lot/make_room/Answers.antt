@@ -1,14 +1,14 @@
-use Rattle.std.proofs.Common.{◌+◌, arith, refl}
-use Rattle.lot_history.specs.Witness.{id_of, max_threads_of}
-use Rattle.lot_witnessed.proofs.LockLemmas.{larger_row}
+use Rattle.std.proofs.Common.{◌≡◌, ◌+◌, ◌^◌, arith, ap}
+use Rattle.std.proofs.lemmas.Nat.{pow-add}
 use Rattle.lot_witnessed.proofs.lot.Lot.make_room.Goals as goal
 
 pub overflow_mul-threads : goal.overflow_mul-threads
 overflow_mul-threads g c = omega (arith, c.requires.few, c.requires.count, c.threads.ensures)
 
-pub double-requires-clause-larger : goal.double-requires-clause-larger
-double-requires-clause-larger g c κs within =
-    let history = c.args.self.now in
+pub row_or_new-requires-clause-size : goal.row_or_new-requires-clause-size
+row_or_new-requires-clause-size g c =
     let index = c.args.registry.now.row in
-    larger_row (id_of history) (max_threads_of history) index (index + 1) c.in-Some.row.now.items
-    c.in-Some-row.larger.now.items c.in-Some.ensures.row refl c.in-Some-row.ensures.row
+    let one = pow-add 2 (index + 4) 1 in
+    let same : index + 1 + 4 ≡ index + 4 + 1 = omega arith in
+    let power = ap (λ n. 2 ^ n) same in
+    omega (arith, one, power, c.len-2.ensures, c.in-Some.ensures.row.count)

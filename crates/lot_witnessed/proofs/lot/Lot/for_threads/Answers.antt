@@ -5,7 +5,7 @@ use Rattle.lot_history.specs.Witness.{max_threads_of}
 use Rattle.lot_history.specs.declared.view.Piece.{Piece}
 use Rattle.lot_witnessed.specs.Rows.{empty_lists, free_numbers}
 use Rattle.lot_witnessed.proofs.RowLemmas.{cuts_up}
-use Rattle.lot_witnessed.proofs.lot.Lot.of_size.Goals as goal
+use Rattle.lot_witnessed.proofs.lot.Lot.for_threads.Goals as goal
 
 pub cut_up-requires-clause-regroups : goal.cut_up-requires-clause-regroups
 cut_up-requires-clause-regroups g c =
