@@ -19,7 +19,7 @@ use Rattle.lot_history.specs.Pieces.{Name, cover, AllSo}
 use Rattle.lot_history.specs.Moves.{Finds, Reaches, Moves, Regroups}
 use Rattle.lot_history.specs.Rule.{Knows, Kept}
 use Rattle.lot_history.specs.Views.{spent_view}
-use Rattle.lot_history.specs.Tells.{event, Adds, Looks}
+use Rattle.lot_history.specs.Tells.{Found, event, Adds, Looks}
 use Rattle.lot_history.proofs.EventLemmas.{prefix_self, prefix_nil, prefix_longer, events_by-own, events_by-other}
 use Rattle.lot_history.proofs.EventLemmas.{LeadsTo-push}
 use Rattle.lot_history.proofs.PieceLemmas.{AlikeWhere, AllSo-alike, AllSo-append, cover-append}
@@ -162,7 +162,8 @@ module _ (max_threads : ℕ) (views : List View) (kept : Kept max_threads views)
           events_by-other j kept.events added (λ e. absurd (let b = below in omega arith)) ∙ kept.others j far;
     }
 
-    pub adds : (w : View) × Kept max_threads (set views id w) × Adds max_threads id said v w × (w.pieces ≡ after)
+    pub adds : (w : View) × Kept max_threads (set views id w) × Adds max_threads id said v w
+        × (w.pieces ≡ after) × Found max_threads id v w
     adds = (
       new_view,
       stepped,
@@ -179,6 +180,15 @@ module _ (max_threads : ℕ) (views : List View) (kept : Kept max_threads views)
         };
       },
       refl,
+      record {
+        before = kept.events;
+        last = added;
+        machine = kept.machine;
+        begins = own.seen;
+        seen = refl;
+        leads = kept.run;
+        so = own.pieces;
+      },
     )
 
   -- a new seat is given some pieces of this one, and has seen this much

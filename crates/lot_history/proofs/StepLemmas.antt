@@ -18,7 +18,7 @@ use Rattle.lot_history.specs.Pieces.{Name, list, thread, records, numbers, cover
 use Rattle.lot_history.specs.Rule.{Knows, Kept}
 use Rattle.lot_history.specs.Views.{all_pieces, first_view, told_view, spent_view, first_of, rest_of, part_view}
 use Rattle.lot_history.proofs.EventLemmas.{prefix_nil}
-use Rattle.lot_history.specs.Tells.{Adds, Looks}
+use Rattle.lot_history.specs.Tells.{Adds, Found, Looks}
 use Rattle.lot_history.proofs.RuleLemmas.{adds, looks, regroups, splits, joins}
 
 -- the rule, as the table of a history has it
@@ -28,10 +28,10 @@ Holds max_threads s = Kept max_threads s.views
 module _ (max_threads slots id : ℕ) (me : Me (Unit {0}) View) where
   pub adds_allowed : (said : Step → Answer → Type 0) (after : List Piece) → Moves max_threads said me.0.pieces after
       → Allows (Holds max_threads) slots id me 0 (λ n. n)
-      (λ r n. Adds max_threads id said me.0 n.0 × (n.0.pieces ≡ after) × (n.1 ≡ me.1))
+      (λ r n. Adds max_threads id said me.0 n.0 × (n.0.pieces ≡ after) × (n.1 ≡ me.1) × Found max_threads id me.0 n.0)
   adds_allowed said after moves s kept sized at wide =
       let next = adds max_threads s.views kept id me.0 at said after moves in
-      (next.0, keeps, tt, next.1, (next.2, next.3, refl))
+      (next.0, keeps, tt, next.1, (next.2, next.3, refl, next.4))
 
   pub looks_allowed : Allows (Holds max_threads) slots id me 0 (λ n. n)
       (λ r n. Looks max_threads id me.0 n.0 × IsPrefix me.0.heard n.0.seen × (n.1 ≡ me.1))

@@ -31,6 +31,16 @@ module _ (max_threads number : ℕ) where
     pub is_said : said step answer
     pub extends : Extends old step answer new
 
+  -- the call made a step that found this machine, which was as the pieces said
+  pub record Found (old new : View) : Type 0 where
+    pub before : List Event
+    pub last : Event
+    pub machine : Machine
+    pub begins : IsPrefix old.seen before
+    pub seen : new.seen ≡ before ++ last ∷ []
+    pub leads : LeadsTo max_threads before machine
+    pub so : AllSo machine old.pieces
+
   -- the call made no step: what is seen then is a history, and begins with all that was seen before; it leads to a
   -- machine which is as the pieces say; and of the seat's own events it has those before and no others
   pub record Looks (old new : View) : Type 0 where

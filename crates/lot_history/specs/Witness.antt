@@ -66,5 +66,8 @@ Extends history old step answer new =
 abbrev pub Adds : History → Witness → (Step → Answer → Type 0) → Witness → Type 0
 Adds history old said new = tells.Adds (max_threads_of history) (number_of old) said (view_of old) (view_of new)
 
+abbrev pub Found : History → Witness → Witness → Type 0
+Found history old new = tells.Found (max_threads_of history) (number_of old) (view_of old) (view_of new)
+
 abbrev pub Looks : History → Witness → Witness → Type 0
 Looks history old new = tells.Looks (max_threads_of history) (number_of old) (view_of old) (view_of new)

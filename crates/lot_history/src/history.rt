@@ -51,7 +51,7 @@ impl Part {
 }
 
 impl History {
-    ghost use Rattle.lot_history.specs.Witness.{Adds, IsPartOf, IsStill, IsWitnessOf, Looks, events_of, id_of, max_threads_of, number_of, pieces_in, pieces_of, seen_by, view_of};
+    ghost use Rattle.lot_history.specs.Witness.{Adds, Found, IsPartOf, IsStill, IsWitnessOf, Looks, events_of, id_of, max_threads_of, number_of, pieces_in, pieces_of, seen_by, view_of};
 
     /// A history of a lot for at most this many threads, in which nothing was done, and its first
     /// witness, which has all pieces of the machine.
@@ -117,7 +117,7 @@ impl History {
     /// Makes one step of the machine, of which `E` says which it is and what it answers. It is
     /// added to the history, and leaves the pieces `after`. The caller proves that whatever the
     /// machine is where the pieces of the witness are so, there is such a step which changes
-    /// nothing else.
+    /// nothing else. `Found` tells that the machine before the step was so.
     ///
     /// The caller picks `after`, and `E` where that is `Brand`, from what the witness knows. Where
     /// they depend on more, a function between has that for arguments, and a `ghost after` of its
@@ -129,6 +129,7 @@ impl History {
         requires moves { Moves (max_threads_of self.now) E.said (pieces_of me.old) after }
         ensures still { IsStill self.now me.old me.new }
         ensures adds { Adds self.now me.old E.said me.new }
+        ensures found { Found self.now me.old me.new }
         ensures pieces { pieces_of me.new ≡ after }
     {
         self.add_as::<E, Brand>(me);
@@ -223,6 +224,7 @@ impl History {
         requires moves { Moves (max_threads_of self.now) E.said (pieces_of me.old) C.after }
         ensures still { IsStill self.now me.old me.new }
         ensures adds { Adds self.now me.old E.said me.new }
+        ensures found { Found self.now me.old me.new }
         ensures pieces { pieces_of me.new ≡ C.after }
     {
         self.table.shared.load::<Add<E, C>>(&mut me.seat, 0);

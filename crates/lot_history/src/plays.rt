@@ -63,10 +63,11 @@ pub(crate) struct Add<E, C> {
 
 impl<E: Told, C: Seated> Play<(), View> for Add<E, C> {
     ghost use Rattle.std.specs.Prelude.{◌≡◌};
-    ghost use Rattle.lot_history.specs.Tells.{Adds};
+    ghost use Rattle.lot_history.specs.Tells.{Adds, Found};
 
     ghost then = { λ _ m _ n.
-        Adds C.max_threads C.number E.said m.0 n.0 × (n.0.pieces ≡ C.after) × (n.1 ≡ m.1) };
+        Adds C.max_threads C.number E.said m.0 n.0 × (n.0.pieces ≡ C.after) × (n.1 ≡ m.1)
+        × Found C.max_threads C.number m.0 n.0 };
 }
 
 /// The history is seen as it is. What was heard of it begins it.

@@ -18,7 +18,7 @@ use Rattle.lot_exclusive.specs.declared.schedule.Step.TheVariants.{Unpark}
 use Rattle.lot_exclusive.specs.Machine.{Machine}
 use Rattle.lot_history.specs.declared.history.History.{History}
 use Rattle.lot_history.specs.declared.history.Witness.{Witness}
-use Rattle.lot_history.specs.Witness.{Extends, IsStill, Looks}
+use Rattle.lot_history.specs.Witness.{Extends, Found}
 
 -- the park tokens of the threads that stand in the list of the key, in order
 abbrev pub tokens_in : Machine → ℕ → List ParkToken
@@ -48,14 +48,12 @@ module _ {F C : Type 0} (f : Mut F (ParkToken × Unit {0}) FilterOp) (c : Once C
       pub step : s ≡ Unpark (Filter key decisions token)
       pub answer : a ≡ answer.Unpark result
 
-    -- the history was seen, and the filter decided on the park tokens of the threads that stand in the list of the key, in
-    -- order, in the machine that it leads to; then the step was added
+    -- the step was added, and the filter decided on the park tokens of the threads that stand in the list of the key, in
+    -- order, in the machine that it found
     pub record Unparks (filter : F) (callback : C) (key : ℕ) (history : History) (old : Witness) (result : UnparkResult)
         (new : Witness) : Type 0 where
-      pub looked : Witness
-      pub still : IsStill history old looked
-      pub looks : Looks history old looked
       pub decisions : Vec FilterOp Global
       pub token : UnparkToken
-      pub calls : AreCalled filter callback (tokens_in looks.machine key) decisions.items result token
-      pub extends : Extends history looked (Unpark (Filter key decisions token)) (answer.Unpark result) new
+      pub extends : Extends history old (Unpark (Filter key decisions token)) (answer.Unpark result) new
+      pub found : Found history old new
+      pub calls : AreCalled filter callback (tokens_in found.machine key) decisions.items result token

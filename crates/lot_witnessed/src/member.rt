@@ -286,10 +286,6 @@ impl<'a, P: ThreadParkerT> Member<'a, P> {
     /// stay. Then `callback` is called once with the result, also where nobody waits. A count that
     /// no `usize` can hold would be `usize::MAX`.
     ///
-    /// The member sees the history in the section, before it adds its step: one load more of the
-    /// history's word than in other unparks. The park tokens are those of the list in the machine
-    /// that the history leads to then.
-    ///
     /// Each thread is woken with the bucket locked, once its unpark was committed. Neither closure
     /// may call the lot, nor wait for a thread that does. It allocates nothing.
     pub fn unpark_filter<

@@ -11,7 +11,7 @@ ghost use Rattle.lot_base.specs.Waiting.{result_of, split_first};
 ghost use Rattle.lot_exclusive.specs.declared.schedule.Answer.{Answer};
 ghost use Rattle.lot_exclusive.specs.declared.schedule.Step.{Step};
 ghost use Rattle.lot_base.specs.declared.token.UnparkResult.{UnparkResult};
-ghost use Rattle.lot_history.specs.Witness.{Adds, Extends, IsStill, IsWitnessOf, events_of, id_of, max_threads_of, pieces_of, seen_by};
+ghost use Rattle.lot_history.specs.Witness.{Adds, Extends, Found, IsStill, IsWitnessOf, events_of, id_of, max_threads_of, pieces_of, seen_by};
 ghost use Rattle.lot_history.specs.declared.view.Piece.TheVariants.{Thread};
 ghost use Rattle.lot_witnessed.specs.Cells.{Has, IsBelow, IsCell, lists_in, threads_in};
 ghost use Rattle.lot_witnessed.specs.Filters.{AreCallable, IsUnpark, Unparks};
@@ -91,8 +91,8 @@ pub(crate) fn take_all_of<E: Told>(
     (count, taken)
 }
 
-// Sees the history with the bucket's part, takes those waiters of the key that the filter unparks
-// out of their bucket, and tells so. The witness has the pieces of those that were taken.
+// Takes those waiters of the key that the filter unparks out of their bucket, and tells so. The
+// witness has the pieces of those that were taken.
 pub(crate) fn take_filter_of<
     F: FnMut(ParkToken) -> FilterOp,
     C: FnOnce(UnparkResult) -> UnparkToken,
@@ -121,7 +121,6 @@ pub(crate) fn take_filter_of<
 {
     let part = mem::replace(&mut cell.part, Part::none());
     history.take(me, part);
-    history.look(me);
     take_filter_with::<Brand, F, C>(history, me, cell, key, filter, callback)
 }
 
@@ -152,6 +151,7 @@ fn take_filter_with<
     ensures still { IsStill history.now me.old me.new }
     ensures adds { Adds history.now me.old
         (λ s a. E.said s a × (a ≡ Answer.Unpark result.0)) me.new }
+    ensures found { Found history.now me.old me.new }
     ensures pieces { pieces_of me.new ≡ threads_in result.1 }
     ensures cell { IsCell (id_of history.now) (max_threads_of history.now) cell.new }
     ensures place { KeepsPlace cell.old.bucket cell.new.bucket }

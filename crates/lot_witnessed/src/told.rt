@@ -2,7 +2,7 @@
 
 ghost use Rattle.std.specs.Prelude.{◌≡◌, ◌∷◌, ◌++◌, List, [], true, false};
 ghost use Rattle.lot_history.specs.Moves.{Moves, Regroups};
-ghost use Rattle.lot_history.specs.Witness.{Adds, Extends, IsPartOf, IsStill, IsWitnessOf, events_of, id_of, max_threads_of, pieces_in, pieces_of};
+ghost use Rattle.lot_history.specs.Witness.{Adds, Extends, Found, IsPartOf, IsStill, IsWitnessOf, events_of, id_of, max_threads_of, pieces_in, pieces_of};
 ghost use Rattle.lot_history.specs.declared.view.Piece.{Piece};
 ghost use Rattle.lot_history.specs.declared.view.Piece.TheVariants.{Numbers, Records, Thread};
 ghost use Rattle.lot_witnessed.specs.Cells.{Has, IsLetterTo, lists_in, threads_in};
@@ -50,6 +50,7 @@ fn add_with<E: Told, V>(history: &History, me: &mut Witness, _values: &V)
     requires moves { Moves (max_threads_of history.now) E.said (pieces_of me.old) after }
     ensures still { IsStill history.now me.old me.new }
     ensures adds { Adds history.now me.old E.said me.new }
+    ensures found { Found history.now me.old me.new }
     ensures pieces { pieces_of me.new ≡ after }
 {
     history.add::<E>(me);
@@ -217,6 +218,7 @@ pub(crate) fn add_taken<E: Told>(
         (pieces_of me.old) (lists_in cell.old.bucket ∷ threads_in taken.now) }
     ensures still { IsStill history.now me.old me.new }
     ensures adds { Adds history.now me.old (λ s a. E.said s a × (a ≡ answer)) me.new }
+    ensures found { Found history.now me.old me.new }
     ensures pieces { pieces_of me.new ≡ threads_in taken.now }
     ensures bucket { cell.new.bucket ≡ cell.old.bucket }
     ensures part { Has (id_of history.now) (lists_in cell.old.bucket ∷ []) cell.new.part }

@@ -11,12 +11,8 @@ returns-clause-unparked g c =
     subst (λ (history : History). Unparks g.F.FnMut g.C.FnOnce c.args.filter c.args.callback c.args.key history
     c.args.me.now c.take_filter_of-taken.result.0 c.commit.new.me) c.self.view_is
     (record {
-      looked = unparked.looked;
-      still = unparked.still;
-      looks = unparked.looks;
       decisions = unparked.decisions;
       token = unparked.token;
-      calls = unparked.calls;
       extends = record {
         between = extends.between;
         seen = c.commit.ensures.seen ∙ extends.seen;
@@ -24,4 +20,14 @@ returns-clause-unparked g c =
         all_mine = search rules;
         history = search rules;
       };
+      found = record {
+        before = unparked.found.before;
+        last = unparked.found.last;
+        machine = unparked.found.machine;
+        begins = unparked.found.begins;
+        seen = c.commit.ensures.seen ∙ unparked.found.seen;
+        leads = unparked.found.leads;
+        so = unparked.found.so;
+      };
+      calls = unparked.calls;
     })
