@@ -19,7 +19,7 @@ module _ {T : Type 0} (s : State (Option T) View) where
   abbrev pub IsHeld : Type 0
   IsHeld = (id : ℕ) × Holds id
 
-  -- bit 2 of the word: a thread that waits was handed the mutex, and has not taken it yet
+  -- bit 2 of the word: the mutex was handed over, and nobody has taken it yet; that somebody waits for that is not told
   abbrev pub IsHanded : Type 0
   IsHanded = slice_index s.words 0 / 4 ≡ 1
 

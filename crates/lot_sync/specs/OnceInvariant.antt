@@ -1,4 +1,4 @@
--- What holds of a once between any two steps of all its callers.
+-- What holds of a once between any two steps of all its callers. What a caller that ran no closure knows is not told.
 use Rattle.std.specs.Prelude.{◌≡◌, ◌↔◌, ⊤, ℕ, slice_index}
 use mathlib.Core.Option.{some}
 use lib.ListN.{get_elem?}

@@ -1,4 +1,5 @@
--- What the word of a lock for readers and writers says between any two steps of all its callers.
+-- What the word of a lock for readers and writers says of its callers between any two steps of a machine whose steps
+-- are `IsStep`. That a lock's word changes by these alone is read in the code, and of the value this says nothing.
 use Rattle.std.specs.Prelude.{◌≡◌, ⊤, ℕ, ◌<◌, ◌^◌}
 use mathlib.Core.Option.{some}
 use lib.ListN.{get_elem?}

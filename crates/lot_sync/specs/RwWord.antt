@@ -1,4 +1,6 @@
--- The words of a lock for readers and writers, beside what `Counting` of the counted slot says of each.
+-- The words of a lock for readers and writers, beside what `Counting` of the counted slot says of each: bits 0 and 1
+-- are 3 while the value is on its way in or out, bits 2 to 31 count the readers, bit 32 is 1 while threads may be
+-- parked, and bit 33 while a writer has the value.
 use Rattle.std.specs.Prelude.{◌≡◌, ℕ, ◌/◌, ◌%◌, ◌<◌, ◌≤◌}
 use Rattle.counted_slot.specs.Counting.{readers, IsShared}
 

@@ -328,6 +328,8 @@ impl<'a, T: Fits> Held<'a, T> {
     ghost use Rattle.lot_sync.specs.Mutex.{HasMutex};
 
     /// The mutex that is held.
+    ///
+    /// Upstream has it as `MutexGuard::mutex`.
     pub fn mutex(&self) -> &'a Mutex<T>
         ensures { result.now ≡ self.now.mutex.now }
     {

@@ -1,6 +1,7 @@
 -- How the calls of a threaded lot call their closures, and what they answer. Who waited while the bucket was locked is
 -- not told to a caller, so what is asked holds of every list of waiters, and what is promised of some list, of which
--- nothing else is said: not that it is the key's, that its threads are registered, or how long it is.
+-- nothing else is said: not that it is the key's, that its threads are registered, or how long it is. So a lot on which
+-- nobody ever parks would keep these promises.
 use Rattle.std.specs.Prelude.{◌≡◌, ◌≢◌, List}
 use Rattle.std.specs.Fn.{Once, Mut}
 use Rattle.lot_base.specs.declared.token.FilterOp.{FilterOp}

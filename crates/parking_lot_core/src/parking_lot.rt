@@ -74,13 +74,14 @@ impl ThreadData {
 /// that of each bucket in turn, and with it, for each node there, that of the bucket to which the
 /// node moves; sections that meet it sleep until it is done.
 ///
-/// Whoever finds a bucket locked sleeps, once it has spun in vain. No order is kept among callers.
+/// Whoever finds a bucket locked sleeps, once it has spun in vain, and whoever meets a change of
+/// rows sleeps on the lock of the numbers first. No order is kept among callers.
 ///
 /// What is proved of its calls is how their closures are called and what form their answers have;
 /// of private functions, that a node that was taken goes to no parker but its thread's, and that of
-/// those whose number is below `max_threads`, as every parked thread's is, at least eight, or all
-/// where fewer were taken, are handed theirs to be woken. Which threads wait and are unparked, that
-/// each gets its token and wakes, and which numbers are given, is shown by tests.
+/// those whose number is below `max_threads` at least eight handles, or all where fewer were taken,
+/// are kept for the wakes. Which threads wait and are unparked, that each gets its node and token
+/// and wakes, and which numbers are given, is shown by tests.
 ///
 /// Upstream has one lot for the process, in statics.
 #[derive(Drop)]

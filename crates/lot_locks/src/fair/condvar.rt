@@ -15,8 +15,8 @@ use std::time::Clock;
 /// A notify moves those who sleep here behind the threads that wait for the mutex, in the order in
 /// which they came, without waking them; only where nobody holds the mutex is the first woken, and
 /// has it. So whoever is notified keeps its place before all who come later, and wakes with the
-/// mutex. No wait ends without a notify, but what the thread waits for may have changed meanwhile:
-/// it looks again. Nothing is promised of ever being notified or served.
+/// mutex. No wait ends without a notify (read in the code), but what the thread waits for may have
+/// changed meanwhile: it looks again. Nothing is promised of ever being notified or served.
 ///
 /// Every call is with the same mutex and the same lot, and the key is the condition variable's
 /// alone. No call allocates.

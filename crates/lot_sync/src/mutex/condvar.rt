@@ -27,11 +27,12 @@ pub enum WaitResult {
 /// A condition variable, which threads share by reference: whoever holds a mutex waits on it until
 /// another notifies.
 ///
-/// No wait without a deadline ends without a notify, but what the thread waits for may have changed
-/// meanwhile: it looks again. Nothing is promised of ever being notified.
+/// No wait without a deadline ends without a notify (read in the code), but what the thread waits
+/// for may have changed meanwhile: it looks again. Nothing is promised of ever being notified.
 ///
 /// Every call is with the same mutex and with members of its lot, and the key is the condition
-/// variable's alone there. It asks for no memory.
+/// variable's alone there. Where a notify names another mutex its thread may sleep for ever. It
+/// asks for no memory.
 ///
 /// Upstream has it under this name, in `parking_lot`. There a notify finds the mutex by itself, and
 /// a wait with a second mutex panics.
@@ -48,6 +49,8 @@ impl Condvar {
     ghost use Rattle.lot_sync.specs.Mutex.{HasMutex, mutex_of};
 
     /// A condition variable on which nobody waits, whose sleepers park on the key.
+    ///
+    /// Upstream's is a `const fn` without a key.
     pub fn new(key: usize) -> Condvar
         ensures { result.key ≡ key }
     {
