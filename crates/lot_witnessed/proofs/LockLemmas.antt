@@ -45,6 +45,10 @@ module _ (history : History) (cells : List (WordLock Slot CellKey))
         of_lot = own.of_lot;
       }
 
+  -- and its place
+  pub place_at : (place : ℕ) (lock : WordLock Slot CellKey) → IsLockAt place cells lock → (key_of lock).place ≡ place
+  place_at place lock at = (at (id_of history) (max_threads_of history) (length cells) row).at_place
+
   -- those of two places
   pub apart_at : (place other_place : ℕ) (lock other : WordLock Slot CellKey) → IsLockAt place cells lock
       → IsLockAt other_place cells other → place ≢ other_place → AreApart lock other

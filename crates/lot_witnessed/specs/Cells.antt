@@ -19,6 +19,7 @@ use Rattle.lot_history.specs.Pieces.{standing_in}
 use Rattle.lot_history.specs.Witness.{IsPartOf, events_of, id_of, max_threads_of, pieces_in, pieces_of}
 use Rattle.lot_witnessed.specs.declared.cell.Cell.{Cell}
 use Rattle.lot_witnessed.specs.declared.cell.CellKey.{CellKey}
+use Rattle.lot_witnessed.specs.declared.cell.Claimed.{Claimed}
 use Rattle.lot_witnessed.specs.declared.cell.Slot.{Slot}
 use Rattle.lot_witnessed.specs.declared.mail.Letter.{Letter}
 use Rattle.lot_witnessed.specs.declared.mail.Mail.{Mail}
@@ -163,6 +164,13 @@ pub record IsRegistryLock (home : TableId) (max_threads : ℕ) (lock : WordLock 
 pub record AreApart (lock other : WordLock Slot CellKey) : Type 0 where
   pub size : (key_of other).size ≡ (key_of lock).size
   pub places : (key_of other).place ≢ (key_of lock).place
+
+-- of two buckets that a section has locked, the one at the higher place was locked behind the other
+pub record AreLockedInOrder (source target : Claimed) : Type 0 where
+  pub target_behind : (key_of source.lock.now).place < (key_of target.lock.now).place
+      → target.behind ≡ Some (key_of source.lock.now).place
+  pub source_behind : (key_of target.lock.now).place < (key_of source.lock.now).place
+      → source.behind ≡ Some (key_of target.lock.now).place
 
 -- the lock is that of the key's bucket in a lot
 pub record IsLockFor (history : History) (key : ℕ) (lock : WordLock Slot CellKey) : Type 0 where

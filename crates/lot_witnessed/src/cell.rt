@@ -52,10 +52,11 @@ impl Fits for Slot {
     ghost fits = { λ key slot. FitsSlot key slot };
 }
 
-// A bucket that was taken out of its lock, which is locked. It has no `Drop`: it ends in `close` or
-// in `leave`.
+// A bucket that was taken out of its lock, which is locked, and the place of the bucket that the
+// section had locked before, if there is one. It has no `Drop`: it ends in `close` or in `leave`.
 pub(crate) struct Claimed<'b> {
     pub(crate) lock: &'b WordLock<Slot>,
+    behind: Option<usize>,
     held: Held<Slot>,
     pub(crate) cell: Cell,
 }
@@ -68,13 +69,38 @@ impl<'b> Claimed<'b> {
         ensures held { IfSome result (λ claimed. IsHeldOf claimed.lock.now claimed.held) }
         ensures empty { IfSome result (λ claimed. claimed.held.value.cell ≡ None) }
         ensures fits { IfSome result (λ claimed. FitsCell (key_of claimed.lock.now) claimed.cell) }
+        ensures first { IfSome result (λ claimed. claimed.behind ≡ None) }
     {
         let mut held = lock.lock(rt);
         let Some(cell) = held.value.cell.take() else {
             lock.unlock(held);
             return None;
         };
-        Some(Claimed { lock, held, cell })
+        Some(Claimed {
+            lock,
+            behind: None,
+            held,
+            cell,
+        })
+    }
+
+    // Does what `of` does, for a section that has the bucket of a lower place.
+    pub(crate) fn behind<R: Wait>(
+        rt: &R,
+        first: &Claimed<'_>,
+        lock: &'b WordLock<Slot>,
+    ) -> Option<Claimed<'b>>
+        requires fits { FitsCell (key_of first.now.lock.now) first.now.cell }
+        requires order { (key_of first.now.lock.now).place < (key_of lock.now).place }
+        ensures lock { IfSome result (λ claimed. claimed.lock.now ≡ lock.now) }
+        ensures held { IfSome result (λ claimed. IsHeldOf claimed.lock.now claimed.held) }
+        ensures fits { IfSome result (λ claimed. FitsCell (key_of claimed.lock.now) claimed.cell) }
+        ensures behind { IfSome result (λ claimed.
+            claimed.behind ≡ Some (key_of first.now.lock.now).place) }
+    {
+        let mut claimed = Claimed::of(rt, lock)?;
+        claimed.behind = Some(first.cell.bucket.place());
+        Some(claimed)
     }
 
     // Puts the bucket back and lets it go.
@@ -84,6 +110,7 @@ impl<'b> Claimed<'b> {
     {
         let Claimed {
             lock,
+            behind: _,
             mut held,
             cell,
         } = self;
@@ -97,7 +124,12 @@ impl<'b> Claimed<'b> {
         requires empty { self.held.value.cell ≡ None }
         ensures { result ≡ self.entry.cell }
     {
-        let Claimed { lock, held, cell } = self;
+        let Claimed {
+            lock,
+            behind: _,
+            held,
+            cell,
+        } = self;
         lock.unlock(held);
         cell
     }

@@ -1,7 +1,7 @@
 //! Requeues, from the list of one key to that of another: their buckets, which may be one or two,
 //! and what a section does to them.
 
-ghost use Rattle.std.specs.Prelude.{◌≡◌, ◌≢◌, ◌≤◌, [], length, All, IfSome, MatchOption};
+ghost use Rattle.std.specs.Prelude.{◌≡◌, ◌≢◌, ◌<◌, ◌≤◌, [], length, All, IfSome, MatchOption, Some};
 ghost use Rattle.lot_base.specs.BucketState.{KeepsPlace};
 ghost use Rattle.lot_base.specs.Place.{place_of};
 ghost use Rattle.lot_base.specs.declared.token.UnparkResult.{UnparkResult};
@@ -9,7 +9,7 @@ ghost use Rattle.lot_exclusive.specs.declared.schedule.Answer.{Answer};
 ghost use Rattle.lot_exclusive.specs.declared.schedule.Step.{Step};
 ghost use Rattle.lot_history.specs.Witness.{Adds, IsStill, IsWitnessOf, id_of, max_threads_of, pieces_of};
 ghost use Rattle.lot_word_lock.specs.WordLock.{IsHeldOf, key_of};
-ghost use Rattle.lot_witnessed.specs.Cells.{AreApart, FitsCell, IsBelow, IsCell, IsLockFor, threads_in};
+ghost use Rattle.lot_witnessed.specs.Cells.{AreApart, AreLockedInOrder, FitsCell, IsBelow, IsCell, IsLockAt, IsLockFor, threads_in};
 ghost use Rattle.lot_witnessed.specs.Requeues.{IsRequeue, MayRequeue};
 
 use super::Lot;
@@ -24,6 +24,13 @@ use lot_exclusive::schedule::Answer;
 use lot_history::history::Witness;
 use lot_history::plays::Told;
 use std::sync::Wait;
+
+// The lock of a bucket, with the bucket's place in its row.
+#[derive(Copy, Clone)]
+struct PlacedLock<'b> {
+    lock: &'b WordLock<Slot>,
+    place: usize,
+}
 
 impl<P: ThreadParkerT> Lot<P> {
     // The section of a requeue, in one bucket or in two.
@@ -81,7 +88,7 @@ impl<P: ThreadParkerT> Lot<P> {
     }
 
     // Locks the bucket of the key `from`, and that of the key `to` if it is another, and takes them
-    // out.
+    // out. That of the lower place is locked first.
     fn claim_two<R: Wait>(
         &self,
         rt: &R,
@@ -96,14 +103,15 @@ impl<P: ThreadParkerT> Lot<P> {
             × IfSome result.1 (λ other. IsHeldOf other.lock.now other.held) }
         ensures fits { FitsCell (key_of result.0.lock.now) result.0.cell
             × IfSome result.1 (λ other. FitsCell (key_of other.lock.now) other.cell) }
+        ensures order { IfSome result.1 (AreLockedInOrder result.0) }
     {
         for _ in rt.forever() {
-            let (source, target, ascends) = self.locks_of(rt, from, to);
+            let (source, target) = self.locks_of(rt, from, to);
             if let Some(target) = target {
-                if let Some((source, target)) = claim_both(rt, source, target, ascends) {
+                if let Some((source, target)) = claim_both(rt, source, target) {
                     return (source, Some(target));
                 }
-            } else if let Some(source) = Claimed::of(rt, source) {
+            } else if let Some(source) = Claimed::of(rt, source.lock) {
                 return (source, None);
             }
             self.wait_for_change(rt);
@@ -112,28 +120,28 @@ impl<P: ThreadParkerT> Lot<P> {
     }
 
     // The lock of the bucket of the key `from`, and that of the key `to` if it is another, in one
-    // row; and whether the first has the lower place.
+    // row.
     fn locks_of<R: Wait>(
         &self,
         rt: &R,
         from: usize,
         to: usize,
-    ) -> (&WordLock<Slot>, Option<&WordLock<Slot>>, bool)
-        ensures from { IsLockFor self.now from result.0.now }
-        ensures to { MatchOption result.1 (IsLockFor self.now to result.0.now)
-            (λ other. IsLockFor self.now to other.now × AreApart result.0.now other.now) }
+    ) -> (PlacedLock<'_>, Option<PlacedLock<'_>>)
+        ensures from { IsLockFor self.now from result.0.lock.now }
+        ensures to { MatchOption result.1 (IsLockFor self.now to result.0.lock.now)
+            (λ other. IsLockFor self.now to other.lock.now
+            × AreApart result.0.lock.now other.lock.now) }
+        ensures source { result.0.place ≡ (key_of result.0.lock.now).place }
+        ensures target { IfSome result.1 (λ other.
+            other.place ≡ (key_of other.lock.now).place) }
     {
         let row = self.row_in_use(rt);
         let source = place(from, row.len());
         let target = place(to, row.len());
         if source == target {
-            return (lock_at(row, source), None, false);
+            return (placed_at(row, source), None);
         }
-        (
-            lock_at(row, source),
-            Some(lock_at(row, target)),
-            source < target,
-        )
+        (placed_at(row, source), Some(placed_at(row, target)))
     }
 
     // Requeues waiters of the key `from` onto the key `to`, where both have one bucket, and tells
@@ -236,25 +244,40 @@ impl<P: ThreadParkerT> Lot<P> {
     }
 }
 
+// The lock at this place of a row, with the place.
+fn placed_at(row: &[WordLock<Slot>], place: usize) -> PlacedLock<'_>
+    requires { place < length row.now }
+    ensures lock { IsLockAt place row.now result.lock.now }
+    ensures place { result.place ≡ place }
+{
+    PlacedLock {
+        lock: lock_at(row, place),
+        place,
+    }
+}
+
 // Locks two buckets of a row and takes them out, or answers `None` where either is away. That of
 // the lower place is locked first, as whoever locks two does.
 fn claim_both<'b, R: Wait>(
     rt: &R,
-    source: &'b WordLock<Slot>,
-    target: &'b WordLock<Slot>,
-    ascends: bool,
+    source: PlacedLock<'b>,
+    target: PlacedLock<'b>,
 ) -> Option<(Claimed<'b>, Claimed<'b>)>
-    ensures locks { IfSome result (λ both. (both.0.lock.now ≡ source.now)
-        × (both.1.lock.now ≡ target.now)) }
+    requires apart { AreApart source.lock.now target.lock.now }
+    requires source { source.place ≡ (key_of source.lock.now).place }
+    requires target { target.place ≡ (key_of target.lock.now).place }
+    ensures locks { IfSome result (λ both. (both.0.lock.now ≡ source.entry.lock.now)
+        × (both.1.lock.now ≡ target.entry.lock.now)) }
     ensures held { IfSome result (λ both. IsHeldOf both.0.lock.now both.0.held
         × IsHeldOf both.1.lock.now both.1.held) }
     ensures fits { IfSome result (λ both. FitsCell (key_of both.0.lock.now) both.0.cell
         × FitsCell (key_of both.1.lock.now) both.1.cell) }
+    ensures order { IfSome result (λ both. AreLockedInOrder both.0 both.1) }
 {
-    if ascends {
-        return claim_in_order(rt, source, target);
+    if source.place < target.place {
+        return claim_in_order(rt, source.lock, target.lock);
     }
-    let (target, source) = claim_in_order(rt, target, source)?;
+    let (target, source) = claim_in_order(rt, target.lock, source.lock)?;
     Some((source, target))
 }
 
@@ -264,15 +287,17 @@ fn claim_in_order<'b, R: Wait>(
     first: &'b WordLock<Slot>,
     second: &'b WordLock<Slot>,
 ) -> Option<(Claimed<'b>, Claimed<'b>)>
+    requires { (key_of first.now).place < (key_of second.now).place }
     ensures locks { IfSome result (λ both. (both.0.lock.now ≡ first.now)
         × (both.1.lock.now ≡ second.now)) }
     ensures held { IfSome result (λ both. IsHeldOf both.0.lock.now both.0.held
         × IsHeldOf both.1.lock.now both.1.held) }
     ensures fits { IfSome result (λ both. FitsCell (key_of both.0.lock.now) both.0.cell
         × FitsCell (key_of both.1.lock.now) both.1.cell) }
+    ensures behind { IfSome result (λ both. both.1.behind ≡ Some (key_of first.now).place) }
 {
     let first = Claimed::of(rt, first)?;
-    let Some(second) = Claimed::of(rt, second) else {
+    let Some(second) = Claimed::behind(rt, &first, second) else {
         first.close();
         return None;
     };
