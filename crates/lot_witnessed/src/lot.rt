@@ -1,7 +1,7 @@
 //! The lot, which threads share by reference: its buckets, and for each thread a parker and a
 //! mailbox.
 
-ghost use Rattle.std.specs.Prelude.{◌≡◌, ◌≢◌, ◌↔◌, ◌∷◌, ◌+◌, ◌<◌, ◌≤◌, ◌^◌, ℕ, List, [], true, false, length, map, All, Err, IsErrOf, Bool, IfErr, IfNone, IfOk, IfSome, OnOk, is_ok};
+ghost use Rattle.std.specs.Prelude.{◌≡◌, ◌≢◌, ◌↔◌, ◌∷◌, ◌+◌, ◌<◌, ◌≤◌, ℕ, List, [], true, false, length, All, Err, IsErrOf, Bool, IfErr, IfNone, IfOk, IfSome, OnOk, is_ok};
 ghost use Rattle.lot_base.specs.Node.{fields};
 ghost use Rattle.lot_base.specs.NodeFields.{NodeFields};
 ghost use Rattle.lot_base.specs.Waiting.{result_of, split_first};
@@ -10,24 +10,24 @@ ghost use Rattle.lot_exclusive.specs.declared.schedule.Answer.{Answer};
 ghost use Rattle.lot_exclusive.specs.declared.schedule.Step.{Step};
 ghost use Rattle.lot_history.specs.Witness.{Adds, Extends, IsPartOf, IsStill, IsWitnessOf, events_of, id_of, max_threads_of, pieces_of, seen_by};
 ghost use Rattle.lot_history.specs.declared.view.Piece.TheVariants.{Thread};
-ghost use Rattle.lot_witnessed.specs.Cells.{FitsCell, Has, HasRecords, IsBelow, IsLetterTo, IsLockFor, IsMailLock, IsRow, IsSlotAt, thread_taken, threads_in};
+ghost use Rattle.lot_witnessed.specs.Cells.{FitsCell, Has, HasRecords, IsBelow, IsLockFor, IsMailLock};
 ghost use Rattle.lot_word_lock.specs.WordLock.{IsHeldOf, key_of};
 ghost use Rattle.lot_witnessed.specs.Filters.{AreCallable, Unparks};
-ghost use Rattle.lot_witnessed.specs.Handles.{handle_numbers};
 ghost use Rattle.lot_witnessed.specs.Members.{EndsWait, IsListed, IsRegistered, Leaves, entry_of, entry_step};
 ghost use Rattle.lot_witnessed.specs.Rows.{EachAt};
 
 mod growth;
+mod hand_over;
 mod requeue;
+mod rows;
 
-use crate::cell::{Claimed, RowSlot, Slot, lock_at, new_rows};
-use crate::mail::{Letter, Mail, MailKey, new_mail};
+use crate::cell::{Claimed, RowSlot, new_rows};
+use crate::mail::{Mail, MailKey, new_mail};
 use crate::registry::{Registry, new_registry};
 use crate::sections::{enter_in, leave_in, list_in, take_all_of, take_filter_of, take_one_of};
-use crate::told::{add_return, cut_up};
-use lot_base::bucket::place;
-use lot_base::queue::{Node, Queue};
-use lot_base::thread_parker::{ThreadParkerT, UnparkHandleT};
+use crate::told::cut_up;
+use lot_base::queue::Node;
+use lot_base::thread_parker::ThreadParkerT;
 use lot_base::token::{
     FilterOp, LotError, NoMemory, ParkResult, ParkToken, UnparkResult, UnparkToken,
 };
@@ -42,7 +42,6 @@ use std::alloc::Global;
 use std::marker::Model;
 use std::sync::Wait;
 use std::sync::atomic::{AtomicUsize, Ordering};
-use std::thread;
 use std::time::{Clock, Instant};
 
 // What the lot keeps for one thread number from the first: its parker, its mailbox, and the key on
@@ -105,8 +104,8 @@ impl<P: ThreadParkerT> Lot<P> {
     /// A lot for at most this many threads, none of which is registered, with a history in which
     /// nothing was done.
     ///
-    /// It allocates the history's word, 16 buckets with a lock each, and a parker and a mailbox with
-    /// a lock for each number.
+    /// It allocates the history's word, 16 buckets with a lock each, and for each number a parker
+    /// and a mailbox with a lock.
     ///
     /// # Errors
     ///
@@ -158,68 +157,6 @@ impl<P: ThreadParkerT> Lot<P> {
         ensures { result.now ≡ self.now }
     {
         &self.history
-    }
-
-    // The place of the row of this index, if there is one.
-    fn row_slot(&self, index: usize) -> Option<&RowSlot>
-        ensures slot { IfSome result (λ slot. IsSlotAt (id_of self.now)
-            (max_threads_of self.now) index slot.now) }
-        ensures below { IfSome result (λ slot. index < 13) }
-    {
-        self.rows.get(index)
-    }
-
-    // The row of this index, if it was made.
-    fn row(&self, index: usize) -> Option<&Vec<WordLock<Slot>>>
-        ensures row { IfSome result (λ row. IsRow (id_of self.now) (max_threads_of self.now)
-            (2 ^ (index + 4)) row.now.items) }
-        ensures below { IfSome result (λ row. index < 13) }
-    {
-        self.row_slot(index)?.get()
-    }
-
-    // The row that is in use, or was as `current` was read. It was made before, but no contract
-    // tells so.
-    fn row_in_use<R: Wait>(&self, rt: &R) -> &Vec<WordLock<Slot>>
-        ensures { IsRow (id_of self.now) (max_threads_of self.now) (length result.now.items)
-            result.now.items }
-    {
-        for _ in rt.forever() {
-            if let Some(row) = self.row(self.current.load(Ordering::SeqCst)) {
-                return row;
-            }
-        }
-        unreachable!()
-    }
-
-    // The lock of the key's place in the row in use.
-    fn lock_of<R: Wait>(&self, rt: &R, key: usize) -> &WordLock<Slot>
-        ensures { IsLockFor self.now key result.now }
-    {
-        let row = self.row_in_use(rt);
-        lock_at(row, place(key, row.len()))
-    }
-
-    // Locks the bucket of the key and takes it out, which begins a section.
-    fn claim<R: Wait>(&self, rt: &R, key: usize) -> Claimed<'_>
-        ensures lock { IsLockFor self.now key result.lock.now }
-        ensures held { IsHeldOf result.lock.now result.held }
-        ensures fits { FitsCell (key_of result.lock.now) result.cell }
-    {
-        for _ in rt.forever() {
-            let lock = self.lock_of(rt, key);
-            if let Some(claimed) = Claimed::of(rt, lock) {
-                return claimed;
-            }
-            self.wait_for_change(rt);
-        }
-        unreachable!()
-    }
-
-    // Waits until the thread that changes the row is done, which has the numbers locked meanwhile.
-    fn wait_for_change<R: Wait>(&self, rt: &R) {
-        let held = self.registry.lock(rt);
-        self.registry.unlock(held);
     }
 
     // What the lot keeps for the thread of this number.
@@ -333,27 +270,6 @@ impl<P: ThreadParkerT> Lot<P> {
         entered
     }
 
-    // A thread that was unparked comes back: takes its letter, and answers the token in it and the
-    // thread's piece.
-    pub(crate) fn come_back<R: Wait>(
-        &self,
-        rt: &R,
-        me: &mut Witness,
-        number: usize,
-    ) -> (UnparkToken, Part)
-        requires witness { IsWitnessOf self.now me.old }
-        requires none { pieces_of me.old ≡ [] }
-        requires below { number < max_threads_of self.now }
-        ensures still { IsStill self.now me.old me.new }
-        ensures extends { Extends self.now me.old (Step.Return number)
-            (Answer.Unparked result.0) me.new }
-        ensures none { pieces_of me.new ≡ [] }
-        ensures thread { Has (id_of self.now) (Thread number Status.Running ∷ []) result.1 }
-    {
-        let letter = self.letter(rt, number);
-        add_return(&self.history, me, number, letter)
-    }
-
     // The wait of a thread with a timeout that entered a list: sleeps until an unpark of it was
     // committed, or until the deadline, and then leaves the list in which it stands, unless an
     // unpark took it meanwhile.
@@ -464,25 +380,6 @@ impl<P: ThreadParkerT> Lot<P> {
         listed
     }
 
-    // The letter of a thread whose node came back. It was put into the mailbox before the node was
-    // committed, but no contract tells so, and the loop looks again where it is not there.
-    fn letter<R: Wait>(&self, rt: &R, number: usize) -> Letter
-        requires { number < max_threads_of self.now }
-        ensures { IsLetterTo (id_of self.now) number result }
-    {
-        let mail = &self.thread(number).mail;
-        for _ in rt.forever() {
-            let mut held = mail.lock(rt);
-            let letter = held.value.letter.take();
-            mail.unlock(held);
-            if let Some(letter) = letter {
-                return letter;
-            }
-            thread::yield_now();
-        }
-        unreachable!()
-    }
-
     // The section of an unpark of one.
     pub(crate) fn take_one<E: Told, R: Wait, C: FnOnce(UnparkResult) -> UnparkToken>(
         &self,
@@ -566,71 +463,6 @@ impl<P: ThreadParkerT> Lot<P> {
         self.commit(rt, me, taken);
         claimed.close();
         result
-    }
-
-    // Commits the unparks of all nodes that were taken, in order, and wakes their threads.
-    fn commit<R: Wait>(&self, rt: &R, me: &mut Witness, mut taken: Queue)
-        requires witness { IsWitnessOf self.now me.old }
-        requires pieces { pieces_of me.old ≡ threads_in taken }
-        requires below { All (IsBelow (max_threads_of self.now)) taken }
-        ensures still { IsStill self.now me.old me.new }
-        ensures seen { seen_by me.new ≡ seen_by me.old }
-        ensures nothing_added { events_of me.new ≡ events_of me.old }
-        ensures none { pieces_of me.new ≡ [] }
-    {
-        while let Some(node) = taken.pop_front() {
-            let part = self.history.give(me);
-            let handle = self.hand_over(rt, node, part);
-            self.wake(handle);
-        }
-    }
-
-    // Commits the unpark of the node that was taken, if there is one.
-    fn commit_one<R: Wait>(
-        &self,
-        rt: &R,
-        me: &mut Witness,
-        mut taken: Queue,
-    ) -> Option<P::UnparkHandle>
-        requires witness { IsWitnessOf self.now me.old }
-        requires pieces { pieces_of me.old ≡ threads_in taken }
-        requires below { All (IsBelow (max_threads_of self.now)) taken }
-        requires one { length taken ≤ 1 }
-        ensures still { IsStill self.now me.old me.new }
-        ensures seen { seen_by me.new ≡ seen_by me.old }
-        ensures nothing_added { events_of me.new ≡ events_of me.old }
-        ensures none { pieces_of me.new ≡ [] }
-        ensures handle { handle_numbers P.UnparkHandle.number result
-            ≡ map (λ node. node.number) taken }
-    {
-        let node = taken.pop_front()?;
-        let part = self.history.give(me);
-        Some(self.hand_over(rt, node, part))
-    }
-
-    // Hands a node that was taken to its thread, with its piece, which is the commit of an unpark.
-    fn hand_over<R: Wait>(&self, rt: &R, node: Box<Node>, part: Part) -> P::UnparkHandle
-        requires below { IsBelow (max_threads_of self.now) (fields node.value) }
-        requires part { Has (id_of self.now) (thread_taken (fields node.value) ∷ []) part }
-        ensures { P.UnparkHandle.number result ≡ (fields node.value).number }
-    {
-        let thread = self.thread(node.number);
-        let mut held = thread.mail.lock(rt);
-        held.value.letter = Some(Letter {
-            token: node.unpark_token,
-            part,
-        });
-        thread.mail.unlock(held);
-        thread.parker.unpark_lock(rt, node)
-    }
-
-    // Wakes the thread whose unpark was committed. Its number is that of a thread of this lot, so
-    // none is skipped; no contract of a handle says so.
-    pub(crate) fn wake(&self, handle: P::UnparkHandle) {
-        let number = handle.number();
-        if number < self.threads.len() {
-            handle.unpark(&self.thread(number).parker);
-        }
     }
 }
 
