@@ -1,28 +1,30 @@
-//! What unparks of several threads wake, a requeue beside a deadline, and keys of a lot with more
-//! than 16 buckets.
+//! What unparks of several threads wake, requeues beside a deadline and in both directions, and
+//! keys of a lot with more than 16 buckets.
 
+use crate::expect_equal;
+use crate::members::{
+    KEY, Left, TOKEN, TURNS, UNPARKED, come_by_turns, late_on, new_lot, now, park, park_and,
+    park_until, register, requeue, unpark_all, unpark_filter,
+};
+use crate::sections::are_apart;
 use lot_base::thread_parker::{ThreadParker, ThreadParkerT, WordParker, YieldParker};
-use lot_base::token::{DEFAULT_PARK_TOKEN, FilterOp, ParkResult, RequeueOp, UnparkToken};
+use lot_base::token::{DEFAULT_UNPARK_TOKEN, FilterOp, RequeueOp};
 use lot_witnessed::lot::Lot;
 use lot_witnessed::member::Member;
 use std::alloc::Global;
-use std::cell::Cell;
 use std::process::Abort;
 use std::sync::Wait;
-use std::sync::atomic::{AtomicBool, Ordering};
 use std::test::*;
 use std::thread;
 use std::thread::{Threads, join};
 use std::time::{Clock, Duration, Instant};
 
-const KEY: usize = 7;
-
-const TURNS: usize = 10_000_000;
-
 // Long enough for a thread that waits to be asleep.
 const PAUSE: u64 = 50;
 
 const SLEEPERS: usize = 3;
+
+const ROUNDS: usize = 100_000;
 
 #[derive(Copy, Clone)]
 enum Way {
@@ -31,8 +33,7 @@ enum Way {
 }
 
 fn instant_in<R: Clock + Abort>(rt: &R, milliseconds: u64) -> Instant {
-    Instant::now(rt)
-        .expect(rt, "a clock")
+    now(rt)
         .checked_add(Duration::from_millis(milliseconds))
         .expect(rt, "an instant")
 }
@@ -40,7 +41,7 @@ fn instant_in<R: Clock + Abort>(rt: &R, milliseconds: u64) -> Instant {
 fn pause<R: Clock + Abort>(rt: &R, milliseconds: u64) {
     let end = instant_in(rt, milliseconds);
     for _ in 0..100 * TURNS {
-        if Instant::now(rt).expect(rt, "a clock") > end {
+        if now(rt) > end {
             return;
         }
         thread::yield_now();
@@ -54,19 +55,27 @@ fn unpark<P: ThreadParkerT, R: Wait + Clock + Abort>(
     me: &mut Member<'_, P>,
     way: Way,
 ) -> usize {
-    for _ in 0..TURNS {
-        if me.list(rt, alloc, KEY).expect(rt, "memory").len() == SLEEPERS {
-            break;
-        }
-        thread::yield_now();
-    }
+    come_by_turns(rt, alloc, me, KEY, SLEEPERS);
     pause(rt, PAUSE);
     match way {
-        Way::All => me.unpark_all(rt, KEY, UnparkToken(42)),
-        Way::Filter => {
-            let found = me.unpark_chosen(rt, KEY, |_| FilterOp::Unpark, |_| UnparkToken(42));
-            found.unparked_threads
-        }
+        Way::All => unpark_all(rt, me, KEY, TOKEN),
+        Way::Filter => unpark_filter(rt, me, KEY, FilterOp::Unpark, TOKEN),
+    }
+}
+
+// The last thread unparks the others. Tells whether it found them all, or each of them the token.
+fn play<P: ThreadParkerT, R: Wait + Clock + Abort>(
+    rt: &R,
+    alloc: Global,
+    lot: &Lot<P>,
+    way: Way,
+    index: usize,
+) -> bool {
+    let mut me = register(rt, alloc, lot);
+    if index == SLEEPERS {
+        unpark(rt, alloc, &mut me, way) == SLEEPERS
+    } else {
+        park(rt, &mut me, KEY) == UNPARKED
     }
 }
 
@@ -75,17 +84,10 @@ where
     P: ThreadParkerT + Send + Sync,
     R: Threads + Wait + Clock + Abort + Sync,
 {
-    let lot = Lot::<P>::new(alloc, SLEEPERS + 1).expect(rt, "a lot");
-    let play = |index: usize| {
-        let mut me = Member::register(rt, alloc, &lot).expect(rt, "a number");
-        if index == SLEEPERS {
-            return unpark(rt, alloc, &mut me, way) == SLEEPERS;
-        }
-        me.park(rt, KEY, || true, || (), DEFAULT_PARK_TOKEN)
-            == ParkResult::Unparked(UnparkToken(42))
-    };
+    let lot = new_lot::<P, _>(rt, alloc, SLEEPERS + 1);
+    let play = |index: usize| play(rt, alloc, &lot, way, index);
     let told = thread::map_indices(rt, alloc, SLEEPERS + 1, &play).expect(rt, "threads");
-    assert!(rt; told.as_slice() == [true; 4].as_slice());
+    expect_equal(rt, told.as_slice(), [true; 4].as_slice());
 }
 
 // It refuses an unpark of several that leaves one of them asleep.
@@ -106,46 +108,22 @@ fn move_at_deadline<P: ThreadParkerT, R: Wait + Clock + Abort>(
     mut me: Member<'_, P>,
     to: usize,
 ) -> usize {
-    for _ in 0..TURNS {
-        if me.list(rt, alloc, 0).expect(rt, "memory").len() == 1 {
-            break;
-        }
-        thread::yield_now();
-    }
-    let moved = me.unpark_requeue(
-        rt,
-        0,
-        to,
-        || {
-            pause(rt, 600);
-            RequeueOp::RequeueAll
-        },
-        |_, _| UnparkToken(0),
-    );
-    moved.requeued_threads
+    come_by_turns(rt, alloc, &mut me, 0, 1);
+    let op = || {
+        pause(rt, 600);
+        RequeueOp::RequeueAll
+    };
+    me.unpark_requeue(rt, 0, to, op, |_, _| DEFAULT_UNPARK_TOKEN)
+        .requeued_threads
 }
 
-// Parks on the key 0 until the deadline, and tells of which key it left the list.
+// Parks on the key 0 until the deadline.
 fn park_until_late<P: ThreadParkerT, R: Wait + Clock>(
     rt: &R,
     mut me: Member<'_, P>,
     deadline: Instant,
-) -> Option<usize> {
-    let left = Cell::new(None);
-    let result = me.park_until(
-        rt,
-        0,
-        || true,
-        || (),
-        |key, _| left.set(Some(key)),
-        DEFAULT_PARK_TOKEN,
-        deadline,
-    );
-    if result == ParkResult::TimedOut {
-        left.get()
-    } else {
-        None
-    }
+) -> Left {
+    park_until(rt, &mut me, 0, || (), deadline)
 }
 
 fn leaves_where_it_was_moved<R: Threads + Wait + Clock + Abort + Sync>(
@@ -153,96 +131,79 @@ fn leaves_where_it_was_moved<R: Threads + Wait + Clock + Abort + Sync>(
     alloc: Global,
     to: usize,
 ) {
-    let lot = Lot::<WordParker>::new(alloc, 2).expect(rt, "a lot");
-    let late = Member::register(rt, alloc, &lot).expect(rt, "a number");
-    let mover = Member::register(rt, alloc, &lot).expect(rt, "a number");
+    let lot = new_lot::<WordParker, _>(rt, alloc, 2);
+    let late = register(rt, alloc, &lot);
+    let mover = register(rt, alloc, &lot);
     let deadline = instant_in(rt, 300);
     let (left, moved) = join(
         rt,
         || park_until_late(rt, late, deadline),
         || move_at_deadline(rt, alloc, mover, to),
     );
-    assert!(rt; moved == 1 && left == Some(to));
+    assert_eq!(rt; moved, 1);
+    expect_equal(rt, left, late_on(to));
 }
 
-// The keys 0 and 13 have one bucket of 16, and 0 and 1 have two. It refuses a late thread that looks
-// in the bucket of a key from which it was moved while it waited for that bucket.
+// The keys 0 and 13 have one bucket of 16, and 0 and 1 have two. It refuses a late thread that
+// looks in the bucket of a key from which it was moved while it waited for that bucket.
 #[test]
 fn a_thread_that_is_moved_at_its_deadline_leaves_its_new_list(rt: HostRuntime) {
     leaves_where_it_was_moved(&rt, rt.alloc(), 13);
     leaves_where_it_was_moved(&rt, rt.alloc(), 1);
 }
 
-// Two sections, of which the second is to come while the first lasts.
-#[derive(Drop)]
-struct Sections {
-    is_inside: AtomicBool,
-    is_done: AtomicBool,
+// Moves all threads from one key to the other, over and over.
+fn move_often<'a, P: ThreadParkerT, R: Wait>(
+    rt: &R,
+    mut me: Member<'a, P>,
+    from: usize,
+    to: usize,
+) -> Member<'a, P> {
+    for _ in 0..ROUNDS {
+        requeue(rt, &mut me, from, to, RequeueOp::RequeueAll);
+    }
+    me
 }
 
-impl Sections {
-    // Stays inside until the other section is done, or for two seconds.
-    fn stay<R: Clock + Abort>(&self, rt: &R) {
-        self.is_inside.store(true, Ordering::SeqCst);
-        let end = instant_in(rt, 2_000);
-        for _ in 0..100 * TURNS {
-            let is_past = Instant::now(rt).expect(rt, "a clock") > end;
-            if is_past || self.is_done.load(Ordering::SeqCst) {
-                return;
-            }
-            thread::yield_now();
-        }
-    }
-
-    // Tells whether the other section was done meanwhile.
-    fn first<P: ThreadParkerT, R: Wait + Clock + Abort>(
-        &self,
-        rt: &R,
-        mut me: Member<'_, P>,
-        key: usize,
-    ) -> bool {
-        let is_done = Cell::new(false);
-        me.unpark_one(rt, key, |_| {
-            self.stay(rt);
-            is_done.set(self.is_done.load(Ordering::SeqCst));
-            UnparkToken(0)
-        });
-        is_done.get()
-    }
-
-    fn second<P: ThreadParkerT, R: Wait>(&self, rt: &R, mut me: Member<'_, P>, key: usize) {
-        for _ in 0..TURNS {
-            if self.is_inside.load(Ordering::SeqCst) {
-                break;
-            }
-            thread::yield_now();
-        }
-        me.unpark_one(rt, key, |_| UnparkToken(0));
-        self.is_done.store(true, Ordering::SeqCst);
-    }
-}
-
-// The keys 0 and 13 have one bucket of 16, and two of the 32 that six threads need: a section of the
-// one keeps no other thread from the other. It refuses a table that does not grow.
-#[test]
-fn a_lot_of_six_threads_has_more_than_16_buckets(rt: HostRuntime) -> Result<(), Fail> {
-    let lot = Lot::<WordParker>::new(rt.alloc(), 6)?;
-    let mut others = Vec::new(rt.alloc());
-    for _ in 0..4 {
-        let other = Member::register(&rt, rt.alloc(), &lot)?;
-        others.push(other).expect(&rt, "memory");
-    }
-    let one = Member::register(&rt, rt.alloc(), &lot)?;
-    let two = Member::register(&rt, rt.alloc(), &lot)?;
-    let sections = Sections {
-        is_inside: AtomicBool::new(false),
-        is_done: AtomicBool::new(false),
-    };
-    let (was_done, ()) = join(
-        &rt,
-        || sections.first(&rt, one, 0),
-        || sections.second(&rt, two, 13),
+// Two threads move whoever waits to and fro between the keys 0 and 1, and then one of them unparks
+// the thread that waits on either, and tells how many there were.
+fn move_both_ways<P: ThreadParkerT + Send + Sync, R: Threads + Wait + Abort + Sync>(
+    rt: &R,
+    alloc: Global,
+    lot: &Lot<P>,
+) -> usize {
+    let one = register(rt, alloc, lot);
+    let two = register(rt, alloc, lot);
+    let (mut one, _two) = join(
+        rt,
+        || move_often(rt, one, 0, 1),
+        || move_often(rt, two, 1, 0),
     );
-    assert!(rt; was_done);
-    Ok(())
+    requeue(rt, &mut one, 0, 1, RequeueOp::RequeueAll);
+    unpark_all(rt, &mut one, 1, TOKEN)
+}
+
+// The keys 0 and 1 have two buckets of 16. It refuses a requeue that locks its first key's bucket
+// first: two threads then have one bucket each, and wait for that of the other for ever.
+#[test]
+fn requeues_in_both_directions_end(rt: HostRuntime) {
+    let lot = new_lot::<WordParker, _>(&rt, rt.alloc(), 3);
+    let mut sleeper = register(&rt, rt.alloc(), &lot);
+    let mut woken = 0;
+    let result = park_and(&rt, &mut sleeper, 0, || {
+        woken = move_both_ways(&rt, rt.alloc(), &lot)
+    });
+    assert_eq!(rt; woken, 1);
+    expect_equal(&rt, result, UNPARKED);
+}
+
+// The keys 0 and 13 have one bucket of 16, and two of the 32 that six threads need: a section of
+// the one keeps no other thread from the other. It refuses a table that does not grow.
+#[test]
+fn a_lot_of_six_threads_has_more_than_16_buckets(rt: HostRuntime) {
+    let lot = new_lot::<WordParker, _>(&rt, rt.alloc(), 6);
+    for _ in 0..4 {
+        register(&rt, rt.alloc(), &lot);
+    }
+    assert!(rt; are_apart(&rt, rt.alloc(), &lot, TURNS));
 }
