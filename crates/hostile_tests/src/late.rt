@@ -1,7 +1,7 @@
 //! Threads whose deadline has passed, while others requeue, wait behind them or before them.
 
 use crate::common::{
-    KEY, Left, TOKEN, come_by_turns, comes_to, late_on, move_all, new_lot, now, park_and,
+    KEY, Left, TOKEN, come_by_turns, comes_to, from_now, late_on, move_all, new_lot, now, park_and,
     raised_by_turns, register, wait, waiting,
 };
 use crate::expect_equal;
@@ -13,13 +13,22 @@ use std::alloc::Global;
 use std::process::Abort;
 use std::sync::Wait;
 use std::sync::atomic::{AtomicBool, AtomicUsize, Ordering};
-use std::thread;
 use std::thread::Threads;
-use std::time::{Clock, Duration};
+use std::time::{Clock, Duration, Instant};
+use std::{hint, thread};
 
 const LATE: usize = 4;
 
-const ROUNDS: usize = 500;
+const ROUNDS: usize = 200;
+
+// After so many milliseconds no round begins, however few there were.
+const LONG: u64 = 400;
+
+// A thread that is to call right after another looks so often without a yield whether that comes.
+const LOOKS: usize = 100_000;
+
+// Then it spins less often than this before it calls.
+const SPINS: usize = 32;
 
 // What a late thread and one that requeues tell each other.
 #[derive(Drop)]
@@ -210,40 +219,106 @@ fn timed_out_comes_before_the_bucket_is_let_go(rt: HostRuntime) {
     is_told_in_its_section::<YieldParker, _>(&rt, rt.alloc());
 }
 
-// How far a thread that enters and one that requeues have come in their rounds.
+// A section in which the key of a thread is noted.
+#[derive(Copy, Clone, Debug, Eq, PartialEq)]
+enum Section {
+    // The thread parks on key 1.
+    Park,
+
+    // The thread is moved from key 1 to key 2.
+    Requeue,
+}
+
+impl Section {
+    // The keys between which another thread moves it right after.
+    fn keys(self) -> (usize, usize) {
+        match self {
+            Section::Park => (1, 2),
+            Section::Requeue => (2, 3),
+        }
+    }
+}
+
+// How far the threads have come in their rounds: one has the section, one sleeps at its bucket
+// meanwhile, and one requeues right after. No round begins after the end.
 #[derive(Drop)]
 struct Rounds {
-    entered: AtomicUsize,
+    section: Section,
+    inside: AtomicUsize,
+    leaving: AtomicUsize,
     moved: AtomicUsize,
     left: AtomicUsize,
+    end: Instant,
 }
 
 impl Rounds {
-    fn new() -> Rounds {
+    fn new<R: Clock + Abort>(rt: &R, section: Section) -> Rounds {
         Rounds {
-            entered: AtomicUsize::new(0),
+            section,
+            inside: AtomicUsize::new(0),
+            leaving: AtomicUsize::new(0),
             moved: AtomicUsize::new(0),
             left: AtomicUsize::new(0),
+            end: from_now(rt, Duration::from_millis(LONG)),
         }
     }
 
-    // The thread is in its section, where the other falls asleep at the bucket.
+    // Called in the section: another thread falls asleep at the bucket.
+    fn stay_inside<R: Clock>(&self, rt: &R, round: usize) {
+        self.inside.store(round, Ordering::SeqCst);
+        thread::sleep(rt, Duration::from_micros(100));
+        self.leaving.store(round, Ordering::SeqCst);
+    }
+
+    // Called as the thread parks.
     fn enter<R: Clock>(&self, rt: &R, round: usize) -> bool {
-        self.entered.store(round, Ordering::SeqCst);
-        thread::sleep(rt, Duration::from_micros(500));
+        if self.section == Section::Park {
+            self.stay_inside(rt, round);
+        }
         true
     }
 
-    // The other need not wait for this thread any more.
-    fn end(&self) {
-        self.entered.store(ROUNDS, Ordering::SeqCst);
+    // Called before the thread sleeps. It goes on once another has moved it.
+    fn be_moved<P: ThreadParkerT, R: Wait + Clock>(
+        &self,
+        rt: &R,
+        lot: &ParkingLot<P>,
+        round: usize,
+    ) {
+        if self.section == Section::Requeue {
+            let op = || {
+                self.stay_inside(rt, round);
+                RequeueOp::RequeueAll
+            };
+            unpark_requeue(rt, lot, 1, 2, op, |_, _| DEFAULT_UNPARK_TOKEN);
+        }
+        comes_to(&self.moved, round);
+    }
+
+    // Waits until the section is about to end, and a little longer, by rounds.
+    fn wait_to_move(&self, round: usize) {
+        for _ in 0..LOOKS {
+            if self.leaving.load(Ordering::SeqCst) >= round {
+                break;
+            }
+            hint::spin_loop();
+        }
+        comes_to(&self.leaving, round);
+        for _ in 0..round % SPINS {
+            hint::spin_loop();
+        }
+    }
+
+    // The others need not wait for the thread any more.
+    fn finish(&self) {
+        self.inside.store(ROUNDS, Ordering::SeqCst);
+        self.leaving.store(ROUNDS, Ordering::SeqCst);
         self.left.store(ROUNDS, Ordering::SeqCst);
     }
 }
 
-// Enters while the other falls asleep at the bucket, and looks a second time once it was moved. It
-// tells how it left.
-fn enter_before<P: ThreadParkerT, R: Wait + Clock + Abort>(
+// Parks, and looks a second time once the thread was moved. It tells how it left.
+fn be_late<P: ThreadParkerT, R: Wait + Clock + Abort>(
     rt: &R,
     lot: &ParkingLot<P>,
     data: &mut ThreadData,
@@ -258,9 +333,7 @@ fn enter_before<P: ThreadParkerT, R: Wait + Clock + Abort>(
         data,
         1,
         || rounds.enter(rt, round),
-        || {
-            comes_to(&rounds.moved, round);
-        },
+        || rounds.be_moved(rt, lot, round),
         |key, last| told = Some((key, last)),
         DEFAULT_PARK_TOKEN,
         Some(now(rt)),
@@ -269,66 +342,91 @@ fn enter_before<P: ThreadParkerT, R: Wait + Clock + Abort>(
     (result, told)
 }
 
-// Enters in each round, and tells how it left in the first that did not end at the second key.
-fn enter_by_rounds<P: ThreadParkerT, R: Wait + Clock + Abort>(
+// Is late in each round, and tells how it left in the first that did not end at the key to which it
+// was moved, or else in the last.
+fn be_late_by_rounds<P: ThreadParkerT, R: Wait + Clock + Abort>(
     rt: &R,
     lot: &ParkingLot<P>,
     mut data: ThreadData,
     rounds: &Rounds,
 ) -> Left {
+    let expected = late_on(rounds.section.keys().1);
     for round in 1..=ROUNDS {
-        let left = enter_before(rt, lot, &mut data, rounds, round);
-        if left != late_on(2) {
-            rounds.end();
+        let left = be_late(rt, lot, &mut data, rounds, round);
+        if left != expected || now(rt) > rounds.end {
+            rounds.finish();
             return left;
         }
     }
-    late_on(2)
+    expected
+}
+
+// Sleeps at the bucket in each round, so that whoever lets it go has to wake this thread.
+fn sleep_by_rounds<P: ThreadParkerT, R: Wait + Abort>(
+    rt: &R,
+    alloc: Global,
+    lot: &ParkingLot<P>,
+    rounds: &Rounds,
+) {
+    for round in 1..=ROUNDS {
+        comes_to(&rounds.inside, round);
+        waiting(rt, alloc, lot, rounds.section.keys().0);
+    }
 }
 
 // Requeues in each round, and wakes a thread that does not find itself, so that it ends.
 fn requeue_by_rounds<P: ThreadParkerT, R: Wait>(rt: &R, lot: &ParkingLot<P>, rounds: &Rounds) {
+    let (from, to) = rounds.section.keys();
     for round in 1..=ROUNDS {
-        comes_to(&rounds.entered, round);
-        move_all(rt, lot, 1, 2);
+        rounds.wait_to_move(round);
+        move_all(rt, lot, from, to);
         rounds.moved.store(round, Ordering::SeqCst);
         if !comes_to(&rounds.left, round) {
-            unpark_all(rt, lot, 2, TOKEN);
+            unpark_all(rt, lot, to, TOKEN);
         }
     }
 }
 
-fn enter_and_requeue<P: ThreadParkerT + Send + Sync, R: Threads + Wait + Clock + Abort + Sync>(
+fn play_rounds<P: ThreadParkerT + Send + Sync, R: Threads + Wait + Clock + Abort + Sync>(
     rt: &R,
+    alloc: Global,
     lot: &ParkingLot<P>,
     data: ThreadData,
+    rounds: &Rounds,
 ) -> Left {
-    let rounds = Rounds::new();
-    let (left, ()) = thread::join(
-        rt,
-        || enter_by_rounds(rt, lot, data, &rounds),
-        || requeue_by_rounds(rt, lot, &rounds),
-    );
+    let others = || {
+        thread::join(
+            rt,
+            || sleep_by_rounds(rt, alloc, lot, rounds),
+            || requeue_by_rounds(rt, lot, rounds),
+        )
+    };
+    let (left, _) = thread::join(rt, || be_late_by_rounds(rt, lot, data, rounds), others);
     left
 }
 
-fn notes_its_key_in_time<P, R>(rt: &R, alloc: Global)
+fn notes_its_key_in_time<P, R>(rt: &R, alloc: Global, section: Section)
 where
     P: ThreadParkerT + Send + Sync,
     R: Threads + Wait + Clock + Abort + Sync,
 {
     let lot = new_lot::<P, _>(rt, alloc, 1);
     let data = register(rt, alloc, &lot);
-    expect_equal(rt, enter_and_requeue(rt, &lot, data), late_on(2));
+    let rounds = Rounds::new(rt, section);
+    let left = play_rounds(rt, alloc, &lot, data, &rounds);
+    let expected = late_on(section.keys().1);
+    expect_equal(rt, (section, left), (section, expected));
 }
 
-// It refuses a thread that notes its key once it has let the bucket go. In some rounds a requeue
-// that waited for the bucket notes the new key first then, and the thread looks for itself in its
-// old queue for ever.
+// It refuses a park and a requeue that note the key once they have let the bucket go, and woken
+// whoever slept there. In some rounds a requeue that comes meanwhile notes the new key first then,
+// and the thread looks for itself in its old queue for ever.
 #[test]
 fn a_key_is_noted_before_the_bucket_is_let_go(rt: HostRuntime) {
-    notes_its_key_in_time::<ThreadParker, _>(&rt, rt.alloc());
-    notes_its_key_in_time::<YieldParker, _>(&rt, rt.alloc());
+    for section in [Section::Park, Section::Requeue] {
+        notes_its_key_in_time::<ThreadParker, _>(&rt, rt.alloc(), section);
+        notes_its_key_in_time::<YieldParker, _>(&rt, rt.alloc(), section);
+    }
 }
 
 // Parks once so many threads wait on the key, with a deadline that passes once two wait there, and

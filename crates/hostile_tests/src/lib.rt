@@ -25,6 +25,8 @@ mod numbers;
 #[cfg(test)]
 mod ordered;
 #[cfg(test)]
+mod overtaken;
+#[cfg(test)]
 mod parkers;
 #[cfg(test)]
 mod races;

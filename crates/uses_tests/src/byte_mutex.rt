@@ -2,11 +2,13 @@
 
 ghost use Rattle.std.specs.Prelude.{◌≡◌};
 
+use crate::clock::{from_now, is_past};
 use crate::expect_equal;
 use crate::lots::register;
 use crate::slow_parker::SlowParker;
 use parking_lot_core::{Member, ParkingLot, ThreadData, ThreadParkerT, WordParker};
 use std::alloc::Global;
+use std::process::Abort;
 use std::sync::atomic::{AtomicUsize, Ordering};
 use std::sync::{Arc, Wait};
 use std::test::Fail;
@@ -20,6 +22,9 @@ const KEY: usize = 7;
 const THREADS: usize = 4;
 
 const ROUNDS: usize = 1_000;
+
+// After so many milliseconds a thread counts no more, however few its rounds.
+const LONG: u64 = 1_000;
 
 // So often two threads lock and unlock at once.
 const OFTEN: usize = 5_000_000;
@@ -62,24 +67,28 @@ impl<P: ThreadParkerT> Shared<P> {
     }
 }
 
-// Counts under the mutex in rounds, and tells whether the counters were always equal. Data of
-// another lot answers false.
-fn count_in_rounds<P: ThreadParkerT, R: Wait + Clock>(
+// Counts under the mutex in rounds, and tells how often. `None` says that the counters were not
+// always equal, or that the data is of another lot.
+fn count_in_rounds<P: ThreadParkerT, R: Wait + Clock + Abort>(
     rt: &R,
     shared: &Shared<P>,
     data: ThreadData,
-) -> bool {
-    let Ok(mut member) = Member::of(&shared.lot, data) else {
-        return false;
-    };
+) -> Option<usize> {
+    let mut member = Member::of(&shared.lot, data).ok()?;
+    let end = from_now(rt, LONG);
+    let mut rounds = 0_usize;
     let mut all_equal = true;
     for _ in 0..ROUNDS {
         let held = shared.mutex.lock(rt, &mut member);
         let equal = shared.count();
         shared.mutex.unlock(rt, &shared.lot, held);
         all_equal = all_equal && equal;
+        rounds = rounds.wrapping_add(1);
+        if is_past(rt, end) {
+            break;
+        }
     }
-    all_equal
+    all_equal.then_some(rounds)
 }
 
 // Starts a thread that counts in rounds.
@@ -87,14 +96,20 @@ fn start_counting<P, R>(
     rt: &R,
     shared: Arc<Shared<P>, Global>,
     data: ThreadData,
-) -> Option<JoinHandle<bool>>
+) -> Option<JoinHandle<Option<usize>>>
 where
     P: ThreadParkerT + Send + Sync + 'static,
     P::UnparkHandle: 'static,
-    R: Threads + Wait + Clock + Copy + Send + 'static,
+    R: Threads + Wait + Clock + Abort + Copy + Send + 'static,
 {
     let runtime = *rt;
     thread::spawn(rt, move || count_in_rounds(&runtime, &shared, data)).ok()
+}
+
+// Waits until the thread has counted, and tells how often.
+fn join_counting<R: Threads + Abort>(rt: &R, started: Option<JoinHandle<Option<usize>>>) -> usize {
+    let counted = started.expect(rt, "a thread").join(rt);
+    counted.expect(rt, "equal counters")
 }
 
 // It refuses an `unlock` that forgets the waiters who are left, and one that hands the mutex over
@@ -106,13 +121,12 @@ fn threads_count_in_turn(rt: HostRuntime) -> Result<(), Fail> {
     let mut counting = Vec::new(rt.alloc());
     for _ in 0..THREADS {
         let data = register(&rt, rt.alloc(), &shared.lot)?;
-        let started = start_counting(&rt, Arc::try_clone(&shared)?, data);
-        counting.push(started.expect(&rt, "a thread"))?;
+        counting.push(start_counting(&rt, Arc::try_clone(&shared)?, data))?;
     }
-    for thread in counting {
-        assert!(rt; thread.join(&rt));
+    let mut all = 0_usize;
+    for started in counting {
+        all = all.wrapping_add(join_counting(&rt, started));
     }
-    let all = THREADS * ROUNDS;
     expect_equal(&rt, shared.counts(), (all, all));
     Ok(())
 }
@@ -198,8 +212,8 @@ fn a_waiter_is_handed_the_mutex(rt: HostRuntime) -> Result<(), Fail> {
     let counts = shared.counts();
     let handed = shared.mutex.unlock(&rt, &shared.lot, held);
     expect_equal(&rt, (came, counts, handed), (true, (0, 0), true));
-    assert!(rt; started.expect(&rt, "a thread").join(&rt));
-    expect_equal(&rt, shared.counts(), (ROUNDS, ROUNDS));
+    let rounds = join_counting(&rt, started);
+    expect_equal(&rt, shared.counts(), (rounds, rounds));
     assert!(rt; is_locked_once(&rt, &shared));
     Ok(())
 }
@@ -214,11 +228,10 @@ fn lock_once_more<P: ThreadParkerT, R: Wait + Clock>(
 )
     requires { held.key ≡ shared.now.mutex.key }
 {
-    thread::sleep(rt, Duration::from_millis(20));
+    thread::sleep(rt, Duration::from_millis(10));
     shared.mutex.unlock(rt, &shared.lot, held);
-    let again = shared.mutex.try_lock();
-    wait_for_waiters(rt, alloc, &shared.lot, 1);
-    if let Some(held) = again {
+    if let Some(held) = shared.mutex.try_lock() {
+        wait_for_waiters(rt, alloc, &shared.lot, 1);
         shared.mutex.unlock(rt, &shared.lot, held);
     }
 }
@@ -234,8 +247,8 @@ fn a_thread_sleeps_only_while_the_byte_tells_of_waiters(rt: HostRuntime) -> Resu
     let held = shared.mutex.try_lock().expect(&rt, "nobody holds it");
     let started = start_counting(&rt, theirs, data);
     lock_once_more(&rt, rt.alloc(), &shared, held);
-    assert!(rt; started.expect(&rt, "a thread").join(&rt));
-    expect_equal(&rt, shared.counts(), (ROUNDS, ROUNDS));
+    let rounds = join_counting(&rt, started);
+    expect_equal(&rt, shared.counts(), (rounds, rounds));
     Ok(())
 }
 
@@ -245,11 +258,11 @@ fn start_once_nobody_waits<P, R>(
     alloc: Global,
     shared: Arc<Shared<P>, Global>,
     data: ThreadData,
-) -> Option<JoinHandle<bool>>
+) -> Option<JoinHandle<Option<usize>>>
 where
     P: ThreadParkerT + Send + Sync + 'static,
     P::UnparkHandle: 'static,
-    R: Threads + Wait + Clock + Copy + Send + 'static,
+    R: Threads + Wait + Clock + Abort + Copy + Send + 'static,
 {
     let runtime = *rt;
     thread::spawn(rt, move || {
@@ -273,11 +286,8 @@ fn who_comes_to_wait_while_another_is_woken_is_woken_too(rt: HostRuntime) -> Res
     wait_for_waiters(&rt, rt.alloc(), &shared.lot, 1);
     let second = start_once_nobody_waits(&rt, rt.alloc(), others_shared, others);
     let handed = shared.mutex.unlock(&rt, &shared.lot, held);
-    let both = (
-        first.expect(&rt, "a thread").join(&rt),
-        second.expect(&rt, "a thread").join(&rt),
-    );
-    expect_equal(&rt, (handed, both), (true, (true, true)));
-    expect_equal(&rt, shared.counts(), (2 * ROUNDS, 2 * ROUNDS));
+    let rounds = join_counting(&rt, first).wrapping_add(join_counting(&rt, second));
+    expect_equal(&rt, handed, true);
+    expect_equal(&rt, shared.counts(), (rounds, rounds));
     Ok(())
 }

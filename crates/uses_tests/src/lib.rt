@@ -6,11 +6,15 @@ mod bounded_queue;
 #[cfg(test)]
 mod byte_mutex;
 #[cfg(test)]
+mod clock;
+#[cfg(test)]
 mod event;
 #[cfg(test)]
 mod interleaving;
 #[cfg(test)]
 mod lots;
+#[cfg(test)]
+mod permits;
 #[cfg(test)]
 mod read_mostly_table;
 #[cfg(test)]

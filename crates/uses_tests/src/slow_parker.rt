@@ -2,18 +2,17 @@
 
 use parking_lot_core::{NoMemory, Node, ThreadParkerT, UnparkHandleT, YieldHandle, YieldParker};
 use std::alloc::Global;
+use std::hint;
 use std::sync::Wait;
 use std::sync::atomic::{AtomicBool, Ordering};
-use std::thread;
 use std::time::{Clock, Instant};
 
-// Some tens of milliseconds.
-const YIELDS: usize = 200_000;
+// Some tens of milliseconds of a processor. Yields would take as long as other programs let them.
+const SPINS: usize = 1_000_000;
 
-/// A `YieldParker`. Thread 0 yields often as it first prepares to park, so that another thread can
-/// go on between what thread 0 does before a park and the park; and whoever first wakes thread 0
-/// yields as often before, so that a third one can come between an unpark's section and what
-/// follows it.
+/// A `YieldParker`. Thread 0 spins long as it first prepares to park, so that another thread can go
+/// on between what thread 0 does before a park and the park; and whoever first wakes thread 0 spins
+/// as long before, so that a third one can come between an unpark's section and what follows it.
 #[derive(Drop)]
 pub struct SlowParker {
     parker: YieldParker,
@@ -21,13 +20,13 @@ pub struct SlowParker {
     is_woken: AtomicBool,
 }
 
-// Yields often, unless the flag was raised before.
-fn yield_once(flag: &AtomicBool) {
+// Spins long, unless the flag was raised before.
+fn spin_once(flag: &AtomicBool) {
     if flag.swap(true, Ordering::SeqCst) {
         return;
     }
-    for _ in 0..YIELDS {
-        thread::yield_now();
+    for _ in 0..SPINS {
+        hint::spin_loop();
     }
 }
 
@@ -47,7 +46,7 @@ impl ThreadParkerT for SlowParker {
     }
 
     fn prepare_park(&self) {
-        yield_once(&self.is_prepared);
+        spin_once(&self.is_prepared);
     }
 
     fn timed_out<R: Wait>(&self, rt: &R) -> bool {
@@ -83,7 +82,7 @@ impl UnparkHandleT<SlowParker> for SlowHandle {
     }
 
     fn unpark(self, parker: &SlowParker) {
-        yield_once(&parker.is_woken);
+        spin_once(&parker.is_woken);
         self.handle.unpark(&parker.parker);
     }
 }

@@ -1,6 +1,7 @@
 //! A permit of a semaphore around no value, which another thread takes while the one that was woken
 //! for it wakes slowly.
 
+use crate::clock::from_now;
 use crate::expect_equal;
 use crate::lots::register;
 use crate::slow_parker::SlowParker;
@@ -12,7 +13,7 @@ use std::sync::Wait;
 use std::sync::atomic::{AtomicBool, Ordering};
 use std::test::Fail;
 use std::thread;
-use std::time::{Clock, Duration, Instant};
+use std::time::Clock;
 
 const KEY: usize = 7;
 
@@ -20,8 +21,8 @@ const THREADS: usize = 4;
 
 const TURNS: usize = 10_000_000;
 
-// Within so many seconds a thread that waits is woken, on any machine.
-const FAR: u64 = 20;
+// Within so many milliseconds a thread that waits is woken, on any machine.
+const FAR: u64 = 20_000;
 
 // A semaphore of one permit.
 #[derive(Drop)]
@@ -89,8 +90,7 @@ impl Shared {
     ) -> bool {
         let permit = self.semaphore.acquire(rt, member);
         let is_there = self.wait_for_waiter(rt, alloc);
-        let past = Instant::now(rt).expect(rt, "a clock");
-        let second = self.semaphore.acquire_until(rt, member, past);
+        let second = self.semaphore.acquire_until(rt, member, from_now(rt, 0));
         let had_second = had_permit(rt, member, second);
         permit.release(rt, member);
         self.is_released.store(true, Ordering::SeqCst);
@@ -115,11 +115,7 @@ impl Shared {
     // Waits for the permit that thread 2 took, and tells whether it had it.
     fn wait<R: Wait + Clock + Abort>(&self, rt: &R, member: &mut Member<'_, SlowParker>) -> bool {
         let is_taken = wait_for(&self.is_taken);
-        let now = Instant::now(rt).expect(rt, "a clock");
-        let far = now.checked_add(Duration::from_secs(FAR));
-        let tried = self
-            .semaphore
-            .acquire_until(rt, member, far.expect(rt, "an instant"));
+        let tried = self.semaphore.acquire_until(rt, member, from_now(rt, FAR));
         had_permit(rt, member, tried) && is_taken
     }
 

@@ -1,5 +1,6 @@
 //! Tests of the pool of worker threads.
 
+use crate::clock::{from_now, is_past};
 use crate::expect_equal;
 use lot_sync::fits::Fits;
 use parking_lot_core::{
@@ -25,6 +26,9 @@ const JOBS: usize = 500;
 
 // How often two threads go on by turns.
 const EXCHANGES: u64 = 10_000;
+
+// After so many milliseconds they go on no more, however few their turns.
+const LONG: u64 = 500;
 
 const TURNS: usize = 10_000_000;
 
@@ -209,12 +213,16 @@ fn ask<P: ThreadParkerT, R: Wait + Clock + Abort>(
     shared: &Shared<P>,
 ) -> bool {
     let mut member = shared.enter(rt, alloc);
+    let end = from_now(rt, LONG);
     let mut all_came = true;
     for number in 0..EXCHANGES {
         let submitted = shared.pool.submit(rt, &mut member, Job { number });
         let answer = shared.other.take(rt, &mut member);
         let next = number.wrapping_add(1);
         all_came = all_came && submitted.is_ok() && answer == Some(Job { number: next });
+        if is_past(rt, end) {
+            break;
+        }
     }
     shared.pool.close(rt, &mut member);
     all_came

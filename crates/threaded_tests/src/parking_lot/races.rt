@@ -11,6 +11,29 @@ const MAX_REGISTERED: usize = 100;
 
 const TRIMS: usize = 50;
 
+// After so many milliseconds no thread parks, registers or trims any more, however often it did.
+const LONG: u64 = 500;
+
+// How many threads have parked for the last time, and the instant after which the others end, too.
+#[derive(Drop)]
+struct Race {
+    done: AtomicUsize,
+    end: Instant,
+}
+
+impl Race {
+    fn new<R: Clock + Abort>(rt: &R) -> Race {
+        Race {
+            done: AtomicUsize::new(0),
+            end: from_now(rt, Duration::from_millis(LONG)),
+        }
+    }
+
+    fn is_over<R: Clock + Abort>(&self, rt: &R) -> bool {
+        Instant::now(rt).expect(rt, "a time of the clock") > self.end
+    }
+}
+
 // What one of the threads does.
 #[derive(Drop)]
 enum Job {
@@ -64,16 +87,19 @@ fn park_by_turns<P: ThreadParkerT, R: Wait + Clock + Abort>(
     rt: &R,
     lot: &ParkingLot<P>,
     mut data: ThreadData,
-    done: &AtomicUsize,
+    race: &Race,
 ) -> Tally {
     let mut received = 0_usize;
     for round in 0..PARKS_EACH {
+        if race.is_over(rt) {
+            break;
+        }
         let key = if round % 2 == 0 { 0 } else { 13 };
         if park_briefly(rt, lot, &mut data, key) {
             received = received.wrapping_add(1);
         }
     }
-    done.fetch_add(1, Ordering::SeqCst);
+    race.done.fetch_add(1, Ordering::SeqCst);
     Tally {
         received,
         answered: 0,
@@ -83,12 +109,12 @@ fn park_by_turns<P: ThreadParkerT, R: Wait + Clock + Abort>(
 fn unpark_until_done<P: ThreadParkerT, R: Wait>(
     rt: &R,
     lot: &ParkingLot<P>,
-    done: &AtomicUsize,
+    race: &Race,
     call: Call,
 ) -> Tally {
     let mut answered = 0_usize;
     for _ in 0..TURNS {
-        if done.load(Ordering::SeqCst) == PARKERS {
+        if race.done.load(Ordering::SeqCst) == PARKERS {
             break;
         }
         answered = answered.wrapping_add(unpark_some(rt, lot, call));
@@ -115,14 +141,19 @@ fn register_the_rest<P: ThreadParkerT, R: Wait + Clock + Abort>(
     rt: &R,
     alloc: Global,
     lot: &ParkingLot<P>,
+    race: &Race,
 ) -> Tally {
     let mut registered = Vec::new(alloc);
     for _ in PARKERS..MAX_REGISTERED {
+        if race.is_over(rt) {
+            break;
+        }
         thread::sleep(rt, Duration::from_millis(1));
         let data = register(rt, alloc, lot).expect(rt, "a number is left");
         registered.push(data).expect(rt, "memory");
     }
-    assert!(rt; is_full(rt, alloc, lot));
+    let are_all = registered.len() == MAX_REGISTERED - PARKERS;
+    expect_equal(rt, is_full(rt, alloc, lot), are_all);
     for data in registered {
         lot.retire(rt, data);
     }
@@ -137,8 +168,12 @@ fn trim_by_turns<P: ThreadParkerT, R: Wait + Clock + Abort>(
     rt: &R,
     alloc: Global,
     lot: &ParkingLot<P>,
+    race: &Race,
 ) -> Tally {
     for _ in 0..TRIMS {
+        if race.is_over(rt) {
+            break;
+        }
         thread::sleep(rt, Duration::from_millis(2));
         lot.trim(rt, alloc).expect(rt, "memory");
     }
@@ -152,14 +187,14 @@ fn play<P: ThreadParkerT, R: Wait + Clock + Abort>(
     rt: &R,
     alloc: Global,
     lot: &ParkingLot<P>,
-    done: &AtomicUsize,
+    race: &Race,
     job: Job,
 ) -> Tally {
     match job {
-        Job::Park(data) => park_by_turns(rt, lot, data, done),
-        Job::Unpark(call) => unpark_until_done(rt, lot, done, call),
-        Job::Register => register_the_rest(rt, alloc, lot),
-        Job::Trim => trim_by_turns(rt, alloc, lot),
+        Job::Park(data) => park_by_turns(rt, lot, data, race),
+        Job::Unpark(call) => unpark_until_done(rt, lot, race, call),
+        Job::Register => register_the_rest(rt, alloc, lot, race),
+        Job::Trim => trim_by_turns(rt, alloc, lot, race),
     }
 }
 
@@ -173,8 +208,8 @@ where
     P: ThreadParkerT + Send + Sync,
     R: Threads + Wait + Clock + Abort + Sync,
 {
-    let done = AtomicUsize::new(0);
-    Ok(thread::map_vec(rt, jobs, &|job| play(rt, alloc, lot, &done, job))?)
+    let race = Race::new(rt);
+    Ok(thread::map_vec(rt, jobs, &|job| play(rt, alloc, lot, &race, job))?)
 }
 
 fn nobody_is_lost<P, R>(rt: &R, alloc: Global) -> Result<(), Fail>

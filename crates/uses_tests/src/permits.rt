@@ -1,0 +1,96 @@
+//! Permits of a semaphore around no value, released one right after the other.
+//!
+//! One thread acts for four members. Two stand in the queue of the semaphore's key: the one parks
+//! before the other, by what it does before it sleeps, and that one does the releases so. Then all
+//! are unparked, so that each park ends.
+
+use crate::clock::from_now;
+use crate::expect_equal;
+use lot_sync::semaphore::Semaphore;
+use parking_lot_core::{
+    DEFAULT_PARK_TOKEN, DEFAULT_UNPARK_TOKEN, Member, ParkingLot, WordParker, unpark_all,
+};
+use std::alloc::Global;
+use std::cell::Cell;
+use std::process::Abort;
+use std::sync::Wait;
+use std::test::Fail;
+use std::time::Clock;
+
+const KEY: usize = 7;
+
+type Lot = ParkingLot<WordParker>;
+
+// Parks on the key, and calls the closure before it sleeps.
+fn park_and<R: Wait + Clock, B: FnOnce()>(rt: &R, member: &mut Member<'_, WordParker>, then: B)
+    requires { B.pre then }
+{
+    let token = DEFAULT_PARK_TOKEN;
+    member.park(rt, KEY, || true, then, |_, _| (), token, None);
+}
+
+// How many stand on the key.
+fn waiters<R: Wait + Abort>(rt: &R, alloc: Global, lot: &Lot) -> usize {
+    lot.list(rt, alloc, KEY).expect(rt, "a list").len()
+}
+
+// Waits for a permit while there is none, so that the semaphore notes that threads may wait. Tells
+// whether there was none.
+fn come_in_vain<R: Wait + Clock + Abort>(
+    rt: &R,
+    semaphore: &Semaphore,
+    member: &mut Member<'_, WordParker>,
+) -> bool {
+    let Some(permit) = semaphore.acquire_until(rt, member, from_now(rt, 0)) else {
+        return true;
+    };
+    permit.release(rt, member);
+    false
+}
+
+// Takes both permits of the semaphore and releases them, and tells how many stand on the key after
+// each release. `None` says that there was a third permit.
+fn release_both<R: Wait + Clock + Abort>(
+    rt: &R,
+    alloc: Global,
+    semaphore: &Semaphore,
+    holder: &mut Member<'_, WordParker>,
+    other: &mut Member<'_, WordParker>,
+) -> Option<(usize, usize)> {
+    let one = semaphore.acquire(rt, holder);
+    let two = semaphore.acquire(rt, holder);
+    let in_vain = come_in_vain(rt, semaphore, other);
+    one.release(rt, holder);
+    let after_one = waiters(rt, alloc, holder.lot());
+    two.release(rt, holder);
+    let after_two = waiters(rt, alloc, holder.lot());
+    if in_vain {
+        Some((after_one, after_two))
+    } else {
+        None
+    }
+}
+
+// It refuses a release that wakes nobody while another permit is free: the thread that was woken
+// for that one has not gone on yet, and wakes nobody either.
+#[test]
+fn each_of_two_releases_wakes_a_thread_before_the_first_has_gone_on(
+    rt: HostRuntime,
+) -> Result<(), Fail> {
+    let lot = Lot::new(rt.alloc(), 4)?;
+    let semaphore = Semaphore::new(rt.alloc(), KEY, 2)?;
+    let mut first = Member::register(&rt, rt.alloc(), &lot)?;
+    let mut second = Member::register(&rt, rt.alloc(), &lot)?;
+    let mut holder = Member::register(&rt, rt.alloc(), &lot)?;
+    let mut other = Member::register(&rt, rt.alloc(), &lot)?;
+    let left = Cell::new(None);
+    park_and(&rt, &mut first, || {
+        park_and(&rt, &mut second, || {
+            let told = release_both(&rt, rt.alloc(), &semaphore, &mut holder, &mut other);
+            left.set(told);
+            unpark_all(&rt, &lot, KEY, DEFAULT_UNPARK_TOKEN);
+        });
+    });
+    expect_equal(&rt, left.get(), Some((1, 0)));
+    Ok(())
+}
