@@ -1,7 +1,10 @@
 //! `lot_stress cost`: calls that are told to look at few of the threads or records there are, done
 //! so often that one which looks at all takes seconds. The processor time is measured from outside.
 
-use crate::fault::Fault;
+mod journals;
+mod requeues;
+
+use lot_memory::fault::Fault;
 use parking_lot_core::lot::Lot;
 use parking_lot_core::{DEFAULT_PARK_TOKEN, DEFAULT_UNPARK_TOKEN, LotError};
 use std::alloc::Global;
@@ -20,7 +23,8 @@ const RECORDS: usize = 150_000;
 const KEY: usize = 7;
 
 /// Registers as many threads as there can be; retires and registers one of them; unparks all one by
-/// one from one key; and records many keys, which it releases from the last to the first.
+/// one from one key; records many keys, which it releases from the last to the first; requeues all
+/// threads of an interleaved lot; and fills journals of records for as many threads.
 pub fn run<R: Print>(rt: &R, alloc: Global) -> Result<(), Fault> {
     for _ in 0..LOTS {
         full_lot(alloc)?;
@@ -31,6 +35,8 @@ pub fn run<R: Print>(rt: &R, alloc: Global) -> Result<(), Fault> {
         park_and_unpark_all(&mut lot)?;
     }
     record_and_release(&mut lot)?;
+    requeues::requeue_all(alloc)?;
+    journals::fill_journals(alloc)?;
     println!(rt; "done")?;
     Ok(())
 }

@@ -4,7 +4,7 @@
 ghost use Rattle.std.specs.Prelude.{◌≡◌};
 
 use crate::draws::Draws;
-use crate::fault::Fault;
+use lot_memory::fault::Fault;
 use lot_sync::fits::Fits;
 use lot_sync::mutex::{Condvar, Held, Mutex};
 use lot_sync::rw_lock::{ReadHeld, RwLock, WriteHeld};

@@ -1,7 +1,7 @@
 //! `lot_stress parks`: one thread that parks so often that memory which its parks would keep shows
 //! in the size of the process.
 
-use crate::fault::Fault;
+use lot_memory::fault::Fault;
 use parking_lot_core::{
     DEFAULT_PARK_TOKEN, ParkResult, ParkingLot, ThreadData, ThreadParker, ThreadParkerT,
     UnparkToken, WordParker, YieldParker, park, unpark_one,

@@ -1,8 +1,8 @@
 //! The commands of the program.
 
-use crate::fault::Fault;
-use crate::memory::{self, Scenario};
 use crate::{cost, locks, parks, race, rest};
+use lot_memory::Scenario;
+use lot_memory::fault::Fault;
 use parking_lot_core::{ThreadParker, WordParker, YieldParker};
 use std::process::ExitCode;
 use std::rt::Env;
@@ -92,7 +92,7 @@ fn command_with_one(command: &str, word: &str) -> Option<Command> {
 
 fn command_with_two(command: &str, first: &str, second: &str) -> Option<Command> {
     match command {
-        "memory" => Some(Command::Memory(memory::named(first)?, parker_named(second)?)),
+        "memory" => Some(Command::Memory(lot_memory::named(first)?, parker_named(second)?)),
         "race" => Some(Command::Race {
             seconds: first.parse().ok()?,
             seed: second.parse().ok()?,
@@ -121,13 +121,13 @@ fn follow<R: Print + Eprint + AllocGlobal + Threads + Wait + Clock + Copy + Send
     match command {
         Command::List => Ok(print_names(rt)?),
         Command::Memory(scenario, Parker::OfOneWord) => {
-            memory::play::<WordParker, _>(rt, rt.alloc(), scenario)
+            lot_memory::play::<WordParker, _>(rt, rt.alloc(), scenario)
         }
         Command::Memory(scenario, Parker::Sleeping) => {
-            memory::play::<ThreadParker, _>(rt, rt.alloc(), scenario)
+            lot_memory::play::<ThreadParker, _>(rt, rt.alloc(), scenario)
         }
         Command::Memory(scenario, Parker::Yielding) => {
-            memory::play::<YieldParker, _>(rt, rt.alloc(), scenario)
+            lot_memory::play::<YieldParker, _>(rt, rt.alloc(), scenario)
         }
         Command::Cost => cost::run(rt, rt.alloc()),
         Command::Parks { count } => parks::run(rt, rt.alloc(), count),
@@ -140,7 +140,7 @@ fn follow<R: Print + Eprint + AllocGlobal + Threads + Wait + Clock + Copy + Send
 // The scenarios by their names, each with how many of its requests are to be refused, and with
 // which parkers it is to be run.
 fn print_names<R: Print>(rt: &R) -> io::Result<()> {
-    for (_, kind, name, parkers) in memory::ROWS {
+    for (_, kind, name, parkers) in lot_memory::ROWS {
         println!(rt; "{kind} {name} {parkers}")?;
     }
     Ok(())

@@ -4,8 +4,8 @@
 mod figures;
 mod round;
 
-use crate::fault::Fault;
 use figures::Figures;
+use lot_memory::fault::Fault;
 use parking_lot_core::{ThreadParker, WordParker, YieldParker};
 use std::alloc::Global;
 use std::io;

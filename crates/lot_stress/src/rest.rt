@@ -6,9 +6,9 @@ mod late_wake;
 
 ghost use Rattle.std.specs.Prelude.{⊤};
 
-use crate::fault::Fault;
-use crate::turns::comes_to;
 use lot_base::word_lock::{Fits, WordLock};
+use lot_memory::fault::Fault;
+use lot_memory::turns::comes_to;
 use parking_lot_core::{
     DEFAULT_PARK_TOKEN, DEFAULT_UNPARK_TOKEN, ParkResult, ParkingLot, ThreadData, ThreadParker,
     ThreadParkerT, WordParker, park, unpark_all,

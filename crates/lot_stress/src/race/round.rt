@@ -4,7 +4,7 @@ mod roles;
 
 use super::figures::Figures;
 use crate::draws::Draws;
-use crate::fault::Fault;
+use lot_memory::fault::Fault;
 use parking_lot_core::{ParkingLot, ThreadParkerT, UnparkToken, unpark_all};
 use std::alloc::Global;
 use std::sync::atomic::{AtomicBool, AtomicUsize, Ordering};

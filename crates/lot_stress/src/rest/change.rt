@@ -1,7 +1,7 @@
 //! Threads that come to a table while it grows.
 
-use crate::fault::Fault;
-use crate::turns::comes_to;
+use lot_memory::fault::Fault;
+use lot_memory::turns::comes_to;
 use parking_lot_core::{DEFAULT_UNPARK_TOKEN, ParkingLot, WordParker, unpark_all, unpark_one};
 use std::alloc::Global;
 use std::sync::Wait;

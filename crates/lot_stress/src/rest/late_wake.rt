@@ -3,8 +3,8 @@
 ghost use Rattle.std.specs.Prelude.{◌≡◌};
 ghost use Rattle.lot_base.specs.Node.{fields};
 
-use crate::fault::Fault;
-use crate::turns::comes_to;
+use lot_memory::fault::Fault;
+use lot_memory::turns::comes_to;
 use parking_lot_core::{Node, ThreadParkerT, UnparkHandleT};
 use std::alloc::Global;
 use std::sync::Wait;

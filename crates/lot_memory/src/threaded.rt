@@ -1,8 +1,8 @@
 //! Scenarios on the threaded lot, with one thread.
 
-use super::unparks::{requeue, unpark_by_filter};
-use super::{FEW, KEYS, Moment, marks, show_waiting, tell_answer, tell_refused, tell_unmade};
 use crate::fault::Fault;
+use crate::unparks::{requeue, unpark_by_filter};
+use crate::{FEW, KEYS, Moment, marks, show_waiting, tell_answer, tell_refused, tell_unmade};
 use parking_lot_core::deadlock::{acquire_resource, release_resource};
 use parking_lot_core::{
     DEFAULT_PARK_TOKEN, LotError, NoMemory, ParkResult, ParkingLot, RequeueOp, ThreadData,
@@ -14,7 +14,7 @@ use std::sync::Wait;
 use std::time::{Clock, Duration, Instant};
 
 /// How many numbers the lot has.
-pub(super) const MOST: usize = 1_024;
+pub const MOST: usize = 1_024;
 
 // A lot for so many is made with few enough requests to refuse each in turn.
 const SOME: usize = 40;
@@ -25,7 +25,7 @@ const RECORDINGS: usize = 130;
 const MOMENT: u64 = 5;
 
 /// `ParkingLot::new`.
-pub(super) fn new<P: ThreadParkerT, R: Print>(rt: &R, alloc: Global) -> Result<(), Fault> {
+pub fn new<P: ThreadParkerT, R: Print>(rt: &R, alloc: Global) -> Result<(), Fault> {
     marks::begin(alloc);
     let made = ParkingLot::<P>::new(alloc, SOME);
     marks::end(alloc);
@@ -40,7 +40,7 @@ pub(super) fn new<P: ThreadParkerT, R: Print>(rt: &R, alloc: Global) -> Result<(
 }
 
 /// `ParkingLot::thread_data`, so many times, where so many threads were registered before.
-pub(super) fn register<P: ThreadParkerT, R: Print + Wait + Clock>(
+pub fn register<P: ThreadParkerT, R: Print + Wait + Clock>(
     rt: &R,
     alloc: Global,
     registered: usize,
@@ -52,26 +52,20 @@ pub(super) fn register<P: ThreadParkerT, R: Print + Wait + Clock>(
 
 /// `ParkingLot::trim` after a thread was registered for which the table has grown, and the next
 /// growth, which finds the row that the first one made.
-pub(super) fn trim<P: ThreadParkerT, R: Print + Wait + Clock>(
-    rt: &R,
-    alloc: Global,
-) -> Result<(), Fault> {
+pub fn trim<P: ThreadParkerT, R: Print + Wait + Clock>(rt: &R, alloc: Global) -> Result<(), Fault> {
     let mut threads = Registered::<P>::new(rt, alloc, FEW + 1)?;
     threads.retire_last(rt);
     threads.play_trim(rt)
 }
 
 /// `ParkingLot::list`, in a park, which asks for nothing.
-pub(super) fn list<P: ThreadParkerT, R: Print + Wait + Clock>(
-    rt: &R,
-    alloc: Global,
-) -> Result<(), Fault> {
+pub fn list<P: ThreadParkerT, R: Print + Wait + Clock>(rt: &R, alloc: Global) -> Result<(), Fault> {
     let mut threads = Registered::<P>::new(rt, alloc, FEW)?;
     threads.play_list(rt)
 }
 
 /// `acquire_resource`, many times.
-pub(super) fn acquire<P: ThreadParkerT, R: Print + Wait + Clock>(
+pub fn acquire<P: ThreadParkerT, R: Print + Wait + Clock>(
     rt: &R,
     alloc: Global,
 ) -> Result<(), Fault> {
@@ -80,7 +74,7 @@ pub(super) fn acquire<P: ThreadParkerT, R: Print + Wait + Clock>(
 }
 
 /// `park` with each way to end, each unpark, `release_resource`, and `list` where nobody waits.
-pub(super) fn park_each_way<P: ThreadParkerT, R: Print + Wait + Clock>(
+pub fn park_each_way<P: ThreadParkerT, R: Print + Wait + Clock>(
     rt: &R,
     alloc: Global,
 ) -> Result<(), Fault> {

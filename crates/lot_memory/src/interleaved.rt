@@ -1,9 +1,9 @@
 //! Scenarios on the interleaved lot.
 
-use super::{
+use crate::fault::Fault;
+use crate::{
     FEW, KEYS, Moment, marks, show_size, show_waiting, tell_answer, tell_refused, tell_unmade,
 };
-use crate::fault::Fault;
 use parking_lot_core::interleaved::{FineAnswer, FineLot, FineStep, run_fine};
 use parking_lot_core::schedule::{Answer, Op, Step};
 use parking_lot_core::{LotError, NoMemory, ParkToken, UnparkToken};
@@ -15,7 +15,7 @@ const MOST: usize = 40;
 const CALLERS: usize = 2;
 
 /// `FineLot::new`.
-pub(super) fn new<R: Print>(rt: &R, alloc: Global) -> Result<(), Fault> {
+pub fn new<R: Print>(rt: &R, alloc: Global) -> Result<(), Fault> {
     marks::begin(alloc);
     let made = FineLot::new(alloc, MOST, CALLERS);
     marks::end(alloc);
@@ -26,7 +26,7 @@ pub(super) fn new<R: Print>(rt: &R, alloc: Global) -> Result<(), Fault> {
 }
 
 /// `FineLot::list`.
-pub(super) fn list<R: Print>(rt: &R, alloc: Global) -> Result<(), Fault> {
+pub fn list<R: Print>(rt: &R, alloc: Global) -> Result<(), Fault> {
     let lot = waiting_lot(rt, alloc)?;
     marks::begin(alloc);
     let answer = lot.list(KEYS[0]);
@@ -35,7 +35,7 @@ pub(super) fn list<R: Print>(rt: &R, alloc: Global) -> Result<(), Fault> {
 }
 
 /// `run_fine` of steps of each kind.
-pub(super) fn run_all<R: Print>(rt: &R, alloc: Global) -> Result<(), Fault> {
+pub fn run_all<R: Print>(rt: &R, alloc: Global) -> Result<(), Fault> {
     let mut schedule = Schedule::new(alloc, mixed(alloc)?)?;
     schedule.play(rt, alloc)
 }

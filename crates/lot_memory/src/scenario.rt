@@ -87,6 +87,10 @@ pub enum Scenario {
     /// `acquire_resource`, 130 times.
     AcquireResource,
 
+    /// `Member::register` of the lot whose calls are one history, where the table grows again after
+    /// a trim.
+    WitnessedAgain,
+
     /// `FairCore::new`.
     FairCoreNew,
 
@@ -206,6 +210,7 @@ pub const ROWS: &[Row] = &[
         "acquire_resource",
         "each",
     ),
+    (Scenario::WitnessedAgain, "each", "witnessed_again", "each"),
     (Scenario::FairCoreNew, "each", "fair_core_new", "any"),
     (Scenario::FairRegister, "each", "fair_register", "any"),
     (Scenario::FairWaiters, "each", "fair_waiters", "any"),

@@ -1,4 +1,4 @@
-use Rattle.lot_stress.proofs.memory.tools.tickets_of_workers.Given as goal
+use Rattle.lot_memory.proofs.tools.tickets_of_workers.Given as goal
 
 abbrev pub ghosts-tickets_of-C-Ledger : goal.ghosts-tickets_of-C-Ledger
 ghosts-tickets_of-C-Ledger a = record { name = a.blanks.0.name; parts = a.blanks.0.parts }

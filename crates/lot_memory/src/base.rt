@@ -2,8 +2,8 @@
 
 ghost use Rattle.std.specs.Prelude.{◌≡◌, ⊤};
 
-use super::{Moment, marks, tell_answer, tell_refused};
 use crate::fault::Fault;
+use crate::{Moment, marks, tell_answer, tell_refused};
 use lot_base::word_lock::{Fits, WordLock};
 use parking_lot_core::{
     Bucket, FilterOp, NoMemory, Node, ParkToken, Queue, Slot, SpinWait, ThreadParkerT,
@@ -23,7 +23,7 @@ const OWNER: usize = 3;
 const ROOM: usize = 64;
 
 /// `Node::new`.
-pub(super) fn new_node<R: Print>(rt: &R, alloc: Global) -> Result<(), Fault> {
+pub fn new_node<R: Print>(rt: &R, alloc: Global) -> Result<(), Fault> {
     marks::begin(alloc);
     let made = Node::new(alloc, OWNER);
     marks::end(alloc);
@@ -34,7 +34,7 @@ pub(super) fn new_node<R: Print>(rt: &R, alloc: Global) -> Result<(), Fault> {
 }
 
 /// `WordLock::new`.
-pub(super) fn new_word_lock<R: Print + Wait>(rt: &R, alloc: Global) -> Result<(), Fault> {
+pub fn new_word_lock<R: Print + Wait>(rt: &R, alloc: Global) -> Result<(), Fault> {
     marks::begin(alloc);
     let made = WordLock::new(alloc, Number(OWNER), &());
     marks::end(alloc);
@@ -67,7 +67,7 @@ fn number_in<R: Wait>(rt: &R, lock: &WordLock<Number>) -> usize {
 }
 
 /// `Bucket::list`.
-pub(super) fn list<R: Print>(rt: &R, alloc: Global) -> Result<(), Fault> {
+pub fn list<R: Print>(rt: &R, alloc: Global) -> Result<(), Fault> {
     let mut bucket = Bucket::new(place(KEY, SIZE), SIZE);
     enter(&mut bucket, Node::new(alloc, OWNER)?);
     list_bucket(rt, alloc, &bucket)
@@ -102,7 +102,7 @@ fn enter(bucket: &mut Bucket, mut node: Box<Node>) {
 }
 
 /// All of `SpinWait`, and `thread_yield`.
-pub(super) fn spin<R: Print>(rt: &R, alloc: Global) -> Result<(), Fault> {
+pub fn spin<R: Print>(rt: &R, alloc: Global) -> Result<(), Fault> {
     let mut trial = Trial::new(rt, alloc)?;
     marks::begin(alloc);
     trial.spin();
@@ -111,7 +111,7 @@ pub(super) fn spin<R: Print>(rt: &R, alloc: Global) -> Result<(), Fault> {
 }
 
 /// All of `Queue` and `Slot`.
-pub(super) fn use_queues<R: Print>(rt: &R, alloc: Global) -> Result<(), Fault> {
+pub fn use_queues<R: Print>(rt: &R, alloc: Global) -> Result<(), Fault> {
     let mut trial = Trial::new(rt, alloc)?;
     marks::begin(alloc);
     trial.use_queues();
@@ -121,7 +121,7 @@ pub(super) fn use_queues<R: Print>(rt: &R, alloc: Global) -> Result<(), Fault> {
 }
 
 /// Steps of a bucket. Those that move nodes to another key, or out of it, are among those of a lot.
-pub(super) fn use_bucket<R: Print>(rt: &R, alloc: Global) -> Result<(), Fault> {
+pub fn use_bucket<R: Print>(rt: &R, alloc: Global) -> Result<(), Fault> {
     let mut trial = Trial::new(rt, alloc)?;
     marks::begin(alloc);
     trial.use_bucket();
@@ -130,7 +130,7 @@ pub(super) fn use_bucket<R: Print>(rt: &R, alloc: Global) -> Result<(), Fault> {
 }
 
 /// All of a parker and its handles.
-pub(super) fn use_parker<P: ThreadParkerT, R: Print + Wait + Clock>(
+pub fn use_parker<P: ThreadParkerT, R: Print + Wait + Clock>(
     rt: &R,
     alloc: Global,
 ) -> Result<(), Fault> {

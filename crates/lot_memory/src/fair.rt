@@ -1,7 +1,7 @@
 //! Scenarios on the core of a fair mutex and its condition variable.
 
-use super::{FEW, Moment, marks, tell_answer, tell_refused, tell_unmade};
 use crate::fault::Fault;
+use crate::{FEW, Moment, marks, tell_answer, tell_refused, tell_unmade};
 use lot_locks::fair::{FairAnswer, FairCore, FairStep, run_fair};
 use parking_lot_core::{LotError, NoMemory};
 use std::alloc::Global;
@@ -40,7 +40,7 @@ const ENDS: &[FairStep] = &[
 ];
 
 /// `FairCore::new`.
-pub(super) fn new<R: Print>(rt: &R, alloc: Global) -> Result<(), Fault> {
+pub fn new<R: Print>(rt: &R, alloc: Global) -> Result<(), Fault> {
     marks::begin(alloc);
     let made = FairCore::new(alloc, MOST);
     marks::end(alloc);
@@ -51,7 +51,7 @@ pub(super) fn new<R: Print>(rt: &R, alloc: Global) -> Result<(), Fault> {
 }
 
 /// A registration for which the table grows.
-pub(super) fn register<R: Print>(rt: &R, alloc: Global) -> Result<(), Fault> {
+pub fn register<R: Print>(rt: &R, alloc: Global) -> Result<(), Fault> {
     let mut core = core_in_use(rt, alloc)?;
     marks::begin(alloc);
     let answer = core.apply(&FairStep::Register);
@@ -60,7 +60,7 @@ pub(super) fn register<R: Print>(rt: &R, alloc: Global) -> Result<(), Fault> {
 }
 
 /// `FairCore::waiters`.
-pub(super) fn waiters<R: Print>(rt: &R, alloc: Global) -> Result<(), Fault> {
+pub fn waiters<R: Print>(rt: &R, alloc: Global) -> Result<(), Fault> {
     let mut core = core_in_use(rt, alloc)?;
     marks::begin(alloc);
     let answer = core.waiters();
@@ -69,7 +69,7 @@ pub(super) fn waiters<R: Print>(rt: &R, alloc: Global) -> Result<(), Fault> {
 }
 
 /// `FairCore::sleepers`.
-pub(super) fn sleepers<R: Print>(rt: &R, alloc: Global) -> Result<(), Fault> {
+pub fn sleepers<R: Print>(rt: &R, alloc: Global) -> Result<(), Fault> {
     let mut core = core_in_use(rt, alloc)?;
     marks::begin(alloc);
     let answer = core.sleepers();
@@ -78,7 +78,7 @@ pub(super) fn sleepers<R: Print>(rt: &R, alloc: Global) -> Result<(), Fault> {
 }
 
 /// `run_fair` of steps of each kind.
-pub(super) fn run_all<R: Print>(rt: &R, alloc: Global) -> Result<(), Fault> {
+pub fn run_all<R: Print>(rt: &R, alloc: Global) -> Result<(), Fault> {
     let mut schedule = Schedule::new(alloc, FEW)?;
     for _ in 0..FEW {
         schedule.steps.push(FairStep::Register)?;
@@ -92,7 +92,7 @@ pub(super) fn run_all<R: Print>(rt: &R, alloc: Global) -> Result<(), Fault> {
 }
 
 /// Steps of each kind but registrations, of which a retirement leaves a table that is too large.
-pub(super) fn use_steps<R: Print>(rt: &R, alloc: Global) -> Result<(), Fault> {
+pub fn use_steps<R: Print>(rt: &R, alloc: Global) -> Result<(), Fault> {
     let mut schedule = Schedule::new(alloc, FEW + 1)?;
     schedule.add(ENDS)?;
     schedule.answers.reserve(schedule.steps.len())?;

@@ -2,9 +2,9 @@
 
 ghost use Rattle.std.specs.Prelude.{◌≡◌};
 
-use super::exclusive::show_lot;
-use super::{Moment, marks, tell_answer, tell_refused, tell_unmade};
+use crate::exclusive::show_lot;
 use crate::fault::Fault;
+use crate::{Moment, marks, tell_answer, tell_refused, tell_unmade};
 use lot_tools::record::Record;
 use lot_tools::recording_lot::RecordingLot;
 use lot_tools::script::script;
@@ -49,7 +49,7 @@ const LINES: &[&str] = &[
 const REFUSED: &[u8] = b"no memory";
 
 /// `Record::new`.
-pub(super) fn new_record<R: Print>(rt: &R, alloc: Global) -> Result<(), Fault> {
+pub fn new_record<R: Print>(rt: &R, alloc: Global) -> Result<(), Fault> {
     marks::begin(alloc);
     let made = Record::new(alloc, MOST, JOURNAL);
     marks::end(alloc);
@@ -66,7 +66,7 @@ fn tell_record<R: Print>(rt: &R, record: &Record) -> Result<(), Fault> {
 }
 
 /// `RecordingLot::new`. The lot lives only in the call.
-pub(super) fn new_recording_lot<R: Print>(rt: &R, alloc: Global) -> Result<(), Fault> {
+pub fn new_recording_lot<R: Print>(rt: &R, alloc: Global) -> Result<(), Fault> {
     marks::begin(alloc);
     let answer = tickets_of_workers(alloc);
     marks::end(alloc);
@@ -103,7 +103,7 @@ fn tickets_of<C: Ledger, W: Ledger, U: Ledger>(
 }
 
 /// `script`, with room for what it writes.
-pub(super) fn run_script<R: Print>(rt: &R, alloc: Global) -> Result<(), Fault> {
+pub fn run_script<R: Print>(rt: &R, alloc: Global) -> Result<(), Fault> {
     let mut input = Vec::new(alloc);
     add_lines(&mut input)?;
     let mut output = Vec::with_capacity(alloc, ROOM)?;

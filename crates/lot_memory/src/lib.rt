@@ -1,15 +1,17 @@
-//! `lot_stress memory`: scenarios in which requests for memory are counted, and refused from
-//! outside.
+//! Scenarios in which requests for memory are counted, and refused from outside. The program runs
+//! them.
 //!
 //! Each is a function. It makes what it stands on and shows the state, does the calls between the
 //! marks, and then tells what they answered, the state after them, and how many of several calls
 //! were refused. Last it looks whether later calls do what they should.
+#![tactic(auto)]
 
 mod base;
 mod crowd;
 mod exclusive;
 mod fair;
 mod fair_threads;
+pub mod fault;
 mod gate;
 mod interleaved;
 mod locks;
@@ -19,9 +21,11 @@ mod scenario;
 mod table;
 mod threaded;
 mod tools;
+pub mod turns;
 mod unparks;
+mod witnessed;
 
-use crate::fault::Fault;
+use fault::Fault;
 use parking_lot_core::{LotError, NoMemory, ThreadParkerT};
 pub use scenario::{ROWS, Scenario, named};
 use std::alloc::Global;
@@ -151,6 +155,7 @@ where
         Scenario::Registrations => threaded::register::<P, _>(rt, alloc, 0, threaded::MOST),
         Scenario::ParkingLotList => threaded::list::<P, _>(rt, alloc),
         Scenario::AcquireResource => threaded::acquire::<P, _>(rt, alloc),
+        Scenario::WitnessedAgain => witnessed::register_again::<P, _>(rt, alloc),
         Scenario::FairCoreNew => fair::new(rt, alloc),
         Scenario::FairRegister => fair::register(rt, alloc),
         Scenario::FairWaiters => fair::waiters(rt, alloc),

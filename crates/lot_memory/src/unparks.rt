@@ -7,7 +7,7 @@ use parking_lot_core::{
 use std::sync::Wait;
 
 /// Unparks all waiters of the key, by a filter, and answers how many there were.
-pub(super) fn unpark_by_filter<P: ThreadParkerT, R: Wait>(
+pub fn unpark_by_filter<P: ThreadParkerT, R: Wait>(
     rt: &R,
     lot: &ParkingLot<P>,
     key: usize,
@@ -17,7 +17,7 @@ pub(super) fn unpark_by_filter<P: ThreadParkerT, R: Wait>(
 }
 
 /// Requeues by this operation.
-pub(super) fn requeue<P: ThreadParkerT, R: Wait>(
+pub fn requeue<P: ThreadParkerT, R: Wait>(
     rt: &R,
     lot: &ParkingLot<P>,
     from: usize,

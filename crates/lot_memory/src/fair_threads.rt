@@ -1,9 +1,9 @@
 //! A scenario in which threads use a fair mutex and its condition variable.
 
-use super::gate::Gate;
-use super::{are_all_true, tell_answer, tell_refused};
 use crate::fault::Fault;
+use crate::gate::Gate;
 use crate::turns::comes_to;
+use crate::{are_all_true, tell_answer, tell_refused};
 use lot_locks::fair::{FairCondvar, FairMutex};
 use parking_lot_core::{ParkingLot, ThreadData, ThreadParkerT};
 use std::alloc::Global;
@@ -124,7 +124,7 @@ impl<P: ThreadParkerT> Room<P> {
 }
 
 /// All of a `FairMutex` and a `FairCondvar`, with eight threads.
-pub(super) fn use_threads<P, R>(rt: &R, alloc: Global) -> Result<(), Fault>
+pub fn use_threads<P, R>(rt: &R, alloc: Global) -> Result<(), Fault>
 where
     P: ThreadParkerT + Send + Sync + 'static,
     P::UnparkHandle: 'static,

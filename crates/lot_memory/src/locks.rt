@@ -1,7 +1,7 @@
 //! Scenarios on the locks around values, with one thread.
 
-use super::{Moment, marks, tell_answer, tell_refused};
 use crate::fault::Fault;
+use crate::{Moment, marks, tell_answer, tell_refused};
 use lot_sync::fits::Fits;
 use lot_sync::mutex::{Condvar, Held, Mutex};
 use lot_sync::once::{Once, OnceValue};
@@ -22,7 +22,7 @@ struct Number(usize);
 impl Fits for Number {}
 
 /// `Mutex::new`.
-pub(super) fn new_mutex<R: Print + Wait + Clock>(rt: &R, alloc: Global) -> Result<(), Fault> {
+pub fn new_mutex<R: Print + Wait + Clock>(rt: &R, alloc: Global) -> Result<(), Fault> {
     let lot = ParkingLot::<WordParker>::new(alloc, 1)?;
     let mut member = Member::register(rt, alloc, &lot)?;
     marks::begin(alloc);
@@ -35,7 +35,7 @@ pub(super) fn new_mutex<R: Print + Wait + Clock>(rt: &R, alloc: Global) -> Resul
 }
 
 /// `Once::new`.
-pub(super) fn new_once<R: Print + Wait + Clock>(rt: &R, alloc: Global) -> Result<(), Fault> {
+pub fn new_once<R: Print + Wait + Clock>(rt: &R, alloc: Global) -> Result<(), Fault> {
     let lot = ParkingLot::<WordParker>::new(alloc, 1)?;
     let mut member = Member::register(rt, alloc, &lot)?;
     marks::begin(alloc);
@@ -48,7 +48,7 @@ pub(super) fn new_once<R: Print + Wait + Clock>(rt: &R, alloc: Global) -> Result
 }
 
 /// `OnceValue::new`.
-pub(super) fn new_once_value<R: Print + Wait + Clock>(rt: &R, alloc: Global) -> Result<(), Fault> {
+pub fn new_once_value<R: Print + Wait + Clock>(rt: &R, alloc: Global) -> Result<(), Fault> {
     let lot = ParkingLot::<WordParker>::new(alloc, 1)?;
     let mut member = Member::register(rt, alloc, &lot)?;
     marks::begin(alloc);
@@ -61,7 +61,7 @@ pub(super) fn new_once_value<R: Print + Wait + Clock>(rt: &R, alloc: Global) -> 
 }
 
 /// All calls of the locks around values where nobody else is.
-pub(super) fn use_locks<P: ThreadParkerT, R: Print + Wait + Clock>(
+pub fn use_locks<P: ThreadParkerT, R: Print + Wait + Clock>(
     rt: &R,
     alloc: Global,
 ) -> Result<(), Fault> {

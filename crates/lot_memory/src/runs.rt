@@ -1,7 +1,7 @@
 //! Many short runs, which append their answers to the same lists.
 
-use super::{marks, tell_answer, tell_refused};
 use crate::fault::Fault;
+use crate::{marks, tell_answer, tell_refused};
 use parking_lot_core::NoMemory;
 use parking_lot_core::interleaved::{FineAnswer, FineLot, FineStep, run_fine};
 use parking_lot_core::lot::Lot;
@@ -21,7 +21,7 @@ struct Runs {
 
 /// `run` and `run_fine` of one step each, by turns. A run that asks for just the room that its
 /// answer needs would ask each time.
-pub(super) fn run_often<R: Print>(rt: &R, alloc: Global) -> Result<(), Fault> {
+pub fn run_often<R: Print>(rt: &R, alloc: Global) -> Result<(), Fault> {
     let mut runs = Runs {
         lot: Lot::new(alloc, 1)?,
         answers: Vec::new(alloc),

@@ -1,9 +1,9 @@
 //! Scenarios on the table of the lots without threads.
 
-use super::{
+use crate::fault::Fault;
+use crate::{
     FEW, KEYS, Moment, marks, show_size, show_waiting, tell_answer, tell_refused, tell_unmade,
 };
-use crate::fault::Fault;
 use parking_lot_core::table::Table;
 use parking_lot_core::{LotError, Node, ParkToken};
 use std::alloc::Global;
@@ -12,7 +12,7 @@ use std::fmt;
 const MOST: usize = 40;
 
 /// `Table::new`.
-pub(super) fn new<R: Print>(rt: &R, alloc: Global) -> Result<(), Fault> {
+pub fn new<R: Print>(rt: &R, alloc: Global) -> Result<(), Fault> {
     marks::begin(alloc);
     let made = Table::new(alloc, MOST);
     marks::end(alloc);
@@ -23,7 +23,7 @@ pub(super) fn new<R: Print>(rt: &R, alloc: Global) -> Result<(), Fault> {
 }
 
 /// `Table::register` of the number for which it grows.
-pub(super) fn register<R: Print>(rt: &R, alloc: Global) -> Result<(), Fault> {
+pub fn register<R: Print>(rt: &R, alloc: Global) -> Result<(), Fault> {
     let mut table = waiting_table(rt, alloc)?;
     marks::begin(alloc);
     let answer = table.register();
@@ -32,7 +32,7 @@ pub(super) fn register<R: Print>(rt: &R, alloc: Global) -> Result<(), Fault> {
 }
 
 /// `Table::trim` after a number was in use for which the table has grown.
-pub(super) fn trim<R: Print>(rt: &R, alloc: Global) -> Result<(), Fault> {
+pub fn trim<R: Print>(rt: &R, alloc: Global) -> Result<(), Fault> {
     let mut table = table_of_waiters(alloc)?;
     trim_after_growth(rt, alloc, &mut table)
 }
@@ -48,7 +48,7 @@ fn trim_after_growth<R: Print>(rt: &R, alloc: Global, table: &mut Table) -> Resu
 }
 
 /// `Table::list`.
-pub(super) fn list<R: Print>(rt: &R, alloc: Global) -> Result<(), Fault> {
+pub fn list<R: Print>(rt: &R, alloc: Global) -> Result<(), Fault> {
     let table = waiting_table(rt, alloc)?;
     marks::begin(alloc);
     let answer = table.list(alloc, KEYS[0]);
@@ -57,7 +57,7 @@ pub(super) fn list<R: Print>(rt: &R, alloc: Global) -> Result<(), Fault> {
 }
 
 /// `Table::take`, `put` and `release`.
-pub(super) fn use_steps<R: Print>(rt: &R, alloc: Global) -> Result<(), Fault> {
+pub fn use_steps<R: Print>(rt: &R, alloc: Global) -> Result<(), Fault> {
     let mut table = waiting_table(rt, alloc)?;
     marks::begin(alloc);
     take_and_put(&mut table);

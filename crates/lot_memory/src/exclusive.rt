@@ -1,9 +1,9 @@
 //! Scenarios on the exclusive lot, and schedules of its steps.
 
-use super::{
+use crate::fault::Fault;
+use crate::{
     FEW, KEYS, Moment, marks, show_size, show_waiting, tell_answer, tell_refused, tell_unmade,
 };
-use crate::fault::Fault;
 use parking_lot_core::lot::Lot;
 use parking_lot_core::schedule::{Answer, Op, Step, run};
 use parking_lot_core::{FilterOp, LotError, NoMemory, ParkToken, RequeueOp, UnparkToken};
@@ -18,7 +18,7 @@ const RECORDINGS: usize = 130;
 const MOST: usize = 1_024;
 
 /// `Lot::new`.
-pub(super) fn new<R: Print>(rt: &R, alloc: Global) -> Result<(), Fault> {
+pub fn new<R: Print>(rt: &R, alloc: Global) -> Result<(), Fault> {
     marks::begin(alloc);
     let made = Lot::new(alloc, MOST);
     marks::end(alloc);
@@ -29,7 +29,7 @@ pub(super) fn new<R: Print>(rt: &R, alloc: Global) -> Result<(), Fault> {
 }
 
 /// `Lot::register` of the thread for which the table grows.
-pub(super) fn register<R: Print>(rt: &R, alloc: Global) -> Result<(), Fault> {
+pub fn register<R: Print>(rt: &R, alloc: Global) -> Result<(), Fault> {
     let mut lot = waiting_lot(rt, alloc)?;
     marks::begin(alloc);
     let answer = lot.register();
@@ -38,7 +38,7 @@ pub(super) fn register<R: Print>(rt: &R, alloc: Global) -> Result<(), Fault> {
 }
 
 /// `Lot::trim` after a thread was registered for which the table has grown.
-pub(super) fn trim<R: Print>(rt: &R, alloc: Global) -> Result<(), Fault> {
+pub fn trim<R: Print>(rt: &R, alloc: Global) -> Result<(), Fault> {
     let mut lot = lot_of_waiters(alloc)?;
     trim_after_growth(rt, alloc, &mut lot)
 }
@@ -54,7 +54,7 @@ fn trim_after_growth<R: Print>(rt: &R, alloc: Global, lot: &mut Lot) -> Result<(
 }
 
 /// `Lot::acquire` of a thread without records.
-pub(super) fn acquire<R: Print>(rt: &R, alloc: Global) -> Result<(), Fault> {
+pub fn acquire<R: Print>(rt: &R, alloc: Global) -> Result<(), Fault> {
     let mut lot = waiting_lot(rt, alloc)?;
     marks::begin(alloc);
     let answer = lot.acquire(4, KEYS[1]);
@@ -63,7 +63,7 @@ pub(super) fn acquire<R: Print>(rt: &R, alloc: Global) -> Result<(), Fault> {
 }
 
 /// `Lot::list`.
-pub(super) fn list<R: Print>(rt: &R, alloc: Global) -> Result<(), Fault> {
+pub fn list<R: Print>(rt: &R, alloc: Global) -> Result<(), Fault> {
     let mut lot = waiting_lot(rt, alloc)?;
     marks::begin(alloc);
     let answer = lot.list(KEYS[0]);
@@ -73,7 +73,7 @@ pub(super) fn list<R: Print>(rt: &R, alloc: Global) -> Result<(), Fault> {
 
 /// `Lot::acquire`, many times, and once by a thread that comes after: the first has given back the
 /// memory of its records.
-pub(super) fn records<R: Print>(rt: &R, alloc: Global) -> Result<(), Fault> {
+pub fn records<R: Print>(rt: &R, alloc: Global) -> Result<(), Fault> {
     let mut schedule = Schedule::new(alloc, 1, 1)?;
     add_many_recordings(&mut schedule.steps)?;
     add_another_thread(&mut schedule.steps)?;
@@ -100,7 +100,7 @@ fn add_another_thread(steps: &mut Vec<Step>) -> Result<(), Fault> {
 }
 
 /// `Lot::register`, once more than there are numbers.
-pub(super) fn registrations<R: Print>(rt: &R, alloc: Global) -> Result<(), Fault> {
+pub fn registrations<R: Print>(rt: &R, alloc: Global) -> Result<(), Fault> {
     let mut schedule = Schedule::new(alloc, MOST, 0)?;
     add_registrations(&mut schedule.steps)?;
     schedule.play_each(rt, alloc)
@@ -114,14 +114,14 @@ fn add_registrations(steps: &mut Vec<Step>) -> Result<(), Fault> {
 }
 
 /// Steps of each kind but registrations and recordings.
-pub(super) fn use_steps<R: Print>(rt: &R, alloc: Global) -> Result<(), Fault> {
+pub fn use_steps<R: Print>(rt: &R, alloc: Global) -> Result<(), Fault> {
     let mut schedule = Schedule::new(alloc, MOST, FEW)?;
     add_all_but_requests(alloc, &mut schedule.steps)?;
     schedule.play_each(rt, alloc)
 }
 
 /// `run` of steps of each kind.
-pub(super) fn run_all<R: Print>(rt: &R, alloc: Global) -> Result<(), Fault> {
+pub fn run_all<R: Print>(rt: &R, alloc: Global) -> Result<(), Fault> {
     let mut schedule = Schedule::new(alloc, MOST, FEW)?;
     add_all_steps(alloc, &mut schedule.steps)?;
     schedule.play_run(rt, alloc)
@@ -169,7 +169,7 @@ fn enter(thread: usize, key: usize, timed: bool) -> Step {
 }
 
 /// Shows what can be asked of a lot.
-pub(super) fn show_lot<R: Print>(rt: &R, moment: Moment, lot: &Lot) -> Result<(), Fault> {
+pub fn show_lot<R: Print>(rt: &R, moment: Moment, lot: &Lot) -> Result<(), Fault> {
     show_size(rt, moment, lot.registered(), lot.size())?;
     for number in 0..SHOWN {
         println!(rt; "{moment} thread {number} {:?}", lot.status(number))?;

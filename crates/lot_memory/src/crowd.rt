@@ -2,11 +2,11 @@
 
 ghost use Rattle.std.specs.Prelude.{⊤};
 
-use super::gate::Gate;
-use super::unparks::{requeue, unpark_by_filter};
-use super::{are_all_true, tell_answer, tell_refused};
 use crate::fault::Fault;
+use crate::gate::Gate;
 use crate::turns::comes_to;
+use crate::unparks::{requeue, unpark_by_filter};
+use crate::{are_all_true, tell_answer, tell_refused};
 use lot_base::word_lock::{Fits, WordLock};
 use parking_lot_core::deadlock::{acquire_resource, release_resource};
 use parking_lot_core::{
@@ -186,7 +186,7 @@ impl<P: ThreadParkerT> Crowd<P> {
 }
 
 /// `park` and the unparks with twelve threads, and `retire`.
-pub(super) fn use_threads<P, R>(rt: &R, alloc: Global) -> Result<(), Fault>
+pub fn use_threads<P, R>(rt: &R, alloc: Global) -> Result<(), Fault>
 where
     P: ThreadParkerT + Send + Sync + 'static,
     P::UnparkHandle: 'static,
@@ -228,7 +228,7 @@ impl Fits for Count {
 }
 
 /// `WordLock::lock` and `unlock`, with eight threads.
-pub(super) fn use_word_lock<R: Print + Threads + Wait + Clock + Copy + Send + Sync + 'static>(
+pub fn use_word_lock<R: Print + Threads + Wait + Clock + Copy + Send + Sync + 'static>(
     rt: &R,
     alloc: Global,
 ) -> Result<(), Fault> {

@@ -1,0 +1,68 @@
+//! A scenario on the lot whose calls are one history.
+
+use crate::fault::Fault;
+use crate::{FEW, KEYS, Moment, marks, show_waiting, tell_answer, tell_refused};
+use lot_witnessed::lot::Lot;
+use lot_witnessed::member::Member;
+use parking_lot_core::{LotError, ThreadParkerT};
+use std::alloc::Global;
+use std::sync::Wait;
+
+/// `Member::register` after a trim, where the table grows again and finds the row that the first
+/// growth made.
+pub(super) fn register_again<P: ThreadParkerT, R: Print + Wait>(
+    rt: &R,
+    alloc: Global,
+) -> Result<(), Fault> {
+    let lot = Lot::<P>::new(alloc, FEW + 1)?;
+    let mut first = Member::register(rt, alloc, &lot)?;
+    for _ in 1..FEW {
+        register(rt, alloc, &lot)?;
+    }
+    grow_once(rt, alloc, &lot)?;
+    first.trim(rt);
+    show(rt, alloc, Moment::Before, &mut first)?;
+    marks::begin(alloc);
+    let answer = register(rt, alloc, &lot);
+    marks::end(alloc);
+    tell_answer(rt, &answer)?;
+    show(rt, alloc, Moment::After, &mut first)?;
+    if answer.is_err() && register(rt, alloc, &lot)? != FEW {
+        return Err(Fault::Unlike("the number after a registration"));
+    }
+    tell_refused(rt, 0)
+}
+
+// Registers a thread, and answers its number.
+fn register<P: ThreadParkerT, R: Wait>(
+    rt: &R,
+    alloc: Global,
+    lot: &Lot<P>,
+) -> Result<usize, LotError> {
+    let member = Member::register(rt, alloc, lot)?;
+    Ok(member.number())
+}
+
+// A thread is registered for which the table grows, and retires.
+fn grow_once<P: ThreadParkerT, R: Wait>(
+    rt: &R,
+    alloc: Global,
+    lot: &Lot<P>,
+) -> Result<(), LotError> {
+    let last = Member::register(rt, alloc, lot)?;
+    last.retire(rt);
+    Ok(())
+}
+
+// Shows who waits on each key.
+fn show<P: ThreadParkerT, R: Print + Wait>(
+    rt: &R,
+    alloc: Global,
+    moment: Moment,
+    me: &mut Member<'_, P>,
+) -> Result<(), Fault> {
+    for key in KEYS {
+        show_waiting(rt, moment, key, me.list(rt, alloc, key))?;
+    }
+    Ok(())
+}
