@@ -1,5 +1,5 @@
-//! Locks that go on while a thread that waits is slow to park: a mutex around a value goes to another
-//! thread, and the last one comes to a barrier.
+//! Locks that go on while a thread that waits is slow to park: a mutex around a value goes to
+//! another thread, and the last one comes to a barrier.
 
 use crate::clock::{from_now, raised_by};
 use crate::expect_equal;
