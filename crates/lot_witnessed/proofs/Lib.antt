@@ -2,6 +2,7 @@ pub mod RowLemmas
 pub mod TakingLemmas
 pub mod BelowLemmas
 pub mod HandedLemmas
+pub mod NumberLemmas
 pub mod RetireLemmas
 pub mod ListLemmas
 pub mod RecordingLemmas
@@ -9,3 +10,5 @@ pub mod AnswerLemmas
 pub mod RequeueLemmas
 pub mod LockLemmas
 pub mod HalfLemmas
+pub mod SizeLemmas
+pub mod SectionLemmas

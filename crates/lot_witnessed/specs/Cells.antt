@@ -1,6 +1,6 @@
 -- What fits behind the locks of a lot: buckets, mailboxes, and the registry of numbers, each with its part of the lot's
 -- history.
-use Rattle.std.specs.Prelude.{◌≡◌, ◌≢◌, ℕ, ◌+◌, ◌<◌, ◌≤◌, ◌^◌, All, ⊤, List, [], ◌∷◌, map, length, Option, Some, None}
+use Rattle.std.specs.Prelude.{◌≡◌, ◌≢◌, ℕ, ◌+◌, ◌*◌, ◌<◌, ◌≤◌, ◌^◌, All, ⊤, List, [], ◌∷◌, map, length, Option, Some, None}
 use Rattle.atomic_table.specs.Seated.{TableId}
 use Rattle.boxcar.specs.Slot.{Named}
 use Rattle.lot_base.specs.BucketState.{BucketState, IsBucketAt}
@@ -10,6 +10,8 @@ use Rattle.lot_word_lock.specs.WordLock.{key_of}
 use Rattle.lot_word_lock.specs.declared.word_lock.WordLock.{WordLock}
 use Rattle.lot_exclusive.specs.declared.lot.Status.TheVariants.{Taken}
 use Rattle.lot_exclusive.specs.declared.table.TheConstants.{MAX_THREADS}
+use Rattle.lot_exclusive.specs.declared.table.Use.{Use}
+use Rattle.lot_exclusive.specs.Table.{count_registered, is_in_use}
 use Rattle.lot_history.specs.declared.history.History.{History}
 use Rattle.lot_history.specs.declared.history.Part.{Part}
 use Rattle.lot_history.specs.declared.history.Witness.{Witness}
@@ -19,7 +21,7 @@ use Rattle.lot_history.specs.Pieces.{standing_in}
 use Rattle.lot_history.specs.Witness.{IsPartOf, events_of, id_of, max_threads_of, pieces_in, pieces_of}
 use Rattle.lot_witnessed.specs.declared.cell.Cell.{Cell}
 use Rattle.lot_witnessed.specs.declared.cell.CellKey.{CellKey}
-use Rattle.lot_witnessed.specs.declared.cell.Claimed.{Claimed}
+use Rattle.lot_witnessed.specs.declared.cell.Locked.{Locked}
 use Rattle.lot_witnessed.specs.declared.cell.Slot.{Slot}
 use Rattle.lot_witnessed.specs.declared.mail.Letter.{Letter}
 use Rattle.lot_witnessed.specs.declared.mail.Mail.{Mail}
@@ -110,7 +112,7 @@ abbrev pub IsSlotAt : TableId → ℕ → ℕ → Named → Type 0
 IsSlotAt home max_threads index slot = slot.tag ≡ row_tag home max_threads (2 ^ (index + 4))
 
 pub record AreRows (home : TableId) (max_threads : ℕ) (rows : List Named) : Type 0 where
-  pub few : length rows ≤ 13
+  pub count : length rows ≡ 13
   pub each : EachAt (IsSlotAt home max_threads) 0 rows
 
 -- threads that were taken, each with the token that its node has
@@ -144,12 +146,22 @@ pub record IsIdle (home : TableId) (witness : Witness) : Type 0 where
   pub nothing_added : events_of witness ≡ []
   pub no_pieces : pieces_of witness ≡ []
 
--- the registry of a lot for so many threads
+-- which numbers are registered
+abbrev pub numbers_in : List Use → Piece
+numbers_in numbers = Numbers (map is_in_use numbers)
+
+-- how many buckets the row in use has
+abbrev pub size_in : Registry → ℕ
+size_in registry = 2 ^ (registry.row + 4)
+
+-- the registry of a lot for so many threads: the row in use has three buckets for each that is registered
 pub record IsRegistry (home : TableId) (max_threads : ℕ) (registry : Registry) : Type 0 where
   pub few : max_threads ≤ MAX_THREADS
-  pub count : length registry.uses.items ≡ max_threads
-  pub part : Has home (Numbers registry.uses.items ∷ []) registry.part
+  pub count : length registry.numbers ≡ max_threads
+  pub part : Has home (numbers_in registry.numbers ∷ []) registry.part
   pub witness : IsIdle home registry.witness
+  pub row : registry.row < 13
+  pub room : 3 * count_registered registry.numbers ≤ size_in registry
 
 -- behind the lock of the registry
 abbrev pub FitsRegistry : RegistryKey → Registry → Type 0
@@ -166,7 +178,7 @@ pub record AreApart (lock other : WordLock Slot CellKey) : Type 0 where
   pub places : (key_of other).place ≢ (key_of lock).place
 
 -- of two buckets that a section has locked, the one at the higher place was locked behind the other
-pub record AreLockedInOrder (source target : Claimed) : Type 0 where
+pub record AreLockedInOrder (source target : Locked) : Type 0 where
   pub target_behind : (key_of source.lock.now).place < (key_of target.lock.now).place
       → target.behind ≡ Some (key_of source.lock.now).place
   pub source_behind : (key_of target.lock.now).place < (key_of source.lock.now).place

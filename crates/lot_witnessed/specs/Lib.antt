@@ -3,6 +3,8 @@
 pub mod Rows
 -- Then what fits behind the locks of a lot: buckets, mailboxes, and the registry of numbers.
 pub mod Cells
+-- Then buckets that a section leaves behind their locks.
+pub mod Sections
 -- Then the two places of a place in a table of twice the size.
 pub mod Halves
 -- Then pieces where a deadline has passed.

@@ -28,10 +28,10 @@ pub(crate) struct Cell {
 }
 
 // The place of a bucket in a row. The bucket is there while the row is in use, but for the moment
-// of a section.
+// of a requeue.
 #[derive(Drop)]
 pub(crate) struct Slot {
-    cell: Option<Cell>,
+    pub(crate) cell: Option<Cell>,
 }
 
 // Which bucket a lock is around, in a row of how many, and of which lot: `home` is a part of the
@@ -52,31 +52,32 @@ impl Fits for Slot {
     ghost fits = { λ key slot. FitsSlot key slot };
 }
 
-// A bucket that was taken out of its lock, which is locked, and the place of the bucket that the
-// section had locked before, if there is one. It has no `Drop`: it ends in `close` or in `leave`.
-pub(crate) struct Claimed<'b> {
+// The bucket of a requeue or of growth, which was taken out of its lock, that is locked, and the
+// place of the bucket that a requeue had locked before, if there is one. It has no `Drop`: it ends
+// in `close` or in `leave`.
+pub(crate) struct Locked<'b> {
     pub(crate) lock: &'b WordLock<Slot>,
     behind: Option<usize>,
     held: Held<Slot>,
     pub(crate) cell: Cell,
 }
 
-impl<'b> Claimed<'b> {
+impl<'b> Locked<'b> {
     // Locks the bucket of this lock and takes it out, or answers `None` where it has none, since
     // the row is not in use there.
-    pub(crate) fn of<R: Wait>(rt: &R, lock: &'b WordLock<Slot>) -> Option<Claimed<'b>>
-        ensures lock { IfSome result (λ claimed. claimed.lock.now ≡ lock.now) }
-        ensures held { IfSome result (λ claimed. IsHeldOf claimed.lock.now claimed.held) }
-        ensures empty { IfSome result (λ claimed. claimed.held.value.cell ≡ None) }
-        ensures fits { IfSome result (λ claimed. FitsCell (key_of claimed.lock.now) claimed.cell) }
-        ensures first { IfSome result (λ claimed. claimed.behind ≡ None) }
+    pub(crate) fn of<R: Wait>(rt: &R, lock: &'b WordLock<Slot>) -> Option<Locked<'b>>
+        ensures lock { IfSome result (λ locked. locked.lock.now ≡ lock.now) }
+        ensures held { IfSome result (λ locked. IsHeldOf locked.lock.now locked.held) }
+        ensures empty { IfSome result (λ locked. locked.held.value.cell ≡ None) }
+        ensures fits { IfSome result (λ locked. FitsCell (key_of locked.lock.now) locked.cell) }
+        ensures first { IfSome result (λ locked. locked.behind ≡ None) }
     {
         let mut held = lock.lock(rt);
         let Some(cell) = held.value.cell.take() else {
             lock.unlock(held);
             return None;
         };
-        Some(Claimed {
+        Some(Locked {
             lock,
             behind: None,
             held,
@@ -87,20 +88,20 @@ impl<'b> Claimed<'b> {
     // Does what `of` does, for a section that has the bucket of a lower place.
     pub(crate) fn behind<R: Wait>(
         rt: &R,
-        first: &Claimed<'_>,
+        first: &Locked<'_>,
         lock: &'b WordLock<Slot>,
-    ) -> Option<Claimed<'b>>
+    ) -> Option<Locked<'b>>
         requires fits { FitsCell (key_of first.now.lock.now) first.now.cell }
         requires order { (key_of first.now.lock.now).place < (key_of lock.now).place }
-        ensures lock { IfSome result (λ claimed. claimed.lock.now ≡ lock.now) }
-        ensures held { IfSome result (λ claimed. IsHeldOf claimed.lock.now claimed.held) }
-        ensures fits { IfSome result (λ claimed. FitsCell (key_of claimed.lock.now) claimed.cell) }
-        ensures behind { IfSome result (λ claimed.
-            claimed.behind ≡ Some (key_of first.now.lock.now).place) }
+        ensures lock { IfSome result (λ locked. locked.lock.now ≡ lock.now) }
+        ensures held { IfSome result (λ locked. IsHeldOf locked.lock.now locked.held) }
+        ensures fits { IfSome result (λ locked. FitsCell (key_of locked.lock.now) locked.cell) }
+        ensures behind { IfSome result (λ locked.
+            locked.behind ≡ Some (key_of first.now.lock.now).place) }
     {
-        let mut claimed = Claimed::of(rt, lock)?;
-        claimed.behind = Some(first.cell.bucket.place());
-        Some(claimed)
+        let mut locked = Locked::of(rt, lock)?;
+        locked.behind = Some(first.cell.bucket.place());
+        Some(locked)
     }
 
     // Puts the bucket back and lets it go.
@@ -108,7 +109,7 @@ impl<'b> Claimed<'b> {
         requires held { IsHeldOf self.lock.now self.held }
         requires fits { FitsCell (key_of self.lock.now) self.cell }
     {
-        let Claimed {
+        let Locked {
             lock,
             behind: _,
             mut held,
@@ -124,7 +125,7 @@ impl<'b> Claimed<'b> {
         requires empty { self.held.value.cell ≡ None }
         ensures { result ≡ self.entry.cell }
     {
-        let Claimed {
+        let Locked {
             lock,
             behind: _,
             held,
@@ -141,8 +142,8 @@ pub(crate) fn take_away<R: Wait>(rt: &R, lock: &WordLock<Slot>) -> Cell
     ensures { FitsCell (key_of lock.now) result }
 {
     for _ in rt.forever() {
-        if let Some(claimed) = Claimed::of(rt, lock) {
-            return claimed.leave();
+        if let Some(locked) = Locked::of(rt, lock) {
+            return locked.leave();
         }
         thread::yield_now();
     }
@@ -183,7 +184,7 @@ pub(crate) fn lock_at(row: &[WordLock<Slot>], place: usize) -> &WordLock<Slot>
 }
 
 // How many rows there may be: of 16 to 65,536 buckets.
-const MOST_ROWS: usize = 13;
+pub(crate) const MOST_ROWS: usize = 13;
 
 // What the slot of a row keeps: the row is of the lot and of the size that its tag tells.
 pub(crate) struct OfTag;

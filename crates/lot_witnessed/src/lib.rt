@@ -3,6 +3,7 @@
 #![tactic(auto)]
 
 mod cell;
+mod claimed;
 mod halves;
 pub mod laws;
 pub mod lot;

@@ -1,17 +1,21 @@
 //! The lot, which threads share by reference: its buckets, and for each thread a parker and a
 //! mailbox.
 
-ghost use Rattle.std.specs.Prelude.{◌≡◌, ◌≢◌, ◌↔◌, ◌∷◌, ◌+◌, ◌<◌, ◌≤◌, ℕ, List, [], true, false, length, All, Err, IsErrOf, Bool, IfErr, IfNone, IfOk, IfSome, OnOk, is_ok};
+ghost use Rattle.std.specs.Prelude.{◌≡◌, ◌≢◌, ◌↔◌, ◌∷◌, ◌+◌, ◌<◌, ◌≤◌, ◌^◌, ℕ, List, [], true, false, length, replicate, All, Err, IsErrOf, Bool, IfErr, IfNone, IfOk, IfSome, IsOkAnd, None, OnOk, is_ok};
+ghost use Rattle.lot_base.specs.BucketState.{KeepsPlace};
 ghost use Rattle.lot_base.specs.Node.{fields};
 ghost use Rattle.lot_base.specs.NodeFields.{NodeFields};
+ghost use Rattle.lot_base.specs.NodeLists.{lists_of};
+ghost use Rattle.lot_base.specs.Place.{place_of};
 ghost use Rattle.lot_base.specs.Waiting.{result_of, split_first};
 ghost use Rattle.lot_base.specs.declared.token.UnparkResult.{UnparkResult};
+ghost use Rattle.lot_exclusive.specs.Table.{count_registered};
 ghost use Rattle.lot_exclusive.specs.declared.schedule.Answer.{Answer};
 ghost use Rattle.lot_exclusive.specs.declared.schedule.Step.{Step};
 ghost use Rattle.lot_history.specs.Witness.{Adds, Extends, IsPartOf, IsStill, IsWitnessOf, events_of, id_of, max_threads_of, pieces_of, seen_by};
 ghost use Rattle.lot_history.specs.declared.view.Piece.TheVariants.{Thread};
-ghost use Rattle.lot_witnessed.specs.Cells.{FitsCell, Has, HasRecords, IsBelow, IsLockFor, IsMailLock};
-ghost use Rattle.lot_word_lock.specs.WordLock.{IsHeldOf, key_of};
+ghost use Rattle.lot_witnessed.specs.Cells.{Has, HasRecords, IsBelow, IsCell, IsLockFor, IsMailLock, IsRegistry, threads_in};
+ghost use Rattle.lot_witnessed.specs.Sections.{IsClaimed};
 ghost use Rattle.lot_witnessed.specs.Filters.{AreCallable, Unparks};
 ghost use Rattle.lot_witnessed.specs.Members.{EndsWait, IsListed, IsRegistered, Leaves, entry_of, entry_step};
 ghost use Rattle.lot_witnessed.specs.Rows.{EachAt};
@@ -21,7 +25,8 @@ mod hand_over;
 mod requeue;
 mod rows;
 
-use crate::cell::{Claimed, RowSlot, new_rows};
+use crate::cell::{Cell, RowSlot, new_rows};
+use crate::claimed::Claimed;
 use crate::mail::{Mail, MailKey, new_mail};
 use crate::registry::{Registry, new_registry};
 use crate::sections::{enter_in, leave_in, list_in, take_all_of, take_filter_of, take_one_of};
@@ -34,8 +39,9 @@ use lot_base::token::{
 use lot_base::word_lock::WordLock;
 use lot_exclusive::lot::Status;
 use lot_exclusive::schedule::{Answer, Op, Step};
-use lot_exclusive::table::MAX_THREADS;
 use lot_exclusive::table::growth::INITIAL_BUCKETS;
+use lot_exclusive::table::numbers::Numbers;
+use lot_exclusive::table::{MAX_THREADS, Use};
 use lot_history::history::{History, Part, Witness};
 use lot_history::plays::Told;
 use std::alloc::Global;
@@ -104,8 +110,8 @@ impl<P: ThreadParkerT> Lot<P> {
     /// A lot for at most this many threads, none of which is registered, with a history in which
     /// nothing was done.
     ///
-    /// It allocates the history's word, 16 buckets with a lock each, and for each number a parker
-    /// and a mailbox with a lock.
+    /// It allocates the history's word, 16 buckets with a lock each, and for each number its use, a
+    /// parker and a mailbox with a lock.
     ///
     /// # Errors
     ///
@@ -116,16 +122,15 @@ impl<P: ThreadParkerT> Lot<P> {
         ensures not_full { result ≢ Err LotError.Full }
         ensures ok { IfOk result (λ lot. max_threads_of lot ≡ max_threads) }
     {
-        if max_threads > MAX_THREADS {
-            return Err(LotError::TooManyThreads);
-        }
-        let lot = Lot::for_threads(alloc, max_threads)?;
+        let numbers = Numbers::new(alloc, max_threads)?;
+        let lot = Lot::for_threads(alloc, max_threads, numbers)?;
         Ok(lot)
     }
 
-    // The same, for no more threads than that.
-    fn for_threads(alloc: Global, max_threads: usize) -> Result<Lot<P>, NoMemory>
+    // The same, with these numbers, and so for no more threads than that.
+    fn for_threads(alloc: Global, max_threads: usize, numbers: Numbers) -> Result<Lot<P>, NoMemory>
         requires few { max_threads ≤ MAX_THREADS }
+        requires numbers { numbers ≡ replicate max_threads Use.Free }
         ensures { IfOk result (λ lot. max_threads_of lot ≡ max_threads) }
     {
         let (history, mut me) = History::new(alloc, max_threads)?;
@@ -135,7 +140,7 @@ impl<P: ThreadParkerT> Lot<P> {
         let home = history.give(&mut other);
         let threads = new_threads(alloc, &history, max_threads, home)?;
         let home = history.give(&mut other);
-        let registry = new_registry(alloc, &history, me, max_threads, home)?;
+        let registry = new_registry(alloc, &history, me, max_threads, numbers, home)?;
         Ok(Lot {
             history,
             rows,
@@ -195,13 +200,31 @@ impl<P: ThreadParkerT> Lot<P> {
             IfSome told.1 (λ number. number < max_threads_of self.now)) }
     {
         let mut held = self.registry.lock(rt);
-        if let Err(refused) = self.make_room(rt, alloc, &mut held.value) {
-            self.registry.unlock(held);
-            return Err(refused);
-        }
-        let registered = held.value.register(&self.history);
+        let registered = self.register_in(rt, alloc, &mut held.value);
         self.registry.unlock(held);
-        Ok(registered)
+        registered
+    }
+
+    // The same, where the registry is locked. Where no number is free, the table does not grow.
+    fn register_in<R: Wait>(
+        &self,
+        rt: &R,
+        alloc: Global,
+        registry: &mut Registry,
+    ) -> Result<(Witness, Option<usize>), NoMemory>
+        requires { IsRegistry (id_of self.now) (max_threads_of self.now) registry.old }
+        ensures registry { IsRegistry (id_of self.now) (max_threads_of self.now) registry.new }
+        ensures registered { IfOk result (λ told. IsRegistered self.now told.1 told.0) }
+        ensures below { IfOk result (λ told.
+            IfSome told.1 (λ number. number < max_threads_of self.now)) }
+        ensures full { count_registered registry.old.numbers ≡ length registry.old.numbers
+            → IsOkAnd result (λ told. told.1 ≡ None) }
+    {
+        let Some(number) = registry.least_free() else {
+            return Ok((registry.refuse(&self.history), None));
+        };
+        self.make_room(rt, alloc, registry)?;
+        Ok((registry.register(&self.history, number), Some(number)))
     }
 
     // Ends the registration of a running thread, whose pieces these parts have, and tells so.
@@ -261,8 +284,40 @@ impl<P: ThreadParkerT> Lot<P> {
             timed,
             ..
         } = *node;
+        let history = &self.history;
         let mut claimed = self.claim(rt, key);
-        let entered = enter_in(&self.history, me, &mut claimed.cell, thread, node, validate);
+        let (entered, _me) = claimed.with(
+            rt,
+            move |cell: &mut Cell|
+                requires witness { IsWitnessOf history.now me.now }
+                requires none { pieces_of me.now ≡ [] }
+                requires cell { IsCell (id_of history.now) (max_threads_of history.now) cell.old }
+                requires place { place_of (fields node.value).key cell.old.bucket.size
+                    ≡ cell.old.bucket.place }
+                requires below { IsBelow (max_threads_of history.now) (fields node.value) }
+                requires thread { Has (id_of history.now)
+                    (Thread (fields node.value).number Status.Running ∷ []) thread }
+                requires callable { V.pre validate }
+
+                ensures same { result.1.ghost_name ≡ me.entry.ghost_name }
+                ensures still { IsStill history.entry.now me.entry.now result.1.now }
+                ensures none { pieces_of result.1.now ≡ [] }
+                ensures cell { IsCell (id_of history.entry.now)
+                    (max_threads_of history.entry.now) cell.new }
+                ensures place { KeepsPlace cell.old.bucket cell.new.bucket }
+                ensures asked { V.post validate (is_ok result.0) }
+                ensures entered { OnOk result.0 (Extends history.entry.now me.entry.now
+                    (entry_step (entry_of (fields node.value)) true) Answer.Entered result.1.now) }
+                ensures refused { IfErr result.0 (λ back. Extends history.entry.now me.entry.now
+                    (entry_step (entry_of (fields node.value)) false) Answer.Invalid result.1.now) }
+                ensures returned { IfErr result.0 (λ back. (back.1.value ≡ node.value)
+                    × Has (id_of history.entry.now)
+                    (Thread (fields node.value).number Status.Running ∷ []) back.0) }
+            {
+                let entered = enter_in(history, me, cell, thread, node, validate);
+                (entered, me)
+            },
+        );
         if entered.is_ok() {
             self.note_key(number, timed, key);
         }
@@ -328,14 +383,33 @@ impl<P: ThreadParkerT> Lot<P> {
             × (events_of me.new ≡ events_of me.old)) }
     {
         let (key, mut claimed) = self.claim_own(rt, number);
-        let left = leave_in(
+        let history = &self.history;
+        let (left, _me) = claimed.with(
             rt,
-            &self.history,
-            me,
-            &mut claimed.cell,
-            number,
-            key,
-            timed_out,
+            move |cell: &mut Cell|
+                requires witness { IsWitnessOf history.now me.now }
+                requires none { pieces_of me.now ≡ [] }
+                requires cell { IsCell (id_of history.now) (max_threads_of history.now) cell.old }
+                requires place { place_of key cell.old.bucket.size ≡ cell.old.bucket.place }
+                requires callable { (last : _) → T.pre timed_out key last }
+
+                ensures same { result.1.ghost_name ≡ me.entry.ghost_name }
+                ensures still { IsStill history.entry.now me.entry.now result.1.now }
+                ensures none { pieces_of result.1.now ≡ [] }
+                ensures cell { IsCell (id_of history.entry.now) (max_threads_of history.entry.now)
+                    cell.new }
+                ensures place { KeepsPlace cell.old.bucket cell.new.bucket }
+                ensures left { IfSome result.0 (λ back. (last : Bool) × T.post timed_out key last tt
+                    × Leaves history.entry.now number key last me.entry.now result.1.now) }
+                ensures returned { IfSome result.0 (λ back.
+                    ((fields back.1.value).number ≡ number)
+                    × Has (id_of history.entry.now) (Thread number Status.Running ∷ []) back.0) }
+                ensures unchanged { IfNone result.0 ((seen_by result.1.now ≡ seen_by me.entry.now)
+                    × (events_of result.1.now ≡ events_of me.entry.now)) }
+            {
+                let left = leave_in(rt, history, me, cell, number, key, timed_out);
+                (left, me)
+            },
         );
         claimed.close();
         left
@@ -346,8 +420,7 @@ impl<P: ThreadParkerT> Lot<P> {
     fn claim_own<R: Wait>(&self, rt: &R, number: usize) -> (usize, Claimed<'_>)
         requires { number < max_threads_of self.now }
         ensures lock { IsLockFor self.now result.0 result.1.lock.now }
-        ensures held { IsHeldOf result.1.lock.now result.1.held }
-        ensures fits { FitsCell (key_of result.1.lock.now) result.1.cell }
+        ensures claim { IsClaimed result.1 }
     {
         for _ in rt.forever() {
             let key = self.key(number);
@@ -374,8 +447,29 @@ impl<P: ThreadParkerT> Lot<P> {
         ensures none { pieces_of me.new ≡ [] }
         ensures listed { IsListed self.now key me.old me.new result }
     {
+        let history = &self.history;
         let mut claimed = self.claim(rt, key);
-        let listed = list_in(&self.history, me, &mut claimed.cell, alloc, key);
+        let (listed, _me) = claimed.with(
+            rt,
+            move |cell: &mut Cell|
+                requires witness { IsWitnessOf history.now me.now }
+                requires none { pieces_of me.now ≡ [] }
+                requires cell { IsCell (id_of history.now) (max_threads_of history.now) cell.old }
+                requires place { place_of key cell.old.bucket.size ≡ cell.old.bucket.place }
+
+                ensures same { result.1.ghost_name ≡ me.entry.ghost_name }
+                ensures still { IsStill history.entry.now me.entry.now result.1.now }
+                ensures none { pieces_of result.1.now ≡ [] }
+                ensures cell { IsCell (id_of history.entry.now) (max_threads_of history.entry.now)
+                    cell.new }
+                ensures place { KeepsPlace cell.old.bucket cell.new.bucket }
+                ensures listed { IsListed history.entry.now key me.entry.now result.1.now
+                    result.0 }
+            {
+                let listed = list_in(history, me, cell, alloc, key);
+                (listed, me)
+            },
+        );
         claimed.close();
         listed
     }
@@ -399,13 +493,35 @@ impl<P: ThreadParkerT> Lot<P> {
             (λ s a. E.said s a × (a ≡ Answer.Unpark result.0)) me.new }
         ensures none { pieces_of me.new ≡ [] }
     {
+        let history = &self.history;
         let mut claimed = self.claim(rt, key);
-        let (result, taken) = take_one_of::<E, C>(
-            &self.history,
-            me,
-            &mut claimed.cell,
-            key,
-            callback,
+        let (result, taken, me) = claimed.with(
+            rt,
+            move |cell: &mut Cell|
+                requires witness { IsWitnessOf history.now me.now }
+                requires none { pieces_of me.now ≡ [] }
+                requires cell { IsCell (id_of history.now) (max_threads_of history.now) cell.old }
+                requires place { place_of key cell.old.bucket.size ≡ cell.old.bucket.place }
+                requires callable { C.pre callback
+                    (result_of (split_first (lists_of cell.old.bucket.nodes key))) }
+                requires said { (answer : UnparkResult) (token : UnparkToken)
+                    → C.post callback answer token
+                    → E.said (Step.Unpark (Op.One key token)) (Answer.Unpark answer) }
+
+                ensures same { result.2.ghost_name ≡ me.entry.ghost_name }
+                ensures still { IsStill history.entry.now me.entry.now result.2.now }
+                ensures adds { Adds history.entry.now me.entry.now
+                    (λ s a. E.said s a × (a ≡ Answer.Unpark result.0)) result.2.now }
+                ensures pieces { pieces_of result.2.now ≡ threads_in result.1 }
+                ensures cell { IsCell (id_of history.entry.now) (max_threads_of history.entry.now)
+                    cell.new }
+                ensures place { KeepsPlace cell.old.bucket cell.new.bucket }
+                ensures below { All (IsBelow (max_threads_of history.entry.now)) result.1 }
+                ensures one { length result.1 ≤ 1 }
+            {
+                let (result, taken) = take_one_of::<E, C>(history, me, cell, key, callback);
+                (result, taken, me)
+            },
         );
         let handle = self.commit_one(rt, me, taken);
         claimed.close();
@@ -429,8 +545,32 @@ impl<P: ThreadParkerT> Lot<P> {
             (λ s a. E.said s a × (a ≡ Answer.Count result)) me.new }
         ensures none { pieces_of me.new ≡ [] }
     {
+        let history = &self.history;
         let mut claimed = self.claim(rt, key);
-        let (count, taken) = take_all_of::<E>(&self.history, me, &mut claimed.cell, key, token);
+        let (count, taken, me) = claimed.with(
+            rt,
+            move |cell: &mut Cell|
+                requires witness { IsWitnessOf history.now me.now }
+                requires none { pieces_of me.now ≡ [] }
+                requires cell { IsCell (id_of history.now) (max_threads_of history.now) cell.old }
+                requires place { place_of key cell.old.bucket.size ≡ cell.old.bucket.place }
+                requires said { (count : ℕ)
+                    → E.said (Step.Unpark (Op.All key token)) (Answer.Count count) }
+
+                ensures same { result.2.ghost_name ≡ me.entry.ghost_name }
+                ensures still { IsStill history.entry.now me.entry.now result.2.now }
+                ensures adds { Adds history.entry.now me.entry.now
+                    (λ s a. E.said s a × (a ≡ Answer.Count result.0)) result.2.now }
+                ensures pieces { pieces_of result.2.now ≡ threads_in result.1 }
+                ensures cell { IsCell (id_of history.entry.now) (max_threads_of history.entry.now)
+                    cell.new }
+                ensures place { KeepsPlace cell.old.bucket cell.new.bucket }
+                ensures below { All (IsBelow (max_threads_of history.entry.now)) result.1 }
+            {
+                let (count, taken) = take_all_of::<E>(history, me, cell, key, token);
+                (count, taken, me)
+            },
+        );
         self.commit(rt, me, taken);
         claimed.close();
         count
@@ -451,14 +591,31 @@ impl<P: ThreadParkerT> Lot<P> {
             me.new }
         ensures none { pieces_of me.new ≡ [] }
     {
+        let history = &self.history;
         let mut claimed = self.claim(rt, key);
-        let (result, taken) = take_filter_of(
-            &self.history,
-            me,
-            &mut claimed.cell,
-            key,
-            filter,
-            callback,
+        let (result, taken, me) = claimed.with(
+            rt,
+            move |cell: &mut Cell|
+                requires witness { IsWitnessOf history.now me.now }
+                requires none { pieces_of me.now ≡ [] }
+                requires cell { IsCell (id_of history.now) (max_threads_of history.now) cell.old }
+                requires place { place_of key cell.old.bucket.size ≡ cell.old.bucket.place }
+                requires few { max_threads_of history.now < 2 ^ 63 }
+                requires callable { AreCallable F.FnMut C.FnOnce filter callback }
+
+                ensures same { result.2.ghost_name ≡ me.entry.ghost_name }
+                ensures still { IsStill history.entry.now me.entry.now result.2.now }
+                ensures unparked { Unparks F.FnMut C.FnOnce filter callback key history.entry.now
+                    me.entry.now result.0 result.2.now }
+                ensures pieces { pieces_of result.2.now ≡ threads_in result.1 }
+                ensures cell { IsCell (id_of history.entry.now) (max_threads_of history.entry.now)
+                    cell.new }
+                ensures place { KeepsPlace cell.old.bucket cell.new.bucket }
+                ensures below { All (IsBelow (max_threads_of history.entry.now)) result.1 }
+            {
+                let (result, taken) = take_filter_of(history, me, cell, key, filter, callback);
+                (result, taken, me)
+            },
         );
         self.commit(rt, me, taken);
         claimed.close();

@@ -66,11 +66,13 @@ impl<'a, P: ThreadParkerT> Model for Member<'a, P> {
 impl<'a, P: ThreadParkerT> Member<'a, P> {
     /// Registers a thread under the least free number. Its witness begins with that step.
     ///
-    /// It asks for memory once, for the thread's node, and then takes the lock of the numbers.
-    /// Where the table would have less than three buckets for each thread, it puts the row of twice
-    /// the size in use first, which adds nothing to the history: it asks for the memory of that row
-    /// if it was not needed before, then visits every bucket and every waiting thread, and other
-    /// calls wait for it. A section must not call it.
+    /// It asks for memory once, for the thread's node, and then takes the lock of the numbers. It
+    /// begins behind the number that was registered last, or at the least one that was released
+    /// since, and passes over numbers up to the one that it takes. Where the table would have less
+    /// than three buckets for each thread, it puts the row of twice the size in use first, which
+    /// adds nothing to the history: it asks for the memory of that row if it was not needed before,
+    /// then visits every bucket and every waiting thread, and other calls wait for it. A section
+    /// must not call it.
     ///
     /// # Errors
     ///

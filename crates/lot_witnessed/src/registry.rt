@@ -1,12 +1,11 @@
 //! The numbers of a lot's threads, behind a lock.
 
-ghost use Rattle.std.specs.Prelude.{◌≡◌, ◌∷◌, ◌<◌, ◌≤◌, ℕ, [], true, false, length, IfOk, IfSome, MatchOption};
-ghost use Rattle.lot_history.specs.Pieces.{has_number};
+ghost use Rattle.std.specs.Prelude.{◌≡◌, ◌∷◌, ◌+◌, ◌*◌, ◌<◌, ◌≤◌, [], length, replicate, IfNone, IfOk, IfSome, None, Some};
+ghost use Rattle.lot_exclusive.specs.Table.{IsLeastUnregistered, count_registered};
 ghost use Rattle.lot_history.specs.Witness.{Extends, IsPartOf, IsStill, IsWitnessOf, id_of, max_threads_of, pieces_of};
-ghost use Rattle.lot_history.specs.declared.view.Piece.TheVariants.{Numbers, Thread};
-ghost use Rattle.lot_word_lock.specs.WordLock.{key_of};
-ghost use Rattle.lot_witnessed.specs.Cells.{Has, HasRecords, IsRegistry, IsRegistryLock};
-ghost use Rattle.lot_witnessed.specs.Members.{IsRegistered, answer_for, pieces_for};
+ghost use Rattle.lot_history.specs.declared.view.Piece.TheVariants.{Thread};
+ghost use Rattle.lot_witnessed.specs.Cells.{Has, HasRecords, IsRegistry, IsRegistryLock, numbers_in, size_in};
+ghost use Rattle.lot_witnessed.specs.Members.{IsRegistered, pieces_for};
 ghost use Rattle.lot_witnessed.specs.Rows.{free_numbers};
 
 use crate::told::{add_full, add_registered, add_retired};
@@ -14,16 +13,18 @@ use lot_base::token::NoMemory;
 use lot_base::word_lock::{Fits, WordLock};
 use lot_exclusive::lot::Status;
 use lot_exclusive::schedule::{Answer, Step};
-use lot_exclusive::table::MAX_THREADS;
+use lot_exclusive::table::numbers::Numbers;
+use lot_exclusive::table::{MAX_THREADS, Use};
 use lot_history::history::{History, Part, Witness};
 use std::alloc::Global;
 use std::mem;
 
 // Which numbers are registered, and beside that the piece of the machine which tells it; a witness,
-// of which each registered thread is told its own; and the index of the row in use.
+// of which each registered thread is told its own; and the index of the row in use, which has three
+// buckets for each registered thread.
 #[derive(Drop)]
 pub(crate) struct Registry {
-    pub(crate) uses: Vec<bool>,
+    numbers: Numbers,
     part: Part,
     pub(crate) witness: Witness,
     pub(crate) row: usize,
@@ -45,17 +46,20 @@ impl Fits for Registry {
     ghost fits = { λ key registry. FitsRegistry key registry };
 }
 
-// The registry of a new lot, with the witness that has its piece, behind a lock.
+// The registry of a new lot, with these numbers and the witness that has their piece, behind a
+// lock.
 pub(crate) fn new_registry(
     alloc: Global,
     history: &History,
     me: Witness,
     max_threads: usize,
+    numbers: Numbers,
     home: Part,
 ) -> Result<WordLock<Registry>, NoMemory>
     requires witness { IsWitnessOf history.now me }
     requires max_threads { max_threads ≡ max_threads_of history.now }
     requires few { max_threads ≤ MAX_THREADS }
+    requires numbers { numbers ≡ replicate max_threads Use.Free }
     requires home { IsPartOf (id_of history.now) home }
     requires piece { pieces_of me ≡ free_numbers max_threads ∷ [] }
     ensures { IfOk result (IsRegistryLock (id_of history.now) max_threads) }
@@ -63,7 +67,7 @@ pub(crate) fn new_registry(
     let mut me = me;
     let part = history.give(&mut me);
     let registry = Registry {
-        uses: vec![in alloc; false; max_threads]?,
+        numbers,
         part,
         witness: history.tell(&mut me),
         row: 0,
@@ -72,55 +76,55 @@ pub(crate) fn new_registry(
     WordLock::new(alloc, registry, &key)
 }
 
-// The least number that is not registered.
-fn least_free(uses: &[bool]) -> Option<usize>
-    ensures { MatchOption result ((k : ℕ) → k < length uses.now → has_number uses.now k ≡ true)
-        (λ number. (number < length uses.now) × (has_number uses.now number ≡ false)
-        × ((k : ℕ) → k < number → has_number uses.now k ≡ true)) }
-{
-    for number in 0..uses.len() {
-        if !uses[number] {
-            return Some(number);
-        }
-    }
-    None
-}
-
-// How many numbers are registered.
-fn count(uses: &[bool]) -> usize
-    ensures { result ≤ length uses.now }
-{
-    let mut threads = 0;
-    for number in 0..uses.len() {
-        if uses[number] {
-            threads += 1;
-        }
-    }
-    threads
-}
-
 impl Registry {
     // How many numbers are registered.
     pub(crate) fn threads(&self) -> usize
-        ensures { result ≤ length self.now.uses.items }
+        ensures count { result ≡ count_registered self.now.numbers }
+        ensures few { result ≤ length self.now.numbers }
     {
-        count(&self.uses)
+        self.numbers.registered()
     }
 
-    // Registers the least free number, if there is one, and answers a new witness that told so,
-    // which has the pieces of the thread.
-    pub(crate) fn register(&mut self, history: &History) -> (Witness, Option<usize>)
-        requires { IsRegistry (id_of history.now) (max_threads_of history.now) self.old }
+    // The least number that is not registered, if there is one.
+    pub(crate) fn least_free(&self) -> Option<usize>
+        ensures some { IfSome result (IsLeastUnregistered self.now.numbers) }
+        ensures none { IfNone result
+            (count_registered self.now.numbers ≡ length self.now.numbers) }
+    {
+        self.numbers.least_free()
+    }
+
+    // Registers this number, the least that is free, and answers a new witness that told so, which
+    // has the pieces of the thread. The row in use is large enough for one more.
+    pub(crate) fn register(&mut self, history: &History, number: usize) -> Witness
+        requires registry { IsRegistry (id_of history.now) (max_threads_of history.now) self.old }
+        requires least { IsLeastUnregistered self.old.numbers number }
+        requires room { 3 * (count_registered self.old.numbers + 1) ≤ size_in self.old }
         ensures registry { IsRegistry (id_of history.now) (max_threads_of history.now) self.new }
-        ensures registered { IsRegistered history.now result.1 result.0 }
-        ensures below { IfSome result.1 (λ number. number < max_threads_of history.now) }
+        ensures registered { IsRegistered history.now (Some number) result }
+        ensures below { number < max_threads_of history.now }
     {
         let mut me = history.tell(&mut self.witness);
         let part = mem::replace(&mut self.part, Part::none());
         history.take(&mut me, part);
-        let number = register_in(history, &mut me, &mut self.uses);
+        register_in(history, &mut me, &mut self.numbers, number);
         self.part = history.give(&mut me);
-        (me, number)
+        me
+    }
+
+    // Answers a new witness that told that no number is free.
+    pub(crate) fn refuse(&mut self, history: &History) -> Witness
+        requires registry { IsRegistry (id_of history.now) (max_threads_of history.now) self.old }
+        requires full { count_registered self.old.numbers ≡ length self.old.numbers }
+        ensures registry { IsRegistry (id_of history.now) (max_threads_of history.now) self.new }
+        ensures refused { IsRegistered history.now None result }
+    {
+        let mut me = history.tell(&mut self.witness);
+        let part = mem::replace(&mut self.part, Part::none());
+        history.take(&mut me, part);
+        refuse_in(history, &mut me, &self.numbers);
+        self.part = history.give(&mut me);
+        me
     }
 
     // Ends the registration of a running thread, whose pieces these parts have, and tells so.
@@ -150,28 +154,38 @@ impl Registry {
         history.take(me, part);
         // It learns that the number is registered, since the thread runs.
         history.look(me);
-        self.uses[number] = false;
-        add_retired(history, me, number, &self.uses);
+        self.numbers.release(number);
+        add_retired(history, me, number, &self.numbers);
         self.part = history.give(me);
     }
 }
 
-// Registers the least of these numbers that is free, if there is one, and tells so.
-fn register_in(history: &History, me: &mut Witness, uses: &mut Vec<bool>) -> Option<usize>
+// Registers this one of these numbers, the least that is free, and tells so.
+fn register_in(history: &History, me: &mut Witness, numbers: &mut Numbers, number: usize)
     requires witness { IsWitnessOf history.now me.old }
-    requires count { length uses.old.items ≡ max_threads_of history.now }
-    requires piece { pieces_of me.old ≡ Numbers uses.old.items ∷ [] }
+    requires count { length numbers.old ≡ max_threads_of history.now }
+    requires least { IsLeastUnregistered numbers.old number }
+    requires piece { pieces_of me.old ≡ numbers_in numbers.old ∷ [] }
     ensures still { IsStill history.now me.old me.new }
-    ensures extends { Extends history.now me.old Step.Register (answer_for result) me.new }
-    ensures pieces { pieces_of me.new ≡ Numbers uses.new.items ∷ pieces_for result }
-    ensures count { length uses.new.items ≡ max_threads_of history.now }
-    ensures below { IfSome result (λ number. number < max_threads_of history.now) }
+    ensures extends { Extends history.now me.old Step.Register (Answer.Registered number) me.new }
+    ensures pieces { pieces_of me.new ≡ numbers_in numbers.new ∷ pieces_for (Some number) }
+    ensures count { length numbers.new ≡ max_threads_of history.now }
+    ensures registered { count_registered numbers.new ≡ count_registered numbers.old + 1 }
+    ensures below { number < max_threads_of history.now }
 {
-    let Some(number) = least_free(uses) else {
-        add_full(history, me);
-        return None;
-    };
-    uses[number] = true;
-    add_registered(history, me, number, uses);
-    Some(number)
+    numbers.register(number);
+    add_registered(history, me, number, numbers);
+}
+
+// Tells that none of these numbers is free.
+fn refuse_in(history: &History, me: &mut Witness, numbers: &Numbers)
+    requires witness { IsWitnessOf history.now me.old }
+    requires count { length numbers.now ≡ max_threads_of history.now }
+    requires full { count_registered numbers.now ≡ length numbers.now }
+    requires piece { pieces_of me.old ≡ numbers_in numbers.now ∷ [] }
+    ensures still { IsStill history.now me.old me.new }
+    ensures extends { Extends history.now me.old Step.Register Answer.Full me.new }
+    ensures pieces { pieces_of me.new ≡ numbers_in numbers.now ∷ [] }
+{
+    add_full(history, me);
 }

@@ -18,6 +18,7 @@ ghost use Rattle.lot_witnessed.specs.Filters.{AreCallable, IsUnpark, Unparks};
 ghost use Rattle.lot_witnessed.specs.Members.{IsListed, Leaves, entry_of, entry_step};
 
 use crate::cell::Cell;
+use crate::claimed::never;
 use crate::told::{Entry, add_entered, add_invalid, add_taken, add_taking, add_timeout};
 use lot_base::queue::{Node, Queue};
 use lot_base::token::{FilterOp, NoMemory, ParkToken, UnparkResult, UnparkToken};
@@ -27,8 +28,8 @@ use lot_history::history::{History, Part, Witness};
 use lot_history::plays::Told;
 use std::alloc::Global;
 use std::marker::Brand;
+use std::mem;
 use std::sync::Wait;
-use std::{mem, thread};
 
 // Takes the first waiter of the key out of its bucket, and tells so. The witness has the pieces of
 // those that were taken, one at most.
@@ -234,6 +235,8 @@ pub(crate) fn leave_in<R: Wait, T: FnOnce(usize, bool)>(
         × (events_of me.new ≡ events_of me.old)) }
 {
     let (node, last) = cell.bucket.remove(number, key, |_, last| last)?;
+    // A thread whose deadline has passed entered with a timeout, but no contract tells what the node
+    // of a thread says.
     if !node.timed {
         never(rt);
     }
@@ -266,15 +269,6 @@ pub(crate) fn list_in(
     history.look(me);
     cell.part = history.give(me);
     cell.bucket.list(alloc, key)
-}
-
-// Waits for ever. A thread whose deadline has passed entered with a timeout, so this is not called,
-// but no contract tells what the node of a thread says.
-fn never<R: Wait>(rt: &R) -> ! {
-    for _ in rt.forever() {
-        thread::yield_now();
-    }
-    unreachable!()
 }
 
 // What the thread of a node enters with.

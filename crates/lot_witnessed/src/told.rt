@@ -4,8 +4,8 @@ ghost use Rattle.std.specs.Prelude.{◌≡◌, ◌∷◌, ◌++◌, List, [], tr
 ghost use Rattle.lot_history.specs.Moves.{Moves, Regroups};
 ghost use Rattle.lot_history.specs.Witness.{Adds, Extends, Found, IsPartOf, IsStill, IsWitnessOf, events_of, id_of, max_threads_of, pieces_in, pieces_of};
 ghost use Rattle.lot_history.specs.declared.view.Piece.{Piece};
-ghost use Rattle.lot_history.specs.declared.view.Piece.TheVariants.{Numbers, Records, Thread};
-ghost use Rattle.lot_witnessed.specs.Cells.{Has, IsLetterTo, lists_in, threads_in};
+ghost use Rattle.lot_history.specs.declared.view.Piece.TheVariants.{Records, Thread};
+ghost use Rattle.lot_witnessed.specs.Cells.{Has, IsLetterTo, lists_in, numbers_in, threads_in};
 ghost use Rattle.lot_witnessed.specs.Late.{late_pieces};
 ghost use Rattle.lot_witnessed.specs.Members.{Is, Leaves, entry_step};
 ghost use Rattle.lot_witnessed.specs.Rows.{empty_lists, free_numbers};
@@ -18,6 +18,7 @@ use lot_base::token::{ParkToken, UnparkToken};
 use lot_exclusive::lot::Status;
 use lot_exclusive::records;
 use lot_exclusive::schedule::{Answer, Step};
+use lot_exclusive::table::numbers::Numbers;
 use lot_history::history::{History, Part, Witness};
 use lot_history::plays::Told;
 use std::marker::Brand;
@@ -104,30 +105,30 @@ pub(crate) fn regroup_joined(history: &History, me: &mut Witness, bucket: &Bucke
 }
 
 // Adds that a thread was registered, which leaves these numbers so.
-pub(crate) fn add_registered(history: &History, me: &mut Witness, number: usize, uses: &Vec<bool>)
+pub(crate) fn add_registered(history: &History, me: &mut Witness, number: usize, numbers: &Numbers)
     requires witness { IsWitnessOf history.now me.old }
     requires moves { Moves (max_threads_of history.now)
         (Is Step.Register (Answer.Registered number)) (pieces_of me.old)
-        (Numbers uses.now.items ∷ Thread number Status.Running ∷ Records number [] ∷ []) }
+        (numbers_in numbers.now ∷ Thread number Status.Running ∷ Records number [] ∷ []) }
     ensures still { IsStill history.now me.old me.new }
     ensures extends { Extends history.now me.old Step.Register (Answer.Registered number) me.new }
     ensures pieces { pieces_of me.new
-        ≡ Numbers uses.now.items ∷ Thread number Status.Running ∷ Records number [] ∷ [] }
+        ≡ numbers_in numbers.now ∷ Thread number Status.Running ∷ Records number [] ∷ [] }
 {
-    add_with::<Brand, (usize, &Vec<bool>)>(history, me, &(number, uses));
+    add_with::<Brand, (usize, &Numbers)>(history, me, &(number, numbers));
 }
 
 // Adds that a running thread ended its registration, which leaves these numbers registered.
-pub(crate) fn add_retired(history: &History, me: &mut Witness, number: usize, uses: &Vec<bool>)
+pub(crate) fn add_retired(history: &History, me: &mut Witness, number: usize, numbers: &Numbers)
     requires witness { IsWitnessOf history.now me.old }
     requires moves { Moves (max_threads_of history.now)
         (Is (Step.Retire number) Answer.Retired) (pieces_of me.old)
-        (Numbers uses.now.items ∷ []) }
+        (numbers_in numbers.now ∷ []) }
     ensures still { IsStill history.now me.old me.new }
     ensures extends { Extends history.now me.old (Step.Retire number) Answer.Retired me.new }
-    ensures pieces { pieces_of me.new ≡ Numbers uses.now.items ∷ [] }
+    ensures pieces { pieces_of me.new ≡ numbers_in numbers.now ∷ [] }
 {
-    add_with::<Brand, (usize, &Vec<bool>)>(history, me, &(number, uses));
+    add_with::<Brand, (usize, &Numbers)>(history, me, &(number, numbers));
 }
 
 // Adds a step of a running thread, which has recorded these keys then.

@@ -1,10 +1,12 @@
 //! How the table grows with the threads that are registered, and how it is trimmed.
 
-ghost use Rattle.std.specs.Prelude.{◌≡◌, ◌+◌, ◌*◌, ◌<◌, ◌≤◌, ◌^◌, [], length, IfOk, IfSome};
+ghost use Rattle.std.specs.Prelude.{◌≡◌, ◌+◌, ◌*◌, ◌<◌, ◌≤◌, ◌^◌, [], length, IfOk, OnErr, OnOk};
+ghost use Rattle.lot_exclusive.specs.Size.{IsSizeFor, IsTrimmedSize};
+ghost use Rattle.lot_exclusive.specs.Table.{count_registered};
 ghost use Rattle.lot_exclusive.specs.declared.schedule.Answer.{Answer};
 ghost use Rattle.lot_exclusive.specs.declared.schedule.Step.{Step};
 ghost use Rattle.lot_history.specs.Witness.{Extends, IsStill, IsWitnessOf, id_of, max_threads_of, pieces_of};
-ghost use Rattle.lot_witnessed.specs.Cells.{IsIdle, IsRegistry, IsRow};
+ghost use Rattle.lot_witnessed.specs.Cells.{IsIdle, IsRegistry, IsRow, size_in};
 ghost use Rattle.lot_witnessed.specs.Halves.{IsHalfSize};
 
 use super::Lot;
@@ -15,7 +17,7 @@ use lot_base::thread_parker::ThreadParkerT;
 use lot_base::token::NoMemory;
 use lot_base::word_lock::WordLock;
 use lot_exclusive::schedule::{Answer, Step};
-use lot_exclusive::table::growth::{INITIAL_BUCKETS, size_for};
+use lot_exclusive::table::growth::trimmed_size;
 use lot_history::history::Witness;
 use std::alloc::Global;
 use std::sync::Wait;
@@ -34,50 +36,69 @@ impl<P: ThreadParkerT> Lot<P> {
         registry: &mut Registry,
     ) -> Result<(), NoMemory>
         requires { IsRegistry (id_of self.now) (max_threads_of self.now) registry.old }
-        ensures { IsRegistry (id_of self.now) (max_threads_of self.now) registry.new }
+        ensures registry { IsRegistry (id_of self.now) (max_threads_of self.now) registry.new }
+        ensures numbers { registry.new.numbers ≡ registry.old.numbers }
+        ensures size { OnOk result (IsSizeFor (count_registered registry.old.numbers + 1)
+            (size_in registry.old) (size_in registry.new)) }
+        ensures room { OnOk result
+            (3 * (count_registered registry.old.numbers + 1) ≤ size_in registry.new) }
+        ensures err { OnErr result (registry.new.row ≡ registry.old.row) }
     {
-        let index = registry.row;
-        let Some(row) = self.row(index) else {
-            return Ok(());
-        };
+        let row = self.made_row(rt, registry.row);
         if row.len() >= BUCKETS_PER_THREAD * (registry.threads() + 1) {
             return Ok(());
         }
-        let made = self.row_or_new(alloc, &mut registry.witness, index + 1, 2 * row.len())?;
-        let Some(larger) = made else {
-            return Ok(());
-        };
+        self.grow(rt, alloc, registry, row)
+    }
+
+    // Puts the row of twice the size in use in the place of this one.
+    fn grow<R: Wait>(
+        &self,
+        rt: &R,
+        alloc: Global,
+        registry: &mut Registry,
+        row: &Vec<WordLock<Slot>>,
+    ) -> Result<(), NoMemory>
+        requires registry { IsRegistry (id_of self.now) (max_threads_of self.now) registry.old }
+        requires below { registry.old.row + 1 < 13 }
+        requires row { IsRow (id_of self.now) (max_threads_of self.now) (size_in registry.old)
+            row.now.items }
+        ensures registry { IsRegistry (id_of self.now) (max_threads_of self.now) registry.new }
+        ensures numbers { registry.new.numbers ≡ registry.old.numbers }
+        ensures row { OnOk result (registry.new.row ≡ registry.old.row + 1) }
+        ensures err { OnErr result (registry.new.row ≡ registry.old.row) }
+    {
+        let index = registry.row + 1;
+        let larger = self.row_or_new(rt, alloc, &mut registry.witness, index, 2 * row.len())?;
         self.double(rt, &mut registry.witness, row, larger);
-        registry.row = index + 1;
-        self.current.store(index + 1, Ordering::SeqCst);
+        registry.row = index;
+        self.current.store(index, Ordering::SeqCst);
         Ok(())
     }
 
-    // The row of this index, which has this size, and is made if it was not needed before; or
-    // `None` where a table has no such row.
-    fn row_or_new(
+    // The row of this index, which has this size, and is made if it was not needed before.
+    fn row_or_new<R: Wait>(
         &self,
+        rt: &R,
         alloc: Global,
         me: &mut Witness,
         index: usize,
         size: usize,
-    ) -> Result<Option<&Vec<WordLock<Slot>>>, NoMemory>
+    ) -> Result<&Vec<WordLock<Slot>>, NoMemory>
         requires idle { IsIdle (id_of self.now) me.old }
+        requires below { index < 13 }
         requires size { size ≡ 2 ^ (index + 4) }
         ensures idle { IsIdle (id_of self.now) me.new }
-        ensures row { IfOk result (λ made. IfSome made (λ row. IsRow (id_of self.now)
-            (max_threads_of self.now) size row.now.items)) }
-        ensures below { IfOk result (λ made. IfSome made (λ row. index < 13)) }
+        ensures row { IfOk result (λ row. IsRow (id_of self.now) (max_threads_of self.now)
+            size row.now.items) }
     {
-        let Some(slot) = self.row_slot(index) else {
-            return Ok(None);
-        };
         if let Some(row) = self.row(index) {
-            return Ok(Some(row));
+            return Ok(row);
         }
         let home = self.history.give(me);
         let row = new_row(alloc, size, self.threads.len(), home)?;
-        Ok(slot.set(row).ok())
+        let _ = self.row_slot(index).set(row);
+        Ok(self.made_row(rt, index))
     }
 
     // Makes the table as small as the registered threads allow, and tells the history.
@@ -94,40 +115,46 @@ impl<P: ThreadParkerT> Lot<P> {
         self.registry.unlock(held);
     }
 
-    // Puts smaller rows in use, each of half the size of the one before, while they have three
-    // buckets for each registered thread. The registry is locked.
+    // Puts smaller rows in use, each of half the size of the one before, down to the size that the
+    // registered threads need. The registry is locked.
     fn give_up_room<R: Wait>(&self, rt: &R, registry: &mut Registry)
         requires { IsRegistry (id_of self.now) (max_threads_of self.now) registry.old }
-        ensures { IsRegistry (id_of self.now) (max_threads_of self.now) registry.new }
+        ensures registry { IsRegistry (id_of self.now) (max_threads_of self.now) registry.new }
+        ensures numbers { registry.new.numbers ≡ registry.old.numbers }
+        ensures size { IsTrimmedSize (count_registered registry.old.numbers)
+            (size_in registry.old) (size_in registry.new) }
     {
-        while let Some((index, row, larger)) = self.smaller_row(registry) {
-            self.halve(rt, &mut registry.witness, row, larger);
-            registry.row = index;
-            self.current.store(index, Ordering::SeqCst);
+        let mut row = self.made_row(rt, registry.row);
+        let size = trimmed_size(registry.threads(), row.len());
+        while size < row.len() {
+            row = self.shrink(rt, registry, row);
         }
     }
 
-    // The row of half the size of the one in use, with its index, and that one, where the smaller
-    // has three buckets for each registered thread.
-    fn smaller_row(
+    // Puts the row of half the size in use in the place of this one, and answers it.
+    fn shrink<R: Wait>(
         &self,
-        registry: &Registry,
-    ) -> Option<(usize, &Vec<WordLock<Slot>>, &Vec<WordLock<Slot>>)>
-        requires { IsRegistry (id_of self.now) (max_threads_of self.now) registry.now }
-        ensures index { IfSome result (λ found. found.0 < registry.now.row) }
-        ensures half { IfSome result (λ found. IsHalfSize (length found.1.now.items)) }
-        ensures row { IfSome result (λ found. IsRow (id_of self.now) (max_threads_of self.now)
-            (length found.1.now.items) found.1.now.items) }
-        ensures larger { IfSome result (λ found. IsRow (id_of self.now) (max_threads_of self.now)
-            (2 * length found.1.now.items) found.2.now.items) }
+        rt: &R,
+        registry: &mut Registry,
+        larger: &Vec<WordLock<Slot>>,
+    ) -> &Vec<WordLock<Slot>>
+        requires registry { IsRegistry (id_of self.now) (max_threads_of self.now) registry.old }
+        requires above { 0 < registry.old.row }
+        requires room { 2 * (3 * count_registered registry.old.numbers) ≤ size_in registry.old }
+        requires larger { IsRow (id_of self.now) (max_threads_of self.now) (size_in registry.old)
+            larger.now.items }
+        ensures registry { IsRegistry (id_of self.now) (max_threads_of self.now) registry.new }
+        ensures numbers { registry.new.numbers ≡ registry.old.numbers }
+        ensures index { registry.new.row + 1 ≡ registry.old.row }
+        ensures row { IsRow (id_of self.now) (max_threads_of self.now) (size_in registry.new)
+            result.now.items }
     {
-        let index = registry.row.checked_sub(1)?;
-        let row = self.row(index)?;
-        let larger = self.row(registry.row)?;
-        if row.len() < size_for(registry.threads(), INITIAL_BUCKETS) {
-            return None;
-        }
-        Some((index, row, larger))
+        let index = registry.row - 1;
+        let row = self.made_row(rt, index);
+        self.halve(rt, &mut registry.witness, row, larger);
+        registry.row = index;
+        self.current.store(index, Ordering::SeqCst);
+        row
     }
 
     // Takes the buckets of a row away, one after another, and puts what each has into the two of

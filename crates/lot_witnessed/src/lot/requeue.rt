@@ -13,7 +13,7 @@ ghost use Rattle.lot_witnessed.specs.Cells.{AreApart, AreLockedInOrder, FitsCell
 ghost use Rattle.lot_witnessed.specs.Requeues.{IsRequeue, MayRequeue};
 
 use super::Lot;
-use crate::cell::{Cell, Claimed, Slot, lock_at};
+use crate::cell::{Cell, Locked, Slot, lock_at};
 use crate::told::{add_requeue, add_taking};
 use lot_base::bucket::place;
 use lot_base::queue::Queue;
@@ -89,12 +89,7 @@ impl<P: ThreadParkerT> Lot<P> {
 
     // Locks the bucket of the key `from`, and that of the key `to` if it is another, and takes them
     // out. That of the lower place is locked first.
-    fn claim_two<R: Wait>(
-        &self,
-        rt: &R,
-        from: usize,
-        to: usize,
-    ) -> (Claimed<'_>, Option<Claimed<'_>>)
+    fn claim_two<R: Wait>(&self, rt: &R, from: usize, to: usize) -> (Locked<'_>, Option<Locked<'_>>)
         ensures from { IsLockFor self.now from result.0.lock.now }
         ensures to { MatchOption result.1 (IsLockFor self.now to result.0.lock.now)
             (λ other. IsLockFor self.now to other.lock.now
@@ -111,7 +106,7 @@ impl<P: ThreadParkerT> Lot<P> {
                 if let Some((source, target)) = claim_both(rt, source, target) {
                     return (source, Some(target));
                 }
-            } else if let Some(source) = Claimed::of(rt, source.lock) {
+            } else if let Some(source) = Locked::of(rt, source.lock) {
                 return (source, None);
             }
             self.wait_for_change(rt);
@@ -262,7 +257,7 @@ fn claim_both<'b, R: Wait>(
     rt: &R,
     source: PlacedLock<'b>,
     target: PlacedLock<'b>,
-) -> Option<(Claimed<'b>, Claimed<'b>)>
+) -> Option<(Locked<'b>, Locked<'b>)>
     requires apart { AreApart source.lock.now target.lock.now }
     requires source { source.place ≡ (key_of source.lock.now).place }
     requires target { target.place ≡ (key_of target.lock.now).place }
@@ -286,7 +281,7 @@ fn claim_in_order<'b, R: Wait>(
     rt: &R,
     first: &'b WordLock<Slot>,
     second: &'b WordLock<Slot>,
-) -> Option<(Claimed<'b>, Claimed<'b>)>
+) -> Option<(Locked<'b>, Locked<'b>)>
     requires { (key_of first.now).place < (key_of second.now).place }
     ensures locks { IfSome result (λ both. (both.0.lock.now ≡ first.now)
         × (both.1.lock.now ≡ second.now)) }
@@ -296,8 +291,8 @@ fn claim_in_order<'b, R: Wait>(
         × FitsCell (key_of both.1.lock.now) both.1.cell) }
     ensures behind { IfSome result (λ both. both.1.behind ≡ Some (key_of first.now).place) }
 {
-    let first = Claimed::of(rt, first)?;
-    let Some(second) = Claimed::behind(rt, &first, second) else {
+    let first = Locked::of(rt, first)?;
+    let Some(second) = Locked::behind(rt, &first, second) else {
         first.close();
         return None;
     };

@@ -2,11 +2,12 @@
 
 ghost use Rattle.std.specs.Prelude.{◌+◌, ◌<◌, ◌^◌, length, IfSome};
 ghost use Rattle.lot_history.specs.Witness.{id_of, max_threads_of};
-ghost use Rattle.lot_word_lock.specs.WordLock.{IsHeldOf, key_of};
-ghost use Rattle.lot_witnessed.specs.Cells.{FitsCell, IsLockFor, IsRow, IsSlotAt};
+ghost use Rattle.lot_witnessed.specs.Cells.{IsLockFor, IsRow, IsSlotAt};
+ghost use Rattle.lot_witnessed.specs.Sections.{IsClaimed};
 
 use super::Lot;
-use crate::cell::{Claimed, RowSlot, Slot, lock_at};
+use crate::cell::{MOST_ROWS, RowSlot, Slot, lock_at};
+use crate::claimed::Claimed;
 use lot_base::bucket::place;
 use lot_base::thread_parker::ThreadParkerT;
 use lot_base::word_lock::WordLock;
@@ -14,26 +15,45 @@ use std::sync::Wait;
 use std::sync::atomic::Ordering;
 
 impl<P: ThreadParkerT> Lot<P> {
-    // The place of the row of this index, if there is one.
-    pub(super) fn row_slot(&self, index: usize) -> Option<&RowSlot>
-        ensures slot { IfSome result (λ slot. IsSlotAt (id_of self.now)
-            (max_threads_of self.now) index slot.now) }
-        ensures below { IfSome result (λ slot. index < 13) }
+    // The place of the row of this index.
+    #[inline]
+    pub(super) fn row_slot(&self, index: usize) -> &RowSlot
+        requires { index < 13 }
+        ensures { IsSlotAt (id_of self.now) (max_threads_of self.now) index result.now }
     {
-        self.rows.get(index)
+        &self.rows[index]
     }
 
-    // The row of this index, if it was made.
+    // The row of this index, if there is one and it was made.
+    #[inline]
     pub(super) fn row(&self, index: usize) -> Option<&Vec<WordLock<Slot>>>
-        ensures row { IfSome result (λ row. IsRow (id_of self.now) (max_threads_of self.now)
+        ensures { IfSome result (λ row. IsRow (id_of self.now) (max_threads_of self.now)
             (2 ^ (index + 4)) row.now.items) }
-        ensures below { IfSome result (λ row. index < 13) }
     {
-        self.row_slot(index)?.get()
+        if index >= MOST_ROWS {
+            return None;
+        }
+        self.row_slot(index).get()
+    }
+
+    // The row of this index, which was made before. No contract tells so, and the loop would look
+    // again.
+    pub(super) fn made_row<R: Wait>(&self, rt: &R, index: usize) -> &Vec<WordLock<Slot>>
+        requires { index < 13 }
+        ensures { IsRow (id_of self.now) (max_threads_of self.now) (2 ^ (index + 4))
+            result.now.items }
+    {
+        for _ in rt.forever() {
+            if let Some(row) = self.row(index) {
+                return row;
+            }
+        }
+        unreachable!()
     }
 
     // The row that is in use, or was as `current` was read. It was made before, but no contract
     // tells so.
+    #[inline]
     pub(super) fn row_in_use<R: Wait>(&self, rt: &R) -> &Vec<WordLock<Slot>>
         ensures { IsRow (id_of self.now) (max_threads_of self.now) (length result.now.items)
             result.now.items }
@@ -47,6 +67,7 @@ impl<P: ThreadParkerT> Lot<P> {
     }
 
     // The lock of the key's place in the row in use.
+    #[inline]
     fn lock_of<R: Wait>(&self, rt: &R, key: usize) -> &WordLock<Slot>
         ensures { IsLockFor self.now key result.now }
     {
@@ -54,11 +75,11 @@ impl<P: ThreadParkerT> Lot<P> {
         lock_at(row, place(key, row.len()))
     }
 
-    // Locks the bucket of the key and takes it out, which begins a section.
+    // Locks the bucket of the key, which begins a section.
+    #[inline]
     pub(super) fn claim<R: Wait>(&self, rt: &R, key: usize) -> Claimed<'_>
         ensures lock { IsLockFor self.now key result.lock.now }
-        ensures held { IsHeldOf result.lock.now result.held }
-        ensures fits { FitsCell (key_of result.lock.now) result.cell }
+        ensures claim { IsClaimed result }
     {
         for _ in rt.forever() {
             let lock = self.lock_of(rt, key);
@@ -71,6 +92,8 @@ impl<P: ThreadParkerT> Lot<P> {
     }
 
     // Waits until the thread that changes the row is done, which has the numbers locked meanwhile.
+    #[cold]
+    #[inline(never)]
     pub(super) fn wait_for_change<R: Wait>(&self, rt: &R) {
         let held = self.registry.lock(rt);
         self.registry.unlock(held);

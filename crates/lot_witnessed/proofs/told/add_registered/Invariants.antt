@@ -2,7 +2,8 @@ use Rattle.std.proofs.Common.{[], ◌∷◌}
 use Rattle.lot_exclusive.specs.declared.lot.Status.TheVariants as status
 use Rattle.lot_exclusive.specs.declared.schedule.Answer.TheVariants as answer
 use Rattle.lot_exclusive.specs.declared.schedule.Step.TheVariants as step
-use Rattle.lot_history.specs.declared.view.Piece.TheVariants.{Numbers, Records, Thread}
+use Rattle.lot_history.specs.declared.view.Piece.TheVariants.{Records, Thread}
+use Rattle.lot_witnessed.specs.Cells.{numbers_in}
 use Rattle.lot_witnessed.specs.Members.{Is}
 use Rattle.lot_witnessed.proofs.told.add_registered.Given as goal
 
@@ -11,5 +12,5 @@ abbrev pub ghosts-add_with : goal.ghosts-add_with
 ghosts-add_with a = record { said = Is step.Register (answer.Registered a._values.now.0) }
 
 abbrev pub ghost-add_with : goal.ghost-add_with
-ghost-add_with a = Numbers a._values.now.1.now.items
+ghost-add_with a = numbers_in a._values.now.1.now
     ∷ Thread a._values.now.0 status.Running ∷ Records a._values.now.0 [] ∷ []

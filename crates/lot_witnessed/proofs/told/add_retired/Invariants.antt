@@ -1,7 +1,7 @@
 use Rattle.std.proofs.Common.{[], ◌∷◌}
 use Rattle.lot_exclusive.specs.declared.schedule.Answer.TheVariants as answer
 use Rattle.lot_exclusive.specs.declared.schedule.Step.TheVariants as step
-use Rattle.lot_history.specs.declared.view.Piece.TheVariants.{Numbers}
+use Rattle.lot_witnessed.specs.Cells.{numbers_in}
 use Rattle.lot_witnessed.specs.Members.{Is}
 use Rattle.lot_witnessed.proofs.told.add_retired.Given as goal
 
@@ -10,4 +10,4 @@ abbrev pub ghosts-add_with : goal.ghosts-add_with
 ghosts-add_with a = record { said = Is (step.Retire a._values.now.0) answer.Retired }
 
 abbrev pub ghost-add_with : goal.ghost-add_with
-ghost-add_with a = Numbers a._values.now.1.now.items ∷ []
+ghost-add_with a = numbers_in a._values.now.1.now ∷ []

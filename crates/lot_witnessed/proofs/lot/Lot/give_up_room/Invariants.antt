@@ -1,9 +1,15 @@
+use Rattle.std.proofs.Common.{◌≡◌, ◌≤◌}
 use Rattle.lot_history.specs.Witness.{id_of, max_threads_of}
-use Rattle.lot_witnessed.specs.Cells.{IsRegistry}
+use Rattle.lot_witnessed.specs.Cells.{IsRegistry, IsRow, size_in}
 use Rattle.lot_witnessed.proofs.lot.Lot.give_up_room.Given as goal
 
-abbrev pub invariant-loop-index : goal.invariant-loop-index
-invariant-loop-index g l = IsRegistry (id_of l.self) (max_threads_of l.self) l.registry
+abbrev pub invariant-loop-row : goal.invariant-loop-row
+invariant-loop-row g l = record {
+  registry : IsRegistry (id_of l.self) (max_threads_of l.self) l.registry;
+  numbers : l.registry.numbers ≡ l.fn.registry.numbers;
+  row : IsRow (id_of l.self) (max_threads_of l.self) (size_in l.registry) l.row.items;
+  above : l.size ≤ size_in l.registry;
+}
 
-abbrev pub decreases-loop-index : goal.decreases-loop-index
-decreases-loop-index g l = l.registry.row
+abbrev pub decreases-loop-row : goal.decreases-loop-row
+decreases-loop-row g l = l.registry.row

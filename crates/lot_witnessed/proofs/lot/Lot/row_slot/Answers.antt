@@ -1,14 +1,18 @@
-use Rattle.std.proofs.Common.{IfSome, subst}
+use Rattle.std.proofs.Common.{◌≡◌, ℕ, ◌+◌, ◌<◌, length, arith, subst}
 use Rattle.lot_history.specs.Witness.{id_of, max_threads_of}
 use Rattle.lot_history.specs.declared.history.History.{History}
 use Rattle.lot_witnessed.specs.Cells.{IsSlotAt}
-use Rattle.lot_witnessed.proofs.RowLemmas.{item_got}
+use Rattle.lot_witnessed.proofs.RowLemmas.{item_at}
 use Rattle.lot_witnessed.proofs.lot.Lot.row_slot.Goals as goal
 
-pub returns-clause-slot : goal.returns-clause-slot
-returns-clause-slot g c =
+pub returns : goal.returns
+returns g c =
+    let history = c.self.inside.history in
+    let rows = c.self.inside.rows.items in
     let index = c.args.index in
-    subst (λ (history : History). IfSome c.get.result (λ slot. IsSlotAt (id_of history) (max_threads_of history) index
-    slot.now)) c.self.view_is
-    (item_got (IsSlotAt (id_of c.self.inside.history) (max_threads_of c.self.inside.history)) c.self.inside.rows.items
-    index c.get.result (rw (← c.deref.ensures.value) c.get.ensures.lookup) c.self.invariant.0.each)
+    let below : index < length rows = omega (arith, c.requires, c.self.invariant.0.count) in
+    let own = item_at (IsSlotAt (id_of history) (max_threads_of history)) 0 rows index c.index.result.now below
+    c.index.ensures c.self.invariant.0.each in
+    let same : 0 + index ≡ index = omega arith in
+    subst (λ (found : History). IsSlotAt (id_of found) (max_threads_of found) index c.index.result.now) c.self.view_is
+    (subst (λ (n : ℕ). IsSlotAt (id_of history) (max_threads_of history) n c.index.result.now) same own)

@@ -1,18 +1,21 @@
-use Rattle.std.proofs.Common.{◌∙◌, rules, subst}
+use Rattle.std.proofs.Common.{◌∙◌, rules}
 use Rattle.lot_history.specs.declared.history.History.{History}
+use Rattle.lot_history.specs.declared.history.Witness.{Witness}
 use Rattle.lot_witnessed.specs.Filters.{Unparks}
+use Rattle.lot_witnessed.proofs.SectionLemmas.{at_end}
 use Rattle.lot_witnessed.proofs.lot.Lot.take_filter.Goals as goal
 
 -- the commits add nothing
 pub returns-clause-unparked : goal.returns-clause-unparked
 returns-clause-unparked g c =
-    let unparked = c.take_filter_of-taken.ensures.unparked in
-    let extends = unparked.extends in
-    subst (λ (history : History). Unparks g.F.FnMut g.C.FnOnce c.args.filter c.args.callback c.args.key history
-    c.args.me.now c.take_filter_of-taken.result.0 c.commit.new.me) c.self.view_is
+    let told : Unparks g.F.FnMut g.C.FnOnce c.args.filter c.args.callback c.args.key c.self.inside.history c.args.me.now
+    c.with-taken.result.0 c.with-taken.result.2.now = search rules in
+    let extends = told.extends in
+    at_end (λ (history : History) (new : Witness). Unparks g.F.FnMut g.C.FnOnce c.args.filter c.args.callback c.args.key
+    history c.args.me.now c.with-taken.result.0 new) _ _ c.commit.new.me _ c.self.view_is (search rules)
     (record {
-      decisions = unparked.decisions;
-      token = unparked.token;
+      decisions = told.decisions;
+      token = told.token;
       extends = record {
         between = extends.between;
         seen = c.commit.ensures.seen ∙ extends.seen;
@@ -21,13 +24,13 @@ returns-clause-unparked g c =
         history = search rules;
       };
       found = record {
-        before = unparked.found.before;
-        last = unparked.found.last;
-        machine = unparked.found.machine;
-        begins = unparked.found.begins;
-        seen = c.commit.ensures.seen ∙ unparked.found.seen;
-        leads = unparked.found.leads;
-        so = unparked.found.so;
+        before = told.found.before;
+        last = told.found.last;
+        machine = told.found.machine;
+        begins = told.found.begins;
+        seen = c.commit.ensures.seen ∙ told.found.seen;
+        leads = told.found.leads;
+        so = told.found.so;
       };
-      calls = unparked.calls;
+      calls = told.calls;
     })
