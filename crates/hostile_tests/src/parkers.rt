@@ -12,7 +12,7 @@ use lot_base::thread_parker::{
 use std::alloc::Global;
 use std::process::Abort;
 use std::sync::Wait;
-use std::sync::atomic::{AtomicBool, Ordering};
+use std::sync::atomic::{AtomicBool, AtomicUsize, Ordering};
 use std::thread::Threads;
 use std::time::{Clock, Duration, Instant};
 use std::{io, thread};
@@ -259,6 +259,178 @@ fn a_deadline_far_away_has_not_passed(rt: HostRuntime) {
         comes_back::<YieldParker, _>(&rt, rt.alloc(), duration, commit);
         comes_back::<WordParker, _>(&rt, rt.alloc(), duration, commit);
     }
+}
+
+// Durations that an integer of 32 or 64 bits cannot hold, in seconds and parts of them, or that it
+// holds as a negative one. A little more than the first that it cannot hold is a little for it.
+fn great_durations() -> [Duration; 14] {
+    let little = Duration::from_millis(5);
+    [
+        Duration::from_secs(1 << 31),
+        Duration::from_secs(1 << 32).saturating_add(little),
+        Duration::from_millis(1 << 31),
+        Duration::from_millis(1 << 32),
+        Duration::from_millis(1 << 32).saturating_add(little),
+        Duration::from_micros(1 << 31).saturating_add(little),
+        Duration::from_micros(1 << 32),
+        Duration::from_micros(1 << 32).saturating_add(little),
+        Duration::from_nanos(1 << 31).saturating_add(little),
+        Duration::from_nanos(1 << 32),
+        Duration::from_nanos(1 << 32).saturating_add(little),
+        Duration::from_nanos(1 << 63).saturating_add(little),
+        Duration::from_nanos(u64::MAX).saturating_add(little),
+        Duration::from_micros(u64::MAX).saturating_add(little),
+    ]
+}
+
+fn comes_back_long_before<P: ThreadParkerT + Sync, R: Threads + Wait + Clock + Abort + Sync>(
+    rt: &R,
+    alloc: Global,
+) {
+    for duration in great_durations() {
+        comes_back::<P, _>(rt, alloc, duration, Commit::soon(true));
+    }
+}
+
+// It refuses a `park_until` that keeps 32 or 64 bits of the time that is left, in whatever unit.
+#[test]
+fn a_deadline_beyond_an_integer_has_not_passed(rt: HostRuntime) {
+    comes_back_long_before::<ThreadParker, _>(&rt, rt.alloc());
+    comes_back_long_before::<YieldParker, _>(&rt, rt.alloc());
+    comes_back_long_before::<WordParker, _>(&rt, rt.alloc());
+}
+
+// A clock that is ahead of another, and counts how often it is read.
+#[derive(Drop)]
+struct AheadClock<R> {
+    rt: R,
+    by: Duration,
+    reads: AtomicUsize,
+}
+
+impl<R> AheadClock<R> {
+    fn new(rt: R, by: Duration) -> AheadClock<R> {
+        AheadClock {
+            rt,
+            by,
+            reads: AtomicUsize::new(0),
+        }
+    }
+}
+
+impl<R: Wait> Wait for AheadClock<R> {}
+
+impl<R: Clock> Clock for AheadClock<R> {
+    fn monotonic(&self) -> io::Result<Duration> {
+        self.reads.fetch_add(1, Ordering::SeqCst);
+        Ok(self.rt.monotonic()?.saturating_add(self.by))
+    }
+
+    fn since_1970(&self) -> io::Result<Duration> {
+        self.rt.since_1970()
+    }
+}
+
+// Waits by a clock by which the deadline has passed so long ago, and tells whether a node came.
+fn wait_in_vain<P: ThreadParkerT, R: Wait + Clock>(
+    rt: &R,
+    parker: &P,
+    passed: Instant,
+    ago: Duration,
+    meeting: &Meeting,
+) -> bool {
+    let is_there = parker
+        .park_until(&AheadClock::new(rt, ago), passed)
+        .is_some();
+    meeting.has_started.store(true, Ordering::SeqCst);
+    is_there
+}
+
+// Puts a node once the owner has given up, or has waited too long.
+fn commit_in_the_end<P: ThreadParkerT, R: Wait>(
+    rt: &R,
+    parker: &P,
+    node: Box<Node>,
+    meeting: &Meeting,
+)
+    requires { (fields node.value).number ≡ P.owner parker.now }
+{
+    raised_by_turns(&meeting.has_started);
+    parker.unpark_lock(rt, node).unpark(parker);
+}
+
+fn wait_and_commit<P: ThreadParkerT + Sync, R: Threads + Wait + Clock + Sync>(
+    rt: &R,
+    parker: &P,
+    node: Box<Node>,
+    passed: Instant,
+    ago: Duration,
+) -> bool
+    requires { (fields node.value).number ≡ P.owner parker.now }
+{
+    let meeting = Meeting::new();
+    let (is_there, ()) = thread::join(
+        rt,
+        || wait_in_vain(rt, parker, passed, ago, &meeting),
+        ||
+            requires { (fields node.value).number ≡ P.owner parker.now }
+        {
+            commit_in_the_end(rt, parker, node, &meeting);
+        },
+    );
+    is_there
+}
+
+fn does_not_wait<P: ThreadParkerT + Sync, R: Threads + Wait + Clock + Abort + Sync>(
+    rt: &R,
+    alloc: Global,
+    ago: Duration,
+) {
+    let parker = owners_parker::<P, _>(rt, alloc);
+    let node = owners_node(rt, alloc);
+    let came = wait_and_commit(rt, &parker, node, now(rt), ago);
+    expect_equal(rt, (ago, came), (ago, false));
+}
+
+fn gives_up_at_once<P: ThreadParkerT + Sync, R: Threads + Wait + Clock + Abort + Sync>(
+    rt: &R,
+    alloc: Global,
+) {
+    does_not_wait::<P, _>(rt, alloc, Duration::from_hours(1));
+    for ago in great_durations() {
+        does_not_wait::<P, _>(rt, alloc, ago);
+    }
+}
+
+// It refuses a `park_until` that takes a deadline long ago for one to come.
+#[test]
+fn a_deadline_long_ago_has_passed(rt: HostRuntime) {
+    gives_up_at_once::<ThreadParker, _>(&rt, rt.alloc());
+    gives_up_at_once::<YieldParker, _>(&rt, rt.alloc());
+    gives_up_at_once::<WordParker, _>(&rt, rt.alloc());
+}
+
+// How often a wait that sleeps reads the clock at most. One that looks again and again reads it some
+// thousand times in its time.
+const READS: usize = 100;
+
+// Waits in vain again and again, without a word to the parker between two waits.
+fn sleeps_each_time<P: ThreadParkerT, R: Wait + Clock + Abort>(rt: &R, alloc: Global) {
+    let parker = owners_parker::<P, _>(rt, alloc);
+    for _ in 0..3 {
+        let clock = AheadClock::new(rt, Duration::ZERO);
+        let deadline = from_now(rt, Duration::from_millis(50));
+        expect_equal(rt, parker.park_until(&clock, deadline).is_some(), false);
+        let reads = clock.reads.load(Ordering::SeqCst);
+        expect_equal(rt, (reads, reads <= READS), (reads, true));
+    }
+}
+
+// It refuses a `park_until` that does not sleep where the wait before has left the mark of a sleeper.
+#[test]
+fn a_wait_after_a_deadline_sleeps(rt: HostRuntime) {
+    sleeps_each_time::<ThreadParker, _>(&rt, rt.alloc());
+    sleeps_each_time::<WordParker, _>(&rt, rt.alloc());
 }
 
 // It refuses a `park_until` that ends after some number of looks or sleeps.

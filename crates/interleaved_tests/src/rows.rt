@@ -4,7 +4,7 @@
 use crate::both::{Both, run_bare};
 use crate::expect_equal;
 use crate::sequential::expect_sequential;
-use lot_base::token::{FilterOp, LotError, RequeueOp};
+use lot_base::token::{FilterOp, LotError, NoMemory, RequeueOp};
 use lot_exclusive::schedule::{Answer, Step};
 use lot_interleaved::interleaved::{FineAnswer, FineLot, FineStep};
 use plain_machines::fine_steps::{
@@ -316,6 +316,54 @@ fn an_interleaved_lot_is_for_at_most_16384_threads_and_callers(rt: HostRuntime) 
         expect_equal(&rt, refused, LotError::NoMemory);
         assert!(rt; FineLot::new(rt.alloc(), 2, 2).is_ok());
     }
+}
+
+// More threads than a byte counts.
+const MANY: usize = 300;
+
+// The steps of threads that register and wait on the key 1.
+fn many_entries(alloc: Global) -> Result<Vec<FineStep>, NoMemory> {
+    let mut steps = Vec::new(alloc);
+    for thread in 0..MANY {
+        steps.push(FineStep::Register)?;
+        steps.push(enter(thread, 1, false))?;
+    }
+    Ok(steps)
+}
+
+// The steps of an unpark of all that wait on the key 2, which return then.
+fn many_unparks(alloc: Global) -> Result<Vec<FineStep>, NoMemory> {
+    let mut steps = Vec::new(alloc);
+    steps.push(begin(0, all(2, 42)))?;
+    for _ in 0..MANY {
+        steps.push(COMMIT)?;
+    }
+    steps.push(END)?;
+    for thread in 0..MANY {
+        steps.push(WAKE)?;
+        steps.push(FineStep::Return { thread })?;
+    }
+    Ok(steps)
+}
+
+// It refuses a list, a requeue or an unpark that goes no further than some thread.
+#[test]
+fn three_hundred_threads_are_listed_moved_and_unparked(rt: HostRuntime) -> Result<(), Fail> {
+    let mut both = Both::new(rt.alloc(), (MANY, 1))?;
+    let keys = [1, 2].as_slice();
+    both.run(&rt, many_entries(rt.alloc())?.as_slice())?;
+    both.compare(&rt, keys)?;
+    expect_equal(&rt, both.plain.list(1).len(), MANY);
+    both.run(
+        &rt,
+        [begin(0, requeue((1, 2), RequeueOp::RequeueAll, 9)), END].as_slice(),
+    )?;
+    both.compare(&rt, keys)?;
+    expect_equal(&rt, both.plain.list(2).len(), MANY);
+    both.run(&rt, many_unparks(rt.alloc())?.as_slice())?;
+    both.compare(&rt, keys)?;
+    expect_equal(&rt, both.step(&rt, &WAKE)?, MISFIT);
+    Ok(())
 }
 
 // It refuses a `run_fine` that does nothing and answers `NoMemory`.

@@ -5,6 +5,8 @@
 #[cfg(test)]
 mod bare;
 #[cfg(test)]
+mod crowd;
+#[cfg(test)]
 mod lot;
 #[cfg(test)]
 mod schedule;

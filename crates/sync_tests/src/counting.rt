@@ -25,6 +25,8 @@ const SECONDS: u64 = 5;
 // So many keys each thread is dealt.
 const KEYS: usize = 200_000;
 
+const ALL_KEYS: usize = THREADS * KEYS;
+
 #[derive(Drop)]
 struct Shared<P: ThreadParkerT> {
     lot: ParkingLot<P>,
@@ -112,15 +114,26 @@ fn two_threads_hand_a_mutex_over_often(rt: HostRuntime) {
     thread::map_indices(&rt, rt.alloc(), 2, &play).expect(&rt, "threads");
 }
 
-// No clause says that no key is dealt twice.
+// The sum of the keys that a thread is dealt.
+fn sum_dealt<R: Abort>(rt: &R, keys: &Keys) -> usize {
+    let mut sum: usize = 0;
+    for _ in 0..KEYS {
+        sum = sum.wrapping_add(keys.deal().expect(rt, "a key"));
+    }
+    sum
+}
+
+// No clause says that no key is dealt twice. It refuses a body that loads the number and stores the
+// next, which loses some, and one that answers a number from before its step, which makes the sum
+// less.
 #[test]
 fn four_threads_are_dealt_different_keys(rt: HostRuntime) {
     let keys = Keys::new();
-    let play = |_: usize| {
-        for _ in 0..KEYS {
-            keys.deal();
-        }
-    };
-    thread::map_indices(&rt, rt.alloc(), THREADS, &play).expect(&rt, "threads");
-    expect_equal(&rt, keys.deal(), Some(THREADS * KEYS));
+    let play = |_: usize| sum_dealt(&rt, &keys);
+    let sums = thread::map_indices(&rt, rt.alloc(), THREADS, &play).expect(&rt, "threads");
+    let sum = sums
+        .iter()
+        .fold(0usize, |sum, each| sum.wrapping_add(*each));
+    expect_equal(&rt, keys.deal(), Some(ALL_KEYS));
+    expect_equal(&rt, sum, ALL_KEYS / 2 * (ALL_KEYS - 1));
 }

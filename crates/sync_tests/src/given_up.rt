@@ -1,10 +1,9 @@
 //! Threads that give up waiting for a lock, beside others that do not.
 
-use crate::calls::{had_mutex, read, wrote};
+use crate::calls::{read, wrote};
 use crate::pair::Pair;
 use crate::scene::{Scene, expect_told, far, soon};
 use lot_base::thread_parker::WordParker;
-use lot_sync::mutex::Mutex;
 use lot_sync::rw_lock::RwLock;
 use parking_lot_core::Member;
 use std::alloc::Global;
@@ -14,18 +13,8 @@ use std::time::{Clock, Instant};
 
 const KEY: usize = 7;
 
-// Locks until the deadline, and tells whether it had the mutex.
-fn locks<R: Wait + Clock>(
-    rt: &R,
-    member: &mut Member<'_, WordParker>,
-    mutex: &Mutex<Pair>,
-    deadline: Instant,
-) -> bool {
-    let tried = mutex.lock_until(rt, member, deadline);
-    had_mutex(rt, member, tried)
-}
-
-fn reads<R: Wait + Clock>(
+// Reads until the deadline, and tells whether it was lent the value.
+pub fn reads<R: Wait + Clock>(
     rt: &R,
     member: &mut Member<'_, WordParker>,
     lock: &RwLock<Pair>,
@@ -35,7 +24,7 @@ fn reads<R: Wait + Clock>(
     read(rt, member, tried)
 }
 
-fn writes<R: Wait + Clock>(
+pub fn writes<R: Wait + Clock>(
     rt: &R,
     member: &mut Member<'_, WordParker>,
     lock: &RwLock<Pair>,
@@ -43,49 +32,6 @@ fn writes<R: Wait + Clock>(
 ) -> bool {
     let tried = lock.write_until(rt, member, deadline);
     wrote(rt, member, tried)
-}
-
-// Holds the mutex from the first step to the second.
-fn hold<R: Wait + Clock + Abort>(rt: &R, alloc: Global, scene: &Scene, mutex: &Mutex<Pair>) {
-    let mut member = scene.enter(rt, alloc);
-    let held = mutex.lock(rt, &mut member);
-    scene.advance();
-    scene.wait_for_step(rt, 2);
-    held.unlock(rt, &member);
-}
-
-// Who stays, and who gives up behind it.
-fn stay_or_give_up<R: Wait + Clock + Abort>(
-    rt: &R,
-    alloc: Global,
-    scene: &Scene,
-    mutex: &Mutex<Pair>,
-    stays: bool,
-) -> bool {
-    let mut member = scene.enter(rt, alloc);
-    scene.wait_for_step(rt, 1);
-    if stays {
-        return locks(rt, &mut member, mutex, far(rt));
-    }
-    scene.wait_for_waiters(rt, alloc, KEY, 1);
-    let had_it = locks(rt, &mut member, mutex, soon(rt));
-    scene.advance();
-    had_it
-}
-
-// It refuses a deadline that takes the note of those who still wait from the word.
-#[test]
-fn one_that_gives_up_leaves_the_other_waiting(rt: HostRuntime) {
-    let scene = Scene::new(&rt, rt.alloc());
-    let mutex = Mutex::new(rt.alloc(), KEY, Pair::new()).expect(&rt, "a mutex");
-    let play = |index: usize| {
-        if index == 2 {
-            hold(&rt, rt.alloc(), &scene, &mutex);
-            return true;
-        }
-        stay_or_give_up(&rt, rt.alloc(), &scene, &mutex, index == 0)
-    };
-    expect_told(&rt, rt.alloc(), &play, &[true, false, true]);
 }
 
 // Reads from the first step to the second.

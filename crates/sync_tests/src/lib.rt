@@ -10,9 +10,13 @@ mod channel;
 #[cfg(test)]
 mod counting;
 #[cfg(test)]
+mod crowd;
+#[cfg(test)]
 mod given_up;
 #[cfg(test)]
 mod handed;
+#[cfg(test)]
+mod left_waiting;
 #[cfg(test)]
 mod notified;
 #[cfg(test)]

@@ -1,7 +1,7 @@
 //! Sleepers on a condition variable who are notified, moved to the mutex, or late.
 
 use crate::pair::Pair;
-use crate::scene::{Scene, expect_told, far, later, long_after, now, wait_until_past};
+use crate::scene::{Scene, expect_told, far, later, long_after, now, soon, wait_until_past};
 use lot_sync::mutex::{Condvar, Mutex, WaitResult};
 use std::alloc::Global;
 use std::process::Abort;
@@ -148,6 +148,28 @@ impl Shared {
         true
     }
 
+    // Gives up while two others sleep, and notifies these one after the other, or both at once.
+    fn give_up_and_notify<R: Wait + Clock + Abort>(
+        &self,
+        rt: &R,
+        alloc: Global,
+        is_at_once: bool,
+    ) -> bool {
+        self.scene.wait_for_waiters(rt, alloc, SLEEPERS, 2);
+        let is_notified = self.sleep(rt, alloc, soon(rt));
+        let member = self.scene.enter(rt, alloc);
+        if is_at_once {
+            return self.condvar.notify_all(rt, &member, &self.mutex) == 2 && !is_notified;
+        }
+        let mut count = 0;
+        for _ in 0..3 {
+            if self.condvar.notify_one(rt, &member, &self.mutex) {
+                count += 1;
+            }
+        }
+        count == 2 && !is_notified
+    }
+
     // Sleeps behind the first.
     fn sleep_second<R: Wait + Clock + Abort>(&self, rt: &R, alloc: Global) -> bool {
         self.scene.wait_for_waiters(rt, alloc, SLEEPERS, 1);
@@ -218,4 +240,19 @@ fn who_comes_while_another_gives_up_is_notified(rt: HostRuntime) {
         _ => shared.notify_who_came(&rt, rt.alloc()),
     };
     expect_told(&rt, rt.alloc(), &play, &[true; 3]);
+}
+
+// It refuses a deadline that takes the note of those who still sleep.
+#[test]
+fn one_that_gives_up_leaves_the_others_to_be_notified(rt: HostRuntime) {
+    for is_at_once in [false, true] {
+        let shared = Shared::new(&rt, rt.alloc());
+        let play = |index: usize| {
+            if index == 2 {
+                return shared.give_up_and_notify(&rt, rt.alloc(), is_at_once);
+            }
+            shared.sleep(&rt, rt.alloc(), far(&rt))
+        };
+        expect_told(&rt, rt.alloc(), &play, &[true; 3]);
+    }
 }

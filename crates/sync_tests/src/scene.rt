@@ -33,8 +33,12 @@ pub struct Scene {
 
 impl Scene {
     pub fn new<R: Abort>(rt: &R, alloc: Global) -> Scene {
+        Scene::for_threads(rt, alloc, 4)
+    }
+
+    pub fn for_threads<R: Abort>(rt: &R, alloc: Global, threads: usize) -> Scene {
         Scene {
-            lot: lot_for(rt, alloc, 4),
+            lot: lot_for(rt, alloc, threads),
             step: AtomicUsize::new(0),
         }
     }

@@ -23,10 +23,10 @@ const THREADS: usize = 4;
 
 const ROUNDS: usize = 1_000;
 
-// After so many milliseconds a thread counts no more, however few its rounds.
+// After so many milliseconds a thread counts or locks no more, however few its rounds.
 const LONG: u64 = 1_000;
 
-// So often two threads lock and unlock at once.
+// So often two threads lock and unlock at once, or until the time is over.
 const OFTEN: usize = 5_000_000;
 
 const TURNS: usize = 10_000_000;
@@ -132,7 +132,7 @@ fn threads_count_in_turn(rt: HostRuntime) -> Result<(), Fail> {
 }
 
 // Locks and unlocks, often. Data of another lot answers false.
-fn lock_often<P: ThreadParkerT, R: Wait + Clock>(
+fn lock_often<P: ThreadParkerT, R: Wait + Clock + Abort>(
     rt: &R,
     shared: &Shared<P>,
     data: ThreadData,
@@ -140,9 +140,13 @@ fn lock_often<P: ThreadParkerT, R: Wait + Clock>(
     let Ok(mut member) = Member::of(&shared.lot, data) else {
         return false;
     };
+    let end = from_now(rt, LONG);
     for _ in 0..OFTEN {
         let held = shared.mutex.lock(rt, &mut member);
         shared.mutex.unlock(rt, &shared.lot, held);
+        if is_past(rt, end) {
+            break;
+        }
     }
     true
 }

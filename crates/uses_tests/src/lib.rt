@@ -10,6 +10,10 @@ mod clock;
 #[cfg(test)]
 mod event;
 #[cfg(test)]
+mod followed;
+#[cfg(test)]
+mod followed_parker;
+#[cfg(test)]
 mod interleaving;
 #[cfg(test)]
 mod lots;
@@ -23,6 +27,12 @@ mod recording;
 mod semaphore;
 #[cfg(test)]
 mod simulation;
+#[cfg(test)]
+mod slow_locks;
+#[cfg(test)]
+mod slow_meeting;
+#[cfg(test)]
+mod slow_notify;
 #[cfg(test)]
 mod slow_park;
 #[cfg(test)]

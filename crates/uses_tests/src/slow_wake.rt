@@ -1,136 +1,72 @@
-//! A permit of a semaphore around no value, which another thread takes while the one that was woken
-//! for it wakes slowly.
+//! Locks that go on while a thread that was woken for them wakes slowly.
 
-use crate::clock::from_now;
+use crate::clock::{from_now, raised_by};
 use crate::expect_equal;
+use crate::followed::FAR;
 use crate::lots::register;
-use crate::slow_parker::SlowParker;
-use lot_sync::semaphore::{Permit, Semaphore};
-use parking_lot_core::{DEFAULT_PARK_TOKEN, Member, ParkingLot, ThreadData};
+use crate::slow_locks::{Meanwhile, SlowLocks, Way};
+use parking_lot_core::{Member, ThreadData};
 use std::alloc::Global;
 use std::process::Abort;
 use std::sync::Wait;
-use std::sync::atomic::{AtomicBool, Ordering};
+use std::sync::atomic::Ordering;
 use std::test::Fail;
 use std::thread;
+use std::thread::Threads;
 use std::time::Clock;
 
-const KEY: usize = 7;
+const THREADS: usize = 3;
 
-const THREADS: usize = 4;
-
-const TURNS: usize = 10_000_000;
-
-// Within so many milliseconds a thread that waits is woken, on any machine.
-const FAR: u64 = 20_000;
-
-// A semaphore of one permit.
-#[derive(Drop)]
-struct Shared {
-    lot: ParkingLot<SlowParker>,
-    semaphore: Semaphore,
-    is_taken: AtomicBool,
-    is_released: AtomicBool,
-}
-
-// Waits until the flag is raised, and tells whether it was.
-fn wait_for(flag: &AtomicBool) -> bool {
-    for _ in 0..TURNS {
-        if flag.load(Ordering::SeqCst) {
-            return true;
+// What the thread with this data does. Thread 1 holds until thread 0 stands in the queue, lets go,
+// and wakes it until it parks again: that is once it holds and thread 2 stands in the queue. Data
+// of another lot answers false.
+fn hold_in_turn<R: Wait + Clock + Abort>(
+    rt: &R,
+    alloc: Global,
+    locks: &SlowLocks,
+    ways: [Way; THREADS],
+    data: ThreadData,
+) -> bool {
+    let Ok(mut member) = Member::of(&locks.lot, data) else {
+        return false;
+    };
+    match member.number() {
+        0 => {
+            raised_by(rt, &locks.is_held, from_now(rt, FAR));
+            locks.hold(rt, alloc, &mut member, ways[0], Meanwhile::LetFollow)
         }
-        thread::yield_now();
-    }
-    false
-}
-
-// Ends a try to acquire, and tells whether it had the permit.
-fn had_permit<R: Wait>(rt: &R, member: &Member<'_, SlowParker>, tried: Option<Permit<'_>>) -> bool {
-    match tried {
-        Some(permit) => {
-            permit.release(rt, member);
-            true
+        1 => {
+            let held = locks.hold(rt, alloc, &mut member, ways[1], Meanwhile::LetStand);
+            locks.has_gone_on.store(true, Ordering::SeqCst);
+            held
         }
-        None => false,
+        _ => {
+            raised_by(rt, &locks.is_followed, from_now(rt, FAR));
+            let held = locks.hold(rt, alloc, &mut member, ways[2], Meanwhile::Nothing);
+            locks.is_done.store(true, Ordering::SeqCst);
+            held
+        }
     }
 }
 
-impl Shared {
-    // Waits until one thread stands on the key, and tells whether it did.
-    fn wait_for_waiter<R: Wait>(&self, rt: &R, alloc: Global) -> bool {
-        for _ in 0..TURNS {
-            let waiting = self.lot.list(rt, alloc, KEY);
-            if waiting.is_ok_and(|waiting| waiting.len() == 1) {
-                return true;
-            }
-            thread::yield_now();
-        }
-        false
+fn each_holds<R: Threads + Wait + Clock + Abort + Sync>(
+    rt: &R,
+    alloc: Global,
+    ways: [Way; THREADS],
+) -> Result<(), Fail> {
+    let locks = SlowLocks::new(rt, alloc, THREADS)?;
+    let mut data = Vec::new(alloc);
+    for _ in 0..THREADS {
+        data.push(register(rt, alloc, &locks.lot)?)?;
     }
-
-    // Stands on the key once the permit is taken, as one that waits for it.
-    fn sleep<R: Wait + Clock>(&self, rt: &R, member: &mut Member<'_, SlowParker>) -> bool {
-        for _ in 0..TURNS {
-            if self.semaphore.available() == 0 {
-                break;
-            }
-            thread::yield_now();
-        }
-        let result = member.park(rt, KEY, || true, || (), |_, _| (), DEFAULT_PARK_TOKEN, None);
-        result.is_unparked()
-    }
-
-    // Has the permit until thread 0 stands on the key, has it noted that a thread waits, and wakes
-    // it.
-    fn release<R: Wait + Clock + Abort>(
-        &self,
-        rt: &R,
-        alloc: Global,
-        member: &mut Member<'_, SlowParker>,
-    ) -> bool {
-        let permit = self.semaphore.acquire(rt, member);
-        let is_there = self.wait_for_waiter(rt, alloc);
-        let second = self.semaphore.acquire_until(rt, member, from_now(rt, 0));
-        let had_second = had_permit(rt, member, second);
-        permit.release(rt, member);
-        self.is_released.store(true, Ordering::SeqCst);
-        is_there && !had_second
-    }
-
-    // Takes the permit while thread 0 is woken, and releases it once thread 3 waits for it.
-    fn take<R: Wait>(&self, rt: &R, alloc: Global, member: &Member<'_, SlowParker>) -> bool {
-        let is_there = self.wait_for_waiter(rt, alloc);
-        for _ in 0..TURNS {
-            if let Some(permit) = self.semaphore.try_acquire() {
-                self.is_taken.store(true, Ordering::SeqCst);
-                let waits = wait_for(&self.is_released) && self.wait_for_waiter(rt, alloc);
-                permit.release(rt, member);
-                return is_there && waits;
-            }
-            thread::yield_now();
-        }
-        false
-    }
-
-    // Waits for the permit that thread 2 took, and tells whether it had it.
-    fn wait<R: Wait + Clock + Abort>(&self, rt: &R, member: &mut Member<'_, SlowParker>) -> bool {
-        let is_taken = wait_for(&self.is_taken);
-        let tried = self.semaphore.acquire_until(rt, member, from_now(rt, FAR));
-        had_permit(rt, member, tried) && is_taken
-    }
-
-    // What the thread with this data does. Data of another lot answers false.
-    fn play<R: Wait + Clock + Abort>(&self, rt: &R, alloc: Global, data: ThreadData) -> bool {
-        let Ok(mut member) = Member::of(&self.lot, data) else {
-            return false;
-        };
-        match member.number() {
-            0 => self.sleep(rt, &mut member),
-            1 => self.release(rt, alloc, &mut member),
-            2 => self.take(rt, alloc, &member),
-            _ => self.wait(rt, &mut member),
-        }
-    }
+    let play = |data| hold_in_turn(rt, alloc, &locks, ways, data);
+    let told = thread::map_vec(rt, data, &play)?;
+    expect_equal(
+        rt,
+        (ways, told.as_slice()),
+        (ways, [true; THREADS].as_slice()),
+    );
+    Ok(())
 }
 
 // It refuses a release that notes that nobody waits behind its section: a thread that came to wait
@@ -139,18 +75,24 @@ impl Shared {
 fn who_comes_to_wait_while_another_wakes_slowly_gets_the_permit(
     rt: HostRuntime,
 ) -> Result<(), Fail> {
-    let shared = Shared {
-        lot: ParkingLot::new(rt.alloc(), THREADS)?,
-        semaphore: Semaphore::new(rt.alloc(), KEY, 1)?,
-        is_taken: AtomicBool::new(false),
-        is_released: AtomicBool::new(false),
-    };
-    let mut data = Vec::new(rt.alloc());
-    for _ in 0..THREADS {
-        data.push(register(&rt, rt.alloc(), &shared.lot)?)?;
-    }
+    each_holds(&rt, rt.alloc(), [Way::Acquire; THREADS])
+}
+
+// The same of a lock for readers and writers.
+#[test]
+fn who_comes_to_wait_while_another_wakes_slowly_writes_or_reads(
+    rt: HostRuntime,
+) -> Result<(), Fail> {
     let alloc = rt.alloc();
-    let told = thread::map_vec(&rt, data, &|data| shared.play(&rt, alloc, data))?;
-    expect_equal(&rt, told.as_slice(), [true; THREADS].as_slice());
-    Ok(())
+    each_holds(&rt, alloc, [Way::Write, Way::Read, Way::Write])?;
+    each_holds(&rt, alloc, [Way::Write, Way::Write, Way::Read])?;
+    each_holds(&rt, alloc, [Way::Read, Way::Write, Way::Write])
+}
+
+// It refuses an unlock that lets go or hands over behind its section: who was woken finds the mutex
+// held, and sleeps again.
+#[test]
+fn who_wakes_while_it_is_woken_slowly_has_the_mutex(rt: HostRuntime) -> Result<(), Fail> {
+    each_holds(&rt, rt.alloc(), [Way::Lock; THREADS])?;
+    each_holds(&rt, rt.alloc(), [Way::LockFair; THREADS])
 }
