@@ -1,0 +1,255 @@
+//! A walk: a lot that threads share and the exclusive one, side by side, and what was compared.
+
+use crate::draws::{Draws, key_at};
+use crate::subject::{Ended, Entry, Subject};
+use lot_base::token::{LotError, ParkResult, ParkToken};
+use lot_exclusive::lot::{Lot, Status};
+use std::alloc::Global;
+use std::sync::Wait;
+use std::time::Instant;
+
+/// How large a walk is.
+#[derive(Copy, Clone)]
+pub struct Shape {
+    pub max_threads: usize,
+    pub keys: usize,
+
+    /// How many parks there are at most.
+    pub parks: usize,
+
+    /// Calls are made beside one in so many of the waiting threads.
+    pub quiet: usize,
+}
+
+/// A call whose answers are compared.
+#[derive(Copy, Clone)]
+pub enum Call {
+    Register,
+    Retire,
+    Enter,
+    Park,
+    UnparkOne,
+    UnparkAll,
+    UnparkFilter,
+    UnparkRequeue,
+    Trim,
+    List,
+}
+
+impl Call {
+    pub fn name(self) -> &'static str {
+        match self {
+            Call::Register => "a registration",
+            Call::Retire => "a retirement",
+            Call::Enter => "the entry of a park",
+            Call::Park => "the end of a park",
+            Call::UnparkOne => "unpark_one",
+            Call::UnparkAll => "unpark_all",
+            Call::UnparkFilter => "unpark_filter",
+            Call::UnparkRequeue => "unpark_requeue",
+            Call::Trim => "trim",
+            Call::List => "list",
+        }
+    }
+}
+
+/// How many parks ended in which way.
+#[derive(Copy, Clone, Default)]
+pub struct Figures {
+    pub refused: usize,
+    pub unparked: usize,
+    pub timed_out: usize,
+}
+
+impl Figures {
+    /// Whether parks ended in each way.
+    pub fn are_all_seen(&self) -> bool {
+        self.refused > 0 && self.unparked > 0 && self.timed_out > 0
+    }
+}
+
+/// The lot, and what it is compared with.
+#[derive(Drop)]
+pub struct Walk<S: Subject> {
+    pub subject: S,
+    pub machine: Lot,
+    pub idle: Vec<S::Thread>,
+    pub draws: Draws,
+    pub shape: Shape,
+    pub figures: Figures,
+    pub parks_left: usize,
+    past: Instant,
+    unlike: Option<Call>,
+}
+
+impl<S: Subject> Walk<S> {
+    /// Begins a walk with a new lot, which has so many threads registered.
+    pub fn new(
+        alloc: Global,
+        subject: S,
+        registered: usize,
+        shape: Shape,
+        seed: u64,
+        past: Instant,
+    ) -> Result<Walk<S>, LotError> {
+        let mut machine = Lot::new(alloc, shape.max_threads)?;
+        for _ in 0..registered {
+            machine.register()?;
+        }
+        Ok(Walk {
+            subject,
+            machine,
+            idle: Vec::with_capacity(alloc, shape.max_threads)?,
+            draws: Draws::new(seed),
+            shape,
+            figures: Figures::default(),
+            parks_left: shape.parks,
+            past,
+            unlike: None,
+        })
+    }
+
+    /// The first call that the two lots answered differently.
+    pub fn unlike(&self) -> Option<Call> {
+        self.unlike
+    }
+
+    /// Notes a call that was answered differently.
+    pub fn expect(&mut self, is_same: bool, call: Call) {
+        if !is_same && self.unlike.is_none() {
+            self.unlike = Some(call);
+        }
+    }
+
+    pub fn key(&mut self) -> usize {
+        key_at(self.draws.below(self.shape.keys))
+    }
+
+    pub fn entry(&mut self) -> Entry {
+        Entry {
+            key: self.key(),
+            valid: !self.draws.is_one_in(16),
+            park_token: ParkToken(self.draws.next()),
+            timeout: if self.draws.is_one_in(3) {
+                None
+            } else {
+                Some(self.past)
+            },
+        }
+    }
+
+    /// A thread that is idle, or one that registers now, where there is one.
+    pub fn take_thread<R: Wait>(&mut self, rt: &R, alloc: Global) -> Option<S::Thread> {
+        if self.draws.is_one_in(2)
+            && let Some(thread) = self.take_idle()
+        {
+            return Some(thread);
+        }
+        match self.register(rt, alloc) {
+            Some(thread) => Some(thread),
+            None => self.take_idle(),
+        }
+    }
+
+    pub fn take_idle(&mut self) -> Option<S::Thread> {
+        let index = self.draws.below(self.idle.len());
+        if index < self.idle.len() {
+            Some(self.idle.swap_remove(index))
+        } else {
+            None
+        }
+    }
+
+    /// Registers a thread with both lots.
+    pub fn register<R: Wait>(&mut self, rt: &R, alloc: Global) -> Option<S::Thread> {
+        let registered = self.subject.register(rt, alloc);
+        let expected = self.machine.register();
+        match registered {
+            Ok(thread) => {
+                self.expect(expected == Ok(S::number(&thread)), Call::Register);
+                Some(thread)
+            }
+            Err(error) => {
+                self.expect(expected == Err(error), Call::Register);
+                None
+            }
+        }
+    }
+
+    /// Retires a thread from both lots.
+    pub fn retire<R: Wait>(&mut self, rt: &R, thread: S::Thread) {
+        let retired = self.machine.retire(S::number(&thread));
+        self.expect(retired.is_ok(), Call::Retire);
+        self.subject.retire(rt, thread);
+    }
+
+    /// Keeps the thread for later, or retires it.
+    pub fn give_thread<R: Wait>(&mut self, rt: &R, thread: S::Thread) {
+        if self.draws.is_one_in(4) || self.idle.len() == self.idle.capacity() {
+            self.retire(rt, thread);
+        } else {
+            let _ = self.idle.push(thread);
+        }
+    }
+
+    /// Whether the thread waits, as the exclusive lot has it.
+    pub fn is_waiting(&self, number: usize) -> bool {
+        matches!(self.machine.status(number), Status::Waiting { .. })
+    }
+
+    /// Enters the exclusive lot.
+    pub fn enter(&mut self, number: usize, entry: Entry) {
+        let entered = self.machine.enter(
+            number,
+            entry.key,
+            || entry.valid,
+            entry.park_token,
+            entry.timeout.is_some(),
+        );
+        self.expect(entered == Ok(entry.valid), Call::Enter);
+    }
+
+    /// Compares how a park ended with how it ends in the exclusive lot.
+    pub fn end(&mut self, number: usize, ended: Ended) {
+        let expected = self.expected_end(number);
+        self.expect(ended == expected, Call::Park);
+        match expected.0 {
+            ParkResult::Invalid => self.figures.refused = self.figures.refused.wrapping_add(1),
+            ParkResult::Unparked(_) => {
+                self.figures.unparked = self.figures.unparked.wrapping_add(1);
+            }
+            ParkResult::TimedOut => {
+                self.figures.timed_out = self.figures.timed_out.wrapping_add(1);
+            }
+        }
+    }
+
+    fn expected_end(&mut self, number: usize) -> Ended {
+        match self.machine.status(number) {
+            Status::Taken(_) => (self.expected_token(number), None),
+            Status::Waiting { .. } => self.expected_timeout(number),
+            Status::Free | Status::Running | Status::Late => (ParkResult::Invalid, None),
+        }
+    }
+
+    fn expected_token(&mut self, number: usize) -> ParkResult {
+        match self.machine.give_back(number) {
+            Ok(token) => ParkResult::Unparked(token),
+            Err(_) => ParkResult::Invalid,
+        }
+    }
+
+    fn expected_timeout(&mut self, number: usize) -> Ended {
+        let mut told = None;
+        if self.machine.deadline(number).is_err() {
+            return (ParkResult::Invalid, None);
+        }
+        match self
+            .machine
+            .resolve(number, |key, last| told = Some((key, last)))
+        {
+            Ok(result) => (result, told),
+            Err(_) => (ParkResult::Invalid, None),
+        }
+    }
+}
