@@ -14,6 +14,8 @@ mod plain;
 #[cfg(test)]
 mod raced;
 #[cfg(test)]
+mod rounds;
+#[cfg(test)]
 mod rows;
 #[cfg(test)]
 mod scenarios;
