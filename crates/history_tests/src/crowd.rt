@@ -30,6 +30,7 @@ const ROUNDS: usize = 100_000;
 enum Way {
     All,
     Filter,
+    Requeue,
 }
 
 fn instant_in<R: Clock + Abort>(rt: &R, milliseconds: u64) -> Instant {
@@ -48,6 +49,16 @@ fn pause<R: Clock + Abort>(rt: &R, milliseconds: u64) {
     }
 }
 
+// Unparks one sleeper after another, by requeues that move nobody.
+fn unpark_by_requeues<P: ThreadParkerT, R: Wait>(rt: &R, me: &mut Member<'_, P>) -> usize {
+    let mut unparked = 0_usize;
+    for _ in 0..SLEEPERS {
+        let result = me.unpark_requeue(rt, KEY, 0, || RequeueOp::UnparkOne, |_, _| TOKEN);
+        unparked = unparked.wrapping_add(result.unparked_threads);
+    }
+    unparked
+}
+
 // Unparks all sleepers once they are asleep.
 fn unpark<P: ThreadParkerT, R: Wait + Clock + Abort>(
     rt: &R,
@@ -60,6 +71,7 @@ fn unpark<P: ThreadParkerT, R: Wait + Clock + Abort>(
     match way {
         Way::All => unpark_all(rt, me, KEY, TOKEN),
         Way::Filter => unpark_filter(rt, me, KEY, FilterOp::Unpark, TOKEN),
+        Way::Requeue => unpark_by_requeues(rt, me),
     }
 }
 
@@ -90,10 +102,10 @@ where
     expect_equal(rt, told.as_slice(), [true; 4].as_slice());
 }
 
-// It refuses an unpark of several that leaves one of them asleep.
+// It refuses an unpark of several, or a requeue, that leaves one asleep that it unparked.
 #[test]
 fn an_unpark_of_several_wakes_each(rt: HostRuntime) {
-    for way in [Way::All, Way::Filter] {
+    for way in [Way::All, Way::Filter, Way::Requeue] {
         wakes_each::<WordParker, _>(&rt, rt.alloc(), way);
         wakes_each::<ThreadParker, _>(&rt, rt.alloc(), way);
         wakes_each::<YieldParker, _>(&rt, rt.alloc(), way);

@@ -10,7 +10,11 @@ mod growth;
 #[cfg(test)]
 mod history;
 #[cfg(test)]
+mod late;
+#[cfg(test)]
 mod members;
+#[cfg(test)]
+mod met;
 #[cfg(test)]
 mod sections;
 #[cfg(test)]

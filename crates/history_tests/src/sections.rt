@@ -52,7 +52,7 @@ impl Sections {
 }
 
 // Looks so often whether the flag is raised.
-fn raised_by_turns(flag: &AtomicBool, looks: usize) -> bool {
+pub fn raised_by_turns(flag: &AtomicBool, looks: usize) -> bool {
     for _ in 0..looks {
         if flag.load(Ordering::SeqCst) {
             return true;
