@@ -6,13 +6,14 @@
 // ends it, and neither is counted itself. It may begin and end many times; the count goes on.
 // Requests of ENTER and LEAVE bytes are marks too, round all that the program makes and drops.
 // REFUSE_AT=N refuses the Nth request of the counted part, REFUSE_FROM=N that and all behind it.
-// Where a counted part ends, `requests N bytes M yields Y sleeps S` is written to the error output:
-// how many requests there were so far, how many bytes they asked for, and how many yields, and calls
-// for a sleep or a wake. At LEAVE it is `left N`: how many blocks made since ENTER were not given
-// back.
+// Where a counted part ends, `requests N bytes M yields Y sleeps S held H` is written to the error
+// output: how many requests there were so far, how many bytes they asked for, how many yields, and
+// calls for a sleep or a wake, and how many more bytes are held than before, or fewer. At LEAVE it is
+// `left N`: how many blocks made since ENTER were not given back.
 #define _GNU_SOURCE
 #include <dlfcn.h>
 #include <errno.h>
+#include <malloc.h>
 #include <stdarg.h>
 #include <stdatomic.h>
 #include <stdbool.h>
@@ -32,7 +33,7 @@ extern void __libc_free(void *);
 
 static atomic_bool counting;
 static atomic_ulong requests, bytes, yields, sleeps;
-static atomic_long blocks, blocks_before;
+static atomic_long blocks, blocks_before, held;
 static unsigned long refused_at, refused_from;
 static int (*next_yield)(void);
 static long (*next_call)(long, ...);
@@ -55,10 +56,10 @@ static void put(const char *line, int length) {
 }
 
 static void tell_counts(void) {
-    char line[120];
-    put(line, snprintf(line, sizeof line, "requests %lu bytes %lu yields %lu sleeps %lu\n",
+    char line[160];
+    put(line, snprintf(line, sizeof line, "requests %lu bytes %lu yields %lu sleeps %lu held %ld\n",
                        atomic_load(&requests), atomic_load(&bytes), atomic_load(&yields),
-                       atomic_load(&sleeps)));
+                       atomic_load(&sleeps), atomic_load(&held)));
 }
 
 static void tell_left(void) {
@@ -99,32 +100,59 @@ static bool is_refused(size_t size) {
     return refused;
 }
 
-static void *made(void *block) {
-    if (block != NULL)
+// Each block is larger than what was asked for, which is noted at its end.
+enum { NOTE = sizeof(size_t) };
+
+static size_t *note_of(void *block) {
+    return (size_t *)((char *)block + malloc_usable_size(block) - NOTE);
+}
+
+static void hold(long size) {
+    if (atomic_load(&counting))
+        atomic_fetch_add(&held, size);
+}
+
+static void *made(void *block, size_t size) {
+    if (block != NULL) {
         atomic_fetch_add(&blocks, 1);
+        hold((long)size);
+        *note_of(block) = size;
+    }
     return block;
 }
 
-void *malloc(size_t size) { return is_refused(size) ? NULL : made(__libc_malloc(size)); }
+void *malloc(size_t size) {
+    return is_refused(size) ? NULL : made(__libc_malloc(size + NOTE), size);
+}
 
 void *calloc(size_t count, size_t size) {
-    return is_refused(count * size) ? NULL : made(__libc_calloc(count, size));
+    return is_refused(count * size) ? NULL
+                                    : made(__libc_calloc(1, count * size + NOTE), count * size);
 }
 
 void *realloc(void *block, size_t size) {
+    if (block == NULL)
+        return malloc(size);
     if (is_refused(size))
         return NULL;
-    void *moved = __libc_realloc(block, size);
-    return block == NULL ? made(moved) : moved;
+    size_t before = *note_of(block);
+    void *moved = __libc_realloc(block, size + NOTE);
+    if (moved != NULL) {
+        hold((long)size - (long)before);
+        *note_of(moved) = size;
+    }
+    return moved;
 }
 
 void *memalign(size_t alignment, size_t size) {
-    return is_refused(size) ? NULL : made(__libc_memalign(alignment, size));
+    return is_refused(size) ? NULL : made(__libc_memalign(alignment, size + NOTE), size);
 }
 
 void free(void *block) {
-    if (block != NULL)
+    if (block != NULL) {
         atomic_fetch_sub(&blocks, 1);
+        hold(-(long)*note_of(block));
+    }
     __libc_free(block);
 }
 

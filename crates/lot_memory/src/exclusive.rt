@@ -45,12 +45,39 @@ pub fn trim<R: Print>(rt: &R, alloc: Global) -> Result<(), Fault> {
 
 fn trim_after_growth<R: Print>(rt: &R, alloc: Global, lot: &mut Lot) -> Result<(), Fault> {
     let last = lot.register()?;
+    retire_and_trim(rt, alloc, lot, last)
+}
+
+fn retire_and_trim<R: Print>(
+    rt: &R,
+    alloc: Global,
+    lot: &mut Lot,
+    last: usize,
+) -> Result<(), Fault> {
     lot.retire(last)?;
     show_lot(rt, Moment::Before, lot)?;
     marks::begin(alloc);
     let answer = lot.trim();
     marks::end(alloc);
     finish(rt, lot, &answer)
+}
+
+/// `Lot::trim` after many threads were registered, of which few are left.
+pub fn trim_far<R: Print>(rt: &R, alloc: Global) -> Result<(), Fault> {
+    let mut lot = lot_of_waiters(alloc)?;
+    let last = fill(&mut lot)?;
+    for thread in FEW..last {
+        lot.retire(thread)?;
+    }
+    retire_and_trim(rt, alloc, &mut lot, last)
+}
+
+// Registers as many threads as there can be, and answers the number of the last.
+fn fill(lot: &mut Lot) -> Result<usize, LotError> {
+    for _ in lot.registered()..MOST - 1 {
+        lot.register()?;
+    }
+    lot.register()
 }
 
 /// `Lot::acquire` of a thread without records.

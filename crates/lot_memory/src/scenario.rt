@@ -33,6 +33,9 @@ pub enum Scenario {
     /// `Lot::trim`, where the table becomes smaller.
     LotTrim,
 
+    /// `Lot::trim`, where 1,024 threads were registered and five are left.
+    LotTrimFar,
+
     /// `Lot::acquire`, the first of a thread.
     LotAcquire,
 
@@ -91,6 +94,9 @@ pub enum Scenario {
     /// a trim.
     WitnessedAgain,
 
+    /// `Member::register` of 16,383 threads, and once more after they have retired and a trim.
+    WitnessedAll,
+
     /// `FairCore::new`.
     FairCoreNew,
 
@@ -136,6 +142,9 @@ pub enum Scenario {
     /// `ParkingLot::trim`, where the table becomes smaller, and a growth to the size before.
     ParkingLotTrim,
 
+    /// The same with 1,024 threads, of which five are left at the trim.
+    ParkingLotTrimFar,
+
     /// `park` and the unparks in one thread, `release_resource`, and `list` where nobody waits. A
     /// `park` that puts a fresh node in the place of its thread's own asks for memory here.
     Park,
@@ -156,8 +165,9 @@ pub enum Scenario {
     FairThreads,
 }
 
-/// A scenario. Then whether each request is refused in turn, or some of very many, or it is to ask
-/// for none; its name; and whether it is run with each parker, or has none and is run with any.
+/// A scenario. Then whether each request is refused in turn, or some of very many, or they are only
+/// counted, or it is to ask for none; its name; and whether it is run with each parker, or has none
+/// and is run with any.
 pub type Row = (Scenario, &'static str, &'static str, &'static str);
 
 /// All scenarios: those that ask for memory, and then those that do not.
@@ -172,6 +182,7 @@ pub const ROWS: &[Row] = &[
     (Scenario::LotNew, "each", "lot_new", "any"),
     (Scenario::LotRegister, "each", "lot_register", "any"),
     (Scenario::LotTrim, "each", "lot_trim", "any"),
+    (Scenario::LotTrimFar, "each", "lot_trim_far", "any"),
     (Scenario::LotAcquire, "each", "lot_acquire", "any"),
     (Scenario::LotRecords, "each", "lot_records", "any"),
     (
@@ -211,6 +222,7 @@ pub const ROWS: &[Row] = &[
         "each",
     ),
     (Scenario::WitnessedAgain, "each", "witnessed_again", "each"),
+    (Scenario::WitnessedAll, "count", "witnessed_all", "any"),
     (Scenario::FairCoreNew, "each", "fair_core_new", "any"),
     (Scenario::FairRegister, "each", "fair_register", "any"),
     (Scenario::FairWaiters, "each", "fair_waiters", "any"),
@@ -226,6 +238,12 @@ pub const ROWS: &[Row] = &[
     (Scenario::TableSteps, "none", "table_steps", "any"),
     (Scenario::LotSteps, "none", "lot_steps", "any"),
     (Scenario::ParkingLotTrim, "none", "parking_lot_trim", "each"),
+    (
+        Scenario::ParkingLotTrimFar,
+        "none",
+        "parking_lot_trim_far",
+        "each",
+    ),
     (Scenario::Park, "none", "park", "each"),
     (Scenario::Threads, "none", "threads", "each"),
     (Scenario::WordLock, "none", "word_lock", "any"),

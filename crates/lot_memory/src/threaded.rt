@@ -50,12 +50,16 @@ pub fn register<P: ThreadParkerT, R: Print + Wait + Clock>(
     threads.play_registrations(rt, calls)
 }
 
-/// `ParkingLot::trim` after a thread was registered for which the table has grown, and the next
-/// growth, which finds the row that the first one made.
-pub fn trim<P: ThreadParkerT, R: Print + Wait + Clock>(rt: &R, alloc: Global) -> Result<(), Fault> {
-    let mut threads = Registered::<P>::new(rt, alloc, FEW + 1)?;
-    threads.retire_last(rt);
-    threads.play_trim(rt)
+/// `ParkingLot::trim` after so many threads were registered, for which the table has grown, and all
+/// but five have retired; and as many registrations, which find the rows that the first ones made.
+pub fn trim<P: ThreadParkerT, R: Print + Wait + Clock>(
+    rt: &R,
+    alloc: Global,
+    registered: usize,
+) -> Result<(), Fault> {
+    let mut threads = Registered::<P>::new(rt, alloc, registered)?;
+    threads.retire_all_but(rt, FEW);
+    threads.play_trim(rt, registered.wrapping_sub(FEW))
 }
 
 /// `ParkingLot::list`, in a park, which asks for nothing.
@@ -119,19 +123,19 @@ impl<P: ThreadParkerT> Registered<P> {
         tell_refused(rt, calls.wrapping_sub(added))
     }
 
-    fn play_trim<R: Print + Wait + Clock>(&mut self, rt: &R) -> Result<(), Fault> {
+    fn play_trim<R: Print + Wait + Clock>(&mut self, rt: &R, calls: usize) -> Result<(), Fault> {
         self.show(rt, Moment::Before)?;
         marks::begin(self.alloc);
-        let answer = self.trim_and_grow(rt);
+        let answer = self.trim_and_grow(rt, calls);
         marks::end(self.alloc);
         self.finish(rt, &answer)?;
         tell_refused(rt, 0)
     }
 
-    // Answers the number of the thread for which the table has grown again.
-    fn trim_and_grow<R: Wait>(&mut self, rt: &R) -> Result<usize, LotError> {
+    // Answers the number of the last thread for which the table has grown again.
+    fn trim_and_grow<R: Wait>(&mut self, rt: &R, calls: usize) -> Result<usize, LotError> {
         self.lot.trim(rt, self.alloc)?;
-        self.add(rt)
+        self.add_often(rt, calls)
     }
 
     fn play_list<R: Print + Wait + Clock>(&mut self, rt: &R) -> Result<(), Fault> {
@@ -169,6 +173,12 @@ impl<P: ThreadParkerT> Registered<P> {
             last = self.add(rt);
         }
         last
+    }
+
+    fn retire_all_but<R: Wait>(&mut self, rt: &R, left: usize) {
+        for _ in left..self.data.len() {
+            self.retire_last(rt);
+        }
     }
 
     fn retire_last<R: Wait>(&mut self, rt: &R) {

@@ -1,5 +1,5 @@
-//! The program: `lot_nested SEED` and `lot_nested deep SEED` compare the two lots that threads share
-//! with the exclusive one, call by call.
+//! The program: `lot_nested SEED` and `lot_nested deep SEED` compare both lots of threads with the
+//! exclusive one, call by call.
 //!
 //! One thread does it all: while it parks by one thread's data, and before it sleeps, it parks by
 //! another's, and so on. So as many threads wait as there are data, all in one known order, and

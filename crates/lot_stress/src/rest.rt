@@ -3,6 +3,7 @@
 
 mod change;
 mod late_wake;
+mod left_mark;
 
 ghost use Rattle.std.specs.Prelude.{⊤};
 
@@ -40,19 +41,22 @@ impl Fits for Count {
 
 /// Eight threads wait for so many milliseconds: parked, over each parker whose threads sleep, half
 /// of them with a deadline far away, each after a park whose deadline passed; then for a word lock;
-/// then one thread, over each of those parkers, after a wake that came late; and then eight for a
-/// growth of the table.
+/// then one thread, over each of those parkers, after a wake that came late, and two after a wait
+/// whose deadline passed; and then eight for a growth of the table.
 pub fn run<R: Print + Threads + Wait + Clock + Copy + Send + Sync + 'static>(
     rt: &R,
     alloc: Global,
     milliseconds: u64,
 ) -> Result<(), Fault> {
     let rest = Duration::from_millis(milliseconds);
+    let far = Instant::now(rt)?.checked_add(Duration::from_secs(FAR_SECONDS));
     let are_woken = rest_parked::<WordParker, _>(rt, alloc, rest)?
         && rest_parked::<ThreadParker, _>(rt, alloc, rest)?
         && rest_at_a_lock(rt, alloc, rest)?
         && late_wake::rest::<WordParker, _>(rt, alloc, rest)?
         && late_wake::rest::<ThreadParker, _>(rt, alloc, rest)?
+        && left_mark::rest::<WordParker, _>(rt, alloc, rest, far)
+        && left_mark::rest::<ThreadParker, _>(rt, alloc, rest, far)
         && change::rest(rt, alloc, rest)?;
     if !are_woken {
         return Err(Fault::Unlike("how many threads came back"));
