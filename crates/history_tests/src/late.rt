@@ -38,7 +38,7 @@ impl Watch {
     fn leave<P: ThreadParkerT, R: Wait + Clock + Abort>(
         &self,
         rt: &R,
-        me: &mut Member<'_, P>,
+        mut me: Member<'_, P>,
     ) -> Option<bool> {
         let mut listed = None;
         me.park_until(
@@ -57,10 +57,10 @@ impl Watch {
         &self,
         rt: &R,
         alloc: Global,
-        me: &mut Member<'_, P>,
+        mut me: Member<'_, P>,
     ) -> usize {
         raised_by_turns(&self.is_told, TURNS);
-        let listed = list(rt, alloc, me, KEY).len();
+        let listed = list(rt, alloc, &mut me, KEY).len();
         self.has_listed.store(true, Ordering::SeqCst);
         listed
     }
@@ -72,16 +72,16 @@ where
     R: Threads + Wait + Clock + Abort + Sync,
 {
     let lot = new_lot::<P, _>(rt, alloc, 2);
-    let mut late = register(rt, alloc, &lot);
-    let mut other = register(rt, alloc, &lot);
+    let late = register(rt, alloc, &lot);
+    let other = register(rt, alloc, &lot);
     let watch = Watch {
         is_told: AtomicBool::new(false),
         has_listed: AtomicBool::new(false),
     };
     let told = join(
         rt,
-        || watch.leave(rt, &mut late),
-        || watch.list(rt, alloc, &mut other),
+        || watch.leave(rt, late),
+        || watch.list(rt, alloc, other),
     );
     expect_equal(rt, told, (Some(false), 0));
 }
@@ -127,11 +127,11 @@ impl Race {
     fn be_late<P: ThreadParkerT, R: Wait + Clock + Abort>(
         &self,
         rt: &R,
-        me: &mut Member<'_, P>,
+        mut me: Member<'_, P>,
     ) -> Left {
         let begin = now(rt);
         for _ in rt.forever() {
-            let left = park_until(rt, me, FROM, || (), begin);
+            let left = park_until(rt, &mut me, FROM, || (), begin);
             self.ended.fetch_add(1, Ordering::SeqCst);
             let is_late = left == late_on(FROM) || left == late_on(TO);
             if !is_late || has_passed(rt, begin, LONG) {
@@ -170,6 +170,22 @@ impl Race {
             park_refused(rt, me, FROM);
         }
     }
+
+    // What each of the others does, of whom the first moves the thread.
+    fn play<P: ThreadParkerT, R: Wait + Clock + Abort>(
+        &self,
+        rt: &R,
+        alloc: Global,
+        lot: &Lot<P>,
+        index: usize,
+    ) {
+        let mut me = register(rt, alloc, lot);
+        if index == 0 {
+            self.move_on(rt, &mut me);
+        } else {
+            self.visit(rt, &mut me);
+        }
+    }
 }
 
 fn race_at_deadline<P: ThreadParkerT + Send + Sync, R: Threads + Wait + Clock + Abort + Sync>(
@@ -177,22 +193,15 @@ fn race_at_deadline<P: ThreadParkerT + Send + Sync, R: Threads + Wait + Clock + 
     alloc: Global,
 ) -> Left {
     let lot: Lot<P> = new_lot(rt, alloc, VISITORS + 2);
-    let mut late = register(rt, alloc, &lot);
+    let late = register(rt, alloc, &lot);
     let race = Race {
         ended: AtomicUsize::new(0),
         is_over: AtomicBool::new(false),
     };
-    let play = |index: usize| {
-        let mut me = register(rt, alloc, &lot);
-        if index == 0 {
-            race.move_on(rt, &mut me);
-        } else {
-            race.visit(rt, &mut me);
-        }
-    };
+    let play = |index: usize| race.play(rt, alloc, &lot, index);
     let (left, _) = join(
         rt,
-        || race.be_late(rt, &mut late),
+        || race.be_late(rt, late),
         || drop(thread::map_indices(rt, alloc, VISITORS + 1, &play)),
     );
     left

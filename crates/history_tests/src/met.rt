@@ -37,7 +37,7 @@ struct Growth {
 
 impl Growth {
     // A section for whose bucket the growth waits last.
-    fn delay<P: ThreadParkerT, R: Wait + Clock>(&self, rt: &R, me: &mut Member<'_, P>) {
+    fn delay<P: ThreadParkerT, R: Wait + Clock>(&self, rt: &R, mut me: Member<'_, P>) {
         me.park(
             rt,
             LAST_KEY,
@@ -65,14 +65,10 @@ impl Growth {
     }
 
     // Parks where the growth has taken the bucket away.
-    fn meet<P: ThreadParkerT, R: Wait + Clock>(
-        &self,
-        rt: &R,
-        me: &mut Member<'_, P>,
-    ) -> ParkResult {
+    fn meet<P: ThreadParkerT, R: Wait + Clock>(&self, rt: &R, mut me: Member<'_, P>) -> ParkResult {
         raised_by_turns(&self.may_begin, TURNS);
         thread::sleep(rt, Duration::from_millis(SOON));
-        park(rt, me, EARLY_KEY)
+        park(rt, &mut me, EARLY_KEY)
     }
 }
 
@@ -81,8 +77,8 @@ fn meet_growth<P: ThreadParkerT + Send + Sync, R: Threads + Wait + Clock + Abort
     alloc: Global,
 ) {
     let lot = new_lot::<P, _>(rt, alloc, THREADS + 1);
-    let mut first = register(rt, alloc, &lot);
-    let mut second = register(rt, alloc, &lot);
+    let first = register(rt, alloc, &lot);
+    let second = register(rt, alloc, &lot);
     let _third = register(rt, alloc, &lot);
     let _fourth = register(rt, alloc, &lot);
     let _fifth = register(rt, alloc, &lot);
@@ -93,10 +89,10 @@ fn meet_growth<P: ThreadParkerT + Send + Sync, R: Threads + Wait + Clock + Abort
         rt,
         || join(
             rt,
-            || growth.delay(rt, &mut first),
+            || growth.delay(rt, first),
             || growth.grow(rt, alloc, &lot),
         ),
-        || growth.meet(rt, &mut second),
+        || growth.meet(rt, second),
     );
     assert!(rt; is_found);
     expect_equal(rt, result, UNPARKED);

@@ -161,10 +161,10 @@ impl Shared {
         if is_at_once {
             return self.condvar.notify_all(rt, &member, &self.mutex) == 2 && !is_notified;
         }
-        let mut count = 0;
+        let mut count = 0_usize;
         for _ in 0..3 {
             if self.condvar.notify_one(rt, &member, &self.mutex) {
-                count += 1;
+                count = count.wrapping_add(1);
             }
         }
         count == 2 && !is_notified
