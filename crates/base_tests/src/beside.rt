@@ -5,7 +5,7 @@ ghost use Rattle.lot_base.specs.Node.{fields};
 
 use crate::expect_equal;
 use lot_base::queue::Node;
-use lot_base::thread_parker::{ThreadParkerT, UnparkHandleT, WordParker};
+use lot_base::thread_parker::{ParkerKey, ParkerT, UnparkHandleT, WordParker};
 use lot_base::token::UnparkToken;
 use std::alloc::Global;
 use std::process::Abort;
@@ -37,7 +37,7 @@ struct Rounds {
     parker: WordParker,
     begun: AtomicUsize,
     is_over: AtomicBool,
-    ghost owner: { 3 ≡ ⟦<WordParker as ThreadParkerT>⟧.owner parker },
+    ghost owner: { 3 ≡ ⟦<WordParker as ParkerT>⟧.owner parker },
 }
 
 impl Rounds {
@@ -47,7 +47,7 @@ impl Rounds {
         let mut all = true;
         for round in 0..ROUNDS {
             self.begun.store(round + 1, Ordering::SeqCst);
-            let node = self.parker.park(rt);
+            let (node, _) = self.parker.park(rt);
             all = all && node.unpark_token == UnparkToken(round);
             if self.is_over.load(Ordering::SeqCst) {
                 break;
@@ -80,7 +80,8 @@ fn commit<R: Wait + Clock + Abort>(rt: &R, alloc: Global, rounds: &Rounds) {
         rounds.wait_for(round);
         let is_last = begin.elapsed(rt).expect(rt, "a clock") >= Duration::from_secs(SECONDS);
         rounds.is_over.store(is_last, Ordering::SeqCst);
-        rounds.parker.unpark_lock(rt, node).unpark(&rounds.parker);
+        let handle = rounds.parker.unpark_lock(rt, node, ());
+        handle.unpark(&rounds.parker);
         if is_last {
             break;
         }
@@ -91,8 +92,12 @@ fn commit<R: Wait + Clock + Abort>(rt: &R, alloc: Global, rounds: &Rounds) {
 // every second run: the two have to meet within some nanoseconds.
 #[test]
 fn a_word_parker_wakes_one_that_just_goes_to_sleep(rt: HostRuntime) {
+    let key = ParkerKey {
+        number: OWNER,
+        home: (),
+    };
     let rounds = Rounds {
-        parker: WordParker::new(rt.alloc(), OWNER).expect(&rt, "memory"),
+        parker: WordParker::<()>::new(rt.alloc(), &key).expect(&rt, "memory"),
         begun: AtomicUsize::new(0),
         is_over: AtomicBool::new(false),
     };

@@ -6,7 +6,8 @@ ghost use Rattle.lot_base.specs.Node.{fields};
 use crate::expect_equal;
 use lot_base::queue::Node;
 use lot_base::thread_parker::{
-    Slot, ThreadParker, ThreadParkerT, UnparkHandleT, WordParker, YieldParker, thread_yield,
+    ParkerKey, ParkerT, Payload, Slot, ThreadParker, ThreadParkerT, UnparkHandleT, WordParker,
+    YieldParker, thread_yield,
 };
 use lot_base::token::{DEFAULT_PARK_TOKEN, UnparkToken};
 use std::alloc::Global;
@@ -50,7 +51,11 @@ fn from_now<R: Clock + Abort>(rt: &R, duration: Duration) -> Instant {
 fn new_parker<P: ThreadParkerT>(rt: &impl Abort, alloc: Global) -> P
     ensures { P.owner result ≡ OWNER }
 {
-    P::new(alloc, OWNER).expect(rt, "memory")
+    let key = ParkerKey {
+        number: OWNER,
+        home: (),
+    };
+    P::new(alloc, &key).expect(rt, "memory")
 }
 
 fn owners_node(rt: &impl Abort, alloc: Global, token: usize) -> Box<Node>
@@ -68,7 +73,8 @@ fn expect_empty<P: ThreadParkerT, R: Wait + Abort>(rt: &R, parker: &P, cause: &s
 
 // The first node that comes has this token.
 fn expect_token<P: ThreadParkerT, R: Wait + Abort>(rt: &R, parker: &P, token: UnparkToken) {
-    expect_equal(rt, parker.park(rt).unpark_token, token);
+    let (node, _) = parker.park(rt);
+    expect_equal(rt, node.unpark_token, token);
 }
 
 // A node came, with this token.
@@ -80,7 +86,7 @@ fn expect_token_of(rt: &impl Abort, node: Option<Box<Node>>, token: UnparkToken)
 fn take_a_commit<P: ThreadParkerT, R: Wait + Abort>(rt: &R, parker: &P, node: Box<Node>)
     requires { (fields node.value).number ≡ P.owner parker.now }
 {
-    let late = parker.unpark_lock(rt, node);
+    let late = parker.unpark_lock(rt, node, ());
     expect_equal(rt, late.number(), OWNER);
     assert!(rt; !parker.timed_out(rt), "the commit fills the slot");
     expect_token(rt, parker, UnparkToken(42));
@@ -100,8 +106,8 @@ fn take_two_commits<P: ThreadParkerT, R: Wait + Abort>(
     requires third { (fields third.value).number ≡ P.owner parker.now }
 {
     let handles = (
-        parker.unpark_lock(rt, second),
-        parker.unpark_lock(rt, third),
+        parker.unpark_lock(rt, second, ()),
+        parker.unpark_lock(rt, third, ()),
     );
     expect_token(rt, parker, UnparkToken(43));
     expect_token(rt, parker, UnparkToken(44));
@@ -133,8 +139,8 @@ fn expect_none<P: ThreadParkerT, R: Wait + Clock + Abort>(
 
 // A node with this token is there at a deadline that passes at once.
 fn expect_found<P: ThreadParkerT, R: Wait + Clock + Abort>(rt: &R, parker: &P, token: UnparkToken) {
-    let node = parker.park_until(rt, now(rt));
-    let found = node.expect(rt, "the node was put before");
+    let back = parker.park_until(rt, now(rt));
+    let (found, _) = back.expect(rt, "the node was put before");
     expect_equal(rt, found.unpark_token, token);
 }
 
@@ -161,8 +167,8 @@ fn waits_for_no_clock<P: ThreadParkerT, R: Wait + Clock + Abort>(rt: &R, alloc: 
 // at a deadline without a look, or gives the second of two nodes first.
 fn looks_after_the_deadline<P: ThreadParkerT, R: Wait + Clock + Abort>(rt: &R, alloc: Global) {
     let parker: P = new_parker(rt, alloc);
-    let late = parker.unpark_lock(rt, owners_node(rt, alloc, 42));
-    drop(parker.unpark_lock(rt, owners_node(rt, alloc, 43)));
+    let late = parker.unpark_lock(rt, owners_node(rt, alloc, 42), ());
+    drop(parker.unpark_lock(rt, owners_node(rt, alloc, 43), ()));
     expect_found(rt, &parker, UnparkToken(42));
     expect_found(rt, &parker, UnparkToken(43));
     late.unpark(&parker);
@@ -206,10 +212,11 @@ fn start_and_park<P: ThreadParkerT, R: Wait + Clock>(
     deadline: Option<Instant>,
 ) -> Option<Box<Node>> {
     starts.store(true, Ordering::SeqCst);
-    match deadline {
-        None => Some(parker.park(rt)),
-        Some(deadline) => parker.park_until(rt, deadline),
-    }
+    let (node, _) = match deadline {
+        None => parker.park(rt),
+        Some(deadline) => parker.park_until(rt, deadline)?,
+    };
+    Some(node)
 }
 
 // What the other thread does, once the owner starts, and this much later.
@@ -226,7 +233,7 @@ fn commit_and_wake<P: ThreadParkerT, R: Wait + Clock>(
     if let Some(pause) = pause {
         thread::sleep(rt, pause);
     }
-    parker.unpark_lock(rt, node).unpark(parker);
+    parker.unpark_lock(rt, node, ()).unpark(parker);
 }
 
 // The node that comes back to the owner.
@@ -303,7 +310,7 @@ fn waits<P: ThreadParkerT, R: Wait + Clock + Abort>(rt: &R, alloc: Global) {
 
 #[test]
 fn thread_parker_takes_turns_waits_and_wakes_its_thread(rt: HostRuntime) {
-    assert!(rt; !ThreadParker::IS_CHEAP_TO_CONSTRUCT);
+    assert!(rt; !ThreadParker::<()>::IS_CHEAP_TO_CONSTRUCT);
     commits_take_turns::<ThreadParker, _>(&rt, rt.alloc());
     waits::<ThreadParker, _>(&rt, rt.alloc());
     wakes::<ThreadParker, _>(&rt, rt.alloc());
@@ -311,7 +318,7 @@ fn thread_parker_takes_turns_waits_and_wakes_its_thread(rt: HostRuntime) {
 
 #[test]
 fn yield_parker_takes_turns_waits_and_finds_its_node(rt: HostRuntime) {
-    assert!(rt; YieldParker::IS_CHEAP_TO_CONSTRUCT);
+    assert!(rt; YieldParker::<()>::IS_CHEAP_TO_CONSTRUCT);
     commits_take_turns::<YieldParker, _>(&rt, rt.alloc());
     waits::<YieldParker, _>(&rt, rt.alloc());
     wakes::<YieldParker, _>(&rt, rt.alloc());
@@ -319,10 +326,74 @@ fn yield_parker_takes_turns_waits_and_finds_its_node(rt: HostRuntime) {
 
 #[test]
 fn word_parker_takes_turns_waits_and_wakes_its_thread(rt: HostRuntime) {
-    assert!(rt; !WordParker::IS_CHEAP_TO_CONSTRUCT);
+    assert!(rt; !WordParker::<()>::IS_CHEAP_TO_CONSTRUCT);
     commits_take_turns::<WordParker, _>(&rt, rt.alloc());
     waits::<WordParker, _>(&rt, rt.alloc());
     wakes::<WordParker, _>(&rt, rt.alloc());
+}
+
+// A payload that has the token of its node.
+#[derive(Drop)]
+struct Parcel {
+    token: UnparkToken,
+}
+
+impl Payload for Parcel {
+    type Home = ();
+
+    ghost use Rattle.std.specs.Prelude.{◌≡◌};
+
+    ghost fits = { λ _ node parcel. parcel.token ≡ node.unpark_token };
+}
+
+// A node of the owner with this token, and a payload that fits it.
+fn node_and_parcel(rt: &impl Abort, alloc: Global, token: usize) -> (Box<Node>, Parcel)
+    ensures number { (fields result.0.value).number ≡ OWNER }
+    ensures fits { result.1.token ≡ (fields result.0.value).unpark_token }
+{
+    let node = owners_node(rt, alloc, token);
+    let token = node.unpark_token;
+    (node, Parcel { token })
+}
+
+// The node that comes next has this token, and this comes beside it.
+fn expect_back<P: ParkerT<Payload = Parcel>, R: Wait + Abort>(
+    rt: &R,
+    parker: &P,
+    token: UnparkToken,
+    beside: Option<UnparkToken>,
+) {
+    let (node, parcel) = parker.park(rt);
+    expect_equal(rt, node.unpark_token, token);
+    expect_equal(rt, parcel.map(|parcel| parcel.token), beside);
+}
+
+// No clause says that a payload comes out. This refuses a slot that keeps the payload, or drops it,
+// and one that lays the second payload beside the first node.
+fn a_payload_comes_with_its_node<P: ParkerT<Payload = Parcel>, R: Wait + Abort>(
+    rt: &R,
+    alloc: Global,
+) {
+    let key = ParkerKey {
+        number: OWNER,
+        home: (),
+    };
+    let parker = P::new(alloc, &key).expect(rt, "memory");
+    for round in 0..2 {
+        let (first, parcel) = node_and_parcel(rt, alloc, round);
+        drop(parker.unpark_lock(rt, first, parcel));
+        let (second, parcel) = node_and_parcel(rt, alloc, 42);
+        drop(parker.unpark_lock(rt, second, parcel));
+        expect_back(rt, &parker, UnparkToken(round), Some(UnparkToken(round)));
+        expect_back(rt, &parker, UnparkToken(42), None);
+    }
+}
+
+#[test]
+fn a_payload_comes_with_the_node_that_it_was_put_beside(rt: HostRuntime) {
+    a_payload_comes_with_its_node::<WordParker<Parcel>, _>(&rt, rt.alloc());
+    a_payload_comes_with_its_node::<ThreadParker<Parcel>, _>(&rt, rt.alloc());
+    a_payload_comes_with_its_node::<YieldParker<Parcel>, _>(&rt, rt.alloc());
 }
 
 // Puts a node that waits on the key.

@@ -6,10 +6,10 @@ use crate::members::{
     KEY, Left, TOKEN, UNPARKED, acquire, come_by_turns, expect_full, late_on, list, new_lot, now,
     park_and, park_until, register, release, requeue, retire, sleep, unpark_all, unpark_filter,
 };
-use lot_base::thread_parker::{ThreadParkerT, WordParker};
 use lot_base::token::{DEFAULT_PARK_TOKEN, FilterOp, ParkToken, RequeueOp, UnparkToken};
 use lot_witnessed::lot::Lot;
 use lot_witnessed::member::Member;
+use lot_witnessed::parker::{ThreadParkerT, WordParker};
 use std::alloc::Global;
 use std::process::Abort;
 use std::sync::Wait;
@@ -18,7 +18,7 @@ use std::thread::{Threads, join};
 use std::time::Clock;
 
 // Waits until one thread stands in the list of the key, unparks it, and answers its number.
-fn find_and_wake<P: ThreadParkerT, R: Wait + Abort>(
+fn find_and_wake<P: ThreadParkerT, R: Wait + Clock + Abort>(
     rt: &R,
     alloc: Global,
     mut me: Member<'_, P>,
@@ -32,7 +32,7 @@ fn find_and_wake<P: ThreadParkerT, R: Wait + Abort>(
 }
 
 // One of two threads parks, and the other finds it in the list of the key.
-fn find_a_sleeper<R: Threads + Wait + Abort + Sync>(rt: &R, alloc: Global) {
+fn find_a_sleeper<R: Threads + Wait + Clock + Abort + Sync>(rt: &R, alloc: Global) {
     let lot = new_lot::<WordParker, _>(rt, alloc, 2);
     let waker = register(rt, alloc, &lot);
     let sleeper = register(rt, alloc, &lot);
@@ -46,7 +46,7 @@ fn find_a_sleeper<R: Threads + Wait + Abort + Sync>(rt: &R, alloc: Global) {
 }
 
 // Unparks those with this token for filters, and tells how many there were.
-fn unpark_wanted<P: ThreadParkerT, R: Wait>(
+fn unpark_wanted<P: ThreadParkerT, R: Wait + Clock>(
     rt: &R,
     me: &mut Member<'_, P>,
     wanted: ParkToken,
@@ -64,7 +64,7 @@ fn unpark_wanted<P: ThreadParkerT, R: Wait>(
 
 // Waits until a thread stands in the list of the key, and unparks those with the token `wanted`.
 // Answers how many it unparked, and how many other threads it unparked before that.
-fn wake_wanted<P: ThreadParkerT, R: Wait + Abort>(
+fn wake_wanted<P: ThreadParkerT, R: Wait + Clock + Abort>(
     rt: &R,
     alloc: Global,
     mut me: Member<'_, P>,
@@ -78,7 +78,7 @@ fn wake_wanted<P: ThreadParkerT, R: Wait + Abort>(
 }
 
 // One of two threads parks, and the other unparks it by a filter that looks at its park token.
-fn wake_by_token<R: Threads + Wait + Abort + Sync>(rt: &R, alloc: Global) {
+fn wake_by_token<R: Threads + Wait + Clock + Abort + Sync>(rt: &R, alloc: Global) {
     let lot = new_lot::<WordParker, _>(rt, alloc, 2);
     let waker = register(rt, alloc, &lot);
     let sleeper = register(rt, alloc, &lot);
@@ -98,7 +98,7 @@ fn a_filter_decides_by_the_park_token(rt: HostRuntime) {
 }
 
 // Registers two threads, of which the first retires, and answers the other, which hears that.
-fn hear_of_the_past<'a, P: ThreadParkerT, R: Wait + Abort>(
+fn hear_of_the_past<'a, P: ThreadParkerT, R: Wait + Clock + Abort>(
     rt: &R,
     alloc: Global,
     lot: &'a Lot<P>,
@@ -177,7 +177,7 @@ fn a_requeued_thread_leaves_its_new_list(rt: HostRuntime) {
 
 // Moves the one thread that waits on the key 0 to the key 1, and unparks those of both. Answers how
 // many it moved, and how many it unparked on each.
-fn move_and_wake<P: ThreadParkerT, R: Wait>(
+fn move_and_wake<P: ThreadParkerT, R: Wait + Clock>(
     rt: &R,
     me: &mut Member<'_, P>,
 ) -> (usize, usize, usize) {

@@ -7,10 +7,10 @@ use crate::members::{
     park_until, register, requeue, unpark_all, unpark_filter,
 };
 use crate::sections::are_apart;
-use lot_base::thread_parker::{ThreadParker, ThreadParkerT, WordParker, YieldParker};
 use lot_base::token::{DEFAULT_UNPARK_TOKEN, FilterOp, RequeueOp};
 use lot_witnessed::lot::Lot;
 use lot_witnessed::member::Member;
+use lot_witnessed::parker::{ThreadParker, ThreadParkerT, WordParker, YieldParker};
 use std::alloc::Global;
 use std::process::Abort;
 use std::sync::Wait;
@@ -50,7 +50,7 @@ fn pause<R: Clock + Abort>(rt: &R, milliseconds: u64) {
 }
 
 // Unparks one sleeper after another, by requeues that move nobody.
-fn unpark_by_requeues<P: ThreadParkerT, R: Wait>(rt: &R, me: &mut Member<'_, P>) -> usize {
+fn unpark_by_requeues<P: ThreadParkerT, R: Wait + Clock>(rt: &R, me: &mut Member<'_, P>) -> usize {
     let mut unparked = 0_usize;
     for _ in 0..SLEEPERS {
         let result = me.unpark_requeue(rt, KEY, 0, || RequeueOp::UnparkOne, |_, _| TOKEN);
@@ -165,7 +165,7 @@ fn a_thread_that_is_moved_at_its_deadline_leaves_its_new_list(rt: HostRuntime) {
 }
 
 // Moves all threads from one key to the other, over and over.
-fn move_often<'a, P: ThreadParkerT, R: Wait>(
+fn move_often<'a, P: ThreadParkerT, R: Wait + Clock>(
     rt: &R,
     mut me: Member<'a, P>,
     from: usize,
@@ -179,7 +179,7 @@ fn move_often<'a, P: ThreadParkerT, R: Wait>(
 
 // Two threads move whoever waits to and fro between the keys 0 and 1, and then one of them unparks
 // the thread that waits on either, and tells how many there were.
-fn move_both_ways<P: ThreadParkerT + Send + Sync, R: Threads + Wait + Abort + Sync>(
+fn move_both_ways<P: ThreadParkerT + Send + Sync, R: Threads + Wait + Clock + Abort + Sync>(
     rt: &R,
     alloc: Global,
     lot: &Lot<P>,

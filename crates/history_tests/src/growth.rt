@@ -6,16 +6,17 @@ use crate::members::{
     park_until, register, requeue, retire, trim, unpark_all, unpark_one,
 };
 use crate::sections::are_apart;
-use lot_base::thread_parker::{ThreadParker, ThreadParkerT, WordParker, YieldParker};
 use lot_base::token::{ParkResult, RequeueOp};
 use lot_witnessed::lot::Lot;
 use lot_witnessed::member::Member;
+use lot_witnessed::parker::{ThreadParker, ThreadParkerT, WordParker, YieldParker};
 use std::alloc::Global;
 use std::process::Abort;
 use std::sync::Wait;
 use std::test::*;
 use std::thread;
 use std::thread::{Threads, join};
+use std::time::Clock;
 
 const OTHER_KEY: usize = 8;
 
@@ -25,7 +26,7 @@ const GUESTS: usize = 30;
 const THREADS: usize = GUESTS + 3;
 
 // Parks so often, and tells whether each park ended with its token.
-fn sleep_often<P: ThreadParkerT, R: Wait>(rt: &R, mut me: Member<'_, P>) -> bool {
+fn sleep_often<P: ThreadParkerT, R: Wait + Clock>(rt: &R, mut me: Member<'_, P>) -> bool {
     let mut all = true;
     for _ in 0..GUESTS + GUESTS {
         all = park(rt, &mut me, KEY) == UNPARKED && all;
@@ -34,7 +35,7 @@ fn sleep_often<P: ThreadParkerT, R: Wait>(rt: &R, mut me: Member<'_, P>) -> bool
 }
 
 // Requeues a thread until one was there, and tells whether that was so.
-fn requeue_by_turns<P: ThreadParkerT, R: Wait>(rt: &R, me: &mut Member<'_, P>) -> bool {
+fn requeue_by_turns<P: ThreadParkerT, R: Wait + Clock>(rt: &R, me: &mut Member<'_, P>) -> bool {
     for _ in 0..TURNS {
         if requeue(rt, me, KEY, OTHER_KEY, RequeueOp::RequeueOne) == 1 {
             return true;
@@ -45,13 +46,13 @@ fn requeue_by_turns<P: ThreadParkerT, R: Wait>(rt: &R, me: &mut Member<'_, P>) -
 }
 
 // Unparks the thread that was requeued.
-fn wake<P: ThreadParkerT, R: Wait>(rt: &R, me: &mut Member<'_, P>) -> bool {
+fn wake<P: ThreadParkerT, R: Wait + Clock>(rt: &R, me: &mut Member<'_, P>) -> bool {
     unpark_one(rt, me, OTHER_KEY, TOKEN) == 1
 }
 
 // Wakes the thread that parks, each time at the key to which it requeued it. Between the two a
 // guest registers, and the table grows, or one retires, and it is trimmed.
-fn grow_and_trim<P: ThreadParkerT, R: Wait + Abort>(
+fn grow_and_trim<P: ThreadParkerT, R: Wait + Clock + Abort>(
     rt: &R,
     alloc: Global,
     lot: &Lot<P>,
@@ -76,7 +77,7 @@ fn grow_and_trim<P: ThreadParkerT, R: Wait + Abort>(
 }
 
 // Looks at many keys, and parks on them with a refusal.
-fn visit<P: ThreadParkerT, R: Wait>(rt: &R, mut me: Member<'_, P>) -> bool {
+fn visit<P: ThreadParkerT, R: Wait + Clock>(rt: &R, mut me: Member<'_, P>) -> bool {
     let mut nobody = true;
     for key in 100..20_000 {
         nobody = nobody
@@ -87,7 +88,7 @@ fn visit<P: ThreadParkerT, R: Wait>(rt: &R, mut me: Member<'_, P>) -> bool {
 }
 
 // Three threads: one parks, one wakes it while the table grows and is trimmed, one looks at keys.
-fn park_through_growth<P: ThreadParkerT + Send + Sync, R: Threads + Wait + Abort + Sync>(
+fn park_through_growth<P: ThreadParkerT + Send + Sync, R: Threads + Wait + Clock + Abort + Sync>(
     rt: &R,
     alloc: Global,
 ) {
@@ -115,7 +116,7 @@ fn threads_park_while_the_table_grows_and_is_trimmed(rt: HostRuntime) {
 }
 
 // The guests register.
-fn come<'a, P: ThreadParkerT, R: Wait + Abort>(
+fn come<'a, P: ThreadParkerT, R: Wait + Clock + Abort>(
     rt: &R,
     alloc: Global,
     lot: &'a Lot<P>,
@@ -128,7 +129,11 @@ fn come<'a, P: ThreadParkerT, R: Wait + Abort>(
 }
 
 // The guests retire, and the table is trimmed.
-fn go<P: ThreadParkerT, R: Wait>(rt: &R, mut guests: Vec<Member<'_, P>>, me: &mut Member<'_, P>) {
+fn go<P: ThreadParkerT, R: Wait + Clock>(
+    rt: &R,
+    mut guests: Vec<Member<'_, P>>,
+    me: &mut Member<'_, P>,
+) {
     for _ in 0..GUESTS {
         if let Some(guest) = guests.pop() {
             retire(rt, guest);
@@ -137,7 +142,7 @@ fn go<P: ThreadParkerT, R: Wait>(rt: &R, mut guests: Vec<Member<'_, P>>, me: &mu
     trim(rt, me);
 }
 
-fn come_and_go<P: ThreadParkerT, R: Wait + Abort>(
+fn come_and_go<P: ThreadParkerT, R: Wait + Clock + Abort>(
     rt: &R,
     alloc: Global,
     lot: &Lot<P>,
@@ -148,7 +153,7 @@ fn come_and_go<P: ThreadParkerT, R: Wait + Abort>(
 }
 
 // The table changes its row, and then the threads 0 and 1, which wait, are listed and unparked.
-fn wake_both<P: ThreadParkerT, R: Wait + Abort>(
+fn wake_both<P: ThreadParkerT, R: Wait + Clock + Abort>(
     rt: &R,
     alloc: Global,
     lot: &Lot<P>,

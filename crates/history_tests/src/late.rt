@@ -6,10 +6,10 @@ use crate::members::{
     requeue, unpark_all,
 };
 use crate::sections::raised_by_turns;
-use lot_base::thread_parker::{ThreadParker, ThreadParkerT, WordParker, YieldParker};
 use lot_base::token::{DEFAULT_PARK_TOKEN, RequeueOp};
 use lot_witnessed::lot::Lot;
 use lot_witnessed::member::Member;
+use lot_witnessed::parker::{ThreadParker, ThreadParkerT, WordParker, YieldParker};
 use std::alloc::Global;
 use std::process::Abort;
 use std::sync::Wait;
@@ -41,19 +41,19 @@ impl Watch {
         mut me: Member<'_, P>,
     ) -> Option<bool> {
         let mut listed = None;
-        me.park_until(
+        me.park(
             rt,
             KEY,
             || true,
             || (),
             |_, _| listed = Some(self.wait(rt)),
             DEFAULT_PARK_TOKEN,
-            now(rt),
+            Some(now(rt)),
         );
         listed
     }
 
-    fn list<P: ThreadParkerT, R: Wait + Abort>(
+    fn list<P: ThreadParkerT, R: Wait + Clock + Abort>(
         &self,
         rt: &R,
         alloc: Global,
@@ -162,7 +162,7 @@ impl Race {
     }
 
     // Locks the bucket again and again, so that whoever lets it go has others to wake.
-    fn visit<P: ThreadParkerT, R: Wait>(&self, rt: &R, me: &mut Member<'_, P>) {
+    fn visit<P: ThreadParkerT, R: Wait + Clock>(&self, rt: &R, me: &mut Member<'_, P>) {
         for _ in rt.forever() {
             if self.is_over() {
                 return;

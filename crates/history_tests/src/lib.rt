@@ -6,6 +6,8 @@ mod calls;
 #[cfg(test)]
 mod crowd;
 #[cfg(test)]
+mod greatest;
+#[cfg(test)]
 mod growth;
 #[cfg(test)]
 mod history;

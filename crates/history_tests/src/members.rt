@@ -2,13 +2,13 @@
 //! carries none of what it does not need. What a test cannot do without, as memory, is expected and
 //! not handed on.
 
-use lot_base::thread_parker::ThreadParkerT;
 use lot_base::token::{
     DEFAULT_PARK_TOKEN, DEFAULT_UNPARK_TOKEN, FilterOp, LotError, ParkResult, RequeueOp,
     UnparkToken,
 };
 use lot_witnessed::lot::Lot;
 use lot_witnessed::member::Member;
+use lot_witnessed::parker::ThreadParkerT;
 use std::alloc::Global;
 use std::process::Abort;
 use std::sync::Wait;
@@ -41,7 +41,7 @@ pub fn new_lot<P: ThreadParkerT, R: Abort>(rt: &R, alloc: Global, threads: usize
     Lot::new(alloc, threads).expect(rt, "a lot")
 }
 
-pub fn register<'a, P: ThreadParkerT, R: Wait + Abort>(
+pub fn register<'a, P: ThreadParkerT, R: Wait + Clock + Abort>(
     rt: &R,
     alloc: Global,
     lot: &'a Lot<P>,
@@ -50,22 +50,26 @@ pub fn register<'a, P: ThreadParkerT, R: Wait + Abort>(
 }
 
 // No number is free.
-pub fn expect_full<P: ThreadParkerT, R: Wait + Abort>(rt: &R, alloc: Global, lot: &Lot<P>) {
+pub fn expect_full<P: ThreadParkerT, R: Wait + Clock + Abort>(rt: &R, alloc: Global, lot: &Lot<P>) {
     let refused = Member::register(rt, alloc, lot);
     assert!(rt; matches!(&refused, Err(LotError::Full)));
 }
 
 // Parks until it is unparked.
-pub fn sleep<P: ThreadParkerT, R: Wait>(rt: &R, mut me: Member<'_, P>) -> ParkResult {
+pub fn sleep<P: ThreadParkerT, R: Wait + Clock>(rt: &R, mut me: Member<'_, P>) -> ParkResult {
     park(rt, &mut me, KEY)
 }
 
-pub fn park<P: ThreadParkerT, R: Wait>(rt: &R, me: &mut Member<'_, P>, key: usize) -> ParkResult {
+pub fn park<P: ThreadParkerT, R: Wait + Clock>(
+    rt: &R,
+    me: &mut Member<'_, P>,
+    key: usize,
+) -> ParkResult {
     park_and(rt, me, key, || ())
 }
 
 // Does this before it sleeps.
-pub fn park_and<P: ThreadParkerT, R: Wait, B: FnOnce()>(
+pub fn park_and<P: ThreadParkerT, R: Wait + Clock, B: FnOnce()>(
     rt: &R,
     me: &mut Member<'_, P>,
     key: usize,
@@ -73,16 +77,32 @@ pub fn park_and<P: ThreadParkerT, R: Wait, B: FnOnce()>(
 ) -> ParkResult
     requires { B.pre before_sleep }
 {
-    me.park(rt, key, || true, before_sleep, DEFAULT_PARK_TOKEN)
+    me.park(
+        rt,
+        key,
+        || true,
+        before_sleep,
+        |_, _| (),
+        DEFAULT_PARK_TOKEN,
+        None,
+    )
 }
 
 // Its `validate` refuses.
-pub fn park_refused<P: ThreadParkerT, R: Wait>(
+pub fn park_refused<P: ThreadParkerT, R: Wait + Clock>(
     rt: &R,
     me: &mut Member<'_, P>,
     key: usize,
 ) -> ParkResult {
-    me.park(rt, key, || false, || (), DEFAULT_PARK_TOKEN)
+    me.park(
+        rt,
+        key,
+        || false,
+        || (),
+        |_, _| (),
+        DEFAULT_PARK_TOKEN,
+        None,
+    )
 }
 
 pub fn park_until<P: ThreadParkerT, R: Wait + Clock, B: FnOnce()>(
@@ -95,20 +115,20 @@ pub fn park_until<P: ThreadParkerT, R: Wait + Clock, B: FnOnce()>(
     requires { B.pre before_sleep }
 {
     let mut left = None;
-    let result = me.park_until(
+    let result = me.park(
         rt,
         key,
         || true,
         before_sleep,
         |key, last| left = Some((key, last)),
         DEFAULT_PARK_TOKEN,
-        deadline,
+        Some(deadline),
     );
     (result, left)
 }
 
 // Each unpark and requeue tells how many it unparked or moved.
-pub fn unpark_one<P: ThreadParkerT, R: Wait>(
+pub fn unpark_one<P: ThreadParkerT, R: Wait + Clock>(
     rt: &R,
     me: &mut Member<'_, P>,
     key: usize,
@@ -117,7 +137,7 @@ pub fn unpark_one<P: ThreadParkerT, R: Wait>(
     me.unpark_one(rt, key, |_| token).unparked_threads
 }
 
-pub fn unpark_all<P: ThreadParkerT, R: Wait>(
+pub fn unpark_all<P: ThreadParkerT, R: Wait + Clock>(
     rt: &R,
     me: &mut Member<'_, P>,
     key: usize,
@@ -127,7 +147,7 @@ pub fn unpark_all<P: ThreadParkerT, R: Wait>(
 }
 
 // By a filter that decides so on each thread.
-pub fn unpark_filter<P: ThreadParkerT, R: Wait>(
+pub fn unpark_filter<P: ThreadParkerT, R: Wait + Clock>(
     rt: &R,
     me: &mut Member<'_, P>,
     key: usize,
@@ -138,7 +158,7 @@ pub fn unpark_filter<P: ThreadParkerT, R: Wait>(
         .unparked_threads
 }
 
-pub fn requeue<P: ThreadParkerT, R: Wait>(
+pub fn requeue<P: ThreadParkerT, R: Wait + Clock>(
     rt: &R,
     me: &mut Member<'_, P>,
     from: usize,
@@ -150,7 +170,7 @@ pub fn requeue<P: ThreadParkerT, R: Wait>(
 }
 
 // The numbers of those who wait on the key.
-pub fn list<P: ThreadParkerT, R: Wait + Abort>(
+pub fn list<P: ThreadParkerT, R: Wait + Clock + Abort>(
     rt: &R,
     alloc: Global,
     me: &mut Member<'_, P>,
@@ -160,7 +180,7 @@ pub fn list<P: ThreadParkerT, R: Wait + Abort>(
 }
 
 // Waits until so many threads wait on the key, and tells whether they did.
-pub fn come_by_turns<P: ThreadParkerT, R: Wait + Abort>(
+pub fn come_by_turns<P: ThreadParkerT, R: Wait + Clock + Abort>(
     rt: &R,
     alloc: Global,
     me: &mut Member<'_, P>,
@@ -176,11 +196,11 @@ pub fn come_by_turns<P: ThreadParkerT, R: Wait + Abort>(
     false
 }
 
-pub fn trim<P: ThreadParkerT, R: Wait>(rt: &R, me: &mut Member<'_, P>) {
+pub fn trim<P: ThreadParkerT, R: Wait + Clock>(rt: &R, me: &mut Member<'_, P>) {
     me.trim(rt);
 }
 
-pub fn retire<P: ThreadParkerT, R: Wait>(rt: &R, me: Member<'_, P>) {
+pub fn retire<P: ThreadParkerT, R: Wait + Clock>(rt: &R, me: Member<'_, P>) {
     me.retire(rt);
 }
 

@@ -3,10 +3,10 @@
 use crate::expect_equal;
 use crate::members::{TOKEN, TURNS, UNPARKED, new_lot, park, register, unpark_one};
 use crate::sections::raised_by_turns;
-use lot_base::thread_parker::{ThreadParker, ThreadParkerT, WordParker, YieldParker};
 use lot_base::token::{DEFAULT_PARK_TOKEN, ParkResult};
 use lot_witnessed::lot::Lot;
 use lot_witnessed::member::Member;
+use lot_witnessed::parker::{ThreadParker, ThreadParkerT, WordParker, YieldParker};
 use std::alloc::Global;
 use std::process::Abort;
 use std::sync::Wait;
@@ -47,12 +47,19 @@ impl Growth {
                 false
             },
             || (),
+            |_, _| (),
             DEFAULT_PARK_TOKEN,
+            None,
         );
     }
 
     // Lets the table grow, and unparks the thread that came meanwhile. Tells whether it found it.
-    fn grow<P: ThreadParkerT, R: Wait + Abort>(&self, rt: &R, alloc: Global, lot: &Lot<P>) -> bool {
+    fn grow<P: ThreadParkerT, R: Wait + Clock + Abort>(
+        &self,
+        rt: &R,
+        alloc: Global,
+        lot: &Lot<P>,
+    ) -> bool {
         raised_by_turns(&self.may_begin, TURNS);
         let mut sixth = register(rt, alloc, lot);
         for _ in 0..TURNS {

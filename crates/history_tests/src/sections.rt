@@ -2,16 +2,17 @@
 //! bucket.
 
 use crate::members::{TOKEN, TURNS, register, retire, unpark_one};
-use lot_base::thread_parker::ThreadParkerT;
 use lot_base::token::DEFAULT_PARK_TOKEN;
 use lot_witnessed::lot::Lot;
 use lot_witnessed::member::Member;
+use lot_witnessed::parker::ThreadParkerT;
 use std::alloc::Global;
 use std::process::Abort;
 use std::sync::Wait;
 use std::sync::atomic::{AtomicBool, Ordering};
 use std::thread;
 use std::thread::{Threads, join};
+use std::time::Clock;
 
 // How far the two are: the first is inside, and the second is done.
 #[derive(Drop)]
@@ -22,7 +23,7 @@ struct Sections {
 
 impl Sections {
     // A section of key 0, which looks so often whether the other is done, and tells it.
-    fn first<P: ThreadParkerT, R: Wait>(
+    fn first<P: ThreadParkerT, R: Wait + Clock>(
         &self,
         rt: &R,
         me: &mut Member<'_, P>,
@@ -38,13 +39,15 @@ impl Sections {
                 false
             },
             || (),
+            |_, _| (),
             DEFAULT_PARK_TOKEN,
+            None,
         );
         is_done
     }
 
     // One of key 13.
-    fn second<P: ThreadParkerT, R: Wait>(&self, rt: &R, me: &mut Member<'_, P>) {
+    fn second<P: ThreadParkerT, R: Wait + Clock>(&self, rt: &R, me: &mut Member<'_, P>) {
         raised_by_turns(&self.is_inside, TURNS);
         unpark_one(rt, me, 13, TOKEN);
         self.is_done.store(true, Ordering::SeqCst);
@@ -64,7 +67,7 @@ pub fn raised_by_turns(flag: &AtomicBool, looks: usize) -> bool {
 
 // Whether the keys 0 and 13, which have place 0 of 16 buckets, have two buckets, as of more. Two
 // members register and retire for it.
-pub fn are_apart<P: ThreadParkerT + Send + Sync, R: Threads + Wait + Abort + Sync>(
+pub fn are_apart<P: ThreadParkerT + Send + Sync, R: Threads + Wait + Clock + Abort + Sync>(
     rt: &R,
     alloc: Global,
     lot: &Lot<P>,

@@ -5,19 +5,20 @@ use crate::members::{
     KEY, TOKEN, TURNS, UNPARKED, expect_full, late_on, new_lot, now, park_refused, park_until,
     register, sleep, unpark_all, unpark_one,
 };
-use lot_base::thread_parker::{ThreadParker, ThreadParkerT, WordParker, YieldParker};
 use lot_base::token::{ParkResult, UnparkToken};
 use lot_witnessed::lot::Lot;
 use lot_witnessed::member::Member;
+use lot_witnessed::parker::{ThreadParker, ThreadParkerT, WordParker, YieldParker};
 use std::alloc::Global;
 use std::process::Abort;
 use std::sync::Wait;
 use std::test::*;
 use std::thread;
 use std::thread::{Threads, join};
+use std::time::Clock;
 
 // Unparks until somebody was there, and tells whether that was so.
-fn wake<P: ThreadParkerT, R: Wait>(rt: &R, mut me: Member<'_, P>) -> bool {
+fn wake<P: ThreadParkerT, R: Wait + Clock>(rt: &R, mut me: Member<'_, P>) -> bool {
     for _ in 0..TURNS {
         if unpark_one(rt, &mut me, KEY, TOKEN) == 1 {
             return true;
@@ -28,7 +29,7 @@ fn wake<P: ThreadParkerT, R: Wait>(rt: &R, mut me: Member<'_, P>) -> bool {
 }
 
 // One of two threads parks, and the other hands it a token.
-fn pass_a_token<P: ThreadParkerT + Send + Sync, R: Threads + Wait + Abort + Sync>(
+fn pass_a_token<P: ThreadParkerT + Send + Sync, R: Threads + Wait + Clock + Abort + Sync>(
     rt: &R,
     alloc: Global,
 ) {
@@ -50,7 +51,7 @@ fn a_token_goes_from_one_thread_to_another(rt: HostRuntime) {
 }
 
 // Registers two threads, of which the first hears the second.
-fn two_members<'a, P: ThreadParkerT, R: Wait + Abort>(
+fn two_members<'a, P: ThreadParkerT, R: Wait + Clock + Abort>(
     rt: &R,
     alloc: Global,
     lot: &'a Lot<P>,

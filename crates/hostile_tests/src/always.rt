@@ -1,5 +1,6 @@
 //! Sections beside a table that grows and is trimmed always: each finds the one thread that waits.
 
+use crate::common::now;
 use crate::expect_equal;
 use lot_base::thread_parker::WordParker;
 use parking_lot_core::{
@@ -12,11 +13,18 @@ use std::sync::Wait;
 use std::sync::atomic::{AtomicBool, Ordering};
 use std::thread;
 use std::thread::Threads;
-use std::time::Clock;
+use std::time::{Clock, Duration, Instant};
 
 const ROUNDS: usize = 1_000_000;
 
+// In seconds, after which no more rounds begin.
+const LONG: u64 = 10;
+
 const TURNS: usize = 10_000_000;
+
+fn has_passed<R: Clock + Abort>(rt: &R, begin: Instant) -> bool {
+    begin.elapsed(rt).expect(rt, "a clock") >= Duration::from_secs(LONG)
+}
 
 #[derive(Drop)]
 struct Scene {
@@ -80,11 +88,15 @@ impl Scene {
 
     // Looks for the thread that waits, and moves it to another key and back. Tells whether it was
     // there each time.
-    fn look_often<R: Wait + Abort>(&self, rt: &R, alloc: Global) -> bool {
+    fn look_often<R: Wait + Clock + Abort>(&self, rt: &R, alloc: Global) -> bool {
         self.wait_for_sleeper(rt, alloc);
+        let begin = now(rt);
         let mut always = true;
         let mut keys = (1, 2);
-        for _ in 0..ROUNDS {
+        for round in 0..ROUNDS {
+            if round % 1_000 == 0 && has_passed(rt, begin) {
+                break;
+            }
             let (from, to) = keys;
             let is_seen = self.has_sleeper(rt, from);
             let is_moved = self.move_one(rt, from, to);

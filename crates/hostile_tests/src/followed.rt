@@ -9,10 +9,10 @@ use crate::common::{
 };
 use crate::expect_equal;
 use crate::watch::TURNS_INSIDE;
-use lot_base::thread_parker::YieldHandle;
+use lot_base::thread_parker::{ParkerKey, ParkerT, YieldHandle};
 use parking_lot_core::{
-    NoMemory, Node, ParkResult, ParkingLot, ThreadData, ThreadParkerT, UnparkHandleT, UnparkToken,
-    YieldParker, unpark_all,
+    NoMemory, Node, ParkResult, ParkingLot, ThreadData, UnparkHandleT, UnparkToken, YieldParker,
+    unpark_all,
 };
 use std::alloc::Global;
 use std::process::Abort;
@@ -64,16 +64,20 @@ impl FollowedParker {
     }
 }
 
-impl ThreadParkerT for FollowedParker {
+impl ParkerT for FollowedParker {
+    type Payload = ();
+
     type UnparkHandle = FollowedHandle;
 
     const IS_CHEAP_TO_CONSTRUCT: bool = true;
 
-    ghost owner = { λ followed. ⟦<YieldParker as ThreadParkerT>⟧.owner followed.parker };
+    ghost owner = { λ followed. ⟦<YieldParker as ParkerT>⟧.owner followed.parker };
 
-    fn new(alloc: Global, number: usize) -> Result<FollowedParker, NoMemory> {
+    ghost home = { λ followed. ⟦<YieldParker as ParkerT>⟧.home followed.parker };
+
+    fn new(alloc: Global, key: &ParkerKey<()>) -> Result<FollowedParker, NoMemory> {
         Ok(FollowedParker {
-            parker: YieldParker::new(alloc, number)?,
+            parker: YieldParker::new(alloc, key)?,
             prepared: AtomicUsize::new(0),
             parked: AtomicUsize::new(0),
             faults: AtomicUsize::new(0),
@@ -88,20 +92,25 @@ impl ThreadParkerT for FollowedParker {
         self.parker.timed_out(rt)
     }
 
-    fn park<R: Wait>(&self, rt: &R) -> Box<Node> {
+    fn park<R: Wait>(&self, rt: &R) -> (Box<Node>, Option<()>) {
         self.parked.fetch_add(1, Ordering::SeqCst);
-        self.tell(self.parker.park(rt))
+        let (node, payload) = self.parker.park(rt);
+        (self.tell(node), payload)
     }
 
-    fn park_until<R: Wait + Clock>(&self, rt: &R, timeout: Instant) -> Option<Box<Node>> {
+    fn park_until<R: Wait + Clock>(
+        &self,
+        rt: &R,
+        timeout: Instant,
+    ) -> Option<(Box<Node>, Option<()>)> {
         self.parked.fetch_add(1, Ordering::SeqCst);
-        let node = self.parker.park_until(rt, timeout)?;
-        Some(self.tell(node))
+        let (node, payload) = self.parker.park_until(rt, timeout)?;
+        Some((self.tell(node), payload))
     }
 
-    fn unpark_lock<R: Wait>(&self, rt: &R, node: Box<Node>) -> FollowedHandle {
+    fn unpark_lock<R: Wait>(&self, rt: &R, node: Box<Node>, payload: ()) -> FollowedHandle {
         let is_first = self.prepared.load(Ordering::SeqCst) == 1;
-        let handle = self.parker.unpark_lock(rt, node);
+        let handle = self.parker.unpark_lock(rt, node, payload);
         if is_first {
             self.be_followed();
         }
@@ -119,7 +128,7 @@ impl UnparkHandleT<FollowedParker> for FollowedHandle {
         ⟦<YieldHandle as UnparkHandleT<YieldParker>>⟧.number followed.handle };
 
     fn number(&self) -> usize {
-        self.handle.number()
+        UnparkHandleT::<YieldParker>::number(&self.handle)
     }
 
     fn unpark(self, parker: &FollowedParker) {

@@ -6,16 +6,24 @@ use crate::common::{
 };
 use crate::expect_equal;
 use parking_lot_core::{
-    ParkingLot, ThreadData, ThreadParker, ThreadParkerT, YieldParker, unpark_all,
+    ParkingLot, ThreadData, ThreadParker, ThreadParkerT, WordParker, YieldParker, unpark_all,
 };
 use std::alloc::Global;
 use std::process::Abort;
 use std::sync::Wait;
-use std::time::Clock;
+use std::thread;
+use std::thread::Threads;
+use std::time::{Clock, Duration};
 
 const OTHER_KEY: usize = 8;
 
 const MAX_THREADS: usize = 16_384;
+
+// In milliseconds, until a thread sleeps.
+const MOMENT: u64 = 50;
+
+// So often a thread that does not stand on its key yet is looked for.
+const TRIES: usize = 200;
 
 // The key 0 has the first place in a table of each size from 16 to 65,536, and this the last one.
 const LAST_PLACE: usize = 46_368;
@@ -87,12 +95,53 @@ fn times_out_after_a_move<P: ThreadParkerT, R: Wait + Clock + Abort>(
     expect_equal(rt, left, late_on(OTHER_KEY));
 }
 
+// Unparks the thread once it sleeps. Tells whether it found it.
+fn wake<P: ThreadParkerT, R: Wait + Clock + Abort>(rt: &R, lot: &ParkingLot<P>) -> bool {
+    for _ in 0..TRIES {
+        thread::sleep(rt, Duration::from_millis(MOMENT));
+        if unpark_all(rt, lot, KEY, TOKEN) == 1 {
+            return true;
+        }
+    }
+    false
+}
+
+fn sleeps_and_is_woken<P, R>(rt: &R, lot: &ParkingLot<P>, mut data: ThreadData)
+where
+    P: ThreadParkerT + Send + Sync,
+    R: Threads + Wait + Clock + Abort + Sync,
+{
+    let ended = thread::join(
+        rt,
+        || park_and(rt, lot, &mut data, KEY, || (), None),
+        || wake(rt, lot),
+    );
+    expect_equal(rt, ended, (UNPARKED, true));
+}
+
+// Registers all threads, and answers the last.
+fn register_all<P: ThreadParkerT, R: Wait + Abort>(
+    rt: &R,
+    alloc: Global,
+    lot: &ParkingLot<P>,
+) -> ThreadData {
+    for _ in 1..MAX_THREADS {
+        register(rt, alloc, lot);
+    }
+    register(rt, alloc, lot)
+}
+
+// It refuses a wake that skips the last number.
+#[test]
+fn the_last_of_16384_is_woken(rt: HostRuntime) {
+    let lot = new_lot::<WordParker, _>(&rt, rt.alloc(), MAX_THREADS);
+    let data = register_all(&rt, rt.alloc(), &lot);
+    sleeps_and_is_woken(&rt, &lot, data);
+}
+
 fn the_last_number_parks<P: ThreadParkerT, R: Wait + Clock + Abort>(rt: &R, alloc: Global) {
     let lot = new_lot::<P, _>(rt, alloc, MAX_THREADS);
-    for _ in 1..MAX_THREADS {
-        register(rt, alloc, &lot);
-    }
-    let mut data = register(rt, alloc, &lot);
+    let mut data = register_all(rt, alloc, &lot);
     for way in WAYS {
         parks(rt, &lot, &mut data, way);
     }

@@ -2,7 +2,7 @@
 
 use crate::common::{KEY, TOKEN, UNPARKED, WAYS, Way, new_lot, now, park_and, register, unpark};
 use crate::expect_equal;
-use lot_base::thread_parker::YieldHandle;
+use lot_base::thread_parker::{ParkerKey, ParkerT, YieldHandle};
 use parking_lot_core::{
     DEFAULT_PARK_TOKEN, NoMemory, Node, ParkResult, ParkingLot, ThreadData, ThreadParkerT,
     UnparkHandleT, UnparkToken, YieldParker, park,
@@ -50,16 +50,20 @@ impl OrderedParker {
     }
 }
 
-impl ThreadParkerT for OrderedParker {
+impl ParkerT for OrderedParker {
+    type Payload = ();
+
     type UnparkHandle = OrderedHandle;
 
     const IS_CHEAP_TO_CONSTRUCT: bool = true;
 
-    ghost owner = { λ ordered. ⟦<YieldParker as ThreadParkerT>⟧.owner ordered.parker };
+    ghost owner = { λ ordered. ⟦<YieldParker as ParkerT>⟧.owner ordered.parker };
 
-    fn new(alloc: Global, number: usize) -> Result<OrderedParker, NoMemory> {
+    ghost home = { λ ordered. ⟦<YieldParker as ParkerT>⟧.home ordered.parker };
+
+    fn new(alloc: Global, key: &ParkerKey<()>) -> Result<OrderedParker, NoMemory> {
         Ok(OrderedParker {
-            parker: YieldParker::new(alloc, number)?,
+            parker: YieldParker::new(alloc, key)?,
             prepared: AtomicUsize::new(0),
             committed: AtomicUsize::new(0),
             timed: AtomicUsize::new(0),
@@ -77,9 +81,9 @@ impl ThreadParkerT for OrderedParker {
         self.parker.timed_out(rt)
     }
 
-    fn park<R: Wait>(&self, rt: &R) -> Box<Node> {
+    fn park<R: Wait>(&self, rt: &R) -> (Box<Node>, Option<()>) {
         self.parked.fetch_add(1, Ordering::SeqCst);
-        let mut node = self.parker.park(rt);
+        let (mut node, payload) = self.parker.park(rt);
         self.expect_calls(Calls {
             prepare_park: 2,
             unpark_lock: 1,
@@ -88,16 +92,20 @@ impl ThreadParkerT for OrderedParker {
         });
         let faults = self.faults.load(Ordering::SeqCst);
         node.unpark_token = UnparkToken(node.unpark_token.0.wrapping_add(faults));
-        node
+        (node, payload)
     }
 
-    fn park_until<R: Wait + Clock>(&self, _rt: &R, _timeout: Instant) -> Option<Box<Node>> {
+    fn park_until<R: Wait + Clock>(
+        &self,
+        _rt: &R,
+        _timeout: Instant,
+    ) -> Option<(Box<Node>, Option<()>)> {
         self.timed.fetch_add(1, Ordering::SeqCst);
         None
     }
 
     // The thread is unparked before it sleeps.
-    fn unpark_lock<R: Wait>(&self, rt: &R, node: Box<Node>) -> OrderedHandle {
+    fn unpark_lock<R: Wait>(&self, rt: &R, node: Box<Node>, payload: ()) -> OrderedHandle {
         self.committed.fetch_add(1, Ordering::SeqCst);
         self.expect_calls(Calls {
             prepare_park: 2,
@@ -106,7 +114,7 @@ impl ThreadParkerT for OrderedParker {
             park: 0,
         });
         OrderedHandle {
-            handle: self.parker.unpark_lock(rt, node),
+            handle: self.parker.unpark_lock(rt, node, payload),
         }
     }
 }
@@ -121,7 +129,7 @@ impl UnparkHandleT<OrderedParker> for OrderedHandle {
         ⟦<YieldHandle as UnparkHandleT<YieldParker>>⟧.number ordered.handle };
 
     fn number(&self) -> usize {
-        self.handle.number()
+        UnparkHandleT::<YieldParker>::number(&self.handle)
     }
 
     fn unpark(self, parker: &OrderedParker) {

@@ -7,7 +7,7 @@ use crate::common::{TOKEN, from_now, now, raised_by_turns};
 use crate::expect_equal;
 use lot_base::queue::Node;
 use lot_base::thread_parker::{
-    ThreadParker, ThreadParkerT, UnparkHandleT, WordParker, YieldParker,
+    ParkerKey, ThreadParker, ThreadParkerT, UnparkHandleT, WordParker, YieldParker,
 };
 use std::alloc::Global;
 use std::process::Abort;
@@ -32,7 +32,11 @@ fn owners_node<R: Abort>(rt: &R, alloc: Global) -> Box<Node>
 fn owners_parker<P: ThreadParkerT, R: Abort>(rt: &R, alloc: Global) -> P
     ensures { P.owner result ≡ OWNER }
 {
-    P::new(alloc, OWNER).expect(rt, "a parker")
+    let key = ParkerKey {
+        number: OWNER,
+        home: (),
+    };
+    P::new(alloc, &key).expect(rt, "a parker")
 }
 
 // What the owner and the other thread tell each other.
@@ -113,7 +117,7 @@ fn commit_meanwhile<P: ThreadParkerT, R: Wait>(
     requires { (fields node.value).number ≡ P.owner parker.now }
 {
     raised_by_turns(&meeting.has_started);
-    drop(parker.unpark_lock(rt, node));
+    drop(parker.unpark_lock(rt, node, ()));
     meeting.has_come.store(true, Ordering::SeqCst);
 }
 
@@ -200,7 +204,7 @@ fn commit_while_it_sleeps<P: ThreadParkerT, R: Wait + Clock>(
 {
     raised_by_turns(&meeting.has_started);
     thread::sleep(rt, commit.pause);
-    let handle = parker.unpark_lock(rt, node);
+    let handle = parker.unpark_lock(rt, node, ());
     if commit.wakes {
         handle.unpark(parker);
     }
@@ -356,7 +360,7 @@ fn commit_in_the_end<P: ThreadParkerT, R: Wait>(
     requires { (fields node.value).number ≡ P.owner parker.now }
 {
     raised_by_turns(&meeting.has_started);
-    parker.unpark_lock(rt, node).unpark(parker);
+    parker.unpark_lock(rt, node, ()).unpark(parker);
 }
 
 fn wait_and_commit<P: ThreadParkerT + Sync, R: Threads + Wait + Clock + Sync>(
@@ -410,8 +414,8 @@ fn a_deadline_long_ago_has_passed(rt: HostRuntime) {
     gives_up_at_once::<WordParker, _>(&rt, rt.alloc());
 }
 
-// How often a wait that sleeps reads the clock at most. One that looks again and again reads it some
-// thousand times in its time.
+// How often a wait that sleeps reads the clock at most. One that looks again and again reads it
+// some thousand times in its time.
 const READS: usize = 100;
 
 // Waits in vain again and again, without a word to the parker between two waits.
@@ -426,7 +430,8 @@ fn sleeps_each_time<P: ThreadParkerT, R: Wait + Clock + Abort>(rt: &R, alloc: Gl
     }
 }
 
-// It refuses a `park_until` that does not sleep where the wait before has left the mark of a sleeper.
+// It refuses a `park_until` that does not sleep where the wait before has left the mark of a
+// sleeper.
 #[test]
 fn a_wait_after_a_deadline_sleeps(rt: HostRuntime) {
     sleeps_each_time::<ThreadParker, _>(&rt, rt.alloc());
@@ -502,7 +507,7 @@ fn outlasts_a_late_wake<P: ThreadParkerT + Sync, R: Threads + Wait + Clock + Abo
     alloc: Global,
 ) {
     let parker = owners_parker::<P, _>(rt, alloc);
-    let handle = parker.unpark_lock(rt, owners_node(rt, alloc));
+    let handle = parker.unpark_lock(rt, owners_node(rt, alloc), ());
     drop(parker.park(rt));
     wait_and_be_woken_late(rt, &parker, handle);
 }

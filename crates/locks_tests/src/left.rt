@@ -5,7 +5,7 @@ use crate::handed::{
     MUTEX_KEY, Shared, TURNS, Way, begins, lock, notify, one_comes, register, sleep,
 };
 use lot_base::queue::Node;
-use lot_base::thread_parker::{ThreadParkerT, UnparkHandleT, YieldHandle, YieldParker};
+use lot_base::thread_parker::{ParkerKey, ParkerT, UnparkHandleT, YieldHandle, YieldParker};
 use lot_base::token::{NoMemory, UnparkResult};
 use std::alloc::Global;
 use std::process::Abort;
@@ -21,16 +21,20 @@ struct FollowedParker {
     prepared: AtomicUsize,
 }
 
-impl ThreadParkerT for FollowedParker {
+impl ParkerT for FollowedParker {
+    type Payload = ();
+
     type UnparkHandle = FollowedHandle;
 
     const IS_CHEAP_TO_CONSTRUCT: bool = true;
 
-    ghost owner = { λ followed. ⟦<YieldParker as ThreadParkerT>⟧.owner followed.parker };
+    ghost owner = { λ followed. ⟦<YieldParker as ParkerT>⟧.owner followed.parker };
 
-    fn new(alloc: Global, number: usize) -> Result<FollowedParker, NoMemory> {
+    ghost home = { λ followed. ⟦<YieldParker as ParkerT>⟧.home followed.parker };
+
+    fn new(alloc: Global, key: &ParkerKey<()>) -> Result<FollowedParker, NoMemory> {
         Ok(FollowedParker {
-            parker: YieldParker::new(alloc, number)?,
+            parker: YieldParker::new(alloc, key)?,
             prepared: AtomicUsize::new(0),
         })
     }
@@ -43,16 +47,20 @@ impl ThreadParkerT for FollowedParker {
         self.parker.timed_out(rt)
     }
 
-    fn park<R: Wait>(&self, rt: &R) -> Box<Node> {
+    fn park<R: Wait>(&self, rt: &R) -> (Box<Node>, Option<()>) {
         self.parker.park(rt)
     }
 
-    fn park_until<R: Wait + Clock>(&self, rt: &R, timeout: Instant) -> Option<Box<Node>> {
+    fn park_until<R: Wait + Clock>(
+        &self,
+        rt: &R,
+        timeout: Instant,
+    ) -> Option<(Box<Node>, Option<()>)> {
         self.parker.park_until(rt, timeout)
     }
 
-    fn unpark_lock<R: Wait>(&self, rt: &R, node: Box<Node>) -> FollowedHandle {
-        let handle = self.parker.unpark_lock(rt, node);
+    fn unpark_lock<R: Wait>(&self, rt: &R, node: Box<Node>, payload: ()) -> FollowedHandle {
+        let handle = self.parker.unpark_lock(rt, node, payload);
         FollowedHandle { handle }
     }
 }
@@ -67,7 +75,7 @@ impl UnparkHandleT<FollowedParker> for FollowedHandle {
         ⟦<YieldHandle as UnparkHandleT<YieldParker>>⟧.number followed.handle };
 
     fn number(&self) -> usize {
-        self.handle.number()
+        UnparkHandleT::<YieldParker>::number(&self.handle)
     }
 
     fn unpark(self, parker: &FollowedParker) {

@@ -17,6 +17,11 @@ abbrev pub is_in_use : Use → Bool
 is_in_use Free = false
 is_in_use Registered = true
 
+-- whether nobody has the number
+abbrev pub is_free : Use → Bool
+is_free Free = true
+is_free Registered = false
+
 -- how many numbers are registered
 abbrev pub count_registered : List Use → ℕ
 count_registered numbers = count_by is_in_use numbers

@@ -8,6 +8,7 @@ ghost use Rattle.lot_exclusive.specs.Size.{IsSizeFor, IsTrimmedSize, IsTooLarge}
 ghost use Rattle.lot_exclusive.specs.Table.{count_registered, IsLeastUnregistered, AreEmpty, KeepsLists};
 
 pub mod growth;
+pub mod nodes;
 pub mod numbers;
 mod steps;
 

@@ -18,7 +18,7 @@ use Rattle.lot_history.specs.History.{events_by}
 use Rattle.lot_history.specs.Pieces.{Name, cover, AllSo}
 use Rattle.lot_history.specs.Moves.{Finds, Reaches, Moves, Regroups}
 use Rattle.lot_history.specs.Rule.{Knows, Kept}
-use Rattle.lot_history.specs.Views.{spent_view}
+use Rattle.lot_history.specs.Views.{spent_view, told_view}
 use Rattle.lot_history.specs.Tells.{Found, event, Adds, Looks}
 use Rattle.lot_history.proofs.EventLemmas.{prefix_self, prefix_nil, prefix_longer, events_by-own, events_by-other}
 use Rattle.lot_history.proofs.EventLemmas.{LeadsTo-push}
@@ -37,6 +37,33 @@ at_end [] a b zero at = inr (refl, some-injective a b at)
 at_end [] a b (suc j) at = absurd (some-ne-none b (sym at))
 at_end (x ∷ xs) a b zero at = inl at
 at_end (x ∷ xs) a b (suc j) at = ⊎_elim inl (λ t. inr (ap suc t.0, t.1)) (at_end xs a b j at)
+
+-- a new seat, which knows of nothing
+pub arrives : (max_threads : ℕ) (views : List View) → Kept max_threads views → Kept max_threads (views ++ told_view [] ∷ [])
+arrives max_threads views kept = record {
+  events = kept.events;
+  machine = kept.machine;
+  owner = kept.owner;
+  run = kept.run;
+  few = kept.few;
+  threads = kept.threads;
+  consistent = kept.consistent;
+  each = λ j u there. ⊎_elim (kept.each j u)
+      (λ t. subst (λ i. Knows kept.events kept.machine kept.owner i u) (sym t.0)
+      (subst (Knows kept.events kept.machine kept.owner (length views)) t.1 knows))
+      (at_end views (told_view []) u j there);
+  others = λ j high. kept.others j (let a = length-append views (told_view [] ∷ []) in omega arith);
+}
+  where
+    knows : Knows kept.events kept.machine kept.owner (length views) (told_view [])
+    knows = record {
+      seen = prefix_nil kept.events;
+      heard = prefix_nil kept.events;
+      mine = kept.others (length views) (omega arith);
+      owns = λ name covered. absurd (omega (arith, covered));
+      once = λ name. omega arith;
+      pieces = tt;
+    }
 
 module _ (max_threads : ℕ) (views : List View) (kept : Kept max_threads views) (id : ℕ) (v : View)
     (at : get_elem? views id ≡ some v) where

@@ -4,7 +4,7 @@ use Rattle.std.proofs.Common.{◌∙◌, refl, sym, subst, arith}
 use mathlib.Core.List.{IsPrefix}
 use mathlib.Core.Option.{some, some-injective, some-ne-none}
 use lib.ListN.{get_elem?}
-use Rattle.atomic_table.specs.Table.{State, Me, keeps, Allows, Splits, Joins}
+use Rattle.atomic_table.specs.Table.{State, Me, keeps, Allows, Enters, Splits, Joins}
 use Rattle.atomic_table.proofs.Lists.{set_else}
 use Rattle.lot_exclusive.specs.declared.schedule.Answer.{Answer}
 use Rattle.lot_exclusive.specs.declared.schedule.Step.{Step}
@@ -19,11 +19,15 @@ use Rattle.lot_history.specs.Rule.{Knows, Kept}
 use Rattle.lot_history.specs.Views.{all_pieces, first_view, told_view, spent_view, first_of, rest_of, part_view}
 use Rattle.lot_history.proofs.EventLemmas.{prefix_nil}
 use Rattle.lot_history.specs.Tells.{Adds, Found, Looks}
-use Rattle.lot_history.proofs.RuleLemmas.{adds, looks, regroups, splits, joins}
+use Rattle.lot_history.proofs.RuleLemmas.{arrives, adds, looks, regroups, splits, joins}
 
 -- the rule, as the table of a history has it
 abbrev pub Holds : ℕ → State (Unit {0}) View → Type 0
 Holds max_threads s = Kept max_threads s.views
+
+pub arrives_allowed : (max_threads slots : ℕ)
+    → Enters (Holds max_threads) slots 0 (λ r w. ◌≡◌ {A = Me (Unit {0}) View} (w, []) (told_view [], []))
+arrives_allowed max_threads slots s kept sized wide = (told_view [], arrives max_threads s.views kept, refl)
 
 module _ (max_threads slots id : ℕ) (me : Me (Unit {0}) View) where
   pub adds_allowed : (said : Step → Answer → Type 0) (after : List Piece) → Moves max_threads said me.0.pieces after

@@ -9,7 +9,7 @@ ghost use Rattle.lot_history.specs.Moves.{Moves, Regroups};
 ghost use Rattle.lot_history.specs.Views.{all_pieces, first_of, rest_of};
 ghost use Rattle.lot_history.specs.declared.view.Piece.{Piece};
 
-use crate::plays::{Add, Giving, Look, OneHistory, Regroup, Seated, Taking, Telling, Told};
+use crate::plays::{Add, Arrive, Giving, Look, OneHistory, Regroup, Seated, Taking, Telling, Told};
 use crate::view::View;
 use atomic_table::{Badge, Seat, Table};
 use lot_base::token::NoMemory;
@@ -70,6 +70,19 @@ impl History {
     {
         let (table, seat) = Table::of_words(alloc, &[0], &max_threads)?;
         Ok((History { table }, Witness { seat }))
+    }
+
+    /// A new witness, which has seen nothing, has added nothing and has no piece. It costs a load.
+    #[inline]
+    pub fn witness(&self) -> Witness
+        ensures witness { IsWitnessOf self.now result }
+        ensures nothing_seen { seen_by result ≡ [] }
+        ensures nothing_added { events_of result ≡ [] }
+        ensures no_pieces { pieces_of result ≡ [] }
+    {
+        Witness {
+            seat: self.table.shared.load_new_seat::<Arrive>(0).1,
+        }
     }
 
     /// Another witness, which has seen as much as this one, and has added nothing and has no piece.

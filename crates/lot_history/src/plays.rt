@@ -95,6 +95,16 @@ impl<C: Seated> Play<(), View> for Regroup<C> {
     ghost then = { λ _ m _ n. n ≡ (record m.0 { pieces = C.after }, m.1) };
 }
 
+/// A new seat knows of nothing.
+pub(crate) struct Arrive;
+
+impl Play<(), View> for Arrive {
+    ghost use Rattle.std.specs.Prelude.{◌≡◌, []};
+    ghost use Rattle.lot_history.specs.Views.{told_view};
+
+    ghost then = { λ _ _ _ n. n ≡ (told_view [], []) };
+}
+
 /// A seat tells a new one what it has seen.
 pub(crate) struct Telling;
 

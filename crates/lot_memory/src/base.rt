@@ -6,7 +6,7 @@ use crate::fault::Fault;
 use crate::{Moment, marks, tell_answer, tell_refused};
 use lot_base::word_lock::{Fits, WordLock};
 use parking_lot_core::{
-    Bucket, FilterOp, NoMemory, Node, ParkToken, Queue, Slot, SpinWait, ThreadParkerT,
+    Bucket, FilterOp, NoMemory, Node, ParkToken, ParkerKey, Queue, Slot, SpinWait, ThreadParkerT,
     UnparkHandleT, UnparkToken, place, thread_yield,
 };
 use std::alloc::Global;
@@ -135,7 +135,11 @@ pub fn use_parker<P: ThreadParkerT, R: Print + Wait + Clock>(
     alloc: Global,
 ) -> Result<(), Fault> {
     let past = Instant::now(rt)?;
-    let parker = P::new(alloc, OWNER)?;
+    let key = ParkerKey {
+        number: OWNER,
+        home: (),
+    };
+    let parker = P::new(alloc, &key)?;
     let mut trial = Trial::new(rt, alloc)?;
     marks::begin(alloc);
     trial.commit_and_take(rt, &parker, past);
@@ -187,6 +191,10 @@ impl Trial {
             }
             None => self.note(usize::MAX),
         }
+    }
+
+    fn note_back(&mut self, back: Option<(Box<Node>, Option<()>)>) {
+        self.note_node(back.map(|(node, _)| node));
     }
 
     fn note_queue(&mut self, mut queue: Queue) {
@@ -282,10 +290,11 @@ impl Trial {
         self.note(usize::from(parker.timed_out(rt)));
         self.commit(rt, parker);
         self.note(usize::from(parker.timed_out(rt)));
-        self.note_node(Some(parker.park(rt)));
+        let (node, _) = parker.park(rt);
+        self.note_node(Some(node));
         self.commit(rt, parker);
-        self.note_node(parker.park_until(rt, past));
-        self.note_node(parker.park_until(rt, past));
+        self.note_back(parker.park_until(rt, past));
+        self.note_back(parker.park_until(rt, past));
     }
 
     fn commit<P: ThreadParkerT, R: Wait>(&mut self, rt: &R, parker: &P)
@@ -294,7 +303,7 @@ impl Trial {
         if let Some(mut node) = self.nodes.pop() {
             node.number = OWNER;
             parker.prepare_park();
-            let handle = parker.unpark_lock(rt, node);
+            let handle = parker.unpark_lock(rt, node, ());
             self.note(handle.number());
             handle.unpark(parker);
         }

@@ -26,6 +26,7 @@ mod unparks;
 mod witnessed;
 
 use fault::Fault;
+pub use lot_witnessed::parker;
 use parking_lot_core::{LotError, NoMemory, ThreadParkerT};
 pub use scenario::{ROWS, Scenario, named};
 use std::alloc::Global;
@@ -106,24 +107,26 @@ fn tell_unmade<R: Print>(rt: &R, error: LotError) -> Result<(), Fault> {
     tell_refused(rt, 0)
 }
 
-/// Does the scenario, with parkers of this type where it has any, and prints what it saw. It gives
-/// back all memory that it had.
-pub fn play<P, R>(rt: &R, alloc: Global, scenario: Scenario) -> Result<(), Fault>
+/// Does the scenario, with parkers of the first type where it has any, and of the second in the lot
+/// whose calls are one history, and prints what it saw. It gives back all memory that it had.
+pub fn play<P, Q, R>(rt: &R, alloc: Global, scenario: Scenario) -> Result<(), Fault>
 where
     P: ThreadParkerT + Send + Sync + 'static,
     P::UnparkHandle: 'static,
+    Q: parker::ThreadParkerT,
     R: Print + Threads + Wait + Clock + Copy + Send + Sync + 'static,
 {
     marks::enter(alloc);
-    let played = play_marked::<P, R>(rt, alloc, scenario);
+    let played = play_marked::<P, Q, R>(rt, alloc, scenario);
     marks::leave(alloc);
     played
 }
 
-fn play_marked<P, R>(rt: &R, alloc: Global, scenario: Scenario) -> Result<(), Fault>
+fn play_marked<P, Q, R>(rt: &R, alloc: Global, scenario: Scenario) -> Result<(), Fault>
 where
     P: ThreadParkerT + Send + Sync + 'static,
     P::UnparkHandle: 'static,
+    Q: parker::ThreadParkerT,
     R: Print + Threads + Wait + Clock + Copy + Send + Sync + 'static,
 {
     match scenario {
@@ -156,8 +159,10 @@ where
         Scenario::Registrations => threaded::register::<P, _>(rt, alloc, 0, threaded::MOST),
         Scenario::ParkingLotList => threaded::list::<P, _>(rt, alloc),
         Scenario::AcquireResource => threaded::acquire::<P, _>(rt, alloc),
-        Scenario::WitnessedAgain => witnessed::register_again::<P, _>(rt, alloc),
-        Scenario::WitnessedAll => witnessed::register_all_twice::<P, _>(rt, alloc),
+        Scenario::WitnessedNew => witnessed::new::<Q, _>(rt, alloc),
+        Scenario::WitnessedGrowth => witnessed::register_and_grow::<Q, _>(rt, alloc),
+        Scenario::WitnessedAgain => witnessed::register_again::<Q, _>(rt, alloc),
+        Scenario::WitnessedAll => witnessed::register_all_twice::<Q, _>(rt, alloc),
         Scenario::FairCoreNew => fair::new(rt, alloc),
         Scenario::FairRegister => fair::register(rt, alloc),
         Scenario::FairWaiters => fair::waiters(rt, alloc),

@@ -1,13 +1,42 @@
 //! Scenarios on the lot whose calls are one history.
 
 use crate::fault::Fault;
-use crate::{FEW, KEYS, Moment, marks, show_waiting, tell_answer, tell_refused};
+use crate::{FEW, KEYS, Moment, marks, show_waiting, tell_answer, tell_refused, tell_unmade};
 use lot_witnessed::lot::Lot;
 use lot_witnessed::member::Member;
+use lot_witnessed::parker::ThreadParkerT;
+use parking_lot_core::LotError;
 use parking_lot_core::table::MAX_THREADS;
-use parking_lot_core::{LotError, ThreadParkerT};
 use std::alloc::Global;
 use std::sync::Wait;
+
+// A lot for so many is made with few enough requests to refuse each in turn.
+const SOME: usize = 40;
+
+/// `Lot::new`.
+pub(super) fn new<P: ThreadParkerT, R: Print>(rt: &R, alloc: Global) -> Result<(), Fault> {
+    marks::begin(alloc);
+    let made = Lot::<P>::new(alloc, SOME);
+    marks::end(alloc);
+    match made {
+        Ok(lot) => {
+            tell_answer(rt, &None::<LotError>)?;
+            println!(rt; "{} most {}", Moment::After, lot.max_threads())?;
+            tell_refused(rt, 0)
+        }
+        Err(error) => tell_unmade(rt, error),
+    }
+}
+
+/// `Member::register` where the table grows first.
+pub(super) fn register_and_grow<P: ThreadParkerT, R: Print + Wait>(
+    rt: &R,
+    alloc: Global,
+) -> Result<(), Fault> {
+    let lot = Lot::<P>::new(alloc, FEW + 1)?;
+    let mut first = register_few(rt, alloc, &lot)?;
+    play_registration(rt, alloc, &lot, &mut first)
+}
 
 /// `Member::register` after a trim, where the table grows again and finds the row that the first
 /// growth made.
@@ -16,19 +45,38 @@ pub(super) fn register_again<P: ThreadParkerT, R: Print + Wait>(
     alloc: Global,
 ) -> Result<(), Fault> {
     let lot = Lot::<P>::new(alloc, FEW + 1)?;
-    let mut first = Member::register(rt, alloc, &lot)?;
-    for _ in 1..FEW {
-        register(rt, alloc, &lot)?;
-    }
+    let mut first = register_few(rt, alloc, &lot)?;
     grow_once(rt, alloc, &lot)?;
     first.trim(rt);
-    show(rt, alloc, Moment::Before, &mut first)?;
+    play_registration(rt, alloc, &lot, &mut first)
+}
+
+// Registers as many threads as the first row has room for, and answers the first.
+fn register_few<'a, P: ThreadParkerT, R: Wait>(
+    rt: &R,
+    alloc: Global,
+    lot: &'a Lot<P>,
+) -> Result<Member<'a, P>, LotError> {
+    let first = Member::register(rt, alloc, lot)?;
+    for _ in 1..FEW {
+        register(rt, alloc, lot)?;
+    }
+    Ok(first)
+}
+
+fn play_registration<P: ThreadParkerT, R: Print + Wait>(
+    rt: &R,
+    alloc: Global,
+    lot: &Lot<P>,
+    first: &mut Member<'_, P>,
+) -> Result<(), Fault> {
+    show(rt, alloc, Moment::Before, first)?;
     marks::begin(alloc);
-    let answer = register(rt, alloc, &lot);
+    let answer = register(rt, alloc, lot);
     marks::end(alloc);
     tell_answer(rt, &answer)?;
-    show(rt, alloc, Moment::After, &mut first)?;
-    if answer.is_err() && register(rt, alloc, &lot)? != FEW {
+    show(rt, alloc, Moment::After, first)?;
+    if answer.is_err() && register(rt, alloc, lot)? != FEW {
         return Err(Fault::Unlike("the number after a registration"));
     }
     tell_refused(rt, 0)

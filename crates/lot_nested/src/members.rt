@@ -1,10 +1,10 @@
 //! The lot of `lot_witnessed`.
 
 use crate::subject::{Ended, Entry, Sieve, Subject};
-use lot_base::thread_parker::WordParker;
 use lot_base::token::{LotError, NoMemory, RequeueOp, UnparkResult, UnparkToken};
 use lot_witnessed::lot::Lot;
 use lot_witnessed::member::Member;
+use lot_witnessed::parker::WordParker;
 use std::alloc::Global;
 use std::sync::Wait;
 use std::time::Clock;
@@ -65,14 +65,8 @@ impl<'a> Subject for Members<'a> {
             park_token,
             timeout,
         } = entry;
-        let Some(timeout) = timeout else {
-            return (
-                thread.park(rt, key, || valid, before_sleep, park_token),
-                None,
-            );
-        };
         let mut told = None;
-        let result = thread.park_until(
+        let result = thread.park(
             rt,
             key,
             || valid,

@@ -5,10 +5,10 @@ use crate::nest::nest;
 use crate::subject::Subject;
 use crate::threads::Threads;
 use crate::walk::{Call, Shape, Walk};
-use lot_base::thread_parker::WordParker;
 use lot_base::token::LotError;
 use lot_witnessed::lot::Lot;
-use parking_lot_core::ParkingLot;
+use lot_witnessed::parker;
+use parking_lot_core::{ParkingLot, WordParker};
 use std::alloc::Global;
 use std::process::ExitCode;
 use std::rt::Env;
@@ -140,7 +140,7 @@ fn compare<R: Print + Wait + Clock>(
 ) -> Result<(), Fault> {
     let lot = ParkingLot::<WordParker>::new(alloc, shape.max_threads)?;
     walk_with(rt, alloc, Threads::new(&lot), 0, shape, seed)?;
-    let lot = Lot::<WordParker>::new(alloc, shape.max_threads)?;
+    let lot = Lot::<parker::WordParker>::new(alloc, shape.max_threads)?;
     let members = Members::new(rt, alloc, &lot)?;
     walk_with(rt, alloc, members, 1, shape, seed)
 }

@@ -1,8 +1,8 @@
 //! The commands of the program.
 
 use crate::{cost, locks, parks, race, rest};
-use lot_memory::Scenario;
 use lot_memory::fault::Fault;
+use lot_memory::{Scenario, parker};
 use parking_lot_core::{ThreadParker, WordParker, YieldParker};
 use std::process::ExitCode;
 use std::rt::Env;
@@ -121,13 +121,13 @@ fn follow<R: Print + Eprint + AllocGlobal + Threads + Wait + Clock + Copy + Send
     match command {
         Command::List => Ok(print_names(rt)?),
         Command::Memory(scenario, Parker::OfOneWord) => {
-            lot_memory::play::<WordParker, _>(rt, rt.alloc(), scenario)
+            lot_memory::play::<WordParker, parker::WordParker, _>(rt, rt.alloc(), scenario)
         }
         Command::Memory(scenario, Parker::Sleeping) => {
-            lot_memory::play::<ThreadParker, _>(rt, rt.alloc(), scenario)
+            lot_memory::play::<ThreadParker, parker::ThreadParker, _>(rt, rt.alloc(), scenario)
         }
         Command::Memory(scenario, Parker::Yielding) => {
-            lot_memory::play::<YieldParker, _>(rt, rt.alloc(), scenario)
+            lot_memory::play::<YieldParker, parker::YieldParker, _>(rt, rt.alloc(), scenario)
         }
         Command::Cost => cost::run(rt, rt.alloc()),
         Command::Parks { count } => parks::run(rt, rt.alloc(), count),

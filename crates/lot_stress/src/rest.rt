@@ -2,8 +2,7 @@
 //! time they take is measured from outside.
 
 mod change;
-mod late_wake;
-mod left_mark;
+mod deadline;
 
 ghost use Rattle.std.specs.Prelude.{⊤};
 
@@ -53,10 +52,10 @@ pub fn run<R: Print + Threads + Wait + Clock + Copy + Send + Sync + 'static>(
     let are_woken = rest_parked::<WordParker, _>(rt, alloc, rest)?
         && rest_parked::<ThreadParker, _>(rt, alloc, rest)?
         && rest_at_a_lock(rt, alloc, rest)?
-        && late_wake::rest::<WordParker, _>(rt, alloc, rest)?
-        && late_wake::rest::<ThreadParker, _>(rt, alloc, rest)?
-        && left_mark::rest::<WordParker, _>(rt, alloc, rest, far)
-        && left_mark::rest::<ThreadParker, _>(rt, alloc, rest, far)
+        && deadline::rest_after_late_wake::<WordParker, _>(rt, alloc, rest)?
+        && deadline::rest_after_late_wake::<ThreadParker, _>(rt, alloc, rest)?
+        && deadline::rest_after_mark::<WordParker, _>(rt, alloc, rest, far)
+        && deadline::rest_after_mark::<ThreadParker, _>(rt, alloc, rest, far)
         && change::rest(rt, alloc, rest)?;
     if !are_woken {
         return Err(Fault::Unlike("how many threads came back"));

@@ -12,3 +12,4 @@ pub mod LockLemmas
 pub mod HalfLemmas
 pub mod SizeLemmas
 pub mod SectionLemmas
+pub mod ParkLemmas

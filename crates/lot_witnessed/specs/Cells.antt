@@ -1,5 +1,5 @@
--- What fits behind the locks of a lot: buckets, mailboxes, and the registry of numbers, each with its part of the lot's
--- history.
+-- What fits behind the locks of a lot, buckets and the registry of numbers, each with its part of the lot's history, and
+-- what goes beside the node of a thread that was unparked.
 use Rattle.std.specs.Prelude.{◌≡◌, ◌≢◌, ℕ, ◌+◌, ◌*◌, ◌<◌, ◌≤◌, ◌^◌, All, ⊤, List, [], ◌∷◌, map, length, Option, Some, None}
 use Rattle.atomic_table.specs.Seated.{TableId}
 use Rattle.boxcar.specs.Slot.{Named}
@@ -23,9 +23,7 @@ use Rattle.lot_witnessed.specs.declared.cell.Cell.{Cell}
 use Rattle.lot_witnessed.specs.declared.cell.CellKey.{CellKey}
 use Rattle.lot_witnessed.specs.declared.cell.Locked.{Locked}
 use Rattle.lot_witnessed.specs.declared.cell.Slot.{Slot}
-use Rattle.lot_witnessed.specs.declared.mail.Letter.{Letter}
-use Rattle.lot_witnessed.specs.declared.mail.Mail.{Mail}
-use Rattle.lot_witnessed.specs.declared.mail.MailKey.{MailKey}
+use Rattle.lot_witnessed.specs.declared.parker.Letter.{Letter}
 use Rattle.lot_witnessed.specs.declared.registry.Registry.{Registry}
 use Rattle.lot_witnessed.specs.declared.registry.RegistryKey.{RegistryKey}
 use Rattle.lot_witnessed.specs.Rows.{EachAt}
@@ -122,22 +120,9 @@ thread_taken node = Thread node.number (Taken node.unpark_token)
 abbrev pub threads_in : List NodeFields → List Piece
 threads_in taken = map thread_taken taken
 
--- the letter tells a thread's token, and has the thread's piece
-abbrev pub IsLetterTo : TableId → ℕ → Letter → Type 0
-IsLetterTo home number letter = Has home (Thread number (Taken letter.token) ∷ []) letter.part
-
-abbrev pub IsMailOf : TableId → ℕ → Option Letter → Type 0
-IsMailOf home number None = ⊤
-IsMailOf home number (Some letter) = IsLetterTo home number letter
-
--- behind the lock of a mailbox
-abbrev pub FitsMail : MailKey → Mail → Type 0
-FitsMail key mail = IsMailOf (home_of key.home) key.number mail.letter
-
--- the lock is that of this thread's mailbox
-pub record IsMailLock (home : TableId) (number : ℕ) (lock : WordLock Mail MailKey) : Type 0 where
-  pub of_thread : (key_of lock).number ≡ number
-  pub of_lot : home_of (key_of lock).home ≡ home
+-- the letter beside the node of a thread that was taken has the thread's piece
+abbrev pub FitsLetter : Part → NodeFields → Letter → Type 0
+FitsLetter home node letter = Has (home_of home) (thread_taken node ∷ []) letter.part
 
 -- a witness that has added nothing and has no piece
 pub record IsIdle (home : TableId) (witness : Witness) : Type 0 where

@@ -1,7 +1,7 @@
 -- In the order of reading, after the types of src/. First lists of which each item has a number, and the pieces of a
 -- new machine.
 pub mod Rows
--- Then what fits behind the locks of a lot: buckets, mailboxes, and the registry of numbers.
+-- Then what fits behind the locks of a lot, and beside the node of a thread that was unparked.
 pub mod Cells
 -- Then buckets that a section leaves behind their locks.
 pub mod Sections

@@ -22,7 +22,7 @@ use Rattle.lot_history.specs.declared.history.Part.{Part}
 use Rattle.lot_history.specs.declared.history.Witness.{Witness}
 use Rattle.lot_history.specs.declared.view.Piece.{Piece}
 use Rattle.lot_history.specs.declared.view.Piece.TheVariants.{Thread, Records}
-use Rattle.lot_history.specs.Witness.{Extends, Looks, IsStill, IsWitnessOf, events_of, id_of, max_threads_of, pieces_of}
+use Rattle.lot_history.specs.Witness.{Extends, Looks, IsStill, IsWitnessOf, events_of, max_threads_of, pieces_of}
 use Rattle.lot_witnessed.specs.declared.told.Entry.{Entry}
 use Rattle.lot_witnessed.specs.Cells.{Has}
 
@@ -46,21 +46,40 @@ pub record MemberState : Type 0 where
   pub records : List ℕ
   pub witness : Witness
 
--- a member that runs has its node, and the pieces that say so
-pub record IsMember (history : History) (own : ℕ) (node : Option (Box Node Global)) (keys : List ℕ)
-    (thread records : Part) (witness : Witness) : Type 0 where
-  pub below : own < max_threads_of history
+-- the data of a registered thread: its number, the keys that it has recorded, and its witness
+pub record ThreadDataState : Type 0 where
+  pub number : ℕ
+  pub records : List ℕ
+  pub witness : Witness
+
+-- the data of a thread that runs has its node, and the pieces that say so
+pub record IsThreadData (own : ℕ) (node : Option (Box Node Global)) (keys : List ℕ) (thread records : Part)
+    (witness : Witness) : Type 0 where
   pub has_node : IsSomeAnd node (λ held. (fields held.value).number ≡ own)
-  pub runs : Has (id_of history) (Thread own Running ∷ []) thread
-  pub has_recorded : Has (id_of history) (Records own keys ∷ []) records
-  pub of_history : IsWitnessOf history witness
+  pub runs : Has witness.seat.table_id (Thread own Running ∷ []) thread
+  pub has_recorded : Has witness.seat.table_id (Records own keys ∷ []) records
   pub no_pieces : pieces_of witness ≡ []
+
+-- the data is that of a thread of the lot that has this history
+pub record IsDataOf (history : History) (thread : ThreadDataState) : Type 0 where
+  pub of_history : IsWitnessOf history thread.witness
+  pub below : thread.number < max_threads_of history
+
+-- the thread of this data as a member of the lot
+abbrev pub member_of : History → ThreadDataState → MemberState
+member_of history thread =
+    record { history = history; number = thread.number; records = thread.records; witness = thread.witness }
 
 -- a witness whose first event is this
 pub record Begins (history : History) (step : Step) (answer : Answer) (witness : Witness) : Type 0 where
   pub from : Witness
   pub nothing_added : events_of from ≡ []
   pub extends : Extends history from step answer witness
+
+-- the number of the node that a registration gave, if it did
+abbrev pub number_in : Option (Box Node Global) → Option ℕ
+number_in None = None
+number_in (Some held) = Some (fields held.value).number
 
 -- what a registration answers that gave this number, or none, and the pieces of the thread then
 abbrev pub answer_for : Option ℕ → Answer
@@ -135,25 +154,20 @@ pub record TimesOut (old : MemberState) (key : ℕ) (park_token : ParkToken) (le
   pub enters : Extends old.history old.witness (park_step old key park_token true true) Entered entered
   pub leaves : Leaves old.history old.number left last entered new.witness
 
-module _ (asked : Bool → Type 0) (called : Type 0) (old : MemberState) (key : ℕ) (park_token : ParkToken) where
-  -- how a park without a timeout ends, by what `validate` answered
+-- how a park ends, by what `validate` answered: with a timeout also so that `timed_out` was called with the key that it
+-- left and whether nobody else waits there
+module _ (asked : Bool → Type 0) (called : Type 0) (told : ℕ → Bool → Type 0) (old : MemberState) (key : ℕ)
+    (park_token : ParkToken) (timed : Bool) where
   abbrev pub IsParked : ParkResult → MemberState → Type 0
-  IsParked result.Invalid new = asked false × IsRefused old key park_token false new
-  IsParked (result.Unparked token) new = asked true × called × ComesBack old key park_token false token new
-  IsParked result.TimedOut new = ⊥
+  IsParked result.Invalid new = asked false × IsRefused old key park_token timed new
+  IsParked (result.Unparked token) new = asked true × called × ComesBack old key park_token timed token new
+  IsParked result.TimedOut new = (timed ≡ true) × asked true × called
+      × ((left : ℕ) × (last : Bool) × told left last × TimesOut old key park_token left last new)
 
-  -- and one with a timeout, where `timed_out` was called with the key that it left and whether nobody else waits there
-  abbrev pub IsParkedUntil : (ℕ → Bool → Type 0) → ParkResult → MemberState → Type 0
-  IsParkedUntil told result.Invalid new = asked false × IsRefused old key park_token true new
-  IsParkedUntil told (result.Unparked token) new =
-      asked true × called × ComesBack old key park_token true token new
-  IsParkedUntil told result.TimedOut new =
-      asked true × called × ((left : ℕ) × (last : Bool) × told left last × TimesOut old key park_token left last new)
-
--- how the wait of a thread with a timeout ends that was let in
-module _ (history : History) (number : ℕ) (told : ℕ → Bool → Type 0) where
+-- how the wait of a thread ends that was let in
+module _ (history : History) (number : ℕ) (timed : Bool) (told : ℕ → Bool → Type 0) where
   abbrev pub EndsWait : ParkResult → Witness → Witness → Type 0
   EndsWait result.Invalid old new = ⊥
   EndsWait (result.Unparked token) old new = Extends history old (Return number) (Unparked token) new
   EndsWait result.TimedOut old new =
-      (left : ℕ) × (last : Bool) × told left last × Leaves history number left last old new
+      (timed ≡ true) × ((left : ℕ) × (last : Bool) × told left last × Leaves history number left last old new)

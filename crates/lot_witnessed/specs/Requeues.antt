@@ -13,7 +13,9 @@ use Rattle.lot_exclusive.specs.declared.schedule.Answer.TheVariants as answer
 use Rattle.lot_exclusive.specs.declared.schedule.Op.TheVariants.{Requeue}
 use Rattle.lot_exclusive.specs.declared.schedule.Step.{Step}
 use Rattle.lot_exclusive.specs.declared.schedule.Step.TheVariants.{Unpark}
-use Rattle.lot_witnessed.specs.Members.{MemberState, Makes}
+use Rattle.lot_history.specs.declared.history.History.{History}
+use Rattle.lot_history.specs.declared.history.Witness.{Witness}
+use Rattle.lot_history.specs.Witness.{Extends}
 
 module _ {V C : Type 0} (v : Once V (Unit {0}) RequeueOp)
     (c : Once C (RequeueOp × (UnparkResult × Unit {0})) UnparkToken) where
@@ -39,10 +41,10 @@ module _ {V C : Type 0} (v : Once V (Unit {0}) RequeueOp)
     pub step : s ≡ Unpark (Requeue from to op token)
     pub answer : a ≡ answer.Unpark result
 
-  -- a member made it
-  pub record Requeues (validate : V) (callback : C) (from to : ℕ) (old : MemberState) (result : UnparkResult)
-      (new : MemberState) : Type 0 where
+  -- the requeue that was chosen was added
+  pub record Requeues (validate : V) (callback : C) (from to : ℕ) (history : History) (old : Witness)
+      (result : UnparkResult) (new : Witness) : Type 0 where
     pub op : RequeueOp
     pub token : UnparkToken
     pub calls : Chooses validate callback op result token
-    pub makes : Makes old (Unpark (Requeue from to op token)) (answer.Unpark result) new
+    pub extends : Extends history old (Unpark (Requeue from to op token)) (answer.Unpark result) new

@@ -65,6 +65,7 @@ pub(crate) struct Locked<'b> {
 impl<'b> Locked<'b> {
     // Locks the bucket of this lock and takes it out, or answers `None` where it has none, since
     // the row is not in use there.
+    #[inline(always)]
     pub(crate) fn of<R: Wait>(rt: &R, lock: &'b WordLock<Slot>) -> Option<Locked<'b>>
         ensures lock { IfSome result (λ locked. locked.lock.now ≡ lock.now) }
         ensures held { IfSome result (λ locked. IsHeldOf locked.lock.now locked.held) }
@@ -86,6 +87,7 @@ impl<'b> Locked<'b> {
     }
 
     // Does what `of` does, for a section that has the bucket of a lower place.
+    #[inline(always)]
     pub(crate) fn behind<R: Wait>(
         rt: &R,
         first: &Locked<'_>,
@@ -105,6 +107,7 @@ impl<'b> Locked<'b> {
     }
 
     // Puts the bucket back and lets it go.
+    #[inline]
     pub(crate) fn close(self)
         requires held { IsHeldOf self.lock.now self.held }
         requires fits { FitsCell (key_of self.lock.now) self.cell }

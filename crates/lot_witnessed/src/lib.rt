@@ -4,11 +4,13 @@
 
 mod cell;
 mod claimed;
+pub mod deadlock;
 mod halves;
 pub mod laws;
 pub mod lot;
-mod mail;
 pub mod member;
+pub mod parker;
+pub mod parking_lot;
 mod registry;
 mod sections;
 mod told;

@@ -1,28 +1,27 @@
 //! Members of a lot: registered threads, whose calls tell the history what they did.
 
-ghost use Rattle.std.specs.Prelude.{◌≡◌, ◌≢◌, ◌∷◌, List, [], true, false, Err, IfOk, OnErr, OnOk};
-ghost use Rattle.lot_exclusive.specs.Records.{one_less, one_more, times_recorded};
+ghost use Rattle.std.specs.Prelude.{◌≡◌, ◌≢◌, List, [], true, Err, IfOk, None, OnErr, OnOk};
+ghost use Rattle.std.specs.Option.{is_some};
 ghost use mathlib.Core.List.{IsPrefix};
 ghost use Rattle.lot_base.specs.NodeFields.{NodeFields};
 ghost use Rattle.lot_base.specs.Waiting.{result_of, split_first};
+ghost use Rattle.lot_exclusive.specs.Records.{one_less, one_more, times_recorded};
 ghost use Rattle.lot_history.specs.Witness.{Extends, IsStill, IsWitnessOf, Looks, id_of, seen_by, view_of};
 ghost use Rattle.lot_witnessed.specs.Filters.{AreCallable, Unparks};
+ghost use Rattle.lot_witnessed.specs.Members.{Begins, IsDataOf, IsListed, IsParked, IsSame, Makes, Stays, member_of};
 ghost use Rattle.lot_witnessed.specs.Requeues.{MayRequeue, Requeues};
-ghost use Rattle.lot_witnessed.specs.Members.{Begins, IsListed, IsParked, IsParkedUntil, IsSame, Makes, Stays};
 
+use crate::deadlock::{acquire_resource, release_resource};
 use crate::lot::Lot;
-use crate::told::add_recording;
-use lot_base::queue::Node;
-use lot_base::thread_parker::ThreadParkerT;
+use crate::parker::ThreadParkerT;
+use crate::parking_lot::{ThreadData, park};
 use lot_base::token::{
     FilterOp, LotError, NoMemory, ParkResult, ParkToken, RequeueOp, UnparkResult, UnparkToken,
 };
-use lot_exclusive::records::Records;
 use lot_exclusive::schedule::{Answer, Op, Step};
-use lot_history::history::{Part, Witness};
+use lot_history::history::Witness;
 use std::alloc::Global;
-use std::marker::{Brand, Model};
-use std::mem;
+use std::marker::Model;
 use std::sync::Wait;
 use std::time::{Clock, Instant};
 
@@ -38,46 +37,24 @@ use std::time::{Clock, Instant};
 #[derive(Drop)]
 pub struct Member<'a, P: ThreadParkerT> {
     lot: &'a Lot<P>,
-    number: usize,
-    node: Option<Box<Node>>,
-    keys: Records,
-    thread: Part,
-    records: Part,
-    witness: Witness,
+    thread: ThreadData,
+    ghost own: { IsDataOf lot.now thread },
 }
 
 impl<'a, P: ThreadParkerT> Model for Member<'a, P> {
-    ghost use Rattle.lot_witnessed.specs.Filters.{AreCallable, Unparks};
-    ghost use Rattle.lot_witnessed.specs.Members.{IsMember, MemberState};
+    ghost use Rattle.lot_witnessed.specs.Members.{MemberState, member_of};
 
     ghost Value = { MemberState };
 
-    ghost view = { λ member. record {
-      history = member.lot.now;
-      number = member.number;
-      records = member.keys;
-      witness = member.witness;
-    } };
-
-    ghost invariant = { λ member. IsMember member.lot.now member.number member.node member.keys
-        member.thread member.records member.witness };
+    ghost view = { λ member. member_of member.lot.now member.thread };
 }
 
 impl<'a, P: ThreadParkerT> Member<'a, P> {
-    /// Registers a thread under the least free number. Its witness begins with that step.
-    ///
-    /// It asks for memory once, for the thread's node, and then takes the lock of the numbers. It
-    /// begins behind the number that was registered last, or at the least one that was released
-    /// since, and passes over numbers up to the one that it takes. Where the table would have less
-    /// than three buckets for each thread, it puts the row of twice the size in use first, which
-    /// adds nothing to the history: it asks for the memory of that row if it was not needed before,
-    /// then visits every bucket and every waiting thread, and other calls wait for it. A section
-    /// must not call it.
+    /// Registers a thread, as `Lot::thread_data` does. Its witness begins with that step.
     ///
     /// # Errors
     ///
-    /// `NoMemory` if memory cannot be had, and else `Full` if the greatest number of threads is
-    /// registered.
+    /// Those of `Lot::thread_data`.
     pub fn register<R: Wait>(
         rt: &R,
         alloc: Global,
@@ -89,30 +66,39 @@ impl<'a, P: ThreadParkerT> Member<'a, P> {
         ensures registered { IfOk result (λ member.
             Begins lot.now Step.Register (Answer.Registered member.number) member.witness) }
     {
-        let mut node = Node::new(alloc, 0)?;
-        let (mut witness, number) = lot.register(rt, alloc)?;
-        let Some(number) = number else {
-            return Err(LotError::Full);
-        };
-        node.number = number;
-        let thread = lot.history().give(&mut witness);
-        let records = lot.history().give(&mut witness);
-        Ok(Member {
-            lot,
-            number,
-            node: Some(node),
-            keys: Records::new(alloc),
-            thread,
-            records,
-            witness,
-        })
+        let thread = lot.thread_data(rt, alloc)?;
+        Ok(Member { lot, thread })
+    }
+
+    /// The thread of data that `thread_data` of this lot gave.
+    pub fn of(lot: &'a Lot<P>, thread: ThreadData) -> Member<'a, P>
+        requires own { IsDataOf lot.now thread }
+        ensures { result ≡ member_of lot.now thread }
+    {
+        Member { lot, thread }
+    }
+
+    /// The data of the thread, which belongs to the lot.
+    pub fn into_data(self) -> ThreadData
+        ensures own { IsDataOf self.entry.history result }
+        ensures thread { member_of self.entry.history result ≡ self.entry }
+    {
+        let Member { lot: _, thread } = self;
+        thread
+    }
+
+    /// The lot that the thread is registered with.
+    pub fn lot(&self) -> &'a Lot<P>
+        ensures { result.now ≡ self.now.history }
+    {
+        self.lot
     }
 
     /// The number of the thread.
     pub fn number(&self) -> usize
         ensures { result ≡ self.now.number }
     {
-        self.number
+        self.thread.number()
     }
 
     /// Sees the history as it is, which begins with all that the other has seen, too.
@@ -126,7 +112,7 @@ impl<'a, P: ThreadParkerT> Member<'a, P> {
     {
         self.lot
             .history()
-            .hear(&mut self.witness, &mut other.witness);
+            .hear(&mut self.thread.witness, &mut other.thread.witness);
     }
 
     /// Sees the history as it is, which begins with all that this witness of a retired member has
@@ -139,64 +125,11 @@ impl<'a, P: ThreadParkerT> Member<'a, P> {
         ensures other { IsStill self.old.history other.old other.new }
         ensures unchanged { view_of other.new ≡ view_of other.old }
     {
-        self.lot.history().hear(&mut self.witness, other);
+        self.lot.history().hear(&mut self.thread.witness, other);
     }
 
-    /// Parks the thread in the list of the key, until another thread unparks it.
-    ///
-    /// `validate` is called once, in the section of the key's bucket. If it answers false, the
-    /// answer is `Invalid` and nothing else is called. If it answers true, the thread stands last
-    /// in the list, the section ends, `before_sleep` is called once with no lock held, and the
-    /// thread sleeps until its unpark was committed. The answer is `Unparked` with the token that
-    /// the other thread gave.
-    ///
-    /// `validate` must not call the lot, nor wait for a thread that does. It allocates nothing.
-    pub fn park<R: Wait, V: FnOnce() -> bool, B: FnOnce()>(
-        &mut self,
-        rt: &R,
-        key: usize,
-        validate: V,
-        before_sleep: B,
-        park_token: ParkToken,
-    ) -> ParkResult
-        requires validate { V.pre validate }
-        requires before_sleep { V.post validate true → B.pre before_sleep }
-
-        ensures stays { Stays self.old self.new }
-        ensures parked { IsParked (λ valid. V.post validate valid) (B.post before_sleep tt)
-            self.old key park_token result self.new }
-    {
-        let mut node = self.node.take().unwrap();
-        node.prepare(key, park_token, false);
-        let thread = mem::replace(&mut self.thread, Part::none());
-        let parker = &self.lot.thread(self.number).parker;
-        parker.prepare_park();
-        if let Err((thread, node)) = self
-            .lot
-            .enter(rt, &mut self.witness, thread, node, validate)
-        {
-            self.thread = thread;
-            self.node = Some(node);
-            return ParkResult::Invalid;
-        }
-        before_sleep();
-        let node = parker.park(rt);
-        let (token, thread) = self.lot.come_back(rt, &mut self.witness, self.number);
-        self.thread = thread;
-        self.node = Some(node);
-        ParkResult::Unparked(token)
-    }
-
-    /// Parks the thread as `park` does, but no longer than until that instant; a clock that cannot
-    /// be read counts as past it. Then, in a section of its list's bucket, the thread leaves the
-    /// list in which it stands and `timed_out` is called once, with the key of that list, which is
-    /// another where the thread was requeued, and with whether no other thread waits on it; the
-    /// answer is `TimedOut`. If an unpark took the thread before that section, `timed_out` is not
-    /// called, and the answer is `Unparked`.
-    ///
-    /// `validate` and `timed_out` must not call the lot, nor wait for a thread that does. It
-    /// allocates nothing.
-    pub fn park_until<R: Wait + Clock, V: FnOnce() -> bool, B: FnOnce(), T: FnOnce(usize, bool)>(
+    /// Parks the thread, as the function `park` does.
+    pub fn park<R: Wait + Clock, V: FnOnce() -> bool, B: FnOnce(), T: FnOnce(usize, bool)>(
         &mut self,
         rt: &R,
         key: usize,
@@ -204,35 +137,29 @@ impl<'a, P: ThreadParkerT> Member<'a, P> {
         before_sleep: B,
         timed_out: T,
         park_token: ParkToken,
-        timeout: Instant,
+        timeout: Option<Instant>,
     ) -> ParkResult
         requires validate { V.pre validate }
         requires before_sleep { V.post validate true → B.pre before_sleep }
-        requires timed_out { V.post validate true → (key last : _) → T.pre timed_out key last }
+        requires timed_out { V.post validate true → timeout ≢ None
+            → (key last : _) → T.pre timed_out key last }
 
         ensures stays { Stays self.old self.new }
-        ensures parked { IsParkedUntil (λ valid. V.post validate valid) (B.post before_sleep tt)
-            self.old key park_token (λ left last. T.post timed_out left last tt) result self.new }
+        ensures parked { IsParked (λ valid. V.post validate valid) (B.post before_sleep tt)
+            (λ left last. T.post timed_out left last tt) self.old key park_token
+            (is_some timeout) result self.new }
     {
-        let mut node = self.node.take().unwrap();
-        node.prepare(key, park_token, true);
-        let thread = mem::replace(&mut self.thread, Part::none());
-        self.lot.thread(self.number).parker.prepare_park();
-        if let Err((thread, node)) = self
-            .lot
-            .enter(rt, &mut self.witness, thread, node, validate)
-        {
-            self.thread = thread;
-            self.node = Some(node);
-            return ParkResult::Invalid;
-        }
-        before_sleep();
-        let (result, thread, node) = self
-            .lot
-            .wait_until(rt, &mut self.witness, self.number, timed_out, timeout);
-        self.thread = thread;
-        self.node = Some(node);
-        result
+        park(
+            rt,
+            self.lot,
+            &mut self.thread,
+            key,
+            validate,
+            before_sleep,
+            timed_out,
+            park_token,
+            timeout,
+        )
     }
 
     /// Unparks the first thread in the list of the key, if there is one, and hands it the token
@@ -257,13 +184,8 @@ impl<'a, P: ThreadParkerT> Member<'a, P> {
             × Extends self.old.history self.old.witness
             (Step.Unpark (Op.One key token)) (Answer.Unpark result) self.new.witness }
     {
-        let (result, handle) = self
-            .lot
-            .take_one::<Brand, R, C>(rt, &mut self.witness, key, callback);
-        if let Some(handle) = handle {
-            self.lot.wake(handle);
-        }
-        result
+        self.lot
+            .unpark_one(rt, &mut self.thread.witness, key, callback)
     }
 
     /// Unparks all threads in the list of the key, in order, hands each the token, and answers how
@@ -277,7 +199,7 @@ impl<'a, P: ThreadParkerT> Member<'a, P> {
             (Step.Unpark (Op.All key token)) (Answer.Count result) self.new.witness }
     {
         self.lot
-            .take_all::<Brand, R>(rt, &mut self.witness, key, token)
+            .unpark_all(rt, &mut self.thread.witness, key, token)
     }
 
     /// Unparks those threads in the list of the key that the filter unparks, in order, hands each
@@ -301,7 +223,7 @@ impl<'a, P: ThreadParkerT> Member<'a, P> {
             self.old.witness result self.new.witness }
     {
         self.lot
-            .take_filter(rt, &mut self.witness, key, filter, callback)
+            .unpark_filter(rt, &mut self.thread.witness, key, filter, callback)
     }
 
     /// Does what `unpark_filter` does, for closures that may be called at any time, as those
@@ -338,16 +260,11 @@ impl<'a, P: ThreadParkerT> Member<'a, P> {
     >(&mut self, rt: &R, from: usize, to: usize, validate: V, callback: C) -> UnparkResult
         requires callable { MayRequeue V.FnOnce C.FnOnce validate callback }
         ensures stays { Stays self.old self.new }
-        ensures requeued { Requeues V.FnOnce C.FnOnce validate callback from to self.old result
-            self.new }
+        ensures requeued { Requeues V.FnOnce C.FnOnce validate callback from to self.old.history
+            self.old.witness result self.new.witness }
     {
-        let (result, handle) = self
-            .lot
-            .requeue::<Brand, R, V, C>(rt, &mut self.witness, from, to, validate, callback);
-        if let Some(handle) = handle {
-            self.lot.wake(handle);
-        }
-        result
+        self.lot
+            .unpark_requeue(rt, &mut self.thread.witness, from, to, validate, callback)
     }
 
     /// The numbers of the threads that stand in the list of the key, in order, as it is after all
@@ -368,7 +285,8 @@ impl<'a, P: ThreadParkerT> Member<'a, P> {
         ensures stays { Stays self.old self.new }
         ensures listed { IsListed self.old.history key self.old.witness self.new.witness result }
     {
-        self.lot.list(rt, alloc, &mut self.witness, key)
+        self.lot
+            .list_in_section(rt, alloc, &mut self.thread.witness, key)
     }
 
     /// Makes the table smaller, if it has more buckets than it needs: than the next power of two of
@@ -385,14 +303,10 @@ impl<'a, P: ThreadParkerT> Member<'a, P> {
         ensures stays { Stays self.old self.new }
         ensures trimmed { Makes self.old Step.Trim Answer.Trimmed self.new }
     {
-        self.lot.trim(rt, &mut self.witness);
+        self.lot.trim_and_tell(rt, &mut self.thread.witness);
     }
 
-    /// Records that the thread holds the resource of this key, once it has it. A key that is
-    /// recorded again counts once more.
-    ///
-    /// It may ask for memory, for the records alone. It takes no lock. Upstream finds the records
-    /// in a thread local, does nothing without a feature, and cannot be refused.
+    /// Records that the thread holds the resource of this key, as `deadlock::acquire_resource` does.
     ///
     /// # Errors
     ///
@@ -408,32 +322,10 @@ impl<'a, P: ThreadParkerT> Member<'a, P> {
         ensures refused { OnErr result (Makes self.old
             (Step.Acquire self.old.number key) Answer.NoMemory self.new) }
     {
-        let acquired = self.keys.acquire(key);
-        let answer = if acquired.is_ok() {
-            Answer::Recorded
-        } else {
-            Answer::NoMemory
-        };
-        add_recording(
-            self.lot.history(),
-            &mut self.witness,
-            &mut self.thread,
-            &mut self.records,
-            Step::Acquire {
-                thread: self.number,
-                key,
-            },
-            answer,
-            self.number,
-            &self.keys,
-        );
-        acquired
+        acquire_resource(self.lot, &mut self.thread, key)
     }
 
-    /// Records one less of this key. Where the key is not recorded, no count changes.
-    ///
-    /// It searches the records from the last one. It asks for no memory and takes no lock. Upstream
-    /// finds the records in a thread local, and does nothing without a feature.
+    /// Records one less of this key, as `deadlock::release_resource` does.
     pub fn release_resource(&mut self, key: usize)
         ensures same { IsSame self.old self.new }
         ensures records { times_recorded self.new.records
@@ -441,20 +333,7 @@ impl<'a, P: ThreadParkerT> Member<'a, P> {
         ensures released { Makes self.old
             (Step.Release self.old.number key) Answer.Released self.new }
     {
-        self.keys.release(key);
-        add_recording(
-            self.lot.history(),
-            &mut self.witness,
-            &mut self.thread,
-            &mut self.records,
-            Step::Release {
-                thread: self.number,
-                key,
-            },
-            Answer::Released,
-            self.number,
-            &self.keys,
-        );
+        release_resource(self.lot, &mut self.thread, key);
     }
 
     /// How often the thread has recorded the key. It visits the records.
@@ -463,31 +342,16 @@ impl<'a, P: ThreadParkerT> Member<'a, P> {
     pub fn records(&self, key: usize) -> usize
         ensures { result ≡ times_recorded self.now.records key }
     {
-        self.keys.times(key)
+        self.thread.records(key)
     }
 
-    /// Ends the registration of the thread, whose number may be given to another thread then, and
-    /// gives back its witness, whose last event that is. Others hear it by `hear_witness`.
-    ///
-    /// The thread's node goes away. It takes the lock of the numbers and asks for no memory. A
-    /// section must not call it.
-    ///
-    /// Upstream does this as the thread's local data is dropped.
+    /// Ends the registration of the thread, as `Lot::retire` does, and gives back its witness.
     pub fn retire<R: Wait>(self, rt: &R) -> Witness
         ensures still { IsStill self.entry.history self.entry.witness result }
         ensures retired { Extends self.entry.history self.entry.witness
             (Step.Retire self.entry.number) Answer.Retired result }
     {
-        let Member {
-            lot,
-            number,
-            node: _node,
-            keys: _keys,
-            thread,
-            records,
-            mut witness,
-        } = self;
-        lot.retire(rt, &mut witness, number, thread, records);
-        witness
+        let Member { lot, thread } = self;
+        lot.retire(rt, thread)
     }
 }

@@ -1,30 +1,32 @@
 //! The numbers of a lot's threads, behind a lock.
 
 ghost use Rattle.std.specs.Prelude.{◌≡◌, ◌∷◌, ◌+◌, ◌*◌, ◌<◌, ◌≤◌, [], length, replicate, IfNone, IfOk, IfSome, None, Some};
+ghost use Rattle.lot_base.specs.Node.{fields};
 ghost use Rattle.lot_exclusive.specs.Table.{IsLeastUnregistered, count_registered};
 ghost use Rattle.lot_history.specs.Witness.{Extends, IsPartOf, IsStill, IsWitnessOf, id_of, max_threads_of, pieces_of};
 ghost use Rattle.lot_history.specs.declared.view.Piece.TheVariants.{Thread};
-ghost use Rattle.lot_witnessed.specs.Cells.{Has, HasRecords, IsRegistry, IsRegistryLock, numbers_in, size_in};
+ghost use Rattle.lot_witnessed.specs.Cells.{Has, HasRecords, IsBelow, IsRegistry, IsRegistryLock, numbers_in, size_in};
 ghost use Rattle.lot_witnessed.specs.Members.{IsRegistered, pieces_for};
 ghost use Rattle.lot_witnessed.specs.Rows.{free_numbers};
 
 use crate::told::{add_full, add_registered, add_retired};
+use lot_base::queue::Node;
 use lot_base::token::NoMemory;
 use lot_base::word_lock::{Fits, WordLock};
 use lot_exclusive::lot::Status;
 use lot_exclusive::schedule::{Answer, Step};
-use lot_exclusive::table::numbers::Numbers;
+use lot_exclusive::table::nodes::NumberedNodes;
 use lot_exclusive::table::{MAX_THREADS, Use};
 use lot_history::history::{History, Part, Witness};
 use std::alloc::Global;
 use std::mem;
 
-// Which numbers are registered, and beside that the piece of the machine which tells it; a witness,
-// of which each registered thread is told its own; and the index of the row in use, which has three
-// buckets for each registered thread.
+// Which numbers are registered, and the nodes of those that are not; beside that the piece of the
+// machine which tells it; a witness, of which each registered thread is told its own; and the index
+// of the row in use, which has three buckets for each registered thread.
 #[derive(Drop)]
 pub(crate) struct Registry {
-    numbers: Numbers,
+    numbers: NumberedNodes,
     part: Part,
     pub(crate) witness: Witness,
     pub(crate) row: usize,
@@ -53,7 +55,7 @@ pub(crate) fn new_registry(
     history: &History,
     me: Witness,
     max_threads: usize,
-    numbers: Numbers,
+    numbers: NumberedNodes,
     home: Part,
 ) -> Result<WordLock<Registry>, NoMemory>
     requires witness { IsWitnessOf history.now me }
@@ -95,21 +97,23 @@ impl Registry {
     }
 
     // Registers this number, the least that is free, and answers a new witness that told so, which
-    // has the pieces of the thread. The row in use is large enough for one more.
-    pub(crate) fn register(&mut self, history: &History, number: usize) -> Witness
+    // has the pieces of the thread, and the thread's node. The row in use is large enough for one
+    // more.
+    pub(crate) fn register(&mut self, history: &History, number: usize) -> (Witness, Box<Node>)
         requires registry { IsRegistry (id_of history.now) (max_threads_of history.now) self.old }
         requires least { IsLeastUnregistered self.old.numbers number }
         requires room { 3 * (count_registered self.old.numbers + 1) ≤ size_in self.old }
         ensures registry { IsRegistry (id_of history.now) (max_threads_of history.now) self.new }
-        ensures registered { IsRegistered history.now (Some number) result }
+        ensures registered { IsRegistered history.now (Some number) result.0 }
         ensures below { number < max_threads_of history.now }
+        ensures node { (fields result.1.value).number ≡ number }
     {
         let mut me = history.tell(&mut self.witness);
         let part = mem::replace(&mut self.part, Part::none());
         history.take(&mut me, part);
-        register_in(history, &mut me, &mut self.numbers, number);
+        let node = register_in(history, &mut me, &mut self.numbers, number);
         self.part = history.give(&mut me);
-        me
+        (me, node)
     }
 
     // Answers a new witness that told that no number is free.
@@ -127,41 +131,49 @@ impl Registry {
         me
     }
 
-    // Ends the registration of a running thread, whose pieces these parts have, and tells so.
+    // Ends the registration of a running thread, whose node this is and whose pieces these parts
+    // have, and tells so.
     pub(crate) fn retire(
         &mut self,
         history: &History,
         me: &mut Witness,
-        number: usize,
+        node: Box<Node>,
         thread: Part,
         records: Part,
     )
         requires registry { IsRegistry (id_of history.now) (max_threads_of history.now) self.old }
         requires witness { IsWitnessOf history.now me.old }
         requires none { pieces_of me.old ≡ [] }
-        requires below { number < max_threads_of history.now }
-        requires thread { Has (id_of history.now) (Thread number Status.Running ∷ []) thread }
-        requires records { HasRecords (id_of history.now) number records }
+        requires below { IsBelow (max_threads_of history.now) (fields node.value) }
+        requires thread { Has (id_of history.now)
+            (Thread (fields node.value).number Status.Running ∷ []) thread }
+        requires records { HasRecords (id_of history.now) (fields node.value).number records }
         ensures registry { IsRegistry (id_of history.now) (max_threads_of history.now) self.new }
         ensures still { IsStill history.now me.old me.new }
         ensures extends { Extends history.now me.old
-            (Step.Retire number) Answer.Retired me.new }
+            (Step.Retire (fields node.value).number) Answer.Retired me.new }
         ensures none { pieces_of me.new ≡ [] }
     {
+        let number = node.number;
         history.take(me, thread);
         history.take(me, records);
         let part = mem::replace(&mut self.part, Part::none());
         history.take(me, part);
         // It learns that the number is registered, since the thread runs.
         history.look(me);
-        self.numbers.release(number);
+        self.numbers.release(node);
         add_retired(history, me, number, &self.numbers);
         self.part = history.give(me);
     }
 }
 
-// Registers this one of these numbers, the least that is free, and tells so.
-fn register_in(history: &History, me: &mut Witness, numbers: &mut Numbers, number: usize)
+// Registers this one of these numbers, the least that is free, tells so, and answers its node.
+fn register_in(
+    history: &History,
+    me: &mut Witness,
+    numbers: &mut NumberedNodes,
+    number: usize,
+) -> Box<Node>
     requires witness { IsWitnessOf history.now me.old }
     requires count { length numbers.old ≡ max_threads_of history.now }
     requires least { IsLeastUnregistered numbers.old number }
@@ -172,13 +184,15 @@ fn register_in(history: &History, me: &mut Witness, numbers: &mut Numbers, numbe
     ensures count { length numbers.new ≡ max_threads_of history.now }
     ensures registered { count_registered numbers.new ≡ count_registered numbers.old + 1 }
     ensures below { number < max_threads_of history.now }
+    ensures node { (fields result.value).number ≡ number }
 {
-    numbers.register(number);
+    let node = numbers.register(number);
     add_registered(history, me, number, numbers);
+    node
 }
 
 // Tells that none of these numbers is free.
-fn refuse_in(history: &History, me: &mut Witness, numbers: &Numbers)
+fn refuse_in(history: &History, me: &mut Witness, numbers: &NumberedNodes)
     requires witness { IsWitnessOf history.now me.old }
     requires count { length numbers.now ≡ max_threads_of history.now }
     requires full { count_registered numbers.now ≡ length numbers.now }

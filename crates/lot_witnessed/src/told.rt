@@ -5,20 +5,19 @@ ghost use Rattle.lot_history.specs.Moves.{Moves, Regroups};
 ghost use Rattle.lot_history.specs.Witness.{Adds, Extends, Found, IsPartOf, IsStill, IsWitnessOf, events_of, id_of, max_threads_of, pieces_in, pieces_of};
 ghost use Rattle.lot_history.specs.declared.view.Piece.{Piece};
 ghost use Rattle.lot_history.specs.declared.view.Piece.TheVariants.{Records, Thread};
-ghost use Rattle.lot_witnessed.specs.Cells.{Has, IsLetterTo, lists_in, numbers_in, threads_in};
+ghost use Rattle.lot_witnessed.specs.Cells.{Has, lists_in, numbers_in, threads_in};
 ghost use Rattle.lot_witnessed.specs.Late.{late_pieces};
 ghost use Rattle.lot_witnessed.specs.Members.{Is, Leaves, entry_step};
 ghost use Rattle.lot_witnessed.specs.Rows.{empty_lists, free_numbers};
 
 use crate::cell::Cell;
-use crate::mail::Letter;
 use lot_base::bucket::Bucket;
 use lot_base::queue::Queue;
 use lot_base::token::{ParkToken, UnparkToken};
 use lot_exclusive::lot::Status;
 use lot_exclusive::records;
 use lot_exclusive::schedule::{Answer, Step};
-use lot_exclusive::table::numbers::Numbers;
+use lot_exclusive::table::nodes::NumberedNodes;
 use lot_history::history::{History, Part, Witness};
 use lot_history::plays::Told;
 use std::marker::Brand;
@@ -105,7 +104,12 @@ pub(crate) fn regroup_joined(history: &History, me: &mut Witness, bucket: &Bucke
 }
 
 // Adds that a thread was registered, which leaves these numbers so.
-pub(crate) fn add_registered(history: &History, me: &mut Witness, number: usize, numbers: &Numbers)
+pub(crate) fn add_registered(
+    history: &History,
+    me: &mut Witness,
+    number: usize,
+    numbers: &NumberedNodes,
+)
     requires witness { IsWitnessOf history.now me.old }
     requires moves { Moves (max_threads_of history.now)
         (Is Step.Register (Answer.Registered number)) (pieces_of me.old)
@@ -115,11 +119,16 @@ pub(crate) fn add_registered(history: &History, me: &mut Witness, number: usize,
     ensures pieces { pieces_of me.new
         ≡ numbers_in numbers.now ∷ Thread number Status.Running ∷ Records number [] ∷ [] }
 {
-    add_with::<Brand, (usize, &Numbers)>(history, me, &(number, numbers));
+    add_with::<Brand, (usize, &NumberedNodes)>(history, me, &(number, numbers));
 }
 
 // Adds that a running thread ended its registration, which leaves these numbers registered.
-pub(crate) fn add_retired(history: &History, me: &mut Witness, number: usize, numbers: &Numbers)
+pub(crate) fn add_retired(
+    history: &History,
+    me: &mut Witness,
+    number: usize,
+    numbers: &NumberedNodes,
+)
     requires witness { IsWitnessOf history.now me.old }
     requires moves { Moves (max_threads_of history.now)
         (Is (Step.Retire number) Answer.Retired) (pieces_of me.old)
@@ -128,7 +137,7 @@ pub(crate) fn add_retired(history: &History, me: &mut Witness, number: usize, nu
     ensures extends { Extends history.now me.old (Step.Retire number) Answer.Retired me.new }
     ensures pieces { pieces_of me.new ≡ numbers_in numbers.now ∷ [] }
 {
-    add_with::<Brand, (usize, &Numbers)>(history, me, &(number, numbers));
+    add_with::<Brand, (usize, &NumberedNodes)>(history, me, &(number, numbers));
 }
 
 // Adds a step of a running thread, which has recorded these keys then.
@@ -401,24 +410,25 @@ fn add_resolved(
     add_with::<Brand, (&Bucket, usize, usize, bool)>(history, me, &(bucket, number, key, last));
 }
 
-// Adds that a thread comes back with the token of its letter, and gives its piece.
+// Adds that a thread comes back with the token with which its piece says that it was taken, and
+// gives the piece.
 pub(crate) fn add_return(
     history: &History,
     me: &mut Witness,
     number: usize,
-    letter: Letter,
-) -> (UnparkToken, Part)
+    token: UnparkToken,
+    taken: Part,
+) -> Part
     requires witness { IsWitnessOf history.now me.old }
     requires none { pieces_of me.old ≡ [] }
-    requires letter { IsLetterTo (id_of history.now) number letter }
+    requires taken { Has (id_of history.now) (Thread number (Status.Taken token) ∷ []) taken }
     ensures still { IsStill history.now me.old me.new }
     ensures extends { Extends history.now me.old (Step.Return number)
-        (Answer.Unparked result.0) me.new }
+        (Answer.Unparked token) me.new }
     ensures none { pieces_of me.new ≡ [] }
-    ensures thread { Has (id_of history.now) (Thread number Status.Running ∷ []) result.1 }
+    ensures thread { Has (id_of history.now) (Thread number Status.Running ∷ []) result }
 {
-    let Letter { token, part } = letter;
-    history.take(me, part);
+    history.take(me, taken);
     history.give_back(me, number, token);
-    (token, history.give(me))
+    history.give(me)
 }

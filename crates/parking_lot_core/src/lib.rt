@@ -15,8 +15,8 @@ pub use lot_base::laws::{
 pub use lot_base::queue::{Node, Queue};
 pub use lot_base::spinwait::SpinWait;
 pub use lot_base::thread_parker::{
-    Slot, ThreadParker, ThreadParkerT, UnparkHandle, UnparkHandleT, WordHandle, WordParker,
-    YieldHandle, YieldParker, thread_yield,
+    ParkerKey, ParkerT, Payload, Slot, ThreadParker, ThreadParkerT, UnparkHandle, UnparkHandleT,
+    WordHandle, WordParker, YieldHandle, YieldParker, thread_yield,
 };
 pub use lot_base::token::{
     DEFAULT_PARK_TOKEN, DEFAULT_UNPARK_TOKEN, FilterOp, LotError, Misfit, NoMemory, ParkResult,

@@ -289,7 +289,7 @@ pub fn park<
 
     // Second look: whoever was not unparked in time leaves its queue.
     let (result, node) = match unparked {
-        Some(node) => (ParkResult::Unparked(node.unpark_token), node),
+        Some((node, _)) => (ParkResult::Unparked(node.unpark_token), node),
         None => lot.leave(rt, number, timed_out),
     };
     thread_data.node = Some(node);

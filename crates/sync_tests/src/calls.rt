@@ -3,8 +3,7 @@
 ghost use Rattle.std.specs.Prelude.{◌≡◌, IfSome};
 
 use crate::pair::Pair;
-use crate::scene::now;
-use crate::{expect_equal, lot_for, register};
+use crate::{expect_equal, lot_for, now, register};
 use lot_base::thread_parker::WordParker;
 use lot_sync::keys::Keys;
 use lot_sync::mutex::{Condvar, Held, Mutex, WaitResult};

@@ -10,16 +10,6 @@ mod channel;
 #[cfg(test)]
 mod counting;
 #[cfg(test)]
-mod crowd;
-#[cfg(test)]
-mod given_up;
-#[cfg(test)]
-mod handed;
-#[cfg(test)]
-mod left_waiting;
-#[cfg(test)]
-mod notified;
-#[cfg(test)]
 mod once;
 #[cfg(test)]
 mod pair;
@@ -27,8 +17,6 @@ mod pair;
 mod parked;
 #[cfg(test)]
 mod readers;
-#[cfg(test)]
-mod scene;
 #[cfg(test)]
 mod semaphore;
 #[cfg(test)]
@@ -48,6 +36,8 @@ use std::fmt::Debug;
 use std::process::Abort;
 #[cfg(test)]
 use std::sync::Wait;
+#[cfg(test)]
+use std::time::{Clock, Instant};
 
 // Compares what was found with what is expected. For any type it is proved once.
 #[cfg(test)]
@@ -69,6 +59,12 @@ fn register<'a, P: ThreadParkerT, R: Wait + Abort>(
     lot: &'a ParkingLot<P>,
 ) -> Member<'a, P> {
     Member::register(rt, alloc, lot).expect(rt, "a number")
+}
+
+// A deadline that has passed.
+#[cfg(test)]
+fn now<R: Clock + Abort>(rt: &R) -> Instant {
+    Instant::now(rt).expect(rt, "a clock")
 }
 
 // Who stands in the queue of the key, first to last: a digit each, 1 more than its token.

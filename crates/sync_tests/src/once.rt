@@ -1,6 +1,5 @@
 //! What is done once, and a cell that is filled once, by four threads.
 
-use crate::scene::{Scene, expect_told};
 use crate::{expect_equal, register};
 use lot_base::thread_parker::{ThreadParker, ThreadParkerT, WordParker, YieldParker};
 use lot_sync::fits::Fits;
@@ -9,7 +8,7 @@ use parking_lot_core::ParkingLot;
 use std::alloc::Global;
 use std::process::Abort;
 use std::sync::Wait;
-use std::sync::atomic::{AtomicBool, AtomicUsize, Ordering};
+use std::sync::atomic::{AtomicUsize, Ordering};
 use std::thread;
 use std::thread::Threads;
 use std::time::Clock;
@@ -101,51 +100,4 @@ fn four_threads_do_it_once(rt: HostRuntime) {
     all_run_and_fill::<WordParker, _>(&rt, rt.alloc());
     all_run_and_fill::<ThreadParker, _>(&rt, rt.alloc());
     all_run_and_fill::<YieldParker, _>(&rt, rt.alloc());
-}
-
-// Runs what is done once until both others wait for it.
-fn run_long<R: Wait + Clock + Abort>(
-    rt: &R,
-    alloc: Global,
-    scene: &Scene,
-    once: &Once,
-    is_done: &AtomicBool,
-) -> bool {
-    let mut member = scene.enter(rt, alloc);
-    once.call_once(rt, &mut member, || {
-        scene.advance();
-        scene.wait_for_waiters(rt, alloc, once.key(), 2);
-        is_done.store(true, Ordering::SeqCst);
-    })
-}
-
-// Comes once as many steps were made, and tells whether it was done when it went on.
-fn come<R: Wait + Clock + Abort>(
-    rt: &R,
-    alloc: Global,
-    scene: &Scene,
-    once: &Once,
-    is_done: &AtomicBool,
-    waiters: usize,
-) -> bool {
-    let mut member = scene.enter(rt, alloc);
-    scene.wait_for_step(rt, 1);
-    scene.wait_for_waiters(rt, alloc, once.key(), waiters);
-    let ran = once.call_once(rt, &mut member, || ());
-    is_done.load(Ordering::SeqCst) && !ran
-}
-
-// It refuses a caller that goes on while what is done once runs still, as one that comes behind
-// another who waits.
-#[test]
-fn all_who_come_meanwhile_wait_until_it_is_done(rt: HostRuntime) {
-    let scene = Scene::new(&rt, rt.alloc());
-    let once = Once::new(rt.alloc(), 0).expect(&rt, "a once");
-    let is_done = AtomicBool::new(false);
-    let play = |index: usize| match index {
-        0 => run_long(&rt, rt.alloc(), &scene, &once, &is_done),
-        1 => come(&rt, rt.alloc(), &scene, &once, &is_done, 0),
-        _ => come(&rt, rt.alloc(), &scene, &once, &is_done, 1),
-    };
-    expect_told(&rt, rt.alloc(), &play, &[true; 3]);
 }

@@ -1,7 +1,6 @@
 //! A semaphore: each call by one thread, and four threads on two permits.
 
-use crate::scene::now;
-use crate::{expect_equal, lot_for, register};
+use crate::{expect_equal, lot_for, now, register};
 use lot_base::thread_parker::{ThreadParker, ThreadParkerT, WordParker, YieldParker};
 use lot_sync::semaphore::Semaphore;
 use parking_lot_core::{Member, ParkingLot};

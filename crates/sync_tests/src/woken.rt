@@ -6,9 +6,8 @@
 
 use crate::calls::{expect_held, expect_no_reader, expect_no_writer};
 use crate::pair::Pair;
-use crate::scene::now;
 use crate::semaphore::expect_none_free;
-use crate::{expect_equal, lot_for, queue, register};
+use crate::{expect_equal, lot_for, now, queue, register};
 use lot_base::thread_parker::WordParker;
 use lot_sync::barrier::Barrier;
 use lot_sync::mutex::Mutex;
@@ -16,7 +15,6 @@ use lot_sync::rw_lock::RwLock;
 use lot_sync::semaphore::Semaphore;
 use parking_lot_core::{DEFAULT_UNPARK_TOKEN, Member, ParkToken, ParkingLot, unpark_all};
 use std::alloc::Global;
-use std::cell::Cell;
 use std::process::Abort;
 use std::sync::Wait;
 use std::time::{Clock, Instant};
@@ -68,12 +66,14 @@ struct Left {
 }
 
 // The lot, and two members of it: who lets go, and who parks in vain before, until this instant.
+// And what was left then.
 #[derive(Drop)]
 struct Crew<'a> {
     lot: &'a ParkingLot<WordParker>,
     actor: Member<'a, WordParker>,
     other: Member<'a, WordParker>,
     past: Instant,
+    found: Option<Left>,
 }
 
 impl Crew<'_> {
@@ -183,6 +183,12 @@ impl Crew<'_> {
             Release::Barrier => self.come(rt, alloc),
         }
     }
+
+    // Lets go, and unparks all, so that each park ends.
+    fn act<R: Wait + Clock + Abort>(&mut self, rt: &R, alloc: Global, release: Release) {
+        self.found = Some(self.let_go(rt, alloc, release));
+        unpark_all(rt, self.lot, KEY, DEFAULT_UNPARK_TOKEN);
+    }
 }
 
 // Parks on the key, and calls the closure before it sleeps.
@@ -197,36 +203,65 @@ fn park_and<R: Wait + Clock, B: FnOnce()>(
     member.park(rt, KEY, || true, then, |_, _| (), token, None);
 }
 
+// Parks two, one behind the other, and calls the closure before they sleep.
+fn park_both_and<R: Wait + Clock, B: FnOnce()>(
+    rt: &R,
+    first: &mut Member<'_, WordParker>,
+    second: &mut Member<'_, WordParker>,
+    tokens: [ParkToken; 2],
+    then: B,
+)
+    requires { B.pre then }
+{
+    park_and(
+        rt,
+        first,
+        tokens[0],
+        ||
+            requires { B.pre then }
+        {
+            park_and(rt, second, tokens[1], then);
+        },
+    );
+}
+
+// Parks four with these tokens, and has the crew let go before they sleep.
+fn let_go_behind<R: Wait + Clock + Abort>(
+    rt: &R,
+    alloc: Global,
+    crew: &mut Crew<'_>,
+    tokens: [ParkToken; 4],
+    release: Release,
+) {
+    let mut first = register(rt, alloc, crew.lot);
+    let mut second = register(rt, alloc, crew.lot);
+    let mut third = register(rt, alloc, crew.lot);
+    let mut fourth = register(rt, alloc, crew.lot);
+    let [one, two, three, four] = tokens;
+    park_both_and(rt, &mut first, &mut second, [one, two], || {
+        park_both_and(rt, &mut third, &mut fourth, [three, four], || {
+            crew.act(rt, alloc, release);
+        });
+    });
+}
+
 // What is left of four that are parked with these tokens.
 fn left_after<R: Wait + Clock + Abort>(
     rt: &R,
     alloc: Global,
     tokens: [ParkToken; 4],
     release: Release,
-) -> Left {
+) -> Option<Left> {
     let lot = lot_for(rt, alloc, 6);
-    let mut first = register(rt, alloc, &lot);
-    let mut second = register(rt, alloc, &lot);
-    let mut third = register(rt, alloc, &lot);
-    let mut fourth = register(rt, alloc, &lot);
     let mut crew = Crew {
         lot: &lot,
         actor: register(rt, alloc, &lot),
         other: register(rt, alloc, &lot),
         past: now(rt),
+        found: None,
     };
-    let left = Cell::new(crew.left(rt, false));
-    park_and(rt, &mut first, tokens[0], || {
-        park_and(rt, &mut second, tokens[1], || {
-            park_and(rt, &mut third, tokens[2], || {
-                park_and(rt, &mut fourth, tokens[3], || {
-                    left.set(crew.let_go(rt, alloc, release));
-                    unpark_all(rt, &lot, KEY, DEFAULT_UNPARK_TOKEN);
-                });
-            });
-        });
-    });
-    left.get()
+    let_go_behind(rt, alloc, &mut crew, tokens, release);
+    crew.found
 }
 
 fn expect_left<R: Wait + Clock + Abort>(
@@ -238,7 +273,7 @@ fn expect_left<R: Wait + Clock + Abort>(
     lets_in: bool,
 ) {
     let left = left_after(rt, alloc, tokens, release);
-    expect_equal(rt, left, Left { queue, lets_in });
+    expect_equal(rt, left, Some(Left { queue, lets_in }));
 }
 
 // It refuses a release that wakes all, one that wakes nobody, one that wakes a writer beside

@@ -7,14 +7,15 @@ ghost use Rattle.lot_witnessed.specs.Laws.{WasHandedOver};
 ghost use Rattle.lot_witnessed.specs.Members.{ComesBack, Stays};
 ghost use Rattle.uses.specs.HandsOver.{HandsOver, HandsOverAndSees};
 
-use lot_base::thread_parker::ThreadParkerT;
 use lot_base::token::{DEFAULT_PARK_TOKEN, ParkResult, UnparkToken};
 use lot_witnessed::laws::parks_get_tokens_of_unparks;
 use lot_witnessed::member::Member;
+use lot_witnessed::parker::ThreadParkerT;
 use std::sync::Wait;
 use std::sync::atomic::{AtomicBool, Ordering};
 use std::thread;
 use std::thread::{Threads, join};
+use std::time::Clock;
 
 /// Parks the one member on the key, in a thread of its own where one can be made, while the other
 /// unparks one thread of the key with the token once the first stands there. Answers the token with
@@ -24,7 +25,7 @@ use std::thread::{Threads, join};
 /// and what the second member sees then begins with all that. Whoever else calls the lot may unpark
 /// the first too, so that token need not be this one. It waits for ever where no thread can be
 /// made, and may where others use the key.
-pub fn pass_token<'a, P: ThreadParkerT + Send + Sync, R: Threads + Wait + Sync>(
+pub fn pass_token<'a, P: ThreadParkerT + Send + Sync, R: Threads + Wait + Clock + Sync>(
     rt: &R,
     sleeper: Member<'a, P>,
     waker: Member<'a, P>,
@@ -52,7 +53,7 @@ pub fn pass_token<'a, P: ThreadParkerT + Send + Sync, R: Threads + Wait + Sync>(
 }
 
 // Parks on the key, and tells so once the thread stands there. Answers its token.
-fn sleep<'a, P: ThreadParkerT, R: Wait>(
+fn sleep<'a, P: ThreadParkerT, R: Wait + Clock>(
     rt: &R,
     mut me: Member<'a, P>,
     key: usize,
@@ -66,7 +67,9 @@ fn sleep<'a, P: ThreadParkerT, R: Wait>(
         key,
         || true,
         || stands.store(true, Ordering::SeqCst),
+        |_, _| (),
         DEFAULT_PARK_TOKEN,
+        None,
     );
     let ParkResult::Unparked(token) = ended else {
         unreachable!()

@@ -1,6 +1,8 @@
 //! A parker whose thread is held up as it comes to park, or is followed as it is woken.
 
-use parking_lot_core::{NoMemory, Node, ThreadParkerT, UnparkHandleT, YieldHandle, YieldParker};
+use parking_lot_core::{
+    NoMemory, Node, ParkerKey, ParkerT, UnparkHandleT, YieldHandle, YieldParker,
+};
 use std::alloc::Global;
 use std::sync::Wait;
 use std::sync::atomic::{AtomicBool, AtomicUsize, Ordering};
@@ -66,17 +68,21 @@ impl FollowedParker {
     }
 }
 
-impl ThreadParkerT for FollowedParker {
+impl ParkerT for FollowedParker {
+    type Payload = ();
+
     type UnparkHandle = FollowedHandle;
 
     const IS_CHEAP_TO_CONSTRUCT: bool = true;
 
-    ghost owner = { λ followed. ⟦<YieldParker as ThreadParkerT>⟧.owner followed.parker };
+    ghost owner = { λ followed. ⟦<YieldParker as ParkerT>⟧.owner followed.parker };
 
-    fn new(alloc: Global, number: usize) -> Result<FollowedParker, NoMemory> {
+    ghost home = { λ followed. ⟦<YieldParker as ParkerT>⟧.home followed.parker };
+
+    fn new(alloc: Global, key: &ParkerKey<()>) -> Result<FollowedParker, NoMemory> {
         Ok(FollowedParker {
-            parker: YieldParker::new(alloc, number)?,
-            is_followed: AtomicBool::new(number == 0),
+            parker: YieldParker::new(alloc, key)?,
+            is_followed: AtomicBool::new(key.number == 0),
             is_held_up: AtomicBool::new(false),
             prepared: AtomicUsize::new(0),
             parked: AtomicUsize::new(0),
@@ -100,19 +106,23 @@ impl ThreadParkerT for FollowedParker {
         self.parker.timed_out(rt)
     }
 
-    fn park<R: Wait>(&self, rt: &R) -> Box<Node> {
+    fn park<R: Wait>(&self, rt: &R) -> (Box<Node>, Option<()>) {
         self.parked.fetch_add(1, Ordering::SeqCst);
         self.parker.park(rt)
     }
 
-    fn park_until<R: Wait + Clock>(&self, rt: &R, timeout: Instant) -> Option<Box<Node>> {
+    fn park_until<R: Wait + Clock>(
+        &self,
+        rt: &R,
+        timeout: Instant,
+    ) -> Option<(Box<Node>, Option<()>)> {
         self.parked.fetch_add(1, Ordering::SeqCst);
         self.parker.park_until(rt, timeout)
     }
 
-    fn unpark_lock<R: Wait>(&self, rt: &R, node: Box<Node>) -> FollowedHandle {
+    fn unpark_lock<R: Wait>(&self, rt: &R, node: Box<Node>, payload: ()) -> FollowedHandle {
         let until = self.until(node.key);
-        let handle = self.parker.unpark_lock(rt, node);
+        let handle = self.parker.unpark_lock(rt, node, payload);
         FollowedHandle { handle, until }
     }
 }
@@ -129,7 +139,7 @@ impl UnparkHandleT<FollowedParker> for FollowedHandle {
         ⟦<YieldHandle as UnparkHandleT<YieldParker>>⟧.number followed.handle };
 
     fn number(&self) -> usize {
-        self.handle.number()
+        UnparkHandleT::<YieldParker>::number(&self.handle)
     }
 
     fn unpark(self, parker: &FollowedParker) {

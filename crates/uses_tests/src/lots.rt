@@ -4,7 +4,7 @@
 use crate::expect_equal;
 use parking_lot_core::lot::Lot;
 use parking_lot_core::{
-    DEFAULT_PARK_TOKEN, LotError, Misfit, NoMemory, ParkingLot, ThreadData, ThreadParkerT,
+    DEFAULT_PARK_TOKEN, LotError, Member, Misfit, NoMemory, ParkingLot, ThreadData, ThreadParkerT,
 };
 use std::alloc::Global;
 use std::process::Abort;
@@ -49,4 +49,19 @@ pub fn register<P: ThreadParkerT, R: Wait>(
     lot: &ParkingLot<P>,
 ) -> Result<ThreadData, LotError> {
     lot.thread_data(rt, alloc)
+}
+
+// Registers so many threads.
+pub fn register_all<'a, P: ThreadParkerT, R: Wait + Abort>(
+    rt: &R,
+    alloc: Global,
+    lot: &'a ParkingLot<P>,
+    threads: usize,
+) -> Vec<Member<'a, P>> {
+    let mut members = Vec::new(alloc);
+    for _ in 0..threads {
+        let member = Member::register(rt, alloc, lot).expect(rt, "a number");
+        members.push(member).expect(rt, "room for a member");
+    }
+    members
 }

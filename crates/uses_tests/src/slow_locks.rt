@@ -4,10 +4,10 @@ use crate::clock::{from_now, raised_by};
 use crate::followed::{FAR, hold_up, let_waker_go_on, one_stands};
 use crate::followed_parker::FollowedParker;
 use lot_sync::fits::Fits;
-use lot_sync::mutex::Mutex;
-use lot_sync::rw_lock::RwLock;
-use lot_sync::semaphore::Semaphore;
-use parking_lot_core::{LotError, Member, ParkingLot};
+use lot_sync::mutex::{Held, Mutex};
+use lot_sync::rw_lock::{ReadHeld, RwLock, WriteHeld};
+use lot_sync::semaphore::{Permit, Semaphore};
+use parking_lot_core::{Member, ParkingLot};
 use std::alloc::Global;
 use std::process::Abort;
 use std::sync::Wait;
@@ -57,6 +57,27 @@ pub struct Nothing;
 
 impl Fits for Nothing {}
 
+// What a thread came to hold.
+enum Taken<'a> {
+    Mutex(Held<'a, Nothing>),
+    FairMutex(Held<'a, Nothing>),
+    Lent(ReadHeld<'a, Nothing>),
+    Out(WriteHeld<'a, Nothing>),
+    Permit(Permit<'a>),
+}
+
+impl Taken<'_> {
+    fn let_go<R: Wait>(self, rt: &R, member: &Member<'_, FollowedParker>) {
+        match self {
+            Taken::Mutex(held) => held.unlock(rt, member),
+            Taken::FairMutex(held) => held.unlock_fair(rt, member),
+            Taken::Lent(held) => held.unlock(rt, member),
+            Taken::Out(held) => held.unlock(rt, member),
+            Taken::Permit(permit) => permit.release(rt, member),
+        }
+    }
+}
+
 #[derive(Drop)]
 pub struct SlowLocks {
     pub lot: ParkingLot<FollowedParker>,
@@ -70,16 +91,32 @@ pub struct SlowLocks {
 }
 
 impl SlowLocks {
-    pub fn new<R: Wait>(rt: &R, alloc: Global, threads: usize) -> Result<SlowLocks, LotError> {
-        Ok(SlowLocks {
-            lot: ParkingLot::new(alloc, threads)?,
-            mutex: Mutex::new(alloc, KEY, Nothing)?,
+    pub fn new<R: Wait + Abort>(rt: &R, alloc: Global, threads: usize) -> SlowLocks {
+        SlowLocks {
+            lot: ParkingLot::new(alloc, threads).expect(rt, "a lot"),
+            mutex: Mutex::new(alloc, KEY, Nothing).expect(rt, "a mutex"),
             lock: RwLock::new(rt, KEY, Nothing),
-            semaphore: Semaphore::new(alloc, KEY, 1)?,
+            semaphore: Semaphore::new(alloc, KEY, 1).expect(rt, "a semaphore"),
             is_held: AtomicBool::new(false),
             is_followed: AtomicBool::new(false),
             has_gone_on: AtomicBool::new(false),
             is_done: AtomicBool::new(false),
+        }
+    }
+
+    fn take<R: Wait + Clock + Abort>(
+        &self,
+        rt: &R,
+        member: &mut Member<'_, FollowedParker>,
+        way: Way,
+    ) -> Option<Taken<'_>> {
+        let end = from_now(rt, FAR);
+        Some(match way {
+            Way::Lock => Taken::Mutex(self.mutex.lock_until(rt, member, end)?),
+            Way::LockFair => Taken::FairMutex(self.mutex.lock_until(rt, member, end)?),
+            Way::Read => Taken::Lent(self.lock.read_until(rt, member, end)?),
+            Way::Write => Taken::Out(self.lock.write_until(rt, member, end)?),
+            Way::Acquire => Taken::Permit(self.semaphore.acquire_until(rt, member, end)?),
         })
     }
 
@@ -92,78 +129,11 @@ impl SlowLocks {
         way: Way,
         meanwhile: Meanwhile,
     ) -> bool {
-        match way {
-            Way::Lock => self.lock(rt, alloc, member, meanwhile, false),
-            Way::LockFair => self.lock(rt, alloc, member, meanwhile, true),
-            Way::Read => self.read(rt, alloc, member, meanwhile),
-            Way::Write => self.write(rt, alloc, member, meanwhile),
-            Way::Acquire => self.acquire(rt, alloc, member, meanwhile),
-        }
-    }
-
-    fn lock<R: Wait + Clock + Abort>(
-        &self,
-        rt: &R,
-        alloc: Global,
-        member: &mut Member<'_, FollowedParker>,
-        meanwhile: Meanwhile,
-        is_fair: bool,
-    ) -> bool {
-        let Some(held) = self.mutex.lock_until(rt, member, from_now(rt, FAR)) else {
+        let Some(taken) = self.take(rt, member, way) else {
             return false;
         };
         let is_done = self.spend(rt, alloc, member, meanwhile);
-        if is_fair {
-            held.unlock_fair(rt, member);
-        } else {
-            held.unlock(rt, member);
-        }
-        is_done
-    }
-
-    fn read<R: Wait + Clock + Abort>(
-        &self,
-        rt: &R,
-        alloc: Global,
-        member: &mut Member<'_, FollowedParker>,
-        meanwhile: Meanwhile,
-    ) -> bool {
-        let Some(held) = self.lock.read_until(rt, member, from_now(rt, FAR)) else {
-            return false;
-        };
-        let is_done = self.spend(rt, alloc, member, meanwhile);
-        held.unlock(rt, member);
-        is_done
-    }
-
-    fn write<R: Wait + Clock + Abort>(
-        &self,
-        rt: &R,
-        alloc: Global,
-        member: &mut Member<'_, FollowedParker>,
-        meanwhile: Meanwhile,
-    ) -> bool {
-        let Some(held) = self.lock.write_until(rt, member, from_now(rt, FAR)) else {
-            return false;
-        };
-        let is_done = self.spend(rt, alloc, member, meanwhile);
-        held.unlock(rt, member);
-        is_done
-    }
-
-    fn acquire<R: Wait + Clock + Abort>(
-        &self,
-        rt: &R,
-        alloc: Global,
-        member: &mut Member<'_, FollowedParker>,
-        meanwhile: Meanwhile,
-    ) -> bool {
-        let tried = self.semaphore.acquire_until(rt, member, from_now(rt, FAR));
-        let Some(permit) = tried else {
-            return false;
-        };
-        let is_done = self.spend(rt, alloc, member, meanwhile);
-        permit.release(rt, member);
+        taken.let_go(rt, member);
         is_done
     }
 

@@ -5,21 +5,30 @@ use crate::clock::{from_now, raised_by};
 use crate::expect_equal;
 use crate::followed::{FAR, come_to_gate, hold_up, let_waker_go_on, one_stands};
 use crate::followed_parker::FollowedParker;
-use crate::lots::register;
+use crate::lots::register_all;
 use lot_sync::barrier::Barrier;
 use lot_sync::once::Once;
-use parking_lot_core::{DEFAULT_UNPARK_TOKEN, Member, ParkingLot, ThreadData, unpark_all};
+use parking_lot_core::{DEFAULT_UNPARK_TOKEN, Member, ParkingLot, unpark_all};
 use std::alloc::Global;
 use std::process::Abort;
 use std::sync::Wait;
 use std::sync::atomic::{AtomicBool, Ordering};
-use std::test::Fail;
 use std::thread;
 use std::thread::Threads;
 use std::time::Clock;
 
 // Each test waits for one of both alone.
 const KEY: usize = 7;
+
+// What both threads do.
+#[derive(Copy, Clone, Eq, PartialEq, Debug)]
+enum What {
+    // They meet at a barrier.
+    Meet,
+
+    // One does what is done once, and the other comes meanwhile.
+    DoOnce,
+}
 
 // When the thread goes on for which thread 0 waits.
 #[derive(Copy, Clone, Eq, PartialEq, Debug)]
@@ -42,14 +51,14 @@ struct Meeting {
 }
 
 impl Meeting {
-    fn new(alloc: Global) -> Result<Meeting, Fail> {
-        Ok(Meeting {
-            lot: ParkingLot::new(alloc, 2)?,
-            barrier: Barrier::new(alloc, KEY, 2)?,
-            once: Once::new(alloc, KEY)?,
+    fn new<R: Abort>(rt: &R, alloc: Global) -> Meeting {
+        Meeting {
+            lot: ParkingLot::new(alloc, 2).expect(rt, "a lot"),
+            barrier: Barrier::new(alloc, KEY, 2).expect(rt, "a barrier"),
+            once: Once::new(alloc, KEY).expect(rt, "a once"),
             is_begun: AtomicBool::new(false),
             has_passed: AtomicBool::new(false),
-        })
+        }
     }
 
     // Comes to the barrier, and passes it.
@@ -131,94 +140,58 @@ impl Meeting {
     }
 }
 
-// What the thread with this data does at a barrier. Data of another lot answers false.
-fn meet<R: Wait + Clock + Abort>(
+// What the thread does of this.
+fn play<R: Wait + Clock + Abort>(
     rt: &R,
     alloc: Global,
     meeting: &Meeting,
+    what: What,
     when: When,
-    data: ThreadData,
+    mut member: Member<'_, FollowedParker>,
 ) -> bool {
-    let Ok(mut member) = Member::of(&meeting.lot, data) else {
-        return false;
-    };
-    if member.number() == 0 {
-        meeting.come(rt, &mut member, when)
-    } else {
-        meeting.come_later(rt, alloc, &mut member, when)
+    match (what, member.number()) {
+        (What::Meet, 0) => meeting.come(rt, &mut member, when),
+        (What::Meet, _) => meeting.come_later(rt, alloc, &mut member, when),
+        (What::DoOnce, 0) => meeting.come_meanwhile(rt, &mut member, when),
+        (What::DoOnce, _) => meeting.run(rt, alloc, &mut member, when),
     }
 }
 
-// What the thread with this data does of what is done once. Data of another lot answers false.
-fn do_once<R: Wait + Clock + Abort>(
+fn both_go_on<R: Threads + Wait + Clock + Abort + Sync>(
     rt: &R,
     alloc: Global,
-    meeting: &Meeting,
+    what: What,
     when: When,
-    data: ThreadData,
-) -> bool {
-    let Ok(mut member) = Member::of(&meeting.lot, data) else {
-        return false;
-    };
-    if member.number() == 0 {
-        meeting.come_meanwhile(rt, &mut member, when)
-    } else {
-        meeting.run(rt, alloc, &mut member, when)
-    }
-}
-
-fn both_meet<R: Threads + Wait + Clock + Abort + Sync>(
-    rt: &R,
-    alloc: Global,
-    when: When,
-) -> Result<(), Fail> {
-    let meeting = Meeting::new(alloc)?;
-    let mut data = Vec::new(alloc);
-    for _ in 0..2 {
-        data.push(register(rt, alloc, &meeting.lot)?)?;
-    }
-    let told = thread::map_vec(rt, data, &|data| meet(rt, alloc, &meeting, when, data))?;
+) {
+    let meeting = Meeting::new(rt, alloc);
+    let members = register_all(rt, alloc, &meeting.lot, 2);
+    let both = |member| play(rt, alloc, &meeting, what, when, member);
+    let told = thread::map_vec(rt, members, &both).expect(rt, "threads");
     expect_equal(rt, told.as_slice(), [true; 2].as_slice());
-    Ok(())
-}
-
-fn one_does_it<R: Threads + Wait + Clock + Abort + Sync>(
-    rt: &R,
-    alloc: Global,
-    when: When,
-) -> Result<(), Fail> {
-    let meeting = Meeting::new(alloc)?;
-    let mut data = Vec::new(alloc);
-    for _ in 0..2 {
-        data.push(register(rt, alloc, &meeting.lot)?)?;
-    }
-    let told = thread::map_vec(rt, data, &|data| do_once(rt, alloc, &meeting, when, data))?;
-    expect_equal(rt, told.as_slice(), [true; 2].as_slice());
-    Ok(())
 }
 
 // It refuses a thread that parks though its round is over: whoever led it has woken all before, and
 // wakes nobody any more.
 #[test]
-fn who_is_slow_to_park_looks_at_the_barrier_again(rt: HostRuntime) -> Result<(), Fail> {
-    both_meet(&rt, rt.alloc(), When::Prepares)
+fn who_is_slow_to_park_looks_at_the_barrier_again(rt: HostRuntime) {
+    both_go_on(&rt, rt.alloc(), What::Meet, When::Prepares);
 }
 
 // It refuses a leader that wakes all before it is counted: who was woken finds that its round
 // lasts, and sleeps again.
 #[test]
-fn who_wakes_while_it_is_woken_slowly_passes_the_barrier(rt: HostRuntime) -> Result<(), Fail> {
-    both_meet(&rt, rt.alloc(), When::Stands)
+fn who_wakes_while_it_is_woken_slowly_passes_the_barrier(rt: HostRuntime) {
+    both_go_on(&rt, rt.alloc(), What::Meet, When::Stands);
 }
 
 // It refuses a thread that parks though the closure has run: whoever ran it has woken all before.
 #[test]
-fn who_is_slow_to_park_looks_at_the_once_again(rt: HostRuntime) -> Result<(), Fail> {
-    one_does_it(&rt, rt.alloc(), When::Prepares)
+fn who_is_slow_to_park_looks_at_the_once_again(rt: HostRuntime) {
+    both_go_on(&rt, rt.alloc(), What::DoOnce, When::Prepares);
 }
 
 // It refuses a caller that wakes all before the word tells that its closure has run.
 #[test]
-fn who_wakes_while_it_is_woken_slowly_sees_it_done(rt: HostRuntime) -> Result<(), Fail> {
-    one_does_it(&rt, rt.alloc(), When::Stands)
+fn who_wakes_while_it_is_woken_slowly_sees_it_done(rt: HostRuntime) {
+    both_go_on(&rt, rt.alloc(), What::DoOnce, When::Stands);
 }

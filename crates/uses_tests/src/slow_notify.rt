@@ -4,15 +4,14 @@ use crate::clock::{from_now, raised_by};
 use crate::expect_equal;
 use crate::followed::{FAR, let_waker_go_on, one_stands};
 use crate::followed_parker::FollowedParker;
-use crate::lots::register;
+use crate::lots::register_all;
 use crate::slow_locks::Nothing;
 use lot_sync::mutex::{Condvar, Mutex, WaitResult};
-use parking_lot_core::{Member, ParkingLot, ThreadData};
+use parking_lot_core::{Member, ParkingLot};
 use std::alloc::Global;
 use std::process::Abort;
 use std::sync::Wait;
 use std::sync::atomic::{AtomicBool, Ordering};
-use std::test::Fail;
 use std::thread;
 use std::time::Clock;
 
@@ -30,6 +29,16 @@ struct Shared {
 }
 
 impl Shared {
+    fn new<R: Abort>(rt: &R, alloc: Global) -> Shared {
+        Shared {
+            lot: ParkingLot::new(alloc, 2).expect(rt, "a lot"),
+            mutex: Mutex::new(alloc, MUTEX, Nothing).expect(rt, "a mutex"),
+            condvar: Condvar::new(SLEEPERS),
+            is_held: AtomicBool::new(false),
+            is_done: AtomicBool::new(false),
+        }
+    }
+
     // Holds the mutex until thread 0 waits for it, and sleeps. Tells whether it was notified.
     fn sleep<R: Wait + Clock + Abort>(
         &self,
@@ -63,11 +72,13 @@ impl Shared {
         notified
     }
 
-    // What the thread with this data does. Data of another lot answers false.
-    fn play<R: Wait + Clock + Abort>(&self, rt: &R, alloc: Global, data: ThreadData) -> bool {
-        let Ok(mut member) = Member::of(&self.lot, data) else {
-            return false;
-        };
+    // What the thread does.
+    fn play<R: Wait + Clock + Abort>(
+        &self,
+        rt: &R,
+        alloc: Global,
+        mut member: Member<'_, FollowedParker>,
+    ) -> bool {
         if member.number() == 0 {
             self.notify(rt, &mut member)
         } else {
@@ -79,20 +90,11 @@ impl Shared {
 // It refuses a wait that lets the mutex go before its thread stands in the queue, and one that
 // notes its sleeper behind that.
 #[test]
-fn no_notify_is_missed_by_whom_the_wait_has_woken(rt: HostRuntime) -> Result<(), Fail> {
-    let shared = Shared {
-        lot: ParkingLot::new(rt.alloc(), 2)?,
-        mutex: Mutex::new(rt.alloc(), MUTEX, Nothing)?,
-        condvar: Condvar::new(SLEEPERS),
-        is_held: AtomicBool::new(false),
-        is_done: AtomicBool::new(false),
-    };
-    let mut data = Vec::new(rt.alloc());
-    for _ in 0..2 {
-        data.push(register(&rt, rt.alloc(), &shared.lot)?)?;
-    }
+fn no_notify_is_missed_by_whom_the_wait_has_woken(rt: HostRuntime) {
     let alloc = rt.alloc();
-    let told = thread::map_vec(&rt, data, &|data| shared.play(&rt, alloc, data))?;
+    let shared = Shared::new(&rt, alloc);
+    let members = register_all(&rt, alloc, &shared.lot, 2);
+    let both = |member| shared.play(&rt, alloc, member);
+    let told = thread::map_vec(&rt, members, &both).expect(&rt, "threads");
     expect_equal(&rt, told.as_slice(), [true; 2].as_slice());
-    Ok(())
 }

@@ -3,31 +3,27 @@
 use crate::clock::{from_now, raised_by};
 use crate::expect_equal;
 use crate::followed::{FAR, come_to_gate};
-use crate::lots::register;
+use crate::followed_parker::FollowedParker;
+use crate::lots::register_all;
 use crate::slow_locks::{Meanwhile, SlowLocks, Way};
-use parking_lot_core::{Member, ThreadData};
+use parking_lot_core::Member;
 use std::alloc::Global;
 use std::process::Abort;
 use std::sync::Wait;
 use std::sync::atomic::Ordering;
-use std::test::Fail;
 use std::thread;
 use std::thread::Threads;
 use std::time::Clock;
 
-// What the thread with this data does. Thread 0 waits for what the other holds until it prepares to
-// park, lets go, and holds again until thread 0 stands in the queue, or has had it. Data of another
-// lot answers false.
+// What the thread does. Thread 0 waits for what the other holds until it prepares to park, lets go,
+// and holds again until thread 0 stands in the queue, or has had it.
 fn wait_or_hold_twice<R: Wait + Clock + Abort>(
     rt: &R,
     alloc: Global,
     locks: &SlowLocks,
     ways: [Way; 2],
-    data: ThreadData,
+    mut member: Member<'_, FollowedParker>,
 ) -> bool {
-    let Ok(mut member) = Member::of(&locks.lot, data) else {
-        return false;
-    };
     if member.number() == 0 {
         raised_by(rt, &locks.is_held, from_now(rt, FAR));
         come_to_gate(rt, &mut member);
@@ -39,47 +35,39 @@ fn wait_or_hold_twice<R: Wait + Clock + Abort>(
     locks.hold(rt, alloc, &mut member, ways[1], Meanwhile::LetStand) && came
 }
 
-fn looks_again<R: Threads + Wait + Clock + Abort + Sync>(
-    rt: &R,
-    alloc: Global,
-    ways: [Way; 2],
-) -> Result<(), Fail> {
-    let locks = SlowLocks::new(rt, alloc, 2)?;
-    let mut data = Vec::new(alloc);
-    for _ in 0..2 {
-        data.push(register(rt, alloc, &locks.lot)?)?;
-    }
-    let play = |data| wait_or_hold_twice(rt, alloc, &locks, ways, data);
-    let told = thread::map_vec(rt, data, &play)?;
+fn looks_again<R: Threads + Wait + Clock + Abort + Sync>(rt: &R, alloc: Global, ways: [Way; 2]) {
+    let locks = SlowLocks::new(rt, alloc, 2);
+    let members = register_all(rt, alloc, &locks.lot, 2);
+    let play = |member| wait_or_hold_twice(rt, alloc, &locks, ways, member);
+    let told = thread::map_vec(rt, members, &play).expect(rt, "threads");
     expect_equal(rt, (ways, told.as_slice()), (ways, [true; 2].as_slice()));
-    Ok(())
 }
 
 // It refuses a thread that parks though the word does not tell any more that threads may be parked:
 // whoever unlocks wakes nobody then.
 #[test]
-fn who_is_slow_to_park_looks_at_the_mutex_again(rt: HostRuntime) -> Result<(), Fail> {
-    looks_again(&rt, rt.alloc(), [Way::Lock, Way::Lock])
+fn who_is_slow_to_park_looks_at_the_mutex_again(rt: HostRuntime) {
+    looks_again(&rt, rt.alloc(), [Way::Lock, Way::Lock]);
 }
 
 // The same of a lock for readers and writers.
 #[test]
-fn a_reader_that_is_slow_to_park_looks_again(rt: HostRuntime) -> Result<(), Fail> {
-    looks_again(&rt, rt.alloc(), [Way::Read, Way::Write])
+fn a_reader_that_is_slow_to_park_looks_again(rt: HostRuntime) {
+    looks_again(&rt, rt.alloc(), [Way::Read, Way::Write]);
 }
 
 #[test]
-fn a_writer_that_is_slow_to_park_behind_a_reader_looks_again(rt: HostRuntime) -> Result<(), Fail> {
-    looks_again(&rt, rt.alloc(), [Way::Write, Way::Read])
+fn a_writer_that_is_slow_to_park_behind_a_reader_looks_again(rt: HostRuntime) {
+    looks_again(&rt, rt.alloc(), [Way::Write, Way::Read]);
 }
 
 #[test]
-fn a_writer_that_is_slow_to_park_behind_another_looks_again(rt: HostRuntime) -> Result<(), Fail> {
-    looks_again(&rt, rt.alloc(), [Way::Write, Way::Write])
+fn a_writer_that_is_slow_to_park_behind_another_looks_again(rt: HostRuntime) {
+    looks_again(&rt, rt.alloc(), [Way::Write, Way::Write]);
 }
 
 // The same of a semaphore.
 #[test]
-fn who_is_slow_to_park_looks_for_a_permit_again(rt: HostRuntime) -> Result<(), Fail> {
-    looks_again(&rt, rt.alloc(), [Way::Acquire, Way::Acquire])
+fn who_is_slow_to_park_looks_for_a_permit_again(rt: HostRuntime) {
+    looks_again(&rt, rt.alloc(), [Way::Acquire, Way::Acquire]);
 }

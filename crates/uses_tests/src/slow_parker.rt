@@ -1,6 +1,8 @@
 //! A parker that takes long to prepare and long to wake.
 
-use parking_lot_core::{NoMemory, Node, ThreadParkerT, UnparkHandleT, YieldHandle, YieldParker};
+use parking_lot_core::{
+    NoMemory, Node, ParkerKey, ParkerT, UnparkHandleT, YieldHandle, YieldParker,
+};
 use std::alloc::Global;
 use std::hint;
 use std::sync::Wait;
@@ -30,18 +32,22 @@ fn spin_once(flag: &AtomicBool) {
     }
 }
 
-impl ThreadParkerT for SlowParker {
+impl ParkerT for SlowParker {
+    type Payload = ();
+
     type UnparkHandle = SlowHandle;
 
     const IS_CHEAP_TO_CONSTRUCT: bool = true;
 
-    ghost owner = { λ slow. ⟦<YieldParker as ThreadParkerT>⟧.owner slow.parker };
+    ghost owner = { λ slow. ⟦<YieldParker as ParkerT>⟧.owner slow.parker };
 
-    fn new(alloc: Global, number: usize) -> Result<SlowParker, NoMemory> {
+    ghost home = { λ slow. ⟦<YieldParker as ParkerT>⟧.home slow.parker };
+
+    fn new(alloc: Global, key: &ParkerKey<()>) -> Result<SlowParker, NoMemory> {
         Ok(SlowParker {
-            parker: YieldParker::new(alloc, number)?,
-            is_prepared: AtomicBool::new(number != 0),
-            is_woken: AtomicBool::new(number != 0),
+            parker: YieldParker::new(alloc, key)?,
+            is_prepared: AtomicBool::new(key.number != 0),
+            is_woken: AtomicBool::new(key.number != 0),
         })
     }
 
@@ -53,16 +59,20 @@ impl ThreadParkerT for SlowParker {
         self.parker.timed_out(rt)
     }
 
-    fn park<R: Wait>(&self, rt: &R) -> Box<Node> {
+    fn park<R: Wait>(&self, rt: &R) -> (Box<Node>, Option<()>) {
         self.parker.park(rt)
     }
 
-    fn park_until<R: Wait + Clock>(&self, rt: &R, timeout: Instant) -> Option<Box<Node>> {
+    fn park_until<R: Wait + Clock>(
+        &self,
+        rt: &R,
+        timeout: Instant,
+    ) -> Option<(Box<Node>, Option<()>)> {
         self.parker.park_until(rt, timeout)
     }
 
-    fn unpark_lock<R: Wait>(&self, rt: &R, node: Box<Node>) -> SlowHandle {
-        let handle = self.parker.unpark_lock(rt, node);
+    fn unpark_lock<R: Wait>(&self, rt: &R, node: Box<Node>, payload: ()) -> SlowHandle {
+        let handle = self.parker.unpark_lock(rt, node, payload);
         SlowHandle { handle }
     }
 }
@@ -78,7 +88,7 @@ impl UnparkHandleT<SlowParker> for SlowHandle {
         ⟦<YieldHandle as UnparkHandleT<YieldParker>>⟧.number slow.handle };
 
     fn number(&self) -> usize {
-        self.handle.number()
+        UnparkHandleT::<YieldParker>::number(&self.handle)
     }
 
     fn unpark(self, parker: &SlowParker) {

@@ -3,33 +3,29 @@
 use crate::clock::{from_now, raised_by};
 use crate::expect_equal;
 use crate::followed::FAR;
-use crate::lots::register;
+use crate::followed_parker::FollowedParker;
+use crate::lots::register_all;
 use crate::slow_locks::{Meanwhile, SlowLocks, Way};
-use parking_lot_core::{Member, ThreadData};
+use parking_lot_core::Member;
 use std::alloc::Global;
 use std::process::Abort;
 use std::sync::Wait;
 use std::sync::atomic::Ordering;
-use std::test::Fail;
 use std::thread;
 use std::thread::Threads;
 use std::time::Clock;
 
 const THREADS: usize = 3;
 
-// What the thread with this data does. Thread 1 holds until thread 0 stands in the queue, lets go,
-// and wakes it until it parks again: that is once it holds and thread 2 stands in the queue. Data
-// of another lot answers false.
+// What the thread does. Thread 1 holds until thread 0 stands in the queue, lets go, and wakes it
+// until it parks again: that is once it holds and thread 2 stands in the queue.
 fn hold_in_turn<R: Wait + Clock + Abort>(
     rt: &R,
     alloc: Global,
     locks: &SlowLocks,
     ways: [Way; THREADS],
-    data: ThreadData,
+    mut member: Member<'_, FollowedParker>,
 ) -> bool {
-    let Ok(mut member) = Member::of(&locks.lot, data) else {
-        return false;
-    };
     match member.number() {
         0 => {
             raised_by(rt, &locks.is_held, from_now(rt, FAR));
@@ -53,46 +49,38 @@ fn each_holds<R: Threads + Wait + Clock + Abort + Sync>(
     rt: &R,
     alloc: Global,
     ways: [Way; THREADS],
-) -> Result<(), Fail> {
-    let locks = SlowLocks::new(rt, alloc, THREADS)?;
-    let mut data = Vec::new(alloc);
-    for _ in 0..THREADS {
-        data.push(register(rt, alloc, &locks.lot)?)?;
-    }
-    let play = |data| hold_in_turn(rt, alloc, &locks, ways, data);
-    let told = thread::map_vec(rt, data, &play)?;
+) {
+    let locks = SlowLocks::new(rt, alloc, THREADS);
+    let members = register_all(rt, alloc, &locks.lot, THREADS);
+    let play = |member| hold_in_turn(rt, alloc, &locks, ways, member);
+    let told = thread::map_vec(rt, members, &play).expect(rt, "threads");
     expect_equal(
         rt,
         (ways, told.as_slice()),
         (ways, [true; THREADS].as_slice()),
     );
-    Ok(())
 }
 
 // It refuses a release that notes that nobody waits behind its section: a thread that came to wait
 // meanwhile is not woken then.
 #[test]
-fn who_comes_to_wait_while_another_wakes_slowly_gets_the_permit(
-    rt: HostRuntime,
-) -> Result<(), Fail> {
-    each_holds(&rt, rt.alloc(), [Way::Acquire; THREADS])
+fn who_comes_to_wait_while_another_wakes_slowly_gets_the_permit(rt: HostRuntime) {
+    each_holds(&rt, rt.alloc(), [Way::Acquire; THREADS]);
 }
 
 // The same of a lock for readers and writers.
 #[test]
-fn who_comes_to_wait_while_another_wakes_slowly_writes_or_reads(
-    rt: HostRuntime,
-) -> Result<(), Fail> {
+fn who_comes_to_wait_while_another_wakes_slowly_writes_or_reads(rt: HostRuntime) {
     let alloc = rt.alloc();
-    each_holds(&rt, alloc, [Way::Write, Way::Read, Way::Write])?;
-    each_holds(&rt, alloc, [Way::Write, Way::Write, Way::Read])?;
-    each_holds(&rt, alloc, [Way::Read, Way::Write, Way::Write])
+    each_holds(&rt, alloc, [Way::Write, Way::Read, Way::Write]);
+    each_holds(&rt, alloc, [Way::Write, Way::Write, Way::Read]);
+    each_holds(&rt, alloc, [Way::Read, Way::Write, Way::Write]);
 }
 
 // It refuses an unlock that lets go or hands over behind its section: who was woken finds the mutex
 // held, and sleeps again.
 #[test]
-fn who_wakes_while_it_is_woken_slowly_has_the_mutex(rt: HostRuntime) -> Result<(), Fail> {
-    each_holds(&rt, rt.alloc(), [Way::Lock; THREADS])?;
-    each_holds(&rt, rt.alloc(), [Way::LockFair; THREADS])
+fn who_wakes_while_it_is_woken_slowly_has_the_mutex(rt: HostRuntime) {
+    each_holds(&rt, rt.alloc(), [Way::Lock; THREADS]);
+    each_holds(&rt, rt.alloc(), [Way::LockFair; THREADS]);
 }

@@ -1,10 +1,9 @@
 //! Tests of the semaphore among threads.
 
 use crate::expect_equal;
-use crate::lots::register;
+use crate::lots::register_all;
 use parking_lot_core::{
-    DEFAULT_UNPARK_TOKEN, LotError, Member, ParkingLot, ThreadData, ThreadParkerT, WordParker,
-    unpark_one,
+    DEFAULT_UNPARK_TOKEN, LotError, Member, ParkingLot, ThreadParkerT, WordParker, unpark_one,
 };
 use std::alloc::{AllocError, Global};
 use std::sync::Wait;
@@ -59,16 +58,12 @@ impl<P: ThreadParkerT> Shared<P> {
     }
 }
 
-// Visits with a permit in rounds, and tells whether there was always room. Data of another lot
-// answers false.
+// Visits with a permit in rounds, and tells whether there was always room.
 fn visit_in_rounds<P: ThreadParkerT, R: Wait + Clock>(
     rt: &R,
     shared: &Shared<P>,
-    data: ThreadData,
+    mut member: Member<'_, P>,
 ) -> bool {
-    let Ok(mut member) = Member::of(&shared.lot, data) else {
-        return false;
-    };
     let mut always_room = true;
     for _ in 0..ROUNDS {
         let free = shared.semaphore.acquire(rt, &mut member);
@@ -79,17 +74,17 @@ fn visit_in_rounds<P: ThreadParkerT, R: Wait + Clock>(
     always_room
 }
 
-// Visits in rounds by a thread for each data, and tells whether there was always room.
+// Visits in rounds by a thread for each member, and tells whether there was always room.
 fn visit_together<P, R>(
     rt: &R,
     shared: &Shared<P>,
-    data: Vec<ThreadData>,
+    members: Vec<Member<'_, P>>,
 ) -> Result<bool, AllocError>
 where
     P: ThreadParkerT + Send + Sync,
     R: Threads + Wait + Clock + Sync,
 {
-    let visits = thread::map_vec(rt, data, &|data| visit_in_rounds(rt, shared, data))?;
+    let visits = thread::map_vec(rt, members, &|member| visit_in_rounds(rt, shared, member))?;
     Ok(visits.into_iter().all(|always_room| always_room))
 }
 
@@ -108,11 +103,8 @@ fn free_permits<P: ThreadParkerT, R: Wait + Clock>(
 fn as_many_threads_are_inside_as_there_are_permits(rt: HostRuntime) -> Result<(), Fail> {
     let lot = ParkingLot::<WordParker>::new(rt.alloc(), THREADS + 1)?;
     let shared = Shared::new(lot, PERMITS);
-    let mut data = Vec::new(rt.alloc());
-    for _ in 0..THREADS {
-        data.push(register(&rt, rt.alloc(), &shared.lot)?)?;
-    }
-    assert!(rt; visit_together(&rt, &shared, data)?);
+    let members = register_all(&rt, rt.alloc(), &shared.lot, THREADS);
+    assert!(rt; visit_together(&rt, &shared, members)?);
     expect_equal(&rt, shared.came.load(Ordering::SeqCst), THREADS * ROUNDS);
 
     // All permits are free again.

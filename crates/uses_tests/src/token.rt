@@ -1,9 +1,9 @@
 //! Tests of a token that goes from one thread to another.
 
-use lot_base::thread_parker::WordParker;
 use lot_base::token::{LotError, UnparkToken};
 use lot_witnessed::lot::Lot;
 use lot_witnessed::member::Member;
+use lot_witnessed::parker::WordParker;
 use uses::token::pass_token;
 
 const KEY: usize = 7;

@@ -1,39 +1,43 @@
 //! A parker whose thread looks again and again, and yields the processor between its looks.
 
-ghost use Rattle.std.specs.Prelude.{◌≡◌, IsOk, IfOk};
-
-use super::{LockedSlot, ThreadParkerT, UnparkHandleT, thread_yield, time_left};
+use super::{LockedSlot, ParkerKey, ParkerT, Payload, UnparkHandleT, thread_yield, time_left};
 use crate::queue::Node;
 use crate::token::NoMemory;
 use std::alloc::Global;
 use std::sync::Wait;
 use std::time::{Clock, Instant};
 
-/// A parker over a `Mutex` round the slot alone, for where there is nothing to sleep on. Its thread
-/// keeps a processor busy while it waits. No call of it allocates.
+/// A parker over a lock round the slot alone, for where there is nothing to sleep on. Its thread
+/// keeps a processor busy while it waits. No call of it allocates but `new`.
 ///
 /// Upstream's `generic.rs` has it as `ThreadParker`, over an atomic flag and without a lock. A node
 /// does not fit into a flag.
 #[derive(Drop)]
-pub struct YieldParker {
-    slot: LockedSlot,
+pub struct YieldParker<L: Payload = ()> {
+    slot: LockedSlot<L>,
 }
 
-impl ThreadParkerT for YieldParker {
+impl<L: Payload> ParkerT for YieldParker<L> {
+    type Payload = L;
+
     type UnparkHandle = YieldHandle;
 
     const IS_CHEAP_TO_CONSTRUCT: bool = true;
 
-    ghost owner = { λ parker. parker.slot.owner };
+    ghost use Rattle.lot_word_lock.specs.WordLock.{key_of};
 
-    /// It is never refused: the lock does not ask for memory.
-    fn new(_alloc: Global, number: usize) -> Result<YieldParker, NoMemory>
-        ensures made { IsOk result }
-        ensures owner { IfOk result (λ parker.
-            ⟦<YieldParker as ThreadParkerT>⟧.owner parker ≡ number) }
-    {
+    ghost owner = { λ parker. (key_of parker.slot.lock).number };
+
+    ghost home = { λ parker. (key_of parker.slot.lock).home };
+
+    /// It asks for the memory of a word lock round the slot.
+    ///
+    /// # Errors
+    ///
+    /// `NoMemory` if a request for memory was refused.
+    fn new(alloc: Global, key: &ParkerKey<L::Home>) -> Result<YieldParker<L>, NoMemory> {
         Ok(YieldParker {
-            slot: LockedSlot::new(number),
+            slot: LockedSlot::new(alloc, key)?,
         })
     }
 
@@ -44,16 +48,16 @@ impl ThreadParkerT for YieldParker {
     ///
     /// Upstream reads its flag.
     fn timed_out<R: Wait>(&self, rt: &R) -> bool {
-        self.slot.lock(rt).is_empty()
+        self.slot.is_empty(rt)
     }
 
     /// Takes the slot's lock for each look, and yields without it.
     ///
     /// Upstream yields in the same way while its flag is set.
-    fn park<R: Wait>(&self, rt: &R) -> Box<Node> {
+    fn park<R: Wait>(&self, rt: &R) -> (Box<Node>, Option<L>) {
         for _ in rt.forever() {
-            if let Some(node) = self.slot.lock(rt).take() {
-                return node;
+            if let Some(back) = self.slot.take(rt) {
+                return back;
             }
             thread_yield();
         }
@@ -64,11 +68,15 @@ impl ThreadParkerT for YieldParker {
     /// look, so that the last one comes after the deadline.
     ///
     /// Upstream reads the clock after each look.
-    fn park_until<R: Wait + Clock>(&self, rt: &R, timeout: Instant) -> Option<Box<Node>> {
+    fn park_until<R: Wait + Clock>(
+        &self,
+        rt: &R,
+        timeout: Instant,
+    ) -> Option<(Box<Node>, Option<L>)> {
         for _ in rt.forever() {
             let is_late = time_left(rt, timeout).is_none();
-            if let Some(node) = self.slot.lock(rt).take() {
-                return Some(node);
+            if let Some(back) = self.slot.take(rt) {
+                return Some(back);
             }
             if is_late {
                 return None;
@@ -81,9 +89,9 @@ impl ThreadParkerT for YieldParker {
     /// Takes the slot's lock, puts the node last, and lets the lock go.
     ///
     /// Upstream clears its flag.
-    fn unpark_lock<R: Wait>(&self, rt: &R, node: Box<Node>) -> YieldHandle {
+    fn unpark_lock<R: Wait>(&self, rt: &R, node: Box<Node>, payload: L) -> YieldHandle {
         let number = node.number;
-        self.slot.lock(rt).put(node);
+        self.slot.put(rt, node, payload);
         YieldHandle { number }
     }
 }
@@ -96,7 +104,7 @@ pub struct YieldHandle {
     number: usize,
 }
 
-impl UnparkHandleT<YieldParker> for YieldHandle {
+impl<L: Payload> UnparkHandleT<YieldParker<L>> for YieldHandle {
     ghost number = { λ handle. handle.number };
 
     fn number(&self) -> usize {
@@ -104,5 +112,5 @@ impl UnparkHandleT<YieldParker> for YieldHandle {
     }
 
     /// Does nothing: the thread looks by itself.
-    fn unpark(self, _parker: &YieldParker) {}
+    fn unpark(self, _parker: &YieldParker<L>) {}
 }

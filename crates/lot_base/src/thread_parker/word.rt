@@ -8,11 +8,12 @@
 //! It is proved that the word tells whether the slot is empty whenever nobody works on the slot,
 //! and that one thread at a time does. That the owner is woken is shown by tests.
 
-ghost use Rattle.std.specs.Prelude.{◌≡◌, ◌≢◌, ◌⊎◌, ◌↔◌, [], IsTrue, IfSome};
+ghost use Rattle.std.specs.Prelude.{◌≡◌, ◌≢◌, ◌⊎◌, ◌↔◌, IsTrue, IfSome};
+ghost use Rattle.lot_base.specs.Loaded.{HasNoNode, IsSlotFor};
 ghost use Rattle.lot_base.specs.Node.{fields};
 ghost use Rattle.lot_base.specs.WordParkerRule.{ParkerOrderly, OpenTells, Untold, HasSlot, Tells, MaySleep};
 
-use super::{Slot, ThreadParkerT, UnparkHandleT, thread_yield, time_left};
+use super::{LoadedSlot, ParkerKey, ParkerT, Payload, UnparkHandleT, thread_yield, time_left};
 use crate::queue::Node;
 use crate::token::NoMemory;
 use atomic_table::{Play, Refused, Seat, Table, TableRule};
@@ -50,30 +51,30 @@ const SLOT: usize = 0;
 // What holds of the word and the slot between any two steps.
 struct Order;
 
-impl TableRule<Slot, usize, usize> for Order {
-    ghost holds = { ParkerOrderly };
+impl<L: Payload> TableRule<LoadedSlot<L>, ParkerKey<L::Home>, ParkerKey<L::Home>> for Order {
+    ghost holds = { ParkerOrderly L.fits };
 
-    ghost first = { λ owner. owner };
+    ghost first = { λ key. key };
 }
 
 // The step after which the caller has the slot, if nobody had it before.
 struct Open;
 
-impl Play<Slot, usize> for Open {
-    ghost then = { OpenTells };
+impl<L: Payload> Play<LoadedSlot<L>, ParkerKey<L::Home>> for Open {
+    ghost then = { OpenTells L.fits };
 }
 
 // Any other step.
 struct Step;
 
-impl Play<Slot, usize> for Step {
+impl<L: Payload> Play<LoadedSlot<L>, ParkerKey<L::Home>> for Step {
     ghost then = { Untold };
 }
 
 // The slot out with one thread, and the word that this found. It has no `Drop`, so that it ends in
 // `close`.
-struct OpenSlot {
-    seat: Seat<Slot, usize>,
+struct OpenSlot<L: Payload> {
+    seat: Seat<LoadedSlot<L>, ParkerKey<L::Home>>,
     found: u64,
 }
 
@@ -84,8 +85,8 @@ struct OpenSlot {
 /// and always a call of the system; here a node goes through the slot, in two steps on the word,
 /// and where the owner does not sleep there is no such call.
 #[derive(Drop)]
-pub struct WordParker {
-    table: Table<Slot, usize, usize, Order, Global>,
+pub struct WordParker<L: Payload = ()> {
+    table: Table<LoadedSlot<L>, ParkerKey<L::Home>, ParkerKey<L::Home>, Order, Global>,
     ghost sized: { (table.shared.table_id.words ≡ 15) × (table.shared.table_id.slots ≡ 1) },
 }
 
@@ -105,7 +106,7 @@ fn filled(found: u64) -> u64
     }
 }
 
-impl WordParker {
+impl<L: Payload> WordParker<L> {
     // The word, as it was at a moment when nobody worked on the slot.
     #[inline]
     fn word<R: Wait>(&self, rt: &R) -> u64 {
@@ -135,11 +136,11 @@ impl WordParker {
 
     // Makes the word busy, and takes the slot out if nobody worked on it.
     #[inline]
-    fn try_open(&self) -> Option<OpenSlot>
+    fn try_open(&self) -> Option<OpenSlot<L>>
         ensures table { IfSome result (λ opened.
             opened.seat.table_id ≡ self.now.table.shared.table_id) }
         ensures slot { IfSome result (λ opened.
-            HasSlot opened.seat.me (Tells self.now.table.shared.key opened.found)) }
+            HasSlot opened.seat.me (Tells L.fits self.now.table.shared.key opened.found)) }
     {
         let (found, seat) = self.table.shared.swap_new_seat::<Open>(WORD, BUSY);
         if found == BUSY {
@@ -150,9 +151,9 @@ impl WordParker {
 
     // The same, once nobody works on it.
     #[inline]
-    fn open<R: Wait>(&self, rt: &R) -> OpenSlot
+    fn open<R: Wait>(&self, rt: &R) -> OpenSlot<L>
         ensures table { result.seat.table_id ≡ self.now.table.shared.table_id }
-        ensures slot { HasSlot result.seat.me (Tells self.now.table.shared.key result.found) }
+        ensures slot { HasSlot result.seat.me (Tells L.fits self.now.table.shared.key result.found) }
     {
         if let Some(opened) = self.try_open() {
             return opened;
@@ -163,9 +164,9 @@ impl WordParker {
     // The same, after a try in vain.
     #[cold]
     #[inline(never)]
-    fn open_slow<R: Wait>(&self, rt: &R) -> OpenSlot
+    fn open_slow<R: Wait>(&self, rt: &R) -> OpenSlot<L>
         ensures table { result.seat.table_id ≡ self.now.table.shared.table_id }
-        ensures slot { HasSlot result.seat.me (Tells self.now.table.shared.key result.found) }
+        ensures slot { HasSlot result.seat.me (Tells L.fits self.now.table.shared.key result.found) }
     {
         for _ in rt.forever() {
             self.word_slow(rt);
@@ -178,71 +179,85 @@ impl WordParker {
 
     // Puts the slot back, of which the word tells.
     #[inline]
-    fn close(&self, opened: OpenSlot, word: u64)
+    fn close(&self, opened: OpenSlot<L>, word: u64)
         requires table { opened.seat.table_id ≡ self.now.table.shared.table_id }
-        requires slot { HasSlot opened.seat.me (Tells self.now.table.shared.key word) }
+        requires slot { HasSlot opened.seat.me (Tells L.fits self.now.table.shared.key word) }
         requires settled { word ≢ BUSY }
     {
         let OpenSlot { mut seat, found: _ } = opened;
         self.table.shared.store::<Step>(&mut seat, WORD, word);
     }
 
-    // Puts a node of the owner last.
+    // Puts a node of the owner last, and its payload beside it where it is the first.
     #[inline]
-    fn put(&self, seat: &mut Seat<Slot, usize>, node: Box<Node>)
+    fn put(&self, seat: &mut Seat<LoadedSlot<L>, ParkerKey<L::Home>>, node: Box<Node>, payload: L)
         requires table { seat.old.table_id ≡ self.now.table.shared.table_id }
-        requires slot { HasSlot seat.old.me (λ slot. slot.owner ≡ self.now.table.shared.key) }
-        requires number { (fields node.value).number ≡ self.now.table.shared.key }
+        requires slot { HasSlot seat.old.me (IsSlotFor
+            (L.fits self.now.table.shared.key.home) self.now.table.shared.key.number) }
+        requires number { (fields node.value).number ≡ self.now.table.shared.key.number }
+        requires payload { L.fits self.now.table.shared.key.home (fields node.value) payload }
         ensures table { seat.new.table_id ≡ seat.old.table_id }
-        ensures slot { HasSlot seat.new.me (λ slot.
-            (slot.owner ≡ self.now.table.shared.key) × (slot.nodes ≢ [])) }
+        ensures slot { HasSlot seat.new.me (λ slot. (HasNoNode slot → ⊥) × IsSlotFor
+            (L.fits self.now.table.shared.key.home) self.now.table.shared.key.number slot) }
     {
-        seat.slot_mut(&self.table.shared, SLOT).put(node);
+        seat.slot_mut(&self.table.shared, SLOT).put(node, payload);
     }
 
-    // Takes the first node, if there is one. Answers it, and whether no other is left.
+    // Takes the first node, if there is one, with its payload. Answers it, and whether no other is
+    // left.
     #[inline]
-    fn take_first(&self, seat: &mut Seat<Slot, usize>) -> (Option<Box<Node>>, bool)
+    fn take_first(
+        &self,
+        seat: &mut Seat<LoadedSlot<L>, ParkerKey<L::Home>>,
+    ) -> (Option<(Box<Node>, Option<L>)>, bool)
         requires table { seat.old.table_id ≡ self.now.table.shared.table_id }
-        requires slot { HasSlot seat.old.me (λ slot. slot.owner ≡ self.now.table.shared.key) }
+        requires slot { HasSlot seat.old.me (IsSlotFor
+            (L.fits self.now.table.shared.key.home) self.now.table.shared.key.number) }
         ensures table { seat.new.table_id ≡ seat.old.table_id }
-        ensures slot { HasSlot seat.new.me (λ slot. (slot.owner ≡ self.now.table.shared.key)
-            × (IsTrue result.1 ↔ (slot.nodes ≡ []))) }
-        ensures number { IfSome result.0 (λ node.
-            (fields node.value).number ≡ self.now.table.shared.key) }
+        ensures slot { HasSlot seat.new.me (λ slot. (IsTrue result.1 ↔ HasNoNode slot) × IsSlotFor
+            (L.fits self.now.table.shared.key.home) self.now.table.shared.key.number slot) }
+        ensures node { IfSome result.0 (λ back.
+            (fields back.0.value).number ≡ self.now.table.shared.key.number) }
+        ensures payload { IfSome result.0 (λ back. IfSome back.1
+            (L.fits self.now.table.shared.key.home (fields back.0.value))) }
     {
         let slot = seat.slot_mut(&self.table.shared, SLOT);
-        let node = slot.take();
-        (node, slot.is_empty())
+        let back = slot.take();
+        (back, slot.is_empty())
     }
 
     // Puts a node of the owner last, and puts the slot back. Answers whether the owner may sleep.
     #[inline]
-    fn fill(&self, mut opened: OpenSlot, node: Box<Node>) -> bool
+    fn fill(&self, mut opened: OpenSlot<L>, node: Box<Node>, payload: L) -> bool
         requires table { opened.seat.table_id ≡ self.now.table.shared.table_id }
-        requires slot { HasSlot opened.seat.me (Tells self.now.table.shared.key opened.found) }
-        requires number { (fields node.value).number ≡ self.now.table.shared.key }
+        requires slot { HasSlot opened.seat.me
+            (Tells L.fits self.now.table.shared.key opened.found) }
+        requires number { (fields node.value).number ≡ self.now.table.shared.key.number }
+        requires payload { L.fits self.now.table.shared.key.home (fields node.value) payload }
         ensures { IsTrue result ↔ MaySleep opened.found }
     {
         let word = filled(opened.found);
-        self.put(&mut opened.seat, node);
+        self.put(&mut opened.seat, node, payload);
         self.close(opened, word);
         word == FULL_ASLEEP
     }
 
-    // Takes the first node, or answers `None` if the slot was empty at a look. The owner is awake,
-    // so no mark of its sleep is left.
+    // Takes the first node with its payload, or answers `None` if the slot was empty at a look. The
+    // owner is awake, so no mark of its sleep is left.
     #[inline]
-    fn take<R: Wait>(&self, rt: &R) -> Option<Box<Node>>
-        ensures { IfSome result (λ node. (fields node.value).number ≡ self.now.table.shared.key) }
+    fn take<R: Wait>(&self, rt: &R) -> Option<(Box<Node>, Option<L>)>
+        ensures node { IfSome result (λ back.
+            (fields back.0.value).number ≡ self.now.table.shared.key.number) }
+        ensures payload { IfSome result (λ back. IfSome back.1
+            (L.fits self.now.table.shared.key.home (fields back.0.value))) }
     {
         if says_empty(self.word(rt)) {
             return None;
         }
         let mut opened = self.open(rt);
-        let (node, is_empty) = self.take_first(&mut opened.seat);
+        let (back, is_empty) = self.take_first(&mut opened.seat);
         self.close(opened, if is_empty { EMPTY } else { FULL });
-        node
+        back
     }
 
     // Marks that the owner sleeps, if the slot is empty. Answers whether the mark is there.
@@ -270,15 +285,17 @@ impl WordParker {
     // Sleeps until the slot holds a node, and takes it.
     #[cold]
     #[inline(never)]
-    fn park_slow<R: Wait>(&self, rt: &R) -> Box<Node>
-        ensures { (fields result.value).number ≡ self.now.table.shared.key }
+    fn park_slow<R: Wait>(&self, rt: &R) -> (Box<Node>, Option<L>)
+        ensures node { (fields result.0.value).number ≡ self.now.table.shared.key.number }
+        ensures payload { IfSome result.1
+            (L.fits self.now.table.shared.key.home (fields result.0.value)) }
     {
         for _ in rt.forever() {
             if self.mark_asleep() {
                 self.table.shared.park(rt, WORD, EMPTY_ASLEEP as u32);
             }
-            if let Some(node) = self.take(rt) {
-                return node;
+            if let Some(back) = self.take(rt) {
+                return back;
             }
         }
         unreachable!()
@@ -287,8 +304,15 @@ impl WordParker {
     // Sleeps until the slot holds a node, and takes it, or until the deadline.
     #[cold]
     #[inline(never)]
-    fn park_until_slow<R: Wait + Clock>(&self, rt: &R, timeout: Instant) -> Option<Box<Node>>
-        ensures { IfSome result (λ node. (fields node.value).number ≡ self.now.table.shared.key) }
+    fn park_until_slow<R: Wait + Clock>(
+        &self,
+        rt: &R,
+        timeout: Instant,
+    ) -> Option<(Box<Node>, Option<L>)>
+        ensures node { IfSome result (λ back.
+            (fields back.0.value).number ≡ self.now.table.shared.key.number) }
+        ensures payload { IfSome result (λ back. IfSome back.1
+            (L.fits self.now.table.shared.key.home (fields back.0.value))) }
     {
         for _ in rt.forever() {
             let Some(left) = time_left(rt, timeout) else {
@@ -298,20 +322,24 @@ impl WordParker {
                 let shared = &self.table.shared;
                 shared.park_timeout(rt, WORD, EMPTY_ASLEEP as u32, left);
             }
-            if let Some(node) = self.take(rt) {
-                return Some(node);
+            if let Some(back) = self.take(rt) {
+                return Some(back);
             }
         }
         unreachable!()
     }
 }
 
-impl ThreadParkerT for WordParker {
+impl<L: Payload> ParkerT for WordParker<L> {
+    type Payload = L;
+
     type UnparkHandle = WordHandle;
 
     const IS_CHEAP_TO_CONSTRUCT: bool = false;
 
-    ghost owner = { λ parker. parker.table.shared.key };
+    ghost owner = { λ parker. parker.table.shared.key.number };
+
+    ghost home = { λ parker. parker.table.shared.key.home };
 
     /// It asks for memory three times: for the block of the word, for the block of the slot, and
     /// for a block of the slot's size that is freed before it returns.
@@ -319,11 +347,11 @@ impl ThreadParkerT for WordParker {
     /// # Errors
     ///
     /// `NoMemory` if a request for memory was refused.
-    fn new(alloc: Global, number: usize) -> Result<WordParker, NoMemory> {
-        let slot = Slot::new(number);
+    fn new(alloc: Global, key: &ParkerKey<L::Home>) -> Result<WordParker<L>, NoMemory> {
+        let slot = LoadedSlot::new(key.number);
         let mut slots = Vec::with_capacity(alloc, 1)?;
         slots.push_reserved(slot);
-        match Table::new(alloc, &[EMPTY; WORDS], slots, &number) {
+        match Table::new(alloc, &[EMPTY; WORDS], slots, key) {
             Ok((table, _seat)) => Ok(WordParker { table }),
             Err(Refused { slots: _ }) => Err(NoMemory),
         }
@@ -351,9 +379,9 @@ impl ThreadParkerT for WordParker {
     ///
     /// Upstream sleeps on its word in the same way, which `prepare_park` has marked.
     #[inline]
-    fn park<R: Wait>(&self, rt: &R) -> Box<Node> {
-        if let Some(node) = self.take(rt) {
-            return node;
+    fn park<R: Wait>(&self, rt: &R) -> (Box<Node>, Option<L>) {
+        if let Some(back) = self.take(rt) {
+            return back;
         }
         self.park_slow(rt)
     }
@@ -363,9 +391,13 @@ impl ThreadParkerT for WordParker {
     ///
     /// Upstream sleeps in the same way, and answers at the deadline without a last look.
     #[inline]
-    fn park_until<R: Wait + Clock>(&self, rt: &R, timeout: Instant) -> Option<Box<Node>> {
-        if let Some(node) = self.take(rt) {
-            return Some(node);
+    fn park_until<R: Wait + Clock>(
+        &self,
+        rt: &R,
+        timeout: Instant,
+    ) -> Option<(Box<Node>, Option<L>)> {
+        if let Some(back) = self.take(rt) {
+            return Some(back);
         }
         self.park_until_slow(rt, timeout)
     }
@@ -375,10 +407,10 @@ impl ThreadParkerT for WordParker {
     ///
     /// Upstream clears its word.
     #[inline]
-    fn unpark_lock<R: Wait>(&self, rt: &R, node: Box<Node>) -> WordHandle {
+    fn unpark_lock<R: Wait>(&self, rt: &R, node: Box<Node>, payload: L) -> WordHandle {
         let number = node.number;
         let opened = self.open(rt);
-        let wakes = self.fill(opened, node);
+        let wakes = self.fill(opened, node, payload);
         WordHandle { number, wakes }
     }
 }
@@ -392,7 +424,7 @@ pub struct WordHandle {
     wakes: bool,
 }
 
-impl UnparkHandleT<WordParker> for WordHandle {
+impl<L: Payload> UnparkHandleT<WordParker<L>> for WordHandle {
     ghost number = { λ handle. handle.number };
 
     fn number(&self) -> usize {
@@ -404,7 +436,7 @@ impl UnparkHandleT<WordParker> for WordHandle {
     /// Upstream makes that call always, and the parker may be gone by then; here the borrow keeps
     /// it.
     #[inline]
-    fn unpark(self, parker: &WordParker) {
+    fn unpark(self, parker: &WordParker<L>) {
         if self.wakes {
             parker.table.shared.wake_one(WORD);
         }

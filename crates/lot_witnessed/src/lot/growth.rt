@@ -12,8 +12,8 @@ ghost use Rattle.lot_witnessed.specs.Halves.{IsHalfSize};
 use super::Lot;
 use crate::cell::{Slot, lock_at, new_row, put, take_away};
 use crate::halves::{join, split};
+use crate::parker::ThreadParkerT;
 use crate::registry::Registry;
-use lot_base::thread_parker::ThreadParkerT;
 use lot_base::token::NoMemory;
 use lot_base::word_lock::WordLock;
 use lot_exclusive::schedule::{Answer, Step};
@@ -102,7 +102,7 @@ impl<P: ThreadParkerT> Lot<P> {
     }
 
     // Makes the table as small as the registered threads allow, and tells the history.
-    pub(crate) fn trim<R: Wait>(&self, rt: &R, me: &mut Witness)
+    pub(crate) fn trim_and_tell<R: Wait>(&self, rt: &R, me: &mut Witness)
         requires witness { IsWitnessOf self.now me.old }
         requires none { pieces_of me.old ≡ [] }
         ensures still { IsStill self.now me.old me.new }

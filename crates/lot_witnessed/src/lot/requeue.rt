@@ -10,19 +10,20 @@ ghost use Rattle.lot_exclusive.specs.declared.schedule.Step.{Step};
 ghost use Rattle.lot_history.specs.Witness.{Adds, IsStill, IsWitnessOf, id_of, max_threads_of, pieces_of};
 ghost use Rattle.lot_word_lock.specs.WordLock.{IsHeldOf, key_of};
 ghost use Rattle.lot_witnessed.specs.Cells.{AreApart, AreLockedInOrder, FitsCell, IsBelow, IsCell, IsLockAt, IsLockFor, threads_in};
-ghost use Rattle.lot_witnessed.specs.Requeues.{IsRequeue, MayRequeue};
+ghost use Rattle.lot_witnessed.specs.Requeues.{IsRequeue, MayRequeue, Requeues};
 
 use super::Lot;
 use crate::cell::{Cell, Locked, Slot, lock_at};
+use crate::parker::ThreadParkerT;
 use crate::told::{add_requeue, add_taking};
 use lot_base::bucket::place;
 use lot_base::queue::Queue;
-use lot_base::thread_parker::ThreadParkerT;
 use lot_base::token::{RequeueOp, UnparkResult, UnparkToken};
 use lot_base::word_lock::WordLock;
 use lot_exclusive::schedule::Answer;
 use lot_history::history::Witness;
 use lot_history::plays::Told;
+use std::marker::Brand;
 use std::sync::Wait;
 
 // The lock of a bucket, with the bucket's place in its row.
@@ -33,8 +34,36 @@ struct PlacedLock<'b> {
 }
 
 impl<P: ThreadParkerT> Lot<P> {
+    // Requeues threads of the key `from` onto the key `to`, and wakes the one that was unparked, if
+    // there is one, once the buckets were let go.
+    pub(crate) fn unpark_requeue<
+        R: Wait,
+        V: FnOnce() -> RequeueOp,
+        C: FnOnce(RequeueOp, UnparkResult) -> UnparkToken,
+    >(
+        &self,
+        rt: &R,
+        me: &mut Witness,
+        from: usize,
+        to: usize,
+        validate: V,
+        callback: C,
+    ) -> UnparkResult
+        requires witness { IsWitnessOf self.now me.old }
+        requires none { pieces_of me.old ≡ [] }
+        requires callable { MayRequeue V.FnOnce C.FnOnce validate callback }
+        ensures still { IsStill self.now me.old me.new }
+        ensures none { pieces_of me.new ≡ [] }
+        ensures requeued { Requeues V.FnOnce C.FnOnce validate callback from to self.now me.old
+            result me.new }
+    {
+        let (result, handle) = self.requeue::<Brand, R, V, C>(rt, me, from, to, validate, callback);
+        self.wake_if_any(handle);
+        result
+    }
+
     // The section of a requeue, in one bucket or in two.
-    pub(crate) fn requeue<
+    fn requeue<
         E: Told,
         R: Wait,
         V: FnOnce() -> RequeueOp,
@@ -89,6 +118,7 @@ impl<P: ThreadParkerT> Lot<P> {
 
     // Locks the bucket of the key `from`, and that of the key `to` if it is another, and takes them
     // out. That of the lower place is locked first.
+    #[inline(always)]
     fn claim_two<R: Wait>(&self, rt: &R, from: usize, to: usize) -> (Locked<'_>, Option<Locked<'_>>)
         ensures from { IsLockFor self.now from result.0.lock.now }
         ensures to { MatchOption result.1 (IsLockFor self.now to result.0.lock.now)
@@ -101,13 +131,18 @@ impl<P: ThreadParkerT> Lot<P> {
         ensures order { IfSome result.1 (AreLockedInOrder result.0) }
     {
         for _ in rt.forever() {
-            let (source, target) = self.locks_of(rt, from, to);
-            if let Some(target) = target {
-                if let Some((source, target)) = claim_both(rt, source, target) {
-                    return (source, Some(target));
+            match self.locks_of(from, to) {
+                Some((source, Some(target))) => {
+                    if let Some((source, target)) = claim_both(rt, source, target) {
+                        return (source, Some(target));
+                    }
                 }
-            } else if let Some(source) = Locked::of(rt, source.lock) {
-                return (source, None);
+                Some((source, None)) => {
+                    if let Some(source) = Locked::of(rt, source.lock) {
+                        return (source, None);
+                    }
+                }
+                None => {}
             }
             self.wait_for_change(rt);
         }
@@ -116,27 +151,25 @@ impl<P: ThreadParkerT> Lot<P> {
 
     // The lock of the bucket of the key `from`, and that of the key `to` if it is another, in one
     // row.
-    fn locks_of<R: Wait>(
-        &self,
-        rt: &R,
-        from: usize,
-        to: usize,
-    ) -> (PlacedLock<'_>, Option<PlacedLock<'_>>)
-        ensures from { IsLockFor self.now from result.0.lock.now }
-        ensures to { MatchOption result.1 (IsLockFor self.now to result.0.lock.now)
+    #[inline(always)]
+    fn locks_of(&self, from: usize, to: usize) -> Option<(PlacedLock<'_>, Option<PlacedLock<'_>>)>
+        ensures from { IfSome result (λ locks. IsLockFor self.now from locks.0.lock.now) }
+        ensures to { IfSome result (λ locks.
+            MatchOption locks.1 (IsLockFor self.now to locks.0.lock.now)
             (λ other. IsLockFor self.now to other.lock.now
-            × AreApart result.0.lock.now other.lock.now) }
-        ensures source { result.0.place ≡ (key_of result.0.lock.now).place }
-        ensures target { IfSome result.1 (λ other.
-            other.place ≡ (key_of other.lock.now).place) }
+            × AreApart locks.0.lock.now other.lock.now)) }
+        ensures source { IfSome result (λ locks.
+            locks.0.place ≡ (key_of locks.0.lock.now).place) }
+        ensures target { IfSome result (λ locks. IfSome locks.1 (λ other.
+            other.place ≡ (key_of other.lock.now).place)) }
     {
-        let row = self.row_in_use(rt);
+        let row = self.row_in_use()?;
         let source = place(from, row.len());
         let target = place(to, row.len());
         if source == target {
-            return (placed_at(row, source), None);
+            return Some((placed_at(row, source), None));
         }
-        (placed_at(row, source), Some(placed_at(row, target)))
+        Some((placed_at(row, source), Some(placed_at(row, target))))
     }
 
     // Requeues waiters of the key `from` onto the key `to`, where both have one bucket, and tells
@@ -253,6 +286,7 @@ fn placed_at(row: &[WordLock<Slot>], place: usize) -> PlacedLock<'_>
 
 // Locks two buckets of a row and takes them out, or answers `None` where either is away. That of
 // the lower place is locked first, as whoever locks two does.
+#[inline(always)]
 fn claim_both<'b, R: Wait>(
     rt: &R,
     source: PlacedLock<'b>,
@@ -277,6 +311,7 @@ fn claim_both<'b, R: Wait>(
 }
 
 // Locks these two buckets, one after the other, and takes them out.
+#[inline(always)]
 fn claim_in_order<'b, R: Wait>(
     rt: &R,
     first: &'b WordLock<Slot>,

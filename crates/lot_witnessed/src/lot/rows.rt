@@ -8,8 +8,8 @@ ghost use Rattle.lot_witnessed.specs.Sections.{IsClaimed};
 use super::Lot;
 use crate::cell::{MOST_ROWS, RowSlot, Slot, lock_at};
 use crate::claimed::Claimed;
+use crate::parker::ThreadParkerT;
 use lot_base::bucket::place;
-use lot_base::thread_parker::ThreadParkerT;
 use lot_base::word_lock::WordLock;
 use std::sync::Wait;
 use std::sync::atomic::Ordering;
@@ -54,36 +54,32 @@ impl<P: ThreadParkerT> Lot<P> {
     // The row that is in use, or was as `current` was read. It was made before, but no contract
     // tells so.
     #[inline]
-    pub(super) fn row_in_use<R: Wait>(&self, rt: &R) -> &Vec<WordLock<Slot>>
-        ensures { IsRow (id_of self.now) (max_threads_of self.now) (length result.now.items)
-            result.now.items }
+    pub(super) fn row_in_use(&self) -> Option<&Vec<WordLock<Slot>>>
+        ensures { IfSome result (λ row. IsRow (id_of self.now) (max_threads_of self.now)
+            (length row.now.items) row.now.items) }
     {
-        for _ in rt.forever() {
-            if let Some(row) = self.row(self.current.load(Ordering::SeqCst)) {
-                return row;
-            }
-        }
-        unreachable!()
+        self.row(self.current.load(Ordering::SeqCst))
     }
 
     // The lock of the key's place in the row in use.
     #[inline]
-    fn lock_of<R: Wait>(&self, rt: &R, key: usize) -> &WordLock<Slot>
-        ensures { IsLockFor self.now key result.now }
+    fn lock_of(&self, key: usize) -> Option<&WordLock<Slot>>
+        ensures { IfSome result (λ lock. IsLockFor self.now key lock.now) }
     {
-        let row = self.row_in_use(rt);
-        lock_at(row, place(key, row.len()))
+        let row = self.row_in_use()?;
+        Some(lock_at(row, place(key, row.len())))
     }
 
     // Locks the bucket of the key, which begins a section.
-    #[inline]
+    #[inline(always)]
     pub(super) fn claim<R: Wait>(&self, rt: &R, key: usize) -> Claimed<'_>
         ensures lock { IsLockFor self.now key result.lock.now }
         ensures claim { IsClaimed result }
     {
         for _ in rt.forever() {
-            let lock = self.lock_of(rt, key);
-            if let Some(claimed) = Claimed::of(rt, lock) {
+            if let Some(lock) = self.lock_of(key)
+                && let Some(claimed) = Claimed::of(rt, lock)
+            {
                 return claimed;
             }
             self.wait_for_change(rt);

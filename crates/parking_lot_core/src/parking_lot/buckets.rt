@@ -12,7 +12,6 @@ ghost use Rattle.parking_lot_core.specs.Private.Section.{HasPlaceOf, AreApart, A
 
 mod claimed;
 mod current;
-mod nodes;
 mod registry;
 
 use claimed::Claimed;

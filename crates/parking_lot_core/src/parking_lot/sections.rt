@@ -92,7 +92,7 @@ impl<P: ThreadParkerT> ParkingLot<P> {
             }
             if !parker.timed_out(rt) {
                 bucket.unlock();
-                let node = parker.park(rt);
+                let (node, _) = parker.park(rt);
                 return (ParkResult::Unparked(node.unpark_token), node);
             }
             let removed = bucket.with(|bucket| remove_from(bucket, number, key, timed_out));

@@ -8,7 +8,7 @@ ghost use Rattle.parking_lot_core.specs.Private.Handles.{handle_numbers, kept_ha
 use super::ParkingLot;
 use super::handles::{HANDLES, Handles, Room};
 use lot_base::queue::Queue;
-use lot_base::thread_parker::{ThreadParkerT, UnparkHandleT};
+use lot_base::thread_parker::{ParkerKey, ThreadParkerT, UnparkHandleT};
 use lot_base::token::NoMemory;
 use std::alloc::Global;
 use std::sync::Wait;
@@ -79,7 +79,7 @@ impl<P: ThreadParkerT> ParkingLot<P> {
         if number >= self.threads.len() {
             return None;
         }
-        Some(self.parker(number).unpark_lock(rt, node))
+        Some(self.parker(number).unpark_lock(rt, node, ()))
     }
 
     // Commits the unpark of the node that was taken, if there is one.
@@ -124,7 +124,7 @@ pub(super) fn new_threads<P: ThreadParkerT>(
     let mut threads = Vec::with_capacity(alloc, max_threads)?;
     for number in 0..max_threads {
         threads.push(PerThread {
-            parker: P::new(alloc, number)?,
+            parker: P::new(alloc, &ParkerKey { number, home: () })?,
             key: AtomicUsize::new(0),
         })?;
     }

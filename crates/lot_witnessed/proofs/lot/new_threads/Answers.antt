@@ -1,7 +1,6 @@
 use Rattle.std.proofs.Common.{◌≡◌, ◌+◌, arith, length, length-append, ap, ◌∙◌}
 use Rattle.lot_history.specs.Witness.{id_of}
-use Rattle.lot_witnessed.specs.Cells.{IsMailLock}
-use Rattle.lot_witnessed.specs.declared.mail.MailKey.{MailKey}
+use Rattle.lot_witnessed.specs.Cells.{home_of}
 use Rattle.lot_witnessed.proofs.RowLemmas.{EachAt-push}
 use Rattle.lot_witnessed.proofs.lot.new_threads.Goals as goal
 
@@ -11,17 +10,12 @@ loop-number-preserved g c =
     let threads = c.loop-number.threads.items in
     let number = c.loop-number.number in
     let pushed = c.in_ok-push.ensures.items in
-    let key = c.in_ok-new_mail.ensures in
+    let made = c.in_ok-new.ensures in
     let same : number ≡ 0 + length threads = omega (arith, so_far.count) in
     record {
       home = so_far.home;
       count = omega (arith, simp length-append at (ap length pushed), so_far.count);
-      threads = rw pushed (EachAt-push (λ n thread. (g.P.ThreadParkerT.owner thread.parker ≡ n)
-          × IsMailLock (id_of c.args.history.now) n thread.mail) 0 threads _ (
-            c.in_ok-new.ensures ∙ same,
-            record {
-              of_thread = ap (λ (each : MailKey). each.number) key ∙ same;
-              of_lot = ap (λ (each : MailKey). each.home.badge.table_id) key ∙ so_far.home.table;
-            },
-          ) so_far.threads);
+      threads = rw pushed (EachAt-push (λ n thread. (g.P.ParkerT.owner thread.parker ≡ n)
+          × (home_of (g.P.ParkerT.home thread.parker) ≡ id_of c.args.history.now)) 0 threads _
+          (made.owner ∙ same, ap home_of made.home ∙ so_far.home.table) so_far.threads);
     }

@@ -25,9 +25,9 @@ add_registered-requires-clause-moves c =
     let least = c.requires.least in
     let low = slice_get_within numbers number Free least.free in
     subst (λ (ps : List Piece). Moves bound (Is step.Register (answer.Registered number)) ps
-    (numbers_in c.register.new.self ∷ Thread number Running ∷ Records number [] ∷ [])) (sym c.requires.piece)
+    (numbers_in c.register-node.new.self ∷ Thread number Running ∷ Records number [] ∷ [])) (sym c.requires.piece)
     (subst (λ (after : List Use). Moves bound (Is step.Register (answer.Registered number)) (numbers_in numbers ∷ [])
-    (numbers_in after ∷ Thread number Running ∷ Records number [] ∷ [])) (sym c.register.ensures.registered)
+    (numbers_in after ∷ Thread number Running ∷ Records number [] ∷ [])) (sym c.register-node.ensures.registered)
     (registers bound (map is_in_use numbers) [] number (map is_in_use (slice_set numbers number Registered))
     (omega (arith, low, c.requires.count)) (one_more_registered numbers number least)
     (λ k below. use_at numbers k Registered (least.least k below))))

@@ -7,11 +7,10 @@ ghost use Rattle.lot_exclusive.specs.Size.{IsSizeFor, IsTrimmedSize};
 ghost use Rattle.lot_exclusive.specs.Table.{count_registered, IsLeastUnregistered};
 
 use super::current::RowInUse;
-use super::nodes::Nodes;
 use lot_base::queue::Node;
 use lot_base::token::LotError;
 use lot_exclusive::table::growth::{size_for, trimmed_size};
-use lot_exclusive::table::numbers::Numbers;
+use lot_exclusive::table::nodes::NumberedNodes;
 use lot_exclusive::table::{MAX_THREADS, Use};
 use std::alloc::Global;
 use std::marker::Model;
@@ -20,16 +19,14 @@ use std::marker::Model;
 // each thread, at least.
 #[derive(Drop)]
 pub(super) struct Registry {
-    numbers: Numbers,
-    nodes: Nodes,
+    numbers: NumberedNodes,
     row: RowInUse,
 }
 
 impl Model for Registry {
-    ghost use Rattle.std.specs.Prelude.{◌≡◌, ◌*◌, ◌≤◌, map};
+    ghost use Rattle.std.specs.Prelude.{◌*◌, ◌≤◌};
     ghost use Rattle.lot_base.specs.Place.{IsTableSize};
     ghost use Rattle.parking_lot_core.specs.Private.RegistryState.{RegistryState};
-    ghost use Rattle.parking_lot_core.specs.Private.RegistryState.{is_free};
     ghost use Rattle.lot_exclusive.specs.Table.{count_registered};
 
     ghost Value = { RegistryState };
@@ -37,8 +34,7 @@ impl Model for Registry {
     ghost view = { λ registry. record { numbers = registry.numbers; size = registry.row.size } };
 
     ghost invariant = { λ registry. IsTableSize registry.row.size
-        × (3 * count_registered registry.numbers ≤ registry.row.size)
-        × (registry.nodes ≡ map is_free registry.numbers) };
+        × (3 * count_registered registry.numbers ≤ registry.row.size) };
 }
 
 impl Registry {
@@ -55,8 +51,7 @@ impl Registry {
             ≡ record { numbers = replicate max_threads Use.Free; size = row.size }) }
     {
         Ok(Registry {
-            numbers: Numbers::new(alloc, max_threads)?,
-            nodes: Nodes::new(alloc, max_threads)?,
+            numbers: NumberedNodes::new(alloc, max_threads)?,
             row,
         })
     }
@@ -134,9 +129,8 @@ impl Registry {
         } }
         ensures node { (fields result.value).number ≡ number }
     {
-        self.numbers.register(number);
         self.row = row;
-        self.nodes.take(number)
+        self.numbers.register(number)
     }
 
     // Frees the number of the node, and keeps the node for the next who registers it.
@@ -145,7 +139,6 @@ impl Registry {
           numbers = slice_set self.old.numbers (fields node.value).number Use.Free;
         } }
     {
-        self.numbers.release(node.number);
-        self.nodes.put(node);
+        self.numbers.release(node);
     }
 }

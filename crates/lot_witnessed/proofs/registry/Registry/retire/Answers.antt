@@ -1,5 +1,5 @@
-use Rattle.std.proofs.Common.{◌≡◌, ◌<◌, Bool, List, [], ◌∷◌, ◌++◌, false, length, map, slice_set, sym, ap, ◌∙◌, subst}
-use Rattle.std.proofs.Common.{arith}
+use Rattle.std.proofs.Common.{◌≡◌, ◌<◌, ℕ, Bool, List, [], ◌∷◌, ◌++◌, false, length, map, slice_set, sym, ap, ◌∙◌, subst}
+use Rattle.std.proofs.Common.{arith, rules}
 use Rattle.std.proofs.lemmas.List.{length-map, map-set}
 use Rattle.lot_exclusive.specs.declared.lot.Status.TheVariants.{Running}
 use Rattle.lot_exclusive.specs.declared.schedule.Answer.TheVariants as answer
@@ -22,7 +22,7 @@ use Rattle.lot_witnessed.proofs.registry.Registry.retire.Goals as goal
 pub add_retired-requires-clause-moves : goal.add_retired-requires-clause-moves
 add_retired-requires-clause-moves c =
     let bound = max_threads_of c.args.history.now in
-    let number = c.args.number in
+    let number = c.args.node.value.number in
     let numbers = c.args.self.now.numbers in
     let uses : List Bool = map is_in_use numbers in
     let keys = c.requires.records.keys in
@@ -45,8 +45,11 @@ add_retired-requires-clause-moves c =
     omega (arith, c.requires.below, c.requires.registry.count, length-map numbers is_in_use) in
     let freed : map is_in_use c.release.new.self ≡ slice_set uses number false =
     ap (λ (after : List Use). map is_in_use after) c.release.ensures.freed ∙ map-set is_in_use numbers number Free in
-    subst (λ (ps : List Piece). Moves bound (Is (step.Retire number) answer.Retired) ps
+    let read : c.deref.result.now.number ≡ number = search rules in
+    subst (λ (n : ℕ). Moves bound (Is (step.Retire n) answer.Retired) (pieces_of c.look.new.me)
+    (numbers_in c.release.new.self ∷ [])) (sym read)
+    (subst (λ (ps : List Piece). Moves bound (Is (step.Retire number) answer.Retired) ps
     (numbers_in c.release.new.self ∷ [])) (sym seen)
     (subst (λ (after : List Bool). Moves bound (Is (step.Retire number) answer.Retired) own (Numbers after ∷ []))
     (sym freed) (retires bound number keys uses (slice_set uses number false)
-    (one_more_unset uses number below registered)))
+    (one_more_unset uses number below registered))))

@@ -6,7 +6,7 @@ use Rattle.parking_lot_core.proofs.parking_lot.ParkingLot.new.Goals as goal
 
 pub returns-clause-ok : goal.returns-clause-ok
 returns-clause-ok g c =
-    sym (length-map c.in_ok-threads.threads.items (λ thread. g.P.ThreadParkerT.owner thread.parker))
+    sym (length-map c.in_ok-threads.threads.items (λ thread. g.P.ParkerT.owner thread.parker))
     ∙ ap length c.in_ok-threads.ensures
     ∙ length-range_with_len 0 c.args.max_threads
 

@@ -5,6 +5,6 @@ use Rattle.parking_lot_core.proofs.parking_lot.ParkingLot.parker.Goals as goal
 
 pub returns : goal.returns
 returns g c =
-    owner_at (λ thread. g.P.ThreadParkerT.owner thread.parker) c.self.inside.threads.items c.args.number
+    owner_at (λ thread. g.P.ParkerT.owner thread.parker) c.self.inside.threads.items c.args.number
     c.index.result.now (subst (λ (lot : ParkingLotState). c.args.number < lot.max_threads)
     (sym c.self.view_is) c.requires) c.index.ensures c.self.invariant

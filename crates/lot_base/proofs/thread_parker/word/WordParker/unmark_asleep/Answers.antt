@@ -3,11 +3,11 @@ use Rattle.lot_base.proofs.WordParkerLemmas.{arrives, marks}
 use Rattle.lot_base.proofs.thread_parker.word.WordParker.unmark_asleep.Goals as goal
 
 pub load_new_seat-seat-requires : goal.load_new_seat-seat-requires
-load_new_seat-seat-requires c = (search rules, arrives c.args.self.now.table.shared.key _ 7)
+load_new_seat-seat-requires g c = (search rules, arrives g.L.Payload.fits c.args.self.now.table.shared.key _ 7)
 
 pub compare_exchange-requires : goal.compare_exchange-requires
-compare_exchange-requires c = (
+compare_exchange-requires g c = (
   search rules,
   search rules,
-  marks c.args.self.now.table.shared.key _ _ _ _ _ (omega arith) (omega arith) (omega arith),
+  marks g.L.Payload.fits c.args.self.now.table.shared.key _ _ _ _ _ (omega arith) (omega arith) (omega arith),
 )

@@ -1,16 +1,5 @@
-use Rattle.std.proofs.Common.{◌≡◌, rules, arith, ap, sym, map, slice_set, true, ◌∙◌}
-use Rattle.std.proofs.lemmas.List.{map-set}
-use Rattle.lot_base.specs.Node.{fields}
-use Rattle.lot_exclusive.specs.declared.table.Use.TheVariants.{Free}
-use Rattle.parking_lot_core.specs.Private.RegistryState.{is_free}
+use Rattle.std.proofs.Common.{arith}
 use Rattle.parking_lot_core.proofs.parking_lot.buckets.registry.Registry.release.Goals as goal
 
 pub invariant_of-self : goal.invariant_of-self
-invariant_of-self c =
-    let number = (fields c.args.node.value).number in
-    let freed : c.release.new.self ≡ slice_set c.self.inside.numbers number Free = search rules in (
-      c.self.invariant.0,
-      omega (arith, c.release.ensures.count, c.self.invariant.1),
-      c.put.ensures ∙ ap (λ nodes. slice_set nodes number true) c.self.invariant.2
-          ∙ sym (map-set is_free c.self.inside.numbers number Free) ∙ sym (ap (map is_free) freed),
-    )
+invariant_of-self c = (c.self.invariant.0, omega (arith, c.release.ensures.count, c.self.invariant.1))
