@@ -306,7 +306,8 @@ impl<'a, P: ThreadParkerT> Member<'a, P> {
         self.lot.trim_and_tell(rt, &mut self.thread.witness);
     }
 
-    /// Records that the thread holds the resource of this key, as `deadlock::acquire_resource` does.
+    /// Records that the thread holds the resource of this key, as `deadlock::acquire_resource`
+    /// does.
     ///
     /// # Errors
     ///

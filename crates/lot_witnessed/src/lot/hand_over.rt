@@ -94,9 +94,9 @@ impl<P: ThreadParkerT> Lot<P> {
         }
     }
 
-    // A thread that was unparked comes back: opens the letter that came beside its node, and answers
-    // the thread's piece. The letter is there, since nobody else's node lay in the slot before, but
-    // no contract tells so, and else this would wait.
+    // A thread that was unparked comes back: opens the letter that came beside its node, and
+    // answers the thread's piece. The letter is there, since no other node lay in the slot before,
+    // but no contract tells so, and else this would wait.
     pub(crate) fn come_back<R: Wait>(
         &self,
         rt: &R,

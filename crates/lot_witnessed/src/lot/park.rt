@@ -1,5 +1,5 @@
-//! How a thread comes to park: it enters the list of a key, waits, and comes back, or leaves the list
-//! in which it stands then.
+//! How a thread comes to park: it enters the list of a key, waits, and comes back, or leaves the
+//! list in which it stands then.
 
 ghost use Rattle.std.specs.Prelude.{◌≡◌, ◌≢◌, ◌∷◌, ◌<◌, ℕ, [], true, false, Bool, IfErr, IfNone, IfSome, None, OnOk, is_ok};
 ghost use Rattle.std.specs.Option.{is_some};
@@ -94,8 +94,9 @@ impl<P: ThreadParkerT> Lot<P> {
         entered
     }
 
-    // The wait of a thread that entered a list: sleeps until an unpark of it was committed, or until
-    // the deadline, and then leaves the list in which it stands, unless an unpark took it meanwhile.
+    // The wait of a thread that entered a list: sleeps until an unpark of it was committed, or
+    // until the deadline, and then leaves the list in which it stands, unless an unpark took it
+    // meanwhile.
     pub(crate) fn wait<R: Wait + Clock, T: FnOnce(usize, bool)>(
         &self,
         rt: &R,

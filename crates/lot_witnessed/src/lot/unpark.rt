@@ -26,7 +26,8 @@ use std::marker::Brand;
 use std::sync::Wait;
 
 impl<P: ThreadParkerT> Lot<P> {
-    // Unparks the first thread of the key, if there is one, and wakes it once the bucket was let go.
+    // Unparks the first thread of the key, if there is one, and wakes it once the bucket was let
+    // go.
     pub(crate) fn unpark_one<R: Wait, C: FnOnce(UnparkResult) -> UnparkToken>(
         &self,
         rt: &R,
