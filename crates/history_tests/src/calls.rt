@@ -7,9 +7,7 @@ use crate::members::{
     park_and, park_until, register, release, requeue, retire, sleep, unpark_all, unpark_filter,
 };
 use lot_base::token::{DEFAULT_PARK_TOKEN, FilterOp, ParkToken, RequeueOp, UnparkToken};
-use lot_witnessed::lot::Lot;
-use lot_witnessed::member::Member;
-use lot_witnessed::parker::{ThreadParkerT, WordParker};
+use parking_lot_core::{Member, ParkingLot, ThreadParkerT, WordParker};
 use std::alloc::Global;
 use std::process::Abort;
 use std::sync::Wait;

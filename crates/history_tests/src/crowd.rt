@@ -8,9 +8,7 @@ use crate::members::{
 };
 use crate::sections::are_apart;
 use lot_base::token::{DEFAULT_UNPARK_TOKEN, FilterOp, RequeueOp};
-use lot_witnessed::lot::Lot;
-use lot_witnessed::member::Member;
-use lot_witnessed::parker::{ThreadParker, ThreadParkerT, WordParker, YieldParker};
+use parking_lot_core::{Member, ParkingLot, ThreadParker, ThreadParkerT, WordParker, YieldParker};
 use std::alloc::Global;
 use std::process::Abort;
 use std::sync::Wait;

@@ -3,9 +3,7 @@
 use crate::expect_equal;
 use crate::members::{KEY, TOKEN, UNPARKED, new_lot, now, register, sleep, unpark_one};
 use lot_exclusive::table::MAX_THREADS;
-use lot_witnessed::lot::Lot;
-use lot_witnessed::member::Member;
-use lot_witnessed::parker::{ThreadParkerT, WordParker};
+use parking_lot_core::{Member, ParkingLot, ThreadParkerT, WordParker};
 use std::alloc::Global;
 use std::process::Abort;
 use std::sync::Wait;

@@ -7,9 +7,7 @@ use crate::members::{
 };
 use crate::sections::raised_by_turns;
 use lot_base::token::{DEFAULT_PARK_TOKEN, RequeueOp};
-use lot_witnessed::lot::Lot;
-use lot_witnessed::member::Member;
-use lot_witnessed::parker::{ThreadParker, ThreadParkerT, WordParker, YieldParker};
+use parking_lot_core::{Member, ParkingLot, ThreadParker, ThreadParkerT, WordParker, YieldParker};
 use std::alloc::Global;
 use std::process::Abort;
 use std::sync::Wait;

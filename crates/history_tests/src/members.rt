@@ -6,9 +6,7 @@ use lot_base::token::{
     DEFAULT_PARK_TOKEN, DEFAULT_UNPARK_TOKEN, FilterOp, LotError, ParkResult, RequeueOp,
     UnparkToken,
 };
-use lot_witnessed::lot::Lot;
-use lot_witnessed::member::Member;
-use lot_witnessed::parker::ThreadParkerT;
+use parking_lot_core::{Member, ParkingLot, ThreadParkerT};
 use std::alloc::Global;
 use std::process::Abort;
 use std::sync::Wait;

@@ -3,9 +3,7 @@
 
 use crate::members::{TOKEN, TURNS, register, retire, unpark_one};
 use lot_base::token::DEFAULT_PARK_TOKEN;
-use lot_witnessed::lot::Lot;
-use lot_witnessed::member::Member;
-use lot_witnessed::parker::ThreadParkerT;
+use parking_lot_core::{Member, ParkingLot, ThreadParkerT};
 use std::alloc::Global;
 use std::process::Abort;
 use std::sync::Wait;

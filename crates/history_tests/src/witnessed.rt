@@ -6,9 +6,7 @@ use crate::members::{
     register, sleep, unpark_all, unpark_one,
 };
 use lot_base::token::{ParkResult, UnparkToken};
-use lot_witnessed::lot::Lot;
-use lot_witnessed::member::Member;
-use lot_witnessed::parker::{ThreadParker, ThreadParkerT, WordParker, YieldParker};
+use parking_lot_core::{Member, ParkingLot, ThreadParker, ThreadParkerT, WordParker, YieldParker};
 use std::alloc::Global;
 use std::process::Abort;
 use std::sync::Wait;

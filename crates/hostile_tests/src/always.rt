@@ -2,9 +2,8 @@
 
 use crate::common::now;
 use crate::expect_equal;
-use lot_base::thread_parker::WordParker;
 use parking_lot_core::{
-    DEFAULT_PARK_TOKEN, DEFAULT_UNPARK_TOKEN, FilterOp, Member, ParkingLot, RequeueOp,
+    DEFAULT_PARK_TOKEN, DEFAULT_UNPARK_TOKEN, FilterOp, Member, ParkingLot, RequeueOp, WordParker,
     unpark_chosen, unpark_one, unpark_requeue,
 };
 use std::alloc::Global;

@@ -1,10 +1,11 @@
 //! Whoever is handed a fair mutex holds it alone, among threads.
 
 use crate::expect_equal;
-use lot_base::thread_parker::{ThreadParker, ThreadParkerT, WordParker, YieldParker};
 use lot_base::token::UnparkResult;
 use lot_locks::fair::{FairCondvar, FairMutex};
-use parking_lot_core::{ParkingLot, ThreadData};
+use parking_lot_core::{
+    ParkingLot, ThreadData, ThreadParker, ThreadParkerT, WordParker, YieldParker,
+};
 use std::alloc::Global;
 use std::process::Abort;
 use std::sync::Wait;

@@ -5,8 +5,9 @@ use crate::handed::{
     MUTEX_KEY, Shared, TURNS, Way, begins, lock, notify, one_comes, register, sleep,
 };
 use lot_base::queue::Node;
-use lot_base::thread_parker::{ParkerKey, ParkerT, UnparkHandleT, YieldHandle, YieldParker};
+use lot_base::thread_parker::{ParkerKey, ParkerT, UnparkHandleT, YieldHandle};
 use lot_base::token::{NoMemory, UnparkResult};
+use parking_lot_core::YieldParker;
 use std::alloc::Global;
 use std::process::Abort;
 use std::sync::Wait;

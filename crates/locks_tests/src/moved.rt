@@ -4,8 +4,8 @@ use crate::expect_equal;
 use crate::handed::{
     CONDVAR_KEY, MUTEX_KEY, Shared, Way, be_notified, come, lock, notify, register, sleep, waiting,
 };
-use lot_base::thread_parker::{ThreadParker, ThreadParkerT, WordParker, YieldParker};
 use lot_base::token::UnparkResult;
+use parking_lot_core::{ThreadParker, ThreadParkerT, WordParker, YieldParker};
 use std::alloc::Global;
 use std::process::Abort;
 use std::sync::Wait;

@@ -2,7 +2,7 @@
 
 use crate::expect_equal;
 use crate::handed::{Shared, Way, lock, notify, register, sleep};
-use lot_base::thread_parker::{ThreadParker, ThreadParkerT, WordParker, YieldParker};
+use parking_lot_core::{ThreadParker, ThreadParkerT, WordParker, YieldParker};
 use std::alloc::Global;
 use std::process::Abort;
 use std::sync::Wait;

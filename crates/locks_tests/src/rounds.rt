@@ -1,7 +1,7 @@
 //! A fair mutex that two threads lock once in each of many rounds, the one as the other unlocks it.
 
 use crate::handed::{Shared, TURNS, lock, register};
-use lot_base::thread_parker::{ThreadParkerT, WordParker};
+use parking_lot_core::{ThreadParkerT, WordParker};
 use std::alloc::Global;
 use std::process::Abort;
 use std::sync::Wait;

@@ -1,7 +1,7 @@
 //! The scenarios of the fair mutex, each with every parker.
 
-use lot_base::thread_parker::{ThreadParker, WordParker, YieldParker};
 use lot_scenarios::Scenario;
+use parking_lot_core::{ThreadParker, WordParker, YieldParker};
 use std::alloc::Global;
 use std::process::Abort;
 use std::sync::Wait;

@@ -26,7 +26,7 @@ mod unparks;
 mod witnessed;
 
 use fault::Fault;
-pub use lot_witnessed::parker;
+pub use parking_lot_core::parker;
 use parking_lot_core::{LotError, NoMemory, ThreadParkerT};
 pub use scenario::{ROWS, Scenario, named};
 use std::alloc::Global;

@@ -2,11 +2,8 @@
 
 use crate::fault::Fault;
 use crate::{FEW, KEYS, Moment, marks, show_waiting, tell_answer, tell_refused, tell_unmade};
-use lot_witnessed::lot::Lot;
-use lot_witnessed::member::Member;
-use lot_witnessed::parker::ThreadParkerT;
-use parking_lot_core::LotError;
 use parking_lot_core::table::MAX_THREADS;
+use parking_lot_core::{LotError, Member, ParkingLot, ThreadParkerT};
 use std::alloc::Global;
 use std::sync::Wait;
 

@@ -2,9 +2,7 @@
 
 use crate::subject::{Ended, Entry, Sieve, Subject};
 use lot_base::token::{LotError, NoMemory, RequeueOp, UnparkResult, UnparkToken};
-use lot_witnessed::lot::Lot;
-use lot_witnessed::member::Member;
-use lot_witnessed::parker::WordParker;
+use parking_lot_core::{Member, ParkingLot, WordParker};
 use std::alloc::Global;
 use std::sync::Wait;
 use std::time::Clock;

@@ -1,10 +1,9 @@
 //! The lot of `parking_lot_core`.
 
 use crate::subject::{Ended, Entry, Sieve, Subject};
-use lot_base::thread_parker::WordParker;
 use lot_base::token::{LotError, NoMemory, ParkResult, RequeueOp, UnparkResult, UnparkToken};
 use parking_lot_core::{
-    ParkingLot, ThreadData, park, unpark_all, unpark_chosen, unpark_one, unpark_requeue,
+    ParkingLot, ThreadData, WordParker, park, unpark_all, unpark_chosen, unpark_one, unpark_requeue,
 };
 use std::alloc::Global;
 use std::sync::Wait;

@@ -1,3 +1,15 @@
-pub mod ParkingLotLemmas
 pub mod RowLemmas
-pub mod HandleLemmas
+pub mod TakingLemmas
+pub mod BelowLemmas
+pub mod HandedLemmas
+pub mod NumberLemmas
+pub mod RetireLemmas
+pub mod ListLemmas
+pub mod RecordingLemmas
+pub mod AnswerLemmas
+pub mod RequeueLemmas
+pub mod LockLemmas
+pub mod HalfLemmas
+pub mod SizeLemmas
+pub mod SectionLemmas
+pub mod ParkLemmas

@@ -1,48 +1,134 @@
--- The locks of a row, each with the key of its place, and the buckets that come back there.
-use Rattle.std.proofs.Common.{◌≡◌, ℕ, ◌+◌, ◌<◌, List, [], ◌∷◌, ◌++◌, length, map, suc, get_or, sym, ap, ◌∙◌, arith}
-use Rattle.std.proofs.Common.{length-append}
-use Rattle.std.specs.List.{range_with_len}
-use Rattle.std.proofs.lemmas.List.{map-append, get_or-map}
-use Rattle.std.proofs.lemmas.List.FromFn.{get_or-map-range_with_len}
-use Rattle.lot_base.specs.BucketState.{BucketState, KeepsPlace, IsBucketAt}
-use Rattle.lot_base.specs.Place.{place_of}
-use Rattle.parking_lot_core.specs.Private.Section.{BucketLock, place_in, IsLockAt, AreLocksOfRow, HasPlaceOf, IsBucketOf, IsClaimedFor}
-use Rattle.parking_lot_core.specs.declared.parking_lot.buckets.claimed.Claimed.{Claimed}
-use Rattle.parking_lot_core.proofs.ParkingLotLemmas.{range-push}
-use Rattle.lot_word_lock.specs.WordLock.{key_of}
+-- Lists of which each item has its number, and the pieces of a new machine, cut up for a row of buckets.
+use Rattle.std.proofs.Common.{◌≡◌, ◌≢◌, ℕ, zero, suc, ◌+◌, ◌-◌, ◌<◌, ◌≤◌, false, cond, List, [], ◌∷◌, ◌++◌, length}
+use Rattle.std.proofs.Common.{Bor, IfSome, None, Option, Some, get_or, replicate, refl, sym, ap, ◌∙◌, subst, ⊎_elim, arith}
+use Rattle.std.proofs.lemmas.Bool.{cases_eq, eq-eqb, ne_eqb}
+use Rattle.std.specs.Slice.{IsItemAt}
+use Rattle.lot_base.specs.Place.{IsTableSize, place_of}
+use Rattle.lot_base.proofs.PlaceLemmas.{place_of-below}
+use Rattle.lot_exclusive.specs.Machine.{Machine}
+use Rattle.lot_history.specs.Moves.{Finds, Regroups}
+use Rattle.lot_history.specs.Pieces.{Name, list, thread, records, numbers, has_number, cover, AllSo}
+use Rattle.lot_history.specs.Views.{all_pieces}
+use Rattle.lot_history.specs.declared.view.Piece.{Piece}
+use Rattle.lot_history.specs.declared.view.Piece.TheVariants.{Lists}
+use Rattle.parking_lot_core.specs.Rows.{EachAt, empty_lists, free_numbers}
 
--- one more lock, of the next place
-pub locks-push : (n : ℕ) (cells : List BucketLock) (cell : BucketLock) → IsLockAt (length cells) n cell
-    → AreLocksOfRow n cells → AreLocksOfRow n (cells ++ cell ∷ [])
-locks-push n cells cell is so_far =
-    let k = length cells in
-    let next : k ≡ 0 + k = omega arith in
-    let longer : suc k ≡ length (cells ++ cell ∷ []) = omega (arith, length-append cells (cell ∷ [])) in
-    map-append (λ (c : BucketLock). key_of c) cells (cell ∷ [])
-    ∙ ap (λ keys. keys ++ key_of cell ∷ []) so_far
-    ∙ ap (λ key. map (place_in n) (range_with_len 0 k) ++ key ∷ []) (is ∙ ap (place_in n) next)
-    ∙ sym (map-append (place_in n) (range_with_len 0 k) ((0 + k) ∷ []))
-    ∙ ap (map (place_in n)) (sym (range-push 0 k))
-    ∙ ap (λ count. map (place_in n) (range_with_len 0 count)) longer
+-- one item more
+pub EachAt-push : {A : Type 0} (P : ℕ → A → Type 0) (number : ℕ) (items : List A) (item : A)
+    → P (number + length items) item → EachAt P number items → EachAt P number (items ++ item ∷ [])
+EachAt-push P number [] item is each =
+    let same : number + 0 ≡ number = omega arith in (subst (λ n. P n item) same is, tt)
+EachAt-push P number (first ∷ items) item is each =
+    let same : number + suc (length items) ≡ (number + 1) + length items = omega arith in
+    (each.0, EachAt-push P (number + 1) items item (subst (λ n. P n item) same is) each.1)
 
--- the lock that was read at a place
-pub lock_at : (n p : ℕ) (cells : List BucketLock) (cell : BucketLock) → p < length cells → cell ≡ get_or cells p cell
-    → AreLocksOfRow n cells → IsLockAt p n cell
-lock_at n p cells cell below read all =
-    let key = key_of cell in
-    ap (λ (c : BucketLock). key_of c) read
-    ∙ sym (get_or-map (λ (c : BucketLock). key_of c) cells p cell key below)
-    ∙ ap (λ keys. get_or keys p key) all
-    ∙ get_or-map-range_with_len (place_in n) 0 (length cells) p p key below (omega arith)
+-- the item that was read at a number
+pub item_at : {A : Type 0} (P : ℕ → A → Type 0) (number : ℕ) (items : List A) (k : ℕ) (item : A) → k < length items
+    → item ≡ get_or items k item → EachAt P number items → P (number + k) item
+item_at P number [] k item below read each = absurd (omega arith)
+item_at P number (first ∷ items) zero item below read each =
+    let same : number ≡ number + 0 = omega arith in
+    subst (λ n. P n item) same (subst (P number) (sym read) each.0)
+item_at P number (first ∷ items) (suc k) item below read each =
+    let same : (number + 1) + k ≡ number + suc k = omega arith in
+    subst (λ n. P n item) same (item_at P (number + 1) items k item (omega arith) read each.1)
 
--- a step that keeps a bucket's place keeps it that of its lock
-pub still_stands : (p n : ℕ) (old new : BucketState) → KeepsPlace old new → IsBucketAt p n old → IsBucketAt p n new
-still_stands p n old new keeps stands = record {
-  place = keeps.place ∙ stands.place;
-  size = keeps.size ∙ stands.size;
-}
+-- and the one that was got
+pub item_got : {A : Type 0} (P : ℕ → A → Type 0) (items : List A) (k : ℕ) (found : Option (Bor A))
+    → IsItemAt items k found → EachAt P 0 items → IfSome found (λ item. P k item.now)
+item_got P items k None is each = tt
+item_got P items k (Some item) is each =
+    let same : 0 + k ≡ k = omega arith in
+    subst (λ n. P n item.now) same (item_at P 0 items k item.now is.3.0 is.1 each)
 
--- the bucket behind the lock of a key has the key's place
-pub claimed_place : (key : ℕ) (claimed : Claimed) (bucket : BucketState) → IsClaimedFor key claimed
-    → IsBucketOf claimed bucket → HasPlaceOf key bucket
-claimed_place key claimed bucket is stands = ap (place_of key) stands.size ∙ is ∙ sym stands.place
+-- in a table of one every key stands at place 0
+place_of-one : (key : ℕ) → place_of key 1 ≡ 0
+place_of-one key = omega arith
+
+-- of so many numbers none is registered
+unused : (count k : ℕ) → has_number (replicate count false) k ≡ false
+unused zero k = refl
+unused (suc count) zero = refl
+unused (suc count) (suc k) = unused count k
+
+module _ (size : ℕ) (others : List Piece) where
+  -- a key of a place before these, and one of a place among these
+  list_before : (key place count : ℕ) → place_of key size < place
+      → cover (list key) (empty_lists size place count others) ≡ cover (list key) others
+  list_before key place zero before = refl
+  list_before key place (suc count) before =
+      let rest = list_before key (place + 1) count (omega arith) in
+      rw (ne_eqb (place_of key size) place (λ same. absurd (omega arith))) (omega arith)
+
+  list_among : (key place count : ℕ) → place ≤ place_of key size → place_of key size < place + count
+      → cover (list key) (empty_lists size place count others) ≡ 1 + cover (list key) others
+  list_among key place zero from to = absurd (omega arith)
+  list_among key place (suc count) from to =
+      ⊎_elim
+      (λ (same : place_of key size ≡ place).
+      let rest = list_before key (place + 1) count (omega arith) in
+      rw (eq-eqb (place_of key size) place same) (omega arith))
+      (λ (other : place_of key size ≢ place).
+      let rest = list_among key (place + 1) count (omega arith) (omega arith) in
+      rw (ne_eqb (place_of key size) place other) (omega arith))
+      (cases_eq (place_of key size) place)
+
+  thread_covered : (number place count : ℕ)
+      → cover (thread number) (empty_lists size place count others) ≡ cover (thread number) others
+  thread_covered number place zero = refl
+  thread_covered number place (suc count) = omega (arith, thread_covered number (place + 1) count)
+
+  records_covered : (number place count : ℕ)
+      → cover (records number) (empty_lists size place count others) ≡ cover (records number) others
+  records_covered number place zero = refl
+  records_covered number place (suc count) = omega (arith, records_covered number (place + 1) count)
+
+  numbers_covered : (place count : ℕ)
+      → cover numbers (empty_lists size place count others) ≡ cover numbers others
+  numbers_covered place zero = refl
+  numbers_covered place (suc count) = omega (arith, numbers_covered (place + 1) count)
+
+-- the first of those that are left, and the others
+pub empty_lists-first : (size place : ℕ) (others : List Piece) → place < size
+    → empty_lists size place (size - place) others
+    ≡ Lists size place [] ∷ empty_lists size (place + 1) (size - (place + 1)) others
+empty_lists-first size place others below =
+    let more : size - place ≡ suc (size - (place + 1)) = omega arith in
+    ap (λ count. empty_lists size place count others) more
+
+module _ (max_threads size : ℕ) (table : IsTableSize size) where
+  abbrev cut : List Piece
+  cut = empty_lists size 0 size (free_numbers max_threads ∷ [])
+
+  same_cover : (name : Name) → cover name cut ≡ cover name all_pieces
+  same_cover (list key) =
+      let below = place_of-below key size table in
+      let one = list_among size (free_numbers max_threads ∷ []) key 0 size (omega arith) (omega arith) in
+      rw (eq-eqb (place_of key 1) 0 (place_of-one key)) (omega arith)
+  same_cover (thread number) = thread_covered size (free_numbers max_threads ∷ []) number 0 size
+      ∙ ap (λ is. cond is 0 1 + 0) (unused max_threads number)
+  same_cover (records number) = records_covered size (free_numbers max_threads ∷ []) number 0 size
+      ∙ ap (λ is. cond is 0 1 + 0) (unused max_threads number)
+  same_cover numbers = numbers_covered size (free_numbers max_threads ∷ []) 0 size
+
+  module _ (bound : ℕ) (m : Machine) (finds : Finds bound all_pieces m) where
+    lists_so : (place count : ℕ) (others : List Piece) → AllSo m others
+        → AllSo m (empty_lists size place count others)
+    lists_so place zero others so = so
+    lists_so place (suc count) others so =
+        (λ key there. finds.so.0 key (place_of-one key), lists_so (place + 1) count others so)
+
+    numbers_so : AllSo m (free_numbers max_threads ∷ [])
+    numbers_so = (
+      (
+        λ number. finds.so.1.0.0 number ∙ sym (unused max_threads number),
+        λ number free. finds.so.1.0.1 number refl,
+      ),
+      tt,
+    )
+
+  pub cuts_up : (bound : ℕ) → Regroups bound all_pieces cut
+  cuts_up bound = record {
+    cover = same_cover;
+    so = λ m finds. lists_so bound m finds 0 size (free_numbers max_threads ∷ []) (numbers_so bound m finds);
+  }

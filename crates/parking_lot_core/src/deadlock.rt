@@ -1,14 +1,19 @@
-//! Records of the resources that a thread holds, in the thread's own data, which alone tells them.
-//! No detector of deadlocks is here.
+//! Records of the resources that a thread holds, in the thread's own data. No detector of deadlocks
+//! is here.
 
-ghost use Rattle.std.specs.Prelude.{◌≡◌, OnOk, OnErr};
-ghost use Rattle.lot_exclusive.specs.Records.{times_recorded, one_more, one_less};
+ghost use Rattle.std.specs.Prelude.{◌≡◌, OnErr, OnOk};
+ghost use Rattle.lot_exclusive.specs.Records.{one_less, one_more, times_recorded};
+ghost use Rattle.parking_lot_core.specs.Members.{IsDataOf, IsSame, Makes, member_of};
 
+use crate::parker::ThreadParkerT;
 use crate::parking_lot::ThreadData;
+use crate::shared_lot::ParkingLot;
+use crate::told::add_recording;
 use lot_base::token::NoMemory;
+use lot_exclusive::schedule::{Answer, Step};
 
 /// Records that the thread holds the resource of this key, once it has it. A key that is recorded
-/// again counts once more.
+/// again counts once more. The data is that of a thread of this lot.
 ///
 /// It may ask for memory, for the records alone. It takes no lock, and nobody waits for it.
 ///
@@ -17,37 +22,80 @@ use lot_base::token::NoMemory;
 ///
 /// # Errors
 ///
-/// `NoMemory` if memory cannot be had. Nothing changed then.
-pub fn acquire_resource(thread_data: &mut ThreadData, key: usize) -> Result<(), NoMemory>
-    ensures number { thread_data.new.number ≡ thread_data.old.number }
+/// `NoMemory` if memory cannot be had. The records did not change then, and the history tells that.
+pub fn acquire_resource<P: ThreadParkerT>(
+    lot: &ParkingLot<P>,
+    thread_data: &mut ThreadData,
+    key: usize,
+) -> Result<(), NoMemory>
+    requires own { IsDataOf lot.now thread_data.old }
+    ensures same { IsSame (member_of lot.now thread_data.old) (member_of lot.now thread_data.new) }
     ensures ok { OnOk result (times_recorded thread_data.new.records
         ≡ one_more (times_recorded thread_data.old.records) key) }
-    ensures err { OnErr result (thread_data.new ≡ thread_data.old) }
+    ensures err { OnErr result (thread_data.new.records ≡ thread_data.old.records) }
+    ensures recorded { OnOk result (Makes (member_of lot.now thread_data.old)
+        (Step.Acquire thread_data.old.number key) Answer.Recorded
+        (member_of lot.now thread_data.new)) }
+    ensures refused { OnErr result (Makes (member_of lot.now thread_data.old)
+        (Step.Acquire thread_data.old.number key) Answer.NoMemory
+        (member_of lot.now thread_data.new)) }
 {
-    thread_data.records.acquire(key)
+    let number = thread_data.number;
+    let acquired = thread_data.keys.acquire(key);
+    let answer = if acquired.is_ok() {
+        Answer::Recorded
+    } else {
+        Answer::NoMemory
+    };
+    add_recording(
+        lot.history(),
+        &mut thread_data.witness,
+        &mut thread_data.thread,
+        &mut thread_data.records,
+        Step::Acquire {
+            thread: number,
+            key,
+        },
+        answer,
+        number,
+        &thread_data.keys,
+    );
+    acquired
 }
 
-/// Records one less of this key. Where the key is not recorded, no count changes.
+/// Records one less of this key. Where the key is not recorded, no count changes. The data is that
+/// of a thread of this lot.
 ///
-/// It searches the records from the last one, and allocates nothing. It takes no lock.
+/// It searches the records from the last one. It asks for no memory and takes no lock.
 ///
 /// Upstream has it under this name. There it finds the thread's data in a thread local, and does
 /// nothing without a feature.
-pub fn release_resource(thread_data: &mut ThreadData, key: usize)
-    ensures number { thread_data.new.number ≡ thread_data.old.number }
-    ensures released { times_recorded thread_data.new.records
+pub fn release_resource<P: ThreadParkerT>(
+    lot: &ParkingLot<P>,
+    thread_data: &mut ThreadData,
+    key: usize,
+)
+    requires own { IsDataOf lot.now thread_data.old }
+    ensures same { IsSame (member_of lot.now thread_data.old) (member_of lot.now thread_data.new) }
+    ensures records { times_recorded thread_data.new.records
         ≡ one_less (times_recorded thread_data.old.records) key }
+    ensures released { Makes (member_of lot.now thread_data.old)
+        (Step.Release thread_data.old.number key) Answer.Released
+        (member_of lot.now thread_data.new) }
 {
-    thread_data.records.release(key);
-}
-
-impl ThreadData {
-    /// How often the thread has recorded the key. It visits the records.
-    ///
-    /// Upstream keeps them to itself.
-    pub fn records(&self, key: usize) -> usize
-        ensures { result ≡ times_recorded self.now.records key }
-    {
-        self.records.times(key)
-    }
+    let number = thread_data.number;
+    thread_data.keys.release(key);
+    add_recording(
+        lot.history(),
+        &mut thread_data.witness,
+        &mut thread_data.thread,
+        &mut thread_data.records,
+        Step::Release {
+            thread: number,
+            key,
+        },
+        Answer::Released,
+        number,
+        &thread_data.keys,
+    );
 }

@@ -1,11 +1,21 @@
 //! A parking lot: queues of waiting threads by key, for building mutexes, condition variables and
-//! schedulers.
+//! schedulers. Whatever its threads call is proved to be one history: a run, from a new one, of the
+//! machine with one list of waiters for each key.
 #![tactic(auto)]
 
+mod cell;
+mod claimed;
 pub mod deadlock;
+mod halves;
+pub mod history_laws;
 pub mod member;
+pub mod parker;
 pub mod parking_lot;
+mod registry;
+mod sections;
+mod shared_lot;
 pub mod table;
+mod told;
 
 pub use lot_base::bucket::{Bucket, BucketPlace, place};
 pub use lot_base::laws::{
@@ -15,8 +25,8 @@ pub use lot_base::laws::{
 pub use lot_base::queue::{Node, Queue};
 pub use lot_base::spinwait::SpinWait;
 pub use lot_base::thread_parker::{
-    ParkerKey, ParkerT, Payload, Slot, ThreadParker, ThreadParkerT, UnparkHandle, UnparkHandleT,
-    WordHandle, WordParker, YieldHandle, YieldParker, thread_yield,
+    ParkerKey, ParkerT, Payload, Slot, UnparkHandle, UnparkHandleT, WordHandle, YieldHandle,
+    thread_yield,
 };
 pub use lot_base::token::{
     DEFAULT_PARK_TOKEN, DEFAULT_UNPARK_TOKEN, FilterOp, LotError, Misfit, NoMemory, ParkResult,
@@ -26,8 +36,10 @@ pub use lot_base::word_lock::{
     Claim, Fits, Held, WORD_SLOTS, WordLock, plays, view, word_locks_keep_their_invariant,
 };
 pub use lot_exclusive::{laws, lot, schedule};
+pub use lot_history::history::{History, Witness};
 pub use lot_interleaved::interleaved;
 pub use member::Member;
+pub use parker::{Letter, ThreadParker, ThreadParkerT, WordParker, YieldParker};
 pub use parking_lot::{
     ParkingLot, ThreadData, park, unpark_all, unpark_chosen, unpark_filter, unpark_one,
     unpark_requeue,

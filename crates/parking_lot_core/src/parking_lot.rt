@@ -1,54 +1,63 @@
-//! The threaded lot, which threads share by reference: each parks itself, and any may unpark it.
+//! The calls of a lot as upstream has them: a thread parks by its data, and whoever has the lot may
+//! unpark it.
 
-ghost use Rattle.std.specs.Prelude.{◌≡◌, ◌≢◌, ◌↔◌, ◌<◌, Bool, true, [], length, map, None, Err, IsTrue, IsErrOf, IfOk, MatchBool};
-ghost use Rattle.std.specs.List.{range_with_len};
-ghost use Rattle.parking_lot_core.specs.Threaded.{IsCallableForOne, IsUnparkOfOne, AreCallableForFilter, IsUnparkByFilter, AreCallableForRequeue, IsRequeueByChoice};
+ghost use Rattle.std.specs.Prelude.{◌≡◌, ◌≢◌, List, [], true, Err, IfOk, None};
+ghost use Rattle.std.specs.Option.{is_some};
+ghost use Rattle.lot_base.specs.NodeFields.{NodeFields};
+ghost use Rattle.lot_base.specs.Waiting.{result_of, split_first};
+ghost use Rattle.lot_exclusive.specs.Records.{times_recorded};
+ghost use Rattle.lot_history.specs.Witness.{Extends, IsStill};
+ghost use Rattle.lot_history.specs.declared.history.Witness.{Witness};
+ghost use Rattle.parking_lot_core.specs.Filters.{AreCallable, Unparks};
+ghost use Rattle.parking_lot_core.specs.Members.{Begins, IsDataOf, IsListed, IsParked, Stays, member_of};
+ghost use Rattle.parking_lot_core.specs.Requeues.{MayRequeue, Requeues};
 
-mod buckets;
-mod handles;
-mod sections;
-mod threads;
-
-use buckets::Buckets;
+use crate::parker::ThreadParkerT;
+pub use crate::shared_lot::ParkingLot;
 use lot_base::queue::Node;
-use lot_base::thread_parker::ThreadParkerT;
+use lot_base::thread_parker::ParkerT;
 use lot_base::token::{
     FilterOp, LotError, NoMemory, ParkResult, ParkToken, RequeueOp, UnparkResult, UnparkToken,
 };
 use lot_exclusive::records::Records;
-use lot_exclusive::table::MAX_THREADS;
+use lot_exclusive::schedule::{Answer, Op, Step};
+use lot_history::history::{Part, Witness};
 use std::alloc::Global;
 use std::marker::Model;
+use std::mem;
 use std::sync::Wait;
 use std::time::{Clock, Instant};
-use threads::{PerThread, new_threads};
 
-/// A registered thread: its number, its node while it does not wait, and the records of what it
-/// holds, which `deadlock` changes. It belongs to the lot that gave it. With another lot's data
-/// every call is safe, and acts for whoever has that number there; a park of either with a timeout
-/// may then find the other's node, or look for its own until an unpark comes.
+/// A registered thread: its number, its node while it does not wait, the records of what it holds,
+/// and a witness of the history, in which its parks are. It belongs to the lot that gave it, which
+/// a contract asks where the two are handed in together; `Member` has both.
 ///
 /// Data that is only dropped leaves its number registered; `ParkingLot::retire` frees it.
 ///
 /// Upstream has it under this name, in a thread local, and its end deregisters the thread.
 #[derive(Drop)]
 pub struct ThreadData {
-    number: usize,
+    pub(crate) number: usize,
     node: Option<Box<Node>>,
-    pub(crate) records: Records,
+    pub(crate) keys: Records,
+    pub(crate) thread: Part,
+    pub(crate) records: Part,
+    pub(crate) witness: Witness,
 }
 
 impl Model for ThreadData {
-    ghost use Rattle.std.specs.Prelude.{◌≡◌, IsSomeAnd};
-    ghost use Rattle.lot_base.specs.Node.{fields};
-    ghost use Rattle.parking_lot_core.specs.ThreadDataState.{ThreadDataState};
+    ghost use Rattle.parking_lot_core.specs.Members.{IsThreadData, ThreadDataState};
 
     ghost Value = { ThreadDataState };
 
-    ghost view = { λ thread. record { number = thread.number; records = thread.records } };
+    ghost view = { λ thread. record {
+      number = thread.number;
+      records = thread.keys;
+      witness = thread.witness;
+    } };
 
-    ghost invariant = { λ thread. IsSomeAnd thread.node
-        (λ node. (fields node.value).number ≡ thread.number) };
+    ghost invariant = { λ own. IsThreadData own.number own.node own.keys own.thread own.records
+        own.witness };
 }
 
 impl ThreadData {
@@ -60,183 +69,129 @@ impl ThreadData {
     {
         self.number
     }
-}
 
-/// A parking lot: threads park on keys and are unparked by others, through the free functions of
-/// this module.
-///
-/// It is made for a greatest number of threads, each of which registers by `thread_data`. Each
-/// bucket has a lock of its own, and a section is what a call does under the lock of its key's
-/// bucket, or of its two keys' buckets, the one at the lower place first. In it an unpark is
-/// committed, once the thread's node lies in the slot of its parker. A section takes no other lock
-/// but parkers' own, one at a time. Registering, retiring and trimming take the lock of the
-/// numbers. A registration that lets the table grow, and a trim that makes it smaller, also take
-/// that of each bucket in turn, and with it, for each node there, that of the bucket to which the
-/// node moves; sections that meet it sleep until it is done.
-///
-/// Whoever finds a bucket locked sleeps, once it has spun in vain, and whoever meets a change of
-/// rows sleeps on the lock of the numbers first. No order is kept among callers.
-///
-/// What is proved of its calls is how their closures are called and what form their answers have;
-/// of private functions, that a node that was taken goes to no parker but its thread's, and that of
-/// those whose number is below `max_threads` at least eight handles, or all where fewer were taken,
-/// are kept for the wakes. Which threads wait and are unparked, that each gets its node and token
-/// and wakes, and which numbers are given, is shown by tests.
-///
-/// Upstream has one lot for the process, in statics.
-#[derive(Drop)]
-pub struct ParkingLot<P: ThreadParkerT> {
-    buckets: Buckets,
-    threads: Vec<PerThread<P>>,
-}
-
-impl<P: ThreadParkerT> Model for ParkingLot<P> {
-    ghost use Rattle.std.specs.Prelude.{◌≡◌, length, map};
-    ghost use Rattle.std.specs.List.{range_with_len};
-    ghost use Rattle.parking_lot_core.specs.ParkingLotState.{ParkingLotState};
-
-    ghost Value = { ParkingLotState };
-
-    ghost view = { λ lot. record { max_threads = length lot.threads.items } };
-
-    ghost invariant = { λ lot. map (λ thread. P.owner thread.parker) lot.threads.items
-        ≡ range_with_len 0 (length lot.threads.items) };
+    /// How often the thread has recorded the key. It visits the records.
+    ///
+    /// Upstream keeps them to itself.
+    pub fn records(&self, key: usize) -> usize
+        ensures { result ≡ times_recorded self.now.records key }
+    {
+        self.keys.times(key)
+    }
 }
 
 impl<P: ThreadParkerT> ParkingLot<P> {
-    /// A lot for at most this many threads, none of which is registered.
+    /// Registers a thread under the least free number. Its witness begins with that step.
     ///
-    /// It allocates 16 buckets, and a parker, a key word and a node for each number.
-    ///
-    /// # Errors
-    ///
-    /// `TooManyThreads` exactly if there are more than `MAX_THREADS`, and else `NoMemory` if memory
-    /// cannot be had. Nothing was made then.
-    pub fn new(alloc: Global, max_threads: usize) -> Result<ParkingLot<P>, LotError>
-        ensures too_many { IsErrOf result LotError.TooManyThreads ↔ (MAX_THREADS < max_threads) }
-        ensures not_full { result ≢ Err LotError.Full }
-        ensures ok { IfOk result (λ lot. lot.max_threads ≡ max_threads) }
-    {
-        let buckets = Buckets::new(alloc, max_threads)?;
-        let threads = new_threads(alloc, max_threads)?;
-        Ok(ParkingLot { buckets, threads })
-    }
-
-    /// The greatest number of threads. Every number is below it.
-    pub fn max_threads(&self) -> usize
-        ensures { result ≡ self.now.max_threads }
-    {
-        self.threads.len()
-    }
-
-    /// Whether the data's number is one of this lot's, so that its thread may park here. It tells
-    /// nothing of which lot the data came from.
-    pub fn accepts(&self, thread_data: &ThreadData) -> bool
-        ensures { IsTrue result ↔ (thread_data.now.number < self.now.max_threads) }
-    {
-        thread_data.number < self.threads.len()
-    }
-
-    /// Registers a thread under the least free number. It has no records.
-    ///
-    /// It takes the lock of the numbers, looks for a free one, and lets the table grow, if it has
-    /// to, with that lock held. Growth allocates the larger row of buckets, by three requests for
-    /// each and one for the row, if the table never had so many. It waits for each section of the
-    /// old buckets in turn, and sections that come meanwhile sleep until it is done. The thread's
-    /// node was made with the lot, so it parks without asking for memory. A section must not call
-    /// this.
+    /// It takes the lock of the numbers. It begins behind the number that was registered last, or at
+    /// the least one that was released since, and passes over numbers up to the one that it takes.
+    /// The thread's node was made with the lot. Where the table would have less than three buckets
+    /// for each thread, it puts the row of twice the size in use first, which adds nothing to the
+    /// history: it asks for the memory of that row if it was not needed before, then visits every
+    /// bucket and every waiting thread, and other calls wait for it. A section must not call it.
     ///
     /// Upstream registers a thread with its first use, by `ThreadData::new`, which grows the table.
     ///
     /// # Errors
     ///
     /// `Full` if the greatest number of threads is registered, which is tested first, and else
-    /// `NoMemory` if memory cannot be had. No number was given then; the lot may keep the buckets
-    /// of a larger table for the next time.
+    /// `NoMemory` if memory cannot be had. No number was given then.
     pub fn thread_data<R: Wait>(&self, rt: &R, alloc: Global) -> Result<ThreadData, LotError>
         ensures not_too_many { result ≢ Err LotError.TooManyThreads }
-        ensures number { IfOk result (λ thread. thread.number < self.now.max_threads) }
+        ensures own { IfOk result (IsDataOf self.now) }
         ensures records { IfOk result (λ thread. thread.records ≡ []) }
+        ensures registered { IfOk result (λ thread.
+            Begins self.now Step.Register (Answer.Registered thread.number) thread.witness) }
     {
-        let node = self.buckets.register(rt, alloc, self.threads.len())?;
+        let (mut witness, node) = self.register(rt, alloc)?;
+        let Some(node) = node else {
+            return Err(LotError::Full);
+        };
+        let thread = self.history().give(&mut witness);
+        let records = self.history().give(&mut witness);
         Ok(ThreadData {
             number: node.number,
             node: Some(node),
-            records: Records::new(alloc),
+            keys: Records::new(alloc),
+            thread,
+            records,
+            witness,
         })
     }
 
-    /// Makes the table smaller, if it has more buckets than the threads that are registered need:
-    /// than the next power of two of three for each, counted as three threads where there are
-    /// fewer. Every waiting thread keeps its place in the queue of its key.
+    /// Ends the registration of the thread, whose number may be given to another thread then, and
+    /// gives back its witness, whose last event that is. Others hear it by `Member::hear_witness`.
     ///
-    /// Any thread may call it that is not in a section. It takes the lock of the numbers, and where
-    /// the table is too large does with that lock held what a growth does. It gives no memory back:
-    /// the rows of all sizes that were ever in use stay to the lot's end, since a section may still
-    /// look at one, and a growth finds its row there again. What becomes cheaper is the walk of the
-    /// next change, and calls on many keys, which touch fewer buckets. Upstream has no such call.
+    /// It takes the lock of the numbers and asks for no memory. The lot keeps the thread's node for
+    /// whoever has the number next. A section must not call it.
     ///
-    /// # Errors
-    ///
-    /// `NoMemory` if the table never had so few buckets and memory for them cannot be had. Nothing
-    /// changed then. It does not come, since a table has grown through all smaller sizes, but no
-    /// contract says so.
-    pub fn trim<R: Wait>(&self, rt: &R, alloc: Global) -> Result<(), NoMemory> {
-        self.buckets.trim(rt, alloc)
-    }
-
-    /// Frees the thread's number, takes its node back, and drops its records. It takes the lock of
-    /// the numbers, and allocates nothing. A section must not call it. With another lot's data it
-    /// frees whoever has that number here, and nobody where it is not below `max_threads`.
-    ///
-    /// Upstream counts one thread less as its data is dropped.
-    pub fn retire<R: Wait>(&self, rt: &R, data: ThreadData) {
+    /// Upstream does this as the thread's local data is dropped.
+    pub fn retire<R: Wait>(&self, rt: &R, thread_data: ThreadData) -> Witness
+        requires own { IsDataOf self.now thread_data }
+        ensures still { IsStill self.now thread_data.witness result }
+        ensures retired { Extends self.now thread_data.witness
+            (Step.Retire thread_data.number) Answer.Retired result }
+    {
+        let ThreadData {
+            number: _,
+            node,
+            keys: _keys,
+            thread,
+            records,
+            mut witness,
+        } = thread_data;
         // The data of a thread that does not wait has its node: its type keeps that.
-        self.buckets.release(rt, data.node.unwrap());
+        self.release(rt, &mut witness, node.unwrap(), thread, records);
+        witness
     }
 
-    /// The numbers of the threads that waited on the key while its bucket was locked, in order.
+    /// The numbers of the threads that stand in the list of the key, in order, in the machine to
+    /// which the history leads that a new witness sees in the section of the key's bucket.
     ///
-    /// It is one section with one `Bucket::list`, which asks for memory with the bucket locked. A
-    /// section must not call it.
+    /// It asks for memory with the bucket locked, again whenever the list has to grow. A section
+    /// must not call it. Upstream has no such call.
     ///
     /// # Errors
     ///
     /// `NoMemory` if memory for the list cannot be had. The empty list needs none.
-    pub fn list<R: Wait>(&self, rt: &R, alloc: Global, key: usize) -> Result<Vec<usize>, NoMemory> {
-        self.list_in_section(rt, alloc, key)
+    pub fn list<R: Wait>(&self, rt: &R, alloc: Global, key: usize) -> Result<Vec<usize>, NoMemory>
+        ensures { (old new : Witness) × IsListed self.now key old new result }
+    {
+        let mut me = self.history().witness();
+        self.list_in_section(rt, alloc, &mut me, key)
+    }
+
+    /// Makes the table smaller, as `Member::trim` does.
+    ///
+    /// Upstream's table never becomes smaller.
+    pub fn trim<R: Wait>(&self, rt: &R)
+        ensures { (old new : Witness) × Extends self.now old Step.Trim Answer.Trimmed new }
+    {
+        let mut me = self.history().witness();
+        self.trim_and_tell(rt, &mut me);
     }
 }
 
-/// Parks the thread of this data in the queue of the key, until another thread unparks it. The
-/// data's number is below the lot's greatest number of threads.
+/// Parks the thread of this data in the list of the key, until another thread unparks it. The data
+/// is that of a thread of this lot.
 ///
 /// `validate` is called once, in the section of the key's bucket. If it answers false, the answer
-/// is `Invalid` and nothing else is called. If it answers true, the thread stands last in the
-/// queue, the section ends, `before_sleep` is called once with no lock held, and the thread sleeps
-/// until its unpark was committed. The answer is `Unparked` with the token that the other thread
-/// gave.
+/// is `Invalid` and nothing else is called. If it answers true, the thread stands last in the list,
+/// the section ends, `before_sleep` is called once with no lock held, and the thread sleeps until
+/// its unpark was committed. The answer is `Unparked` with the token that the other thread gave.
 ///
 /// With a timeout the thread waits no longer than until that instant; a clock that cannot be read
-/// counts as past it. Then, in a section of the key's bucket, the thread leaves its queue and
-/// `timed_out` is called once, with the key that the thread waited on last, to which a requeue may
-/// have moved it, and with whether no other thread waits on that key; the answer is `TimedOut`. If
-/// an unpark of the thread was committed before that section, `timed_out` is not called, and the
-/// answer is `Unparked`.
+/// counts as past it. Then, in a section of its list's bucket, the thread leaves the list in which
+/// it stands and `timed_out` is called once, with the key of that list, which is another where the
+/// thread was requeued, and with whether no other thread waits on it; the answer is `TimedOut`. If
+/// an unpark took the thread before that section, `timed_out` is not called, and the answer is
+/// `Unparked`.
 ///
-/// The park token is what a filter sees of the thread.
+/// The park token is what a filter sees of the thread. `validate` and `timed_out` must not call the
+/// lot, nor wait for a thread that does. `before_sleep` may make any call of the lot, `park` with
+/// other data. It allocates nothing.
 ///
-/// What the other thread did before its unpark is seen once this answers `Unparked`, and what a
-/// section did by the next section of that bucket: every step on a shared word is `SeqCst`.
-///
-/// It is one section with one `Bucket::enter`, and after a deadline one more, or more where
-/// requeues move the thread meanwhile; in it it looks at the parker, and does one `Bucket::remove`
-/// unless it was unparked. Between them it takes the parker's lock alone. It is never refused and
-/// allocates nothing. `validate` and `timed_out` must not call the lot, nor wait for a thread that
-/// does. `before_sleep` may make any call of the lot, `park` with other data.
-///
-/// Upstream has it under this name. There the lot and the thread's data are found, not handed in,
-/// and any number that the caller has no right to is unsafe as a key; here it is only unwise.
+/// Upstream has it under this name. There the lot and the thread's data are found, not handed in.
 pub fn park<
     P: ThreadParkerT,
     R: Wait + Clock,
@@ -254,58 +209,42 @@ pub fn park<
     park_token: ParkToken,
     timeout: Option<Instant>,
 ) -> ParkResult
-    requires number { thread_data.old.number < lot.now.max_threads }
+    requires own { IsDataOf lot.now thread_data.old }
     requires validate { V.pre validate }
     requires before_sleep { V.post validate true → B.pre before_sleep }
     requires timed_out { V.post validate true → timeout ≢ None
         → (key last : _) → T.pre timed_out key last }
 
-    ensures asked { (valid : Bool) × V.post validate valid
-        × MatchBool valid ((result ≢ ParkResult.Invalid) × B.post before_sleep tt)
-        (result ≡ ParkResult.Invalid) }
-    ensures timed_out { result ≡ ParkResult.TimedOut
-        → (timeout ≢ None) × (key : _) × (last : _) × T.post timed_out key last tt }
-    ensures number { thread_data.new ≡ thread_data.old }
+    ensures stays { Stays (member_of lot.now thread_data.old) (member_of lot.now thread_data.new) }
+    ensures parked { IsParked (λ valid. V.post validate valid) (B.post before_sleep tt)
+        (λ left last. T.post timed_out left last tt) (member_of lot.now thread_data.old) key
+        park_token (is_some timeout) result (member_of lot.now thread_data.new) }
 {
     let number = thread_data.number;
-    let parker = lot.parker(number);
     // The data of a thread that does not wait has its node: its type keeps that.
     let mut node = thread_data.node.take().unwrap();
     node.prepare(key, park_token, timeout.is_some());
+    let thread = mem::replace(&mut thread_data.thread, Part::none());
+    let me = &mut thread_data.witness;
 
     // Queue: validate and enter in one section.
-    parker.prepare_park();
-    if let Err(node) = lot.enter(rt, node, validate) {
+    lot.parker(number).prepare_park();
+    if let Err((thread, node)) = lot.enter(rt, me, thread, node, validate) {
+        thread_data.thread = thread;
         thread_data.node = Some(node);
         return ParkResult::Invalid;
     }
 
-    // Sleep: until an unpark of this thread was committed, or until the deadline.
+    // Sleep, and a second look after the deadline.
     before_sleep();
-    let unparked = match timeout {
-        None => Some(parker.park(rt)),
-        Some(timeout) => parker.park_until(rt, timeout),
-    };
-
-    // Second look: whoever was not unparked in time leaves its queue.
-    let (result, node) = match unparked {
-        Some((node, _)) => (ParkResult::Unparked(node.unpark_token), node),
-        None => lot.leave(rt, number, timed_out),
-    };
+    let (result, thread, node) = lot.wait(rt, me, number, timed_out, timeout);
+    thread_data.thread = thread;
     thread_data.node = Some(node);
     result
 }
 
-/// Unparks the first thread in the queue of the key, if there is one, and hands it the token that
-/// `callback` answers.
-///
-/// `callback` is called once, in the section of the key's bucket, with the result that is answered
-/// too: `(1, 0, more)`, where `more` says whether the key has another waiter, or `(0, 0, false)`
-/// where nobody waits. What it answers then is ignored.
-///
-/// It is one section with one `Bucket::take_one`, in which the unpark is committed; the thread is
-/// woken after it. It is never refused and allocates nothing. `callback` must not call the lot, nor
-/// wait for a thread that does.
+/// Unparks the first thread in the list of the key, as `Member::unpark_one` does, by a new witness:
+/// the answer is one that a history of the lot gives.
 ///
 /// Upstream has it under this name.
 pub fn unpark_one<P: ThreadParkerT, R: Wait, C: FnOnce(UnparkResult) -> UnparkToken>(
@@ -314,66 +253,47 @@ pub fn unpark_one<P: ThreadParkerT, R: Wait, C: FnOnce(UnparkResult) -> UnparkTo
     key: usize,
     callback: C,
 ) -> UnparkResult
-    requires { IsCallableForOne C.FnOnce callback }
-
-    ensures { IsUnparkOfOne C.FnOnce callback result }
+    requires callable { (waiters : List NodeFields)
+        → C.pre callback (result_of (split_first waiters)) }
+    ensures { (old new : Witness) × (token : UnparkToken) × C.post callback result token
+        × Extends lot.now old (Step.Unpark (Op.One key token)) (Answer.Unpark result) new }
 {
-    let (result, handle) = lot.take_one(rt, key, callback);
-    if let Some(handle) = handle {
-        lot.wake(handle);
-    }
-    result
+    let mut me = lot.history().witness();
+    lot.unpark_one(rt, &mut me, key, callback)
 }
 
-/// Unparks all threads in the queue of the key, in order, hands each the token, and answers how
-/// many there were.
+/// Unparks all threads in the list of the key, as `Member::unpark_all` does, by a new witness.
 ///
-/// It is one section with one `Bucket::take_all`, in which each unpark is committed. The first
-/// eight threads are woken after the section, and any others before, with the bucket locked. It is
-/// never refused and allocates nothing. What it answers is shown by tests: no contract tells how
-/// many waited.
-///
-/// Upstream has it under this name, and keeps the handles of more than eight threads in memory that
-/// it asks for.
+/// Upstream has it under this name.
 pub fn unpark_all<P: ThreadParkerT, R: Wait>(
     rt: &R,
     lot: &ParkingLot<P>,
     key: usize,
     unpark_token: UnparkToken,
-) -> usize {
-    let (count, handles) = lot.take_all(rt, key, unpark_token);
-    lot.wake_all(handles);
-    count
+) -> usize
+    ensures { (old new : Witness) × Extends lot.now old
+        (Step.Unpark (Op.All key unpark_token)) (Answer.Count result) new }
+{
+    let mut me = lot.history().witness();
+    lot.unpark_all(rt, &mut me, key, unpark_token)
 }
 
-/// Unparks those threads in the queue of the key that the filter chooses, in order, and hands each
-/// the token that `callback` answers.
+/// Unparks those threads in the list of the key that the filter unparks, as `Member::unpark_filter`
+/// does, by a new witness.
 ///
-/// In the section of the key's bucket, `filter` is called with the park token of each thread in
-/// order, until it answers `Stop`; that one and all behind it stay. Then `callback` is called once
-/// with the result that is answered too: how many were unparked, 0, and whether a thread of the key
-/// is left. What it answers where none was unparked is ignored.
-///
-/// It is one section with one `Bucket::take_filter`, in which each unpark is committed. The first
-/// eight threads are woken after the section, and any others before, with the bucket locked. It is
-/// never refused and allocates nothing. Neither closure may call the lot, nor wait for a thread
-/// that does.
-///
-/// Upstream has it under this name, and keeps the handles of more than eight threads in memory that
-/// it asks for.
+/// Upstream has it under this name.
 pub fn unpark_filter<
     P: ThreadParkerT,
     R: Wait,
     F: FnMut(ParkToken) -> FilterOp,
     C: FnOnce(UnparkResult) -> UnparkToken,
 >(rt: &R, lot: &ParkingLot<P>, key: usize, filter: F, callback: C) -> UnparkResult
-    requires { AreCallableForFilter F.FnMut C.FnOnce filter callback }
-
-    ensures { IsUnparkByFilter F.FnMut C.FnOnce filter callback result }
+    requires callable { AreCallable F.FnMut C.FnOnce filter callback }
+    ensures { (old new : Witness)
+        × Unparks F.FnMut C.FnOnce filter callback key lot.now old result new }
 {
-    let (result, handles) = lot.take_filter(rt, key, filter, callback);
-    lot.wake_all(handles);
-    result
+    let mut me = lot.history().witness();
+    lot.unpark_filter(rt, &mut me, key, filter, callback)
 }
 
 /// Does what `unpark_filter` does, for closures that may be called at any time, as those without
@@ -388,25 +308,14 @@ pub fn unpark_chosen<
 >(rt: &R, lot: &ParkingLot<P>, key: usize, filter: F, callback: C) -> UnparkResult
     requires filter { (state : F) (park_token : _) → F.pre state park_token }
     requires callback { (answer : _) → C.pre callback answer }
-
-    ensures { IsUnparkByFilter F.FnMut C.FnOnce filter callback result }
+    ensures { (old new : Witness)
+        × Unparks F.FnMut C.FnOnce filter callback key lot.now old result new }
 {
     unpark_filter(rt, lot, key, filter, callback)
 }
 
-/// Unparks or requeues threads in the queue of the key `key_from` onto that of `key_to`, as
-/// `validate` chooses. The keys may be equal.
-///
-/// In the section of both keys' buckets, `validate` is called first, once. If it aborts, nothing
-/// changes, `callback` is not called, and the answer is the default result. Otherwise `callback` is
-/// called once with the operation and the result that is answered too, also where nobody waits; a
-/// thread that is unparked is handed the token that it answers. Requeued threads stand behind those
-/// in the queue of `key_to`, in order.
-///
-/// It is one section with one `Bucket::requeue_one` or `requeue_two`, in which the unpark is
-/// committed; the thread is woken after it. Two buckets are locked the lower place first, one is
-/// locked once. It is never refused and allocates nothing. Neither closure may call the lot, nor
-/// wait for a thread that does.
+/// Unparks or requeues threads in the list of the key `key_from` onto that of `key_to`, as
+/// `Member::unpark_requeue` does, by a new witness.
 ///
 /// Upstream has it under this name.
 pub fn unpark_requeue<
@@ -422,13 +331,10 @@ pub fn unpark_requeue<
     validate: V,
     callback: C,
 ) -> UnparkResult
-    requires { AreCallableForRequeue V.FnOnce C.FnOnce validate callback }
-
-    ensures { IsRequeueByChoice V.FnOnce C.FnOnce validate callback result }
+    requires callable { MayRequeue V.FnOnce C.FnOnce validate callback }
+    ensures { (old new : Witness) × Requeues V.FnOnce C.FnOnce validate callback key_from key_to
+        lot.now old result new }
 {
-    let (result, handle) = lot.requeue(rt, key_from, key_to, validate, callback);
-    if let Some(handle) = handle {
-        lot.wake(handle);
-    }
-    result
+    let mut me = lot.history().witness();
+    lot.unpark_requeue(rt, &mut me, key_from, key_to, validate, callback)
 }

@@ -2,12 +2,11 @@
 
 use crate::expect_equal;
 use crate::scene::{Count, Scene, far};
-use lot_base::thread_parker::WordParker;
 use lot_sync::barrier::Barrier;
 use lot_sync::mutex::{Condvar, Mutex, WaitResult};
 use lot_sync::once::Once;
 use lot_sync::rw_lock::RwLock;
-use parking_lot_core::Member;
+use parking_lot_core::{Member, WordParker};
 use std::alloc::Global;
 use std::process::Abort;
 use std::sync::Wait;

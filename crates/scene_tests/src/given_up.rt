@@ -1,11 +1,10 @@
 //! Threads that give up waiting for a lock, beside others that do not.
 
 use crate::scene::{Count, Scene, all_go_well, far, soon};
-use lot_base::thread_parker::WordParker;
 use lot_sync::mutex::{Held, Mutex};
 use lot_sync::rw_lock::{ReadHeld, RwLock, WriteHeld};
 use lot_sync::semaphore::{Permit, Semaphore};
-use parking_lot_core::Member;
+use parking_lot_core::{Member, WordParker};
 use std::alloc::Global;
 use std::process::Abort;
 use std::sync::Wait;

@@ -3,9 +3,10 @@
 ghost use Rattle.std.specs.Prelude.{◌<◌, length};
 
 use crate::expect_equal;
-use lot_base::thread_parker::WordParker;
 use lot_sync::fits::Fits;
-use parking_lot_core::{DEFAULT_UNPARK_TOKEN, FilterOp, Member, ParkingLot, unpark_chosen};
+use parking_lot_core::{
+    DEFAULT_UNPARK_TOKEN, FilterOp, Member, ParkingLot, WordParker, unpark_chosen,
+};
 use std::alloc::Global;
 use std::fmt::Debug;
 use std::process::Abort;

@@ -1,9 +1,8 @@
 //! A barrier: one thread alone, and four threads round after round.
 
 use crate::{expect_equal, lot_for, register};
-use lot_base::thread_parker::{ThreadParker, ThreadParkerT, WordParker, YieldParker};
 use lot_sync::barrier::Barrier;
-use parking_lot_core::ParkingLot;
+use parking_lot_core::{ParkingLot, ThreadParker, ThreadParkerT, WordParker, YieldParker};
 use std::alloc::Global;
 use std::process::Abort;
 use std::sync::Wait;

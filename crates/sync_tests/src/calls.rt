@@ -4,14 +4,13 @@ ghost use Rattle.std.specs.Prelude.{◌≡◌, IfSome};
 
 use crate::pair::Pair;
 use crate::{expect_equal, lot_for, now, register};
-use lot_base::thread_parker::WordParker;
 use lot_sync::keys::Keys;
 use lot_sync::mutex::{Condvar, Held, Mutex, WaitResult};
 use lot_sync::once::Once;
 use lot_sync::rw_lock::{ReadHeld, RwLock, WriteHeld};
 use parking_lot_core::{
     DEFAULT_PARK_TOKEN, FilterOp, Member, ParkResult, ParkToken, ParkingLot, UnparkToken,
-    unpark_chosen,
+    WordParker, unpark_chosen,
 };
 use std::cell::Cell;
 use std::process::Abort;

@@ -1,10 +1,9 @@
 //! Two producers and two consumers, who wait for each other by two condition variables.
 
 use crate::{expect_equal, register};
-use lot_base::thread_parker::{ThreadParker, ThreadParkerT, WordParker, YieldParker};
 use lot_sync::fits::Fits;
 use lot_sync::mutex::{Condvar, Mutex};
-use parking_lot_core::{Member, ParkingLot};
+use parking_lot_core::{Member, ParkingLot, ThreadParker, ThreadParkerT, WordParker, YieldParker};
 use std::alloc::Global;
 use std::process::Abort;
 use std::sync::Wait;

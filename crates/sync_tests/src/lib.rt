@@ -23,9 +23,10 @@ mod semaphore;
 mod woken;
 
 #[cfg(test)]
-use lot_base::thread_parker::{ThreadParkerT, WordParker};
 #[cfg(test)]
-use parking_lot_core::{DEFAULT_UNPARK_TOKEN, FilterOp, Member, ParkingLot, unpark_chosen};
+use parking_lot_core::{
+    DEFAULT_UNPARK_TOKEN, FilterOp, Member, ParkingLot, ThreadParkerT, WordParker, unpark_chosen,
+};
 #[cfg(test)]
 use std::alloc::Global;
 #[cfg(test)]

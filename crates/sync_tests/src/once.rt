@@ -1,10 +1,9 @@
 //! What is done once, and a cell that is filled once, by four threads.
 
 use crate::{expect_equal, register};
-use lot_base::thread_parker::{ThreadParker, ThreadParkerT, WordParker, YieldParker};
 use lot_sync::fits::Fits;
 use lot_sync::once::{Once, OnceValue};
-use parking_lot_core::ParkingLot;
+use parking_lot_core::{ParkingLot, ThreadParker, ThreadParkerT, WordParker, YieldParker};
 use std::alloc::Global;
 use std::process::Abort;
 use std::sync::Wait;

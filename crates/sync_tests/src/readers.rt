@@ -2,9 +2,8 @@
 
 use crate::pair::Pair;
 use crate::{expect_equal, register};
-use lot_base::thread_parker::{ThreadParker, ThreadParkerT, WordParker, YieldParker};
 use lot_sync::rw_lock::RwLock;
-use parking_lot_core::ParkingLot;
+use parking_lot_core::{ParkingLot, ThreadParker, ThreadParkerT, WordParker, YieldParker};
 use std::alloc::Global;
 use std::process::Abort;
 use std::sync::Wait;

@@ -1,9 +1,8 @@
 //! A semaphore: each call by one thread, and four threads on two permits.
 
 use crate::{expect_equal, lot_for, now, register};
-use lot_base::thread_parker::{ThreadParker, ThreadParkerT, WordParker, YieldParker};
 use lot_sync::semaphore::Semaphore;
-use parking_lot_core::{Member, ParkingLot};
+use parking_lot_core::{Member, ParkingLot, ThreadParker, ThreadParkerT, WordParker, YieldParker};
 use std::alloc::Global;
 use std::process::Abort;
 use std::sync::Wait;

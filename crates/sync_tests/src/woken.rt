@@ -8,12 +8,13 @@ use crate::calls::{expect_held, expect_no_reader, expect_no_writer};
 use crate::pair::Pair;
 use crate::semaphore::expect_none_free;
 use crate::{expect_equal, lot_for, now, queue, register};
-use lot_base::thread_parker::WordParker;
 use lot_sync::barrier::Barrier;
 use lot_sync::mutex::Mutex;
 use lot_sync::rw_lock::RwLock;
 use lot_sync::semaphore::Semaphore;
-use parking_lot_core::{DEFAULT_UNPARK_TOKEN, Member, ParkToken, ParkingLot, unpark_all};
+use parking_lot_core::{
+    DEFAULT_UNPARK_TOKEN, Member, ParkToken, ParkingLot, WordParker, unpark_all,
+};
 use std::alloc::Global;
 use std::process::Abort;
 use std::sync::Wait;

@@ -7,13 +7,13 @@ mod together;
 
 use crate::expect_equal;
 use calls::{new_lot, park_then, register, requeue, unpark_first, unpark_others};
-use lot_base::thread_parker::{ThreadParker, ThreadParkerT, WordParker, YieldParker};
 use lot_base::token::{
     DEFAULT_PARK_TOKEN, DEFAULT_UNPARK_TOKEN, FilterOp, LotError, NoMemory, ParkResult, ParkToken,
     RequeueOp, UnparkResult, UnparkToken,
 };
 use parking_lot_core::{
-    ParkingLot, ThreadData, park, unpark_all, unpark_filter, unpark_one, unpark_requeue,
+    ParkingLot, ThreadData, ThreadParker, ThreadParkerT, WordParker, YieldParker, park, unpark_all,
+    unpark_filter, unpark_one, unpark_requeue,
 };
 use std::alloc::Global;
 use std::process::Abort;

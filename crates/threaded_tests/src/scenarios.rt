@@ -1,7 +1,7 @@
 //! The program's scenarios, each with every parker, and those of latches also without a delay.
 
-use lot_base::thread_parker::{ThreadParker, WordParker, YieldParker};
 use lot_scenarios::{Plan, Scenario};
+use parking_lot_core::{ThreadParker, WordParker, YieldParker};
 use std::alloc::Global;
 use std::process::Abort;
 use std::sync::Wait;

@@ -8,7 +8,7 @@ use Rattle.lot_history.specs.declared.history.History.{History}
 use Rattle.lot_history.specs.declared.view.View.{View}
 use Rattle.lot_history.specs.Tells.{Extends}
 use Rattle.lot_history.specs.Witness.{Looks, max_threads_of, number_of, view_of}
-use Rattle.lot_witnessed.specs.Members.{ComesBack, MemberState, Stays}
+use Rattle.parking_lot_core.specs.Members.{ComesBack, MemberState, Stays}
 use Rattle.uses.specs.HandsOver.{HandsOver, HandsOverAndSees}
 
 -- who came back did so also where another has heard it

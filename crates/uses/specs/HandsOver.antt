@@ -6,7 +6,7 @@ use Rattle.lot_exclusive.specs.declared.schedule.Answer.TheVariants as answer
 use Rattle.lot_exclusive.specs.declared.schedule.Op.TheVariants.{One}
 use Rattle.lot_exclusive.specs.declared.schedule.Step.TheVariants.{Unpark}
 use Rattle.lot_history.specs.Witness.{Looks}
-use Rattle.lot_witnessed.specs.Members.{Makes, MemberState, Stays}
+use Rattle.parking_lot_core.specs.Members.{Makes, MemberState, Stays}
 
 -- it unparked the first thread of the key, if there was one, with the token
 abbrev pub HandsOver : MemberState → ℕ → UnparkToken → MemberState → Type 0

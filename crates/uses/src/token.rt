@@ -3,14 +3,12 @@
 ghost use Rattle.std.specs.Prelude.{◌≡◌, false};
 ghost use mathlib.Core.List.{IsPrefix};
 ghost use Rattle.lot_history.specs.Witness.{id_of, seen_by};
-ghost use Rattle.lot_witnessed.specs.Laws.{WasHandedOver};
-ghost use Rattle.lot_witnessed.specs.Members.{ComesBack, Stays};
+ghost use Rattle.parking_lot_core.specs.Laws.{WasHandedOver};
+ghost use Rattle.parking_lot_core.specs.Members.{ComesBack, Stays};
 ghost use Rattle.uses.specs.HandsOver.{HandsOver, HandsOverAndSees};
 
 use lot_base::token::{DEFAULT_PARK_TOKEN, ParkResult, UnparkToken};
-use lot_witnessed::laws::parks_get_tokens_of_unparks;
-use lot_witnessed::member::Member;
-use lot_witnessed::parker::ThreadParkerT;
+use parking_lot_core::{Member, ThreadParkerT, parks_get_tokens_of_unparks};
 use std::sync::Wait;
 use std::sync::atomic::{AtomicBool, Ordering};
 use std::thread;

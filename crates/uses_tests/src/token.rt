@@ -1,9 +1,7 @@
 //! Tests of a token that goes from one thread to another.
 
 use lot_base::token::{LotError, UnparkToken};
-use lot_witnessed::lot::Lot;
-use lot_witnessed::member::Member;
-use lot_witnessed::parker::WordParker;
+use parking_lot_core::{Member, ParkingLot, WordParker};
 use uses::token::pass_token;
 
 const KEY: usize = 7;

@@ -1,11 +1,11 @@
 //! A condition variable for threads.
 
-ghost use Rattle.std.specs.Prelude.{◌≡◌, ◌≢◌, ◌<◌};
+ghost use Rattle.std.specs.Prelude.{◌≡◌, ◌≢◌};
+ghost use Rattle.parking_lot_core.specs.Members.{IsDataOf, Stays, member_of};
 
 use super::mutex::FairMutex;
-use lot_base::thread_parker::ThreadParkerT;
 use lot_base::token::{DEFAULT_PARK_TOKEN, DEFAULT_UNPARK_TOKEN, RequeueOp, UnparkResult};
-use parking_lot_core::{ParkingLot, ThreadData, park, unpark_requeue};
+use parking_lot_core::{ParkingLot, ThreadData, ThreadParkerT, park, unpark_requeue};
 use std::marker::Model;
 use std::sync::Wait;
 use std::time::Clock;
@@ -49,8 +49,8 @@ impl FairCondvar {
     }
 
     /// Sleeps until a notify has moved the thread to the mutex and that was handed over. Only the
-    /// mutex's holder may call it, and holds the mutex again afterwards. The data's number is below
-    /// the lot's greatest number of threads.
+    /// mutex's holder may call it, and holds the mutex again afterwards. The data is that of a
+    /// thread of the lot.
     ///
     /// The thread stands on the key before it unlocks the mutex, so no notify of a later holder
     /// misses it. It is one `park`, which calls `FairMutex::unlock` before it sleeps.
@@ -62,9 +62,10 @@ impl FairCondvar {
         thread_data: &mut ThreadData,
     )
         requires keys { self.now.key ≢ mutex.now.key }
-        requires number { thread_data.old.number < lot.now.max_threads }
+        requires own { IsDataOf lot.now thread_data.old }
 
-        ensures number { thread_data.new ≡ thread_data.old }
+        ensures stays { Stays (member_of lot.now thread_data.old)
+            (member_of lot.now thread_data.new) }
     {
         park(
             rt,

@@ -1,10 +1,10 @@
 //! A fair mutex for threads.
 
-ghost use Rattle.std.specs.Prelude.{◌≡◌, ◌<◌};
+ghost use Rattle.std.specs.Prelude.{◌≡◌};
+ghost use Rattle.parking_lot_core.specs.Members.{IsDataOf, Stays, member_of};
 
-use lot_base::thread_parker::ThreadParkerT;
 use lot_base::token::{DEFAULT_PARK_TOKEN, DEFAULT_UNPARK_TOKEN};
-use parking_lot_core::{ParkingLot, ThreadData, park, unpark_one};
+use parking_lot_core::{ParkingLot, ThreadData, ThreadParkerT, park, unpark_one};
 use std::marker::Model;
 use std::sync::Wait;
 use std::sync::atomic::{AtomicBool, Ordering};
@@ -55,8 +55,8 @@ impl FairMutex {
         self.key
     }
 
-    /// Locks the mutex if nobody holds it, and else sleeps until it is handed over. The data's
-    /// number is below the lot's greatest number of threads.
+    /// Locks the mutex if nobody holds it, and else sleeps until it is handed over. The data is
+    /// that of a thread of the lot.
     ///
     /// It is one `park`, so it takes the lock of the key's bucket, also where nobody holds the
     /// mutex. A thread that holds it already sleeps for ever.
@@ -66,9 +66,10 @@ impl FairMutex {
         lot: &ParkingLot<P>,
         thread_data: &mut ThreadData,
     )
-        requires number { thread_data.old.number < lot.now.max_threads }
+        requires own { IsDataOf lot.now thread_data.old }
 
-        ensures number { thread_data.new ≡ thread_data.old }
+        ensures stays { Stays (member_of lot.now thread_data.old)
+            (member_of lot.now thread_data.new) }
     {
         // It answers `Invalid` if the mutex was free, and else once the mutex was handed over.
         park(

@@ -3,11 +3,10 @@
 use super::steps::Next;
 use super::{Held, Mutex};
 use crate::fits::Fits;
-use lot_base::thread_parker::ThreadParkerT;
 use lot_base::token::{
     DEFAULT_PARK_TOKEN, DEFAULT_UNPARK_TOKEN, ParkResult, RequeueOp, UnparkResult,
 };
-use parking_lot_core::{Member, ParkingLot, unpark_requeue};
+use parking_lot_core::{Member, ParkingLot, ThreadParkerT, unpark_requeue};
 use std::sync::Wait;
 use std::sync::atomic::{AtomicBool, Ordering};
 use std::time::{Clock, Instant};

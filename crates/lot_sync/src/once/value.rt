@@ -2,9 +2,8 @@
 
 use super::Once;
 use crate::fits::Fits;
-use lot_base::thread_parker::ThreadParkerT;
 use lot_base::token::NoMemory;
-use parking_lot_core::Member;
+use parking_lot_core::{Member, ThreadParkerT};
 use std::alloc::Global;
 use std::sync::{OnceLock, Wait};
 use std::time::Clock;

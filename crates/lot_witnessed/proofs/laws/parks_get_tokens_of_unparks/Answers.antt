@@ -1,5 +1,0 @@
-use Rattle.lot_witnessed.proofs.HandedLemmas.{handed_over}
-use Rattle.lot_witnessed.proofs.laws.parks_get_tokens_of_unparks.Goals as goal
-
-pub returns : goal.returns
-returns c = handed_over

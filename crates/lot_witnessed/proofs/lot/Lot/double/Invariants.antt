@@ -1,6 +1,0 @@
-use Rattle.lot_history.specs.Witness.{id_of}
-use Rattle.lot_witnessed.specs.Cells.{IsIdle}
-use Rattle.lot_witnessed.proofs.lot.Lot.double.Given as goal
-
-abbrev pub invariant-loop-place : goal.invariant-loop-place
-invariant-loop-place g l = IsIdle (id_of l.self) l.me

@@ -1,4 +1,0 @@
-pub mod Handles
-pub mod Committed
-pub mod RegistryState
-pub mod Section
