@@ -191,8 +191,8 @@ impl<'a, P: ThreadParkerT> Member<'a, P> {
     /// Unparks all threads in the list of the key, in order, hands each the token, and answers how
     /// many there were.
     ///
-    /// Each thread is woken with the bucket locked, once its unpark was committed. It allocates
-    /// nothing.
+    /// Each unpark is committed in the section. The first eight threads are woken after it, and any
+    /// others before, with the bucket locked. It allocates nothing.
     pub fn unpark_all<R: Wait>(&mut self, rt: &R, key: usize, token: UnparkToken) -> usize
         ensures stays { Stays self.old self.new }
         ensures unparked { Extends self.old.history self.old.witness
@@ -210,8 +210,9 @@ impl<'a, P: ThreadParkerT> Member<'a, P> {
     /// stay. Then `callback` is called once with the result, also where nobody waits. A count that
     /// no `usize` can hold would be `usize::MAX`.
     ///
-    /// Each thread is woken with the bucket locked, once its unpark was committed. Neither closure
-    /// may call the lot, nor wait for a thread that does. It allocates nothing.
+    /// Each unpark is committed in the section. The first eight threads are woken after it, and any
+    /// others before, with the bucket locked. Neither closure may call the lot, nor wait for a
+    /// thread that does. It allocates nothing.
     pub fn unpark_filter<
         R: Wait,
         F: FnMut(ParkToken) -> FilterOp,

@@ -191,7 +191,11 @@ impl<P: ThreadParkerT> ParkingLot<P> {
 /// lot, nor wait for a thread that does. `before_sleep` may make any call of the lot, `park` with
 /// other data. It allocates nothing.
 ///
-/// Upstream has it under this name. There the lot and the thread's data are found, not handed in.
+/// What the other thread did before its unpark is seen once this answers `Unparked`, and what a
+/// section did by the next section of that bucket: every step on a shared word is `SeqCst`.
+///
+/// Upstream has it under this name. There the lot and the thread's data are found, not handed in,
+/// and any number that the caller has no right to is unsafe as a key; here it is only unwise.
 pub fn park<
     P: ThreadParkerT,
     R: Wait + Clock,
@@ -264,7 +268,8 @@ pub fn unpark_one<P: ThreadParkerT, R: Wait, C: FnOnce(UnparkResult) -> UnparkTo
 
 /// Unparks all threads in the list of the key, as `Member::unpark_all` does, by a new witness.
 ///
-/// Upstream has it under this name.
+/// Upstream has it under this name, and keeps the handles of more than eight threads in memory that
+/// it asks for.
 pub fn unpark_all<P: ThreadParkerT, R: Wait>(
     rt: &R,
     lot: &ParkingLot<P>,
@@ -281,7 +286,8 @@ pub fn unpark_all<P: ThreadParkerT, R: Wait>(
 /// Unparks those threads in the list of the key that the filter unparks, as `Member::unpark_filter`
 /// does, by a new witness.
 ///
-/// Upstream has it under this name.
+/// Upstream has it under this name, and keeps the handles of more than eight threads in memory that
+/// it asks for.
 pub fn unpark_filter<
     P: ThreadParkerT,
     R: Wait,

@@ -21,6 +21,7 @@ ghost use Rattle.parking_lot_core.specs.Rows.{EachAt};
 
 mod growth;
 mod hand_over;
+mod handles;
 mod park;
 mod requeue;
 mod rows;
@@ -59,18 +60,23 @@ struct PerThread<P: ThreadParkerT> {
     key: AtomicUsize,
 }
 
-/// A parking lot of threads. A contract sees it as the history of its calls.
+/// A parking lot: threads park on keys and are unparked by others, through the functions of
+/// `parking_lot` or the methods of a `Member`. A contract sees it as the history of its calls.
 ///
-/// It is made for a greatest number of threads, with a row of 16 buckets. Each bucket lies behind a
-/// lock of its own with its part of the history, and a section is what a call does under the lock
-/// of its key's bucket. In it an unpark puts the thread's node into its parker, and beside it its
-/// piece of the history: then the unpark is committed.
+/// It is made for a greatest number of threads, each of which registers by `thread_data`, with a
+/// row of 16 buckets. Each bucket lies behind a lock of its own with its part of the history, and a
+/// section is what a call does under the lock of its key's bucket, or of its two keys' buckets, the
+/// one at the lower place first. In it an unpark puts the thread's node into its parker, and beside
+/// it its piece of the history: then the unpark is committed. A section takes no other lock but
+/// parkers' own, one at a time.
 ///
 /// Where there would be less than three buckets for each thread, a registration puts the row of
 /// twice the size in use, which is made if it was not needed before, and kept to the lot's end.
 /// Under the lock of the numbers it takes each bucket of the old row away from its place, one after
 /// another, and puts its nodes and its part into the two of its keys. A section that finds its
 /// bucket away waits for that lock, and looks again.
+///
+/// Whoever finds a lock taken sleeps, once it has spun in vain. No order is kept among callers.
 ///
 /// Upstream has one lot for the process, in statics.
 #[derive(Drop)]

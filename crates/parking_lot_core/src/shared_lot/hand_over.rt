@@ -1,16 +1,17 @@
 //! How the nodes that an unpark took are handed to their threads, each with a letter beside it, and
 //! how a thread takes its letter.
 
-ghost use Rattle.std.specs.Prelude.{◌≡◌, ◌∷◌, ◌<◌, ◌≤◌, [], length, map, All, IfSome};
+ghost use Rattle.std.specs.Prelude.{◌≡◌, ◌∷◌, ◌<◌, ◌≤◌, [], length, map, min, All, IfSome};
 ghost use Rattle.lot_base.specs.Node.{fields};
 ghost use Rattle.lot_exclusive.specs.declared.schedule.Answer.{Answer};
 ghost use Rattle.lot_exclusive.specs.declared.schedule.Step.{Step};
 ghost use Rattle.lot_history.specs.Witness.{Extends, IsStill, IsWitnessOf, events_of, id_of, max_threads_of, pieces_of, seen_by};
 ghost use Rattle.lot_history.specs.declared.view.Piece.TheVariants.{Thread};
 ghost use Rattle.parking_lot_core.specs.Cells.{Has, IsBelow, thread_taken, threads_in};
-ghost use Rattle.parking_lot_core.specs.Handles.{handle_numbers};
+ghost use Rattle.parking_lot_core.specs.Handles.{handle_numbers, kept_handles};
 
 use super::ParkingLot;
+use super::handles::{HANDLES, Handles, Room};
 use crate::claimed::never;
 use crate::parker::{Letter, ThreadParkerT};
 use crate::told::add_return;
@@ -22,8 +23,14 @@ use lot_history::history::{Part, Witness};
 use std::sync::Wait;
 
 impl<P: ThreadParkerT> ParkingLot<P> {
-    // Commits the unparks of all nodes that were taken, in order, and wakes their threads.
-    pub(super) fn commit<R: Wait>(&self, rt: &R, me: &mut Witness, mut taken: Queue)
+    // Commits the unparks of all nodes that were taken, in order. It wakes the threads for whose
+    // handles there is no room.
+    pub(super) fn commit<R: Wait>(
+        &self,
+        rt: &R,
+        me: &mut Witness,
+        mut taken: Queue,
+    ) -> Handles<P::UnparkHandle>
         requires witness { IsWitnessOf self.now me.old }
         requires pieces { pieces_of me.old ≡ threads_in taken }
         requires below { All (IsBelow (max_threads_of self.now)) taken }
@@ -31,12 +38,15 @@ impl<P: ThreadParkerT> ParkingLot<P> {
         ensures seen { seen_by me.new ≡ seen_by me.old }
         ensures nothing_added { events_of me.new ≡ events_of me.old }
         ensures none { pieces_of me.new ≡ [] }
+        ensures handles { min HANDLES (length taken) ≤ kept_handles result }
     {
+        let mut handles: Handles<P::UnparkHandle> = Room::empty();
         while let Some(node) = taken.pop_front() {
             let part = self.history.give(me);
             let handle = self.hand_over(rt, node, part);
-            self.wake(handle);
+            self.wake_if_any(handles.put(handle));
         }
+        handles
     }
 
     // Commits the unpark of the node that was taken, if there is one.
@@ -90,6 +100,17 @@ impl<P: ThreadParkerT> ParkingLot<P> {
     #[inline]
     pub(super) fn wake_if_any(&self, handle: Option<P::UnparkHandle>) {
         if let Some(handle) = handle {
+            self.wake(handle);
+        }
+    }
+
+    // Wakes the threads whose handles were kept.
+    pub(super) fn wake_all(&self, mut handles: Handles<P::UnparkHandle>) {
+        // There is room for no more handles.
+        for _ in 0..HANDLES {
+            let Some(handle) = handles.take() else {
+                return;
+            };
             self.wake(handle);
         }
     }

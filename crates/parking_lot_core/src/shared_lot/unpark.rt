@@ -14,6 +14,7 @@ ghost use Rattle.parking_lot_core.specs.Members.{IsListed};
 ghost use Rattle.parking_lot_core.specs.Sections.{Finds, Keeps};
 
 use super::ParkingLot;
+use super::handles::Handles;
 use crate::cell::Cell;
 use crate::parker::ThreadParkerT;
 use crate::sections::{list_in, take_all_of, take_filter_of, take_one_of};
@@ -114,24 +115,27 @@ impl<P: ThreadParkerT> ParkingLot<P> {
         ensures unparked { Extends self.now me.old (Step.Unpark (Op.All key token))
             (Answer.Count result) me.new }
     {
-        self.take_all::<Brand, R>(rt, me, key, token)
+        let (count, handles) = self.take_all::<Brand, R>(rt, me, key, token);
+        self.wake_all(handles);
+        count
     }
 
-    // The section of an unpark of all. Each thread is woken in it, once its unpark was committed.
+    // The section of an unpark of all, and handles of the first threads, which are still to be
+    // woken.
     fn take_all<E: Told, R: Wait>(
         &self,
         rt: &R,
         me: &mut Witness,
         key: usize,
         token: UnparkToken,
-    ) -> usize
+    ) -> (usize, Handles<P::UnparkHandle>)
         requires witness { IsWitnessOf self.now me.old }
         requires none { pieces_of me.old ≡ [] }
         requires said { (count : ℕ)
             → E.said (Step.Unpark (Op.All key token)) (Answer.Count count) }
         ensures still { IsStill self.now me.old me.new }
         ensures adds { Adds self.now me.old
-            (λ s a. E.said s a × (a ≡ Answer.Count result)) me.new }
+            (λ s a. E.said s a × (a ≡ Answer.Count result.0)) me.new }
         ensures none { pieces_of me.new ≡ [] }
     {
         let history = &self.history;
@@ -155,13 +159,13 @@ impl<P: ThreadParkerT> ParkingLot<P> {
                 (count, taken, me)
             },
         );
-        self.commit(rt, me, taken);
+        let handles = self.commit(rt, me, taken);
         claimed.close();
-        count
+        (count, handles)
     }
 
-    // The section of an unpark by a filter. Each thread is woken in it, once its unpark was
-    // committed.
+    // Unparks those threads of the key that the filter unparks, and wakes the first of them once
+    // the bucket was let go.
     pub(crate) fn unpark_filter<
         R: Wait,
         F: FnMut(ParkToken) -> FilterOp,
@@ -196,8 +200,9 @@ impl<P: ThreadParkerT> ParkingLot<P> {
                 (result, taken, me)
             },
         );
-        self.commit(rt, me, taken);
+        let handles = self.commit(rt, me, taken);
         claimed.close();
+        self.wake_all(handles);
         result
     }
 

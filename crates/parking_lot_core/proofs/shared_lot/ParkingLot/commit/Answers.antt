@@ -1,4 +1,4 @@
-use Rattle.std.proofs.Common.{◌∙◌, All, List, ap, subst}
+use Rattle.std.proofs.Common.{◌∙◌, All, List, ap, rules, subst}
 use Rattle.std.proofs.lemmas.List.Elements.{All-head, All-tail}
 use Rattle.lot_base.specs.Node.{fields}
 use Rattle.lot_base.specs.NodeFields.{NodeFields}
@@ -31,4 +31,5 @@ loop-node-preserved g c =
       pieces = given.rest ∙ ap rest_of (so_far.pieces ∙ ap threads_in popped);
       below = All-tail Below (fields c.in-Some.node.value) c.pop_front.new.self
           (subst (λ (nodes : List NodeFields). All Below nodes) popped so_far.below);
+      handles = search rules;
     }

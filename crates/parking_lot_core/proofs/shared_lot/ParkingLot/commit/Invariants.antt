@@ -1,6 +1,7 @@
-use Rattle.std.proofs.Common.{◌≡◌, All, length}
+use Rattle.std.proofs.Common.{◌≡◌, ◌≤◌, ◌+◌, All, length, min}
 use Rattle.lot_history.specs.Witness.{IsStill, events_of, max_threads_of, pieces_of, seen_by}
 use Rattle.parking_lot_core.specs.Cells.{IsBelow, threads_in}
+use Rattle.parking_lot_core.specs.Handles.{kept_handles}
 use Rattle.parking_lot_core.proofs.shared_lot.ParkingLot.commit.Given as goal
 
 -- the witness has the pieces of those that are left to commit
@@ -11,6 +12,7 @@ invariant-loop-node g l = record {
   nothing_added : events_of l.me ≡ events_of l.fn.me;
   pieces : pieces_of l.me ≡ threads_in l.taken;
   below : All (IsBelow (max_threads_of l.self)) l.taken;
+  handles : min 8 (length l.fn.taken) ≤ kept_handles l.handles + length l.taken;
 }
 
 abbrev pub decreases-loop-node : goal.decreases-loop-node

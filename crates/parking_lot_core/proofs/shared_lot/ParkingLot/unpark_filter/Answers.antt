@@ -12,14 +12,14 @@ returns-clause-unparked g c =
     c.with-taken.result.0 c.with-taken.result.2.now = search rules in
     let extends = told.extends in
     at_end (λ (history : History) (new : Witness). Unparks g.F.FnMut g.C.FnOnce c.args.filter c.args.callback c.args.key
-    history c.args.me.now c.with-taken.result.0 new) _ _ c.commit.new.me _ c.self.view_is (search rules)
+    history c.args.me.now c.with-taken.result.0 new) _ _ c.commit-handles.new.me _ c.self.view_is (search rules)
     (record {
       decisions = told.decisions;
       token = told.token;
       extends = record {
         between = extends.between;
-        seen = c.commit.ensures.seen ∙ extends.seen;
-        mine = c.commit.ensures.nothing_added ∙ extends.mine;
+        seen = c.commit-handles.ensures.seen ∙ extends.seen;
+        mine = c.commit-handles.ensures.nothing_added ∙ extends.mine;
         all_mine = search rules;
         history = search rules;
       };
@@ -28,7 +28,7 @@ returns-clause-unparked g c =
         last = told.found.last;
         machine = told.found.machine;
         begins = told.found.begins;
-        seen = c.commit.ensures.seen ∙ told.found.seen;
+        seen = c.commit-handles.ensures.seen ∙ told.found.seen;
         leads = told.found.leads;
         so = told.found.so;
       };
