@@ -315,18 +315,19 @@ impl<L: Payload> LoadedSlot<L> {
         self.slot.put(node);
     }
 
-    // Takes the first node, if there is one, with its payload.
+    // Takes the first node, if there is one, and writes its payload.
     #[inline]
-    fn take(&mut self) -> Option<(Box<Node>, Option<L>)>
+    fn take(&mut self, payload: &mut Option<L>) -> Option<Box<Node>>
         ensures owner { self.new.slot.owner ≡ self.old.slot.owner }
-        ensures taken { IfSome result (λ back.
-            (self.old.slot.nodes ≡ fields back.0.value ∷ self.new.slot.nodes)
-            × (back.1 ≡ self.old.payload) × (self.new.payload ≡ None)
-            × ((fields back.0.value).number ≡ self.old.slot.owner)) }
+        ensures taken { IfSome result (λ node.
+            (self.old.slot.nodes ≡ fields node.value ∷ self.new.slot.nodes)
+            × (payload.new ≡ self.old.payload) × (self.new.payload ≡ None)
+            × ((fields node.value).number ≡ self.old.slot.owner)) }
         ensures none { IfNone result (self.new ≡ self.old) }
     {
         let node = self.slot.take()?;
-        Some((node, self.payload.take()))
+        *payload = self.payload.take();
+        Some(node)
     }
 }
 
@@ -372,15 +373,16 @@ impl<L: Payload> LockedSlot<L> {
         self.lock.unlock(held);
     }
 
-    // Takes the first node, if there is one, with its payload.
-    fn take<R: Wait>(&self, rt: &R) -> Option<(Box<Node>, Option<L>)>
-        ensures { IfSome result (λ back.
-            ((fields back.0.value).number ≡ (key_of self.now.lock).number)
-            × IfSome back.1 (L.fits (key_of self.now.lock).home (fields back.0.value))) }
+    // Takes the first node, if there is one, and writes its payload.
+    fn take<R: Wait>(&self, rt: &R, payload: &mut Option<L>) -> Option<Box<Node>>
+        ensures node { IfSome result (λ node.
+            (fields node.value).number ≡ (key_of self.now.lock).number) }
+        ensures payload { IfSome result (λ node. IfSome payload.new
+            (L.fits (key_of self.now.lock).home (fields node.value))) }
     {
         let mut held = self.lock.lock(rt);
-        let back = held.value.take();
+        let node = held.value.take(payload);
         self.lock.unlock(held);
-        back
+        node
     }
 }

@@ -55,9 +55,10 @@ impl<L: Payload> ParkerT for YieldParker<L> {
     ///
     /// Upstream yields in the same way while its flag is set.
     fn park<R: Wait>(&self, rt: &R) -> (Box<Node>, Option<L>) {
+        let mut payload = None;
         for _ in rt.forever() {
-            if let Some(back) = self.slot.take(rt) {
-                return back;
+            if let Some(node) = self.slot.take(rt, &mut payload) {
+                return (node, payload);
             }
             thread_yield();
         }
@@ -73,10 +74,11 @@ impl<L: Payload> ParkerT for YieldParker<L> {
         rt: &R,
         timeout: Instant,
     ) -> Option<(Box<Node>, Option<L>)> {
+        let mut payload = None;
         for _ in rt.forever() {
             let is_late = time_left(rt, timeout).is_none();
-            if let Some(back) = self.slot.take(rt) {
-                return Some(back);
+            if let Some(node) = self.slot.take(rt, &mut payload) {
+                return Some((node, payload));
             }
             if is_late {
                 return None;

@@ -65,10 +65,11 @@ impl<L: Payload> ParkerT for ThreadParker<L> {
     ///
     /// Upstream waits for its flag in the same way.
     fn park<R: Wait>(&self, rt: &R) -> (Box<Node>, Option<L>) {
+        let mut payload = None;
         let mut changes = self.changes.lock(rt);
         for _ in rt.forever() {
-            if let Some(back) = self.slot.take(rt) {
-                return back;
+            if let Some(node) = self.slot.take(rt, &mut payload) {
+                return (node, payload);
             }
             changes = self.filled.wait(rt, changes);
         }
@@ -85,10 +86,11 @@ impl<L: Payload> ParkerT for ThreadParker<L> {
         rt: &R,
         timeout: Instant,
     ) -> Option<(Box<Node>, Option<L>)> {
+        let mut payload = None;
         let mut changes = self.changes.lock(rt);
         for _ in rt.forever() {
-            if let Some(back) = self.slot.take(rt) {
-                return Some(back);
+            if let Some(node) = self.slot.take(rt, &mut payload) {
+                return Some((node, payload));
             }
             let left = time_left(rt, timeout)?;
             let (locked, _) = self.filled.wait_timeout(rt, changes, left);

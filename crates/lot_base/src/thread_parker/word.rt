@@ -153,7 +153,8 @@ impl<L: Payload> WordParker<L> {
     #[inline]
     fn open<R: Wait>(&self, rt: &R) -> OpenSlot<L>
         ensures table { result.seat.table_id ≡ self.now.table.shared.table_id }
-        ensures slot { HasSlot result.seat.me (Tells L.fits self.now.table.shared.key result.found) }
+        ensures slot { HasSlot result.seat.me
+            (Tells L.fits self.now.table.shared.key result.found) }
     {
         if let Some(opened) = self.try_open() {
             return opened;
@@ -166,7 +167,8 @@ impl<L: Payload> WordParker<L> {
     #[inline(never)]
     fn open_slow<R: Wait>(&self, rt: &R) -> OpenSlot<L>
         ensures table { result.seat.table_id ≡ self.now.table.shared.table_id }
-        ensures slot { HasSlot result.seat.me (Tells L.fits self.now.table.shared.key result.found) }
+        ensures slot { HasSlot result.seat.me
+            (Tells L.fits self.now.table.shared.key result.found) }
     {
         for _ in rt.forever() {
             self.word_slow(rt);
@@ -203,27 +205,28 @@ impl<L: Payload> WordParker<L> {
         seat.slot_mut(&self.table.shared, SLOT).put(node, payload);
     }
 
-    // Takes the first node, if there is one, with its payload. Answers it, and whether no other is
-    // left.
+    // Takes the first node, if there is one, and writes its payload. Answers the node, and whether
+    // no other is left.
     #[inline]
     fn take_first(
         &self,
         seat: &mut Seat<LoadedSlot<L>, ParkerKey<L::Home>>,
-    ) -> (Option<(Box<Node>, Option<L>)>, bool)
+        payload: &mut Option<L>,
+    ) -> (Option<Box<Node>>, bool)
         requires table { seat.old.table_id ≡ self.now.table.shared.table_id }
         requires slot { HasSlot seat.old.me (IsSlotFor
             (L.fits self.now.table.shared.key.home) self.now.table.shared.key.number) }
         ensures table { seat.new.table_id ≡ seat.old.table_id }
         ensures slot { HasSlot seat.new.me (λ slot. (IsTrue result.1 ↔ HasNoNode slot) × IsSlotFor
             (L.fits self.now.table.shared.key.home) self.now.table.shared.key.number slot) }
-        ensures node { IfSome result.0 (λ back.
-            (fields back.0.value).number ≡ self.now.table.shared.key.number) }
-        ensures payload { IfSome result.0 (λ back. IfSome back.1
-            (L.fits self.now.table.shared.key.home (fields back.0.value))) }
+        ensures node { IfSome result.0 (λ node.
+            (fields node.value).number ≡ self.now.table.shared.key.number) }
+        ensures payload { IfSome result.0 (λ node. IfSome payload.new
+            (L.fits self.now.table.shared.key.home (fields node.value))) }
     {
         let slot = seat.slot_mut(&self.table.shared, SLOT);
-        let back = slot.take();
-        (back, slot.is_empty())
+        let node = slot.take(payload);
+        (node, slot.is_empty())
     }
 
     // Puts a node of the owner last, and puts the slot back. Answers whether the owner may sleep.
@@ -242,22 +245,22 @@ impl<L: Payload> WordParker<L> {
         word == FULL_ASLEEP
     }
 
-    // Takes the first node with its payload, or answers `None` if the slot was empty at a look. The
-    // owner is awake, so no mark of its sleep is left.
+    // Takes the first node and writes its payload, or answers `None` if the slot was empty at a
+    // look. The owner is awake, so no mark of its sleep is left.
     #[inline]
-    fn take<R: Wait>(&self, rt: &R) -> Option<(Box<Node>, Option<L>)>
-        ensures node { IfSome result (λ back.
-            (fields back.0.value).number ≡ self.now.table.shared.key.number) }
-        ensures payload { IfSome result (λ back. IfSome back.1
-            (L.fits self.now.table.shared.key.home (fields back.0.value))) }
+    fn take<R: Wait>(&self, rt: &R, payload: &mut Option<L>) -> Option<Box<Node>>
+        ensures node { IfSome result (λ node.
+            (fields node.value).number ≡ self.now.table.shared.key.number) }
+        ensures payload { IfSome result (λ node. IfSome payload.new
+            (L.fits self.now.table.shared.key.home (fields node.value))) }
     {
         if says_empty(self.word(rt)) {
             return None;
         }
         let mut opened = self.open(rt);
-        let (back, is_empty) = self.take_first(&mut opened.seat);
+        let (node, is_empty) = self.take_first(&mut opened.seat, payload);
         self.close(opened, if is_empty { EMPTY } else { FULL });
-        back
+        node
     }
 
     // Marks that the owner sleeps, if the slot is empty. Answers whether the mark is there.
@@ -282,48 +285,49 @@ impl<L: Payload> WordParker<L> {
             .compare_exchange::<Step>(&mut seat, WORD, EMPTY_ASLEEP, EMPTY);
     }
 
-    // Sleeps until the slot holds a node, and takes it.
+    // Sleeps until the slot holds a node, takes it and writes its payload.
     #[cold]
     #[inline(never)]
-    fn park_slow<R: Wait>(&self, rt: &R) -> (Box<Node>, Option<L>)
-        ensures node { (fields result.0.value).number ≡ self.now.table.shared.key.number }
-        ensures payload { IfSome result.1
-            (L.fits self.now.table.shared.key.home (fields result.0.value)) }
+    fn park_slow<R: Wait>(&self, rt: &R, payload: &mut Option<L>) -> Box<Node>
+        ensures node { (fields result.value).number ≡ self.now.table.shared.key.number }
+        ensures payload { IfSome payload.new
+            (L.fits self.now.table.shared.key.home (fields result.value)) }
     {
         for _ in rt.forever() {
             if self.mark_asleep() {
                 self.table.shared.park(rt, WORD, EMPTY_ASLEEP as u32);
             }
-            if let Some(back) = self.take(rt) {
-                return back;
+            if let Some(node) = self.take(rt, payload) {
+                return node;
             }
         }
         unreachable!()
     }
 
-    // Sleeps until the slot holds a node, and takes it, or until the deadline.
+    // Sleeps until the slot holds a node, takes it and writes its payload, or until the deadline.
     #[cold]
     #[inline(never)]
     fn park_until_slow<R: Wait + Clock>(
         &self,
         rt: &R,
         timeout: Instant,
-    ) -> Option<(Box<Node>, Option<L>)>
-        ensures node { IfSome result (λ back.
-            (fields back.0.value).number ≡ self.now.table.shared.key.number) }
-        ensures payload { IfSome result (λ back. IfSome back.1
-            (L.fits self.now.table.shared.key.home (fields back.0.value))) }
+        payload: &mut Option<L>,
+    ) -> Option<Box<Node>>
+        ensures node { IfSome result (λ node.
+            (fields node.value).number ≡ self.now.table.shared.key.number) }
+        ensures payload { IfSome result (λ node. IfSome payload.new
+            (L.fits self.now.table.shared.key.home (fields node.value))) }
     {
         for _ in rt.forever() {
             let Some(left) = time_left(rt, timeout) else {
-                return self.take(rt);
+                return self.take(rt, payload);
             };
             if self.mark_asleep() {
                 let shared = &self.table.shared;
                 shared.park_timeout(rt, WORD, EMPTY_ASLEEP as u32, left);
             }
-            if let Some(back) = self.take(rt) {
-                return Some(back);
+            if let Some(node) = self.take(rt, payload) {
+                return Some(node);
             }
         }
         unreachable!()
@@ -380,10 +384,12 @@ impl<L: Payload> ParkerT for WordParker<L> {
     /// Upstream sleeps on its word in the same way, which `prepare_park` has marked.
     #[inline]
     fn park<R: Wait>(&self, rt: &R) -> (Box<Node>, Option<L>) {
-        if let Some(back) = self.take(rt) {
-            return back;
-        }
-        self.park_slow(rt)
+        let mut payload = None;
+        let node = match self.take(rt, &mut payload) {
+            Some(node) => node,
+            None => self.park_slow(rt, &mut payload),
+        };
+        (node, payload)
     }
 
     /// The same until the deadline. It reads the clock after each look, and looks again after the
@@ -396,10 +402,12 @@ impl<L: Payload> ParkerT for WordParker<L> {
         rt: &R,
         timeout: Instant,
     ) -> Option<(Box<Node>, Option<L>)> {
-        if let Some(back) = self.take(rt) {
-            return Some(back);
-        }
-        self.park_until_slow(rt, timeout)
+        let mut payload = None;
+        let node = match self.take(rt, &mut payload) {
+            Some(node) => node,
+            None => self.park_until_slow(rt, timeout, &mut payload)?,
+        };
+        Some((node, payload))
     }
 
     /// Makes the word busy, puts the node last, and stores that the slot is full. It waits only
