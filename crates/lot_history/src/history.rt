@@ -19,7 +19,7 @@ use std::marker::Brand;
 /// The one history of a lot: all steps of the machine with one list for each key that threads made,
 /// in one order. Threads share it by reference.
 ///
-/// Upstream has no such type. It has one block on the heap, of one word.
+/// Upstream has no such type. It has two blocks on the heap, of a word and of a byte.
 #[derive(Drop)]
 pub struct History {
     table: Table<(), View, usize, OneHistory, Global>,
@@ -56,7 +56,7 @@ impl History {
     /// A history of a lot for at most this many threads, in which nothing was done, and its first
     /// witness, which has all pieces of the machine.
     ///
-    /// It asks for one block. No other call asks for memory.
+    /// It asks for two blocks. No other call asks for memory.
     ///
     /// # Errors
     ///
