@@ -1,5 +1,7 @@
 //! Whoever is handed a fair mutex holds it alone, among threads.
 
+ghost use Rattle.parking_lot_core.specs.Members.{IsDataOf};
+
 use crate::expect_equal;
 use lot_base::token::UnparkResult;
 use lot_locks::fair::{FairCondvar, FairMutex};
@@ -48,12 +50,40 @@ impl<P: ThreadParkerT> Shared<P> {
     }
 }
 
-pub fn register<P: ThreadParkerT, R: Wait + Abort>(
-    rt: &R,
-    alloc: Global,
-    shared: &Shared<P>,
-) -> ThreadData {
-    shared.lot.thread_data(rt, alloc).expect(rt, "a number")
+// A thread of the shared lot.
+#[derive(Drop)]
+pub struct Player<'a, P: ThreadParkerT> {
+    shared: &'a Shared<P>,
+    thread: ThreadData,
+    ghost own: { IsDataOf shared.now.lot thread },
+}
+
+impl<'a, P: ThreadParkerT> Player<'a, P> {
+    pub fn register<R: Wait + Abort>(
+        rt: &R,
+        alloc: Global,
+        shared: &'a Shared<P>,
+    ) -> Player<'a, P> {
+        let thread = shared.lot.thread_data(rt, alloc).expect(rt, "a number");
+        Player { shared, thread }
+    }
+
+    pub fn lock<R: Wait + Clock>(&mut self, rt: &R) {
+        let shared = self.shared;
+        shared.mutex.lock(rt, &shared.lot, &mut self.thread);
+    }
+
+    pub fn unlock<R: Wait>(&self, rt: &R) {
+        self.shared.mutex.unlock(rt, &self.shared.lot);
+    }
+
+    pub fn sleep<R: Wait + Clock + Abort>(&mut self, rt: &R) {
+        let shared = self.shared;
+        assert!(rt; shared.condvar.key() != shared.mutex.key(), "two keys");
+        shared
+            .condvar
+            .wait(rt, &shared.mutex, &shared.lot, &mut self.thread);
+    }
 }
 
 // Who stands on the key.
@@ -103,25 +133,6 @@ pub fn begins<P: ThreadParkerT>(shared: &Shared<P>) -> bool {
     false
 }
 
-pub fn lock<P: ThreadParkerT, R: Wait + Clock + Abort>(
-    rt: &R,
-    shared: &Shared<P>,
-    data: &mut ThreadData,
-) {
-    assert!(rt; shared.lot.accepts(data), "data of this lot");
-    shared.mutex.lock(rt, &shared.lot, data);
-}
-
-pub fn sleep<P: ThreadParkerT, R: Wait + Clock + Abort>(
-    rt: &R,
-    shared: &Shared<P>,
-    data: &mut ThreadData,
-) {
-    assert!(rt; shared.lot.accepts(data), "data of this lot");
-    assert!(rt; shared.condvar.key() != shared.mutex.key(), "two keys");
-    shared.condvar.wait(rt, &shared.mutex, &shared.lot, data);
-}
-
 pub fn notify<P: ThreadParkerT, R: Wait + Abort>(
     rt: &R,
     shared: &Shared<P>,
@@ -140,11 +151,11 @@ pub fn be_notified<P: ThreadParkerT, R: Wait + Clock + Abort>(
     alloc: Global,
     shared: &Shared<P>,
 ) {
-    let mut data = register(rt, alloc, shared);
-    lock(rt, shared, &mut data);
-    sleep(rt, shared, &mut data);
+    let mut player = Player::register(rt, alloc, shared);
+    player.lock(rt);
+    player.sleep(rt);
     expect_equal(rt, one_comes(rt, alloc, shared, MUTEX_KEY), true);
-    shared.mutex.unlock(rt, &shared.lot);
+    player.unlock(rt);
 }
 
 // Notifies the sleeper once it has let the mutex go, and then locks that.
@@ -154,17 +165,17 @@ fn notify_and_lock<P: ThreadParkerT, R: Wait + Clock + Abort>(
     shared: &Shared<P>,
     way: Way,
 ) {
-    let mut data = register(rt, alloc, shared);
+    let mut player = Player::register(rt, alloc, shared);
     expect_equal(rt, one_comes(rt, alloc, shared, CONDVAR_KEY), true);
-    lock(rt, shared, &mut data);
-    shared.mutex.unlock(rt, &shared.lot);
+    player.lock(rt);
+    player.unlock(rt);
     let handed = UnparkResult {
         unparked_threads: 1,
         ..UnparkResult::default()
     };
     expect_equal(rt, notify(rt, shared, way), handed);
-    lock(rt, shared, &mut data);
-    shared.mutex.unlock(rt, &shared.lot);
+    player.lock(rt);
+    player.unlock(rt);
 }
 
 fn the_sleeper_holds_it<P, R>(rt: &R, alloc: Global, way: Way)
@@ -197,22 +208,22 @@ fn hand_over_and_lock<P: ThreadParkerT, R: Wait + Clock + Abort>(
     alloc: Global,
     shared: &Shared<P>,
 ) {
-    let mut data = register(rt, alloc, shared);
-    lock(rt, shared, &mut data);
+    let mut player = Player::register(rt, alloc, shared);
+    player.lock(rt);
     shared.is_begun.store(true, Ordering::SeqCst);
     expect_equal(rt, one_comes(rt, alloc, shared, MUTEX_KEY), true);
-    shared.mutex.unlock(rt, &shared.lot);
-    lock(rt, shared, &mut data);
-    shared.mutex.unlock(rt, &shared.lot);
+    player.unlock(rt);
+    player.lock(rt);
+    player.unlock(rt);
 }
 
 // Waits for the mutex, and keeps it until the other thread waits for it.
 fn be_handed<P: ThreadParkerT, R: Wait + Clock + Abort>(rt: &R, alloc: Global, shared: &Shared<P>) {
-    let mut data = register(rt, alloc, shared);
+    let mut player = Player::register(rt, alloc, shared);
     expect_equal(rt, begins(shared), true);
-    lock(rt, shared, &mut data);
+    player.lock(rt);
     expect_equal(rt, one_comes(rt, alloc, shared, MUTEX_KEY), true);
-    shared.mutex.unlock(rt, &shared.lot);
+    player.unlock(rt);
 }
 
 fn the_last_waiter_holds_it<P, R>(rt: &R, alloc: Global)

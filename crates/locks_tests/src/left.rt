@@ -1,13 +1,11 @@
 //! A wait lets the mutex go once its thread stands on the condition variable's key.
 
 use crate::expect_equal;
-use crate::handed::{
-    MUTEX_KEY, Shared, TURNS, Way, begins, lock, notify, one_comes, register, sleep,
-};
+use crate::handed::{MUTEX_KEY, Player, Shared, TURNS, Way, begins, notify, one_comes};
 use lot_base::queue::Node;
-use lot_base::thread_parker::{ParkerKey, ParkerT, UnparkHandleT, YieldHandle};
+use lot_base::thread_parker::{ParkerKey, ParkerT, Payload, UnparkHandleT, YieldHandle};
 use lot_base::token::{NoMemory, UnparkResult};
-use parking_lot_core::YieldParker;
+use parking_lot_core::{Letter, YieldParker};
 use std::alloc::Global;
 use std::process::Abort;
 use std::sync::Wait;
@@ -23,7 +21,7 @@ struct FollowedParker {
 }
 
 impl ParkerT for FollowedParker {
-    type Payload = ();
+    type Payload = Letter;
 
     type UnparkHandle = FollowedHandle;
 
@@ -33,7 +31,10 @@ impl ParkerT for FollowedParker {
 
     ghost home = { λ followed. ⟦<YieldParker as ParkerT>⟧.home followed.parker };
 
-    fn new(alloc: Global, key: &ParkerKey<()>) -> Result<FollowedParker, NoMemory> {
+    fn new(
+        alloc: Global,
+        key: &ParkerKey<<Letter as Payload>::Home>,
+    ) -> Result<FollowedParker, NoMemory> {
         Ok(FollowedParker {
             parker: YieldParker::new(alloc, key)?,
             prepared: AtomicUsize::new(0),
@@ -48,7 +49,7 @@ impl ParkerT for FollowedParker {
         self.parker.timed_out(rt)
     }
 
-    fn park<R: Wait>(&self, rt: &R) -> (Box<Node>, Option<()>) {
+    fn park<R: Wait>(&self, rt: &R) -> (Box<Node>, Option<Letter>) {
         self.parker.park(rt)
     }
 
@@ -56,11 +57,11 @@ impl ParkerT for FollowedParker {
         &self,
         rt: &R,
         timeout: Instant,
-    ) -> Option<(Box<Node>, Option<()>)> {
+    ) -> Option<(Box<Node>, Option<Letter>)> {
         self.parker.park_until(rt, timeout)
     }
 
-    fn unpark_lock<R: Wait>(&self, rt: &R, node: Box<Node>, payload: ()) -> FollowedHandle {
+    fn unpark_lock<R: Wait>(&self, rt: &R, node: Box<Node>, payload: Letter) -> FollowedHandle {
         let handle = self.parker.unpark_lock(rt, node, payload);
         FollowedHandle { handle }
     }
@@ -95,27 +96,27 @@ fn wait_for_notify<R: Wait + Clock + Abort>(
     alloc: Global,
     shared: &Shared<FollowedParker>,
 ) {
-    let mut data = register(rt, alloc, shared);
-    lock(rt, shared, &mut data);
+    let mut player = Player::register(rt, alloc, shared);
+    player.lock(rt);
     shared.is_begun.store(true, Ordering::SeqCst);
     expect_equal(rt, one_comes(rt, alloc, shared, MUTEX_KEY), true);
-    sleep(rt, shared, &mut data);
-    shared.mutex.unlock(rt, &shared.lot);
+    player.sleep(rt);
+    player.unlock(rt);
 }
 
 // Notifies as soon as the sleeper has let the mutex go, and locks it again.
 fn notify_at_once<R: Wait + Clock + Abort>(rt: &R, alloc: Global, shared: &Shared<FollowedParker>) {
-    let mut data = register(rt, alloc, shared);
+    let mut player = Player::register(rt, alloc, shared);
     expect_equal(rt, begins(shared), true);
-    lock(rt, shared, &mut data);
+    player.lock(rt);
     let moved = UnparkResult {
         requeued_threads: 1,
         ..UnparkResult::default()
     };
     expect_equal(rt, notify(rt, shared, Way::One), moved);
-    shared.mutex.unlock(rt, &shared.lot);
-    lock(rt, shared, &mut data);
-    shared.mutex.unlock(rt, &shared.lot);
+    player.unlock(rt);
+    player.lock(rt);
+    player.unlock(rt);
 }
 
 // It refuses a wait that lets the mutex go first: a notify of the next holder finds nobody then,

@@ -2,7 +2,7 @@
 
 use crate::expect_equal;
 use crate::handed::{
-    CONDVAR_KEY, MUTEX_KEY, Shared, Way, be_notified, come, lock, notify, register, sleep, waiting,
+    CONDVAR_KEY, MUTEX_KEY, Player, Shared, Way, be_notified, come, notify, waiting,
 };
 use lot_base::token::UnparkResult;
 use parking_lot_core::{ThreadParker, ThreadParkerT, WordParker, YieldParker};
@@ -21,10 +21,10 @@ fn sleep_behind<P: ThreadParkerT, R: Wait + Clock + Abort>(
     others: usize,
 ) {
     expect_equal(rt, come(rt, alloc, shared, CONDVAR_KEY, others), true);
-    let mut data = register(rt, alloc, shared);
-    lock(rt, shared, &mut data);
-    sleep(rt, shared, &mut data);
-    shared.mutex.unlock(rt, &shared.lot);
+    let mut player = Player::register(rt, alloc, shared);
+    player.lock(rt);
+    player.sleep(rt);
+    player.unlock(rt);
 }
 
 // Notifies one, who leaves as many sleepers as are told.
@@ -54,8 +54,8 @@ fn lock_behind_both<P: ThreadParkerT, R: Wait + Clock + Abort>(
     shared: &Shared<P>,
 ) {
     expect_equal(rt, come(rt, alloc, shared, CONDVAR_KEY, 2), true);
-    let mut data = register(rt, alloc, shared);
-    lock(rt, shared, &mut data);
+    let mut player = Player::register(rt, alloc, shared);
+    player.lock(rt);
 }
 
 // Holds the mutex, and notifies one sleeper and then the other.
@@ -133,12 +133,12 @@ fn hand_to_each<P: ThreadParkerT, R: Wait + Clock + Abort>(
     shared: &Shared<P>,
 ) {
     expect_equal(rt, come(rt, alloc, shared, CONDVAR_KEY, 2), true);
-    let mut data = register(rt, alloc, shared);
-    lock(rt, shared, &mut data);
-    shared.mutex.unlock(rt, &shared.lot);
+    let mut player = Player::register(rt, alloc, shared);
+    player.lock(rt);
+    player.unlock(rt);
     hand_to_one_of(rt, shared, 2);
-    lock(rt, shared, &mut data);
-    shared.mutex.unlock(rt, &shared.lot);
+    player.lock(rt);
+    player.unlock(rt);
     hand_to_one_of(rt, shared, 1);
 }
 

@@ -1,7 +1,7 @@
 //! Notifies by a thread that does not hold the fair mutex, beside one that locks it.
 
 use crate::expect_equal;
-use crate::handed::{Shared, Way, lock, notify, register, sleep};
+use crate::handed::{Player, Shared, Way, notify};
 use parking_lot_core::{ThreadParker, ThreadParkerT, WordParker, YieldParker};
 use std::alloc::Global;
 use std::process::Abort;
@@ -55,14 +55,14 @@ fn sleep_by_rounds<P: ThreadParkerT, R: Wait + Clock + Abort>(
     race: &Race<P>,
 ) -> bool {
     let begin = Instant::now(rt).expect(rt, "a clock");
-    let mut data = register(rt, alloc, &race.shared);
+    let mut player = Player::register(rt, alloc, &race.shared);
     let mut alone = true;
     for _ in 0..ROUNDS {
         if begin.elapsed(rt).expect(rt, "a clock") >= Duration::from_secs(SECONDS) {
             break;
         }
-        lock(rt, &race.shared, &mut data);
-        sleep(rt, &race.shared, &mut data);
+        player.lock(rt);
+        player.sleep(rt);
         alone = race.unlock_alone(rt) && alone;
     }
     race.is_over.store(true, Ordering::SeqCst);
@@ -76,13 +76,13 @@ fn lock_until_over<P: ThreadParkerT, R: Wait + Clock + Abort>(
     alloc: Global,
     race: &Race<P>,
 ) -> bool {
-    let mut data = register(rt, alloc, &race.shared);
+    let mut player = Player::register(rt, alloc, &race.shared);
     let mut alone = true;
     for _ in rt.forever() {
         if race.is_over() {
             return alone;
         }
-        lock(rt, &race.shared, &mut data);
+        player.lock(rt);
         alone = race.unlock_alone(rt) && alone;
         thread::yield_now();
     }

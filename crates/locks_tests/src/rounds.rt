@@ -1,6 +1,6 @@
 //! A fair mutex that two threads lock once in each of many rounds, the one as the other unlocks it.
 
-use crate::handed::{Shared, TURNS, lock, register};
+use crate::handed::{Player, Shared, TURNS};
 use parking_lot_core::{ThreadParkerT, WordParker};
 use std::alloc::Global;
 use std::process::Abort;
@@ -59,20 +59,16 @@ impl<P: ThreadParkerT> Rounds<P> {
         }
     }
 
-    fn unlock<R: Wait>(&self, rt: &R) {
-        self.shared.mutex.unlock(rt, &self.shared.lot);
-    }
-
     // Tells whether the other thread had the mutex in each round.
     fn lock_first<R: Wait + Clock + Abort>(&self, rt: &R, alloc: Global) -> bool {
         let begin = Instant::now(rt).expect(rt, "a clock");
-        let mut data = register(rt, alloc, &self.shared);
+        let mut player = Player::register(rt, alloc, &self.shared);
         let mut all = true;
         for round in 1..ROUNDS {
-            lock(rt, &self.shared, &mut data);
+            player.lock(rt);
             self.begun.store(round, Ordering::SeqCst);
             spin(round % SPINS);
-            self.unlock(rt);
+            player.unlock(rt);
             all = reached(&self.done, round) == round;
             let passed = begin.elapsed(rt).expect(rt, "a clock");
             if !all || passed > Duration::from_millis(LONG) {
@@ -80,20 +76,20 @@ impl<P: ThreadParkerT> Rounds<P> {
             }
         }
         // Whoever still sleeps has the mutex then.
-        lock(rt, &self.shared, &mut data);
-        self.unlock(rt);
+        player.lock(rt);
+        player.unlock(rt);
         self.begun.store(OVER, Ordering::SeqCst);
         all
     }
 
     fn lock_second<R: Wait + Clock + Abort>(&self, rt: &R, alloc: Global) {
-        let mut data = register(rt, alloc, &self.shared);
+        let mut player = Player::register(rt, alloc, &self.shared);
         for round in 1..ROUNDS {
             if reached(&self.begun, round) != round {
                 return;
             }
-            lock(rt, &self.shared, &mut data);
-            self.unlock(rt);
+            player.lock(rt);
+            player.unlock(rt);
             self.done.store(round, Ordering::SeqCst);
         }
     }

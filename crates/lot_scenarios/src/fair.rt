@@ -1,5 +1,7 @@
 //! Tests of the fair mutex and its condition variable.
 
+ghost use Rattle.parking_lot_core.specs.Members.{IsDataOf};
+
 use crate::turns::{TURNS, comes_to};
 use lot_locks::fair::{FairCondvar, FairMutex};
 use parking_lot_core::{ParkingLot, ThreadData, ThreadParkerT, UnparkResult};
@@ -64,28 +66,11 @@ impl<P: ThreadParkerT> Table<P> {
         Arc::new(alloc, table).ok()
     }
 
-    // `None` says that the data is of another lot.
-    fn lock<R: Wait + Clock>(&self, rt: &R, data: &mut ThreadData) -> Option<()> {
-        if !self.lot.accepts(data) {
-            return None;
-        }
-        self.mutex.lock(rt, &self.lot, data);
-        Some(())
-    }
-
     fn unlock<R: Wait>(&self, rt: &R) {
         self.mutex.unlock(rt, &self.lot);
     }
 
-    // `None` says that the data is of another lot, or that the keys are one.
-    fn wait<R: Wait + Clock>(&self, rt: &R, data: &mut ThreadData) -> Option<()> {
-        if !self.lot.accepts(data) || self.condvar.key() == self.mutex.key() {
-            return None;
-        }
-        self.condvar.wait(rt, &self.mutex, &self.lot, data);
-        Some(())
-    }
-
+    // `None` says that the keys are one.
     fn notify_all<R: Wait>(&self, rt: &R) -> Option<UnparkResult> {
         if self.condvar.key() == self.mutex.key() {
             return None;
@@ -102,33 +87,9 @@ impl<P: ThreadParkerT> Table<P> {
         );
     }
 
-    fn count<R: Wait + Clock>(&self, rt: &R, data: &mut ThreadData) -> Option<()> {
-        for _ in 0..ROUNDS {
-            self.lock(rt, data)?;
-            let count = self.count.load(Ordering::SeqCst);
-            self.count.store(count.wrapping_add(1), Ordering::SeqCst);
-            self.unlock(rt);
-        }
-        Some(())
-    }
-
-    fn do_job<R: Wait + Clock>(&self, rt: &R, data: &mut ThreadData, job: Job) -> Option<()> {
-        match job {
-            Job::Note => {
-                self.lock(rt, data)?;
-                self.note(data.number());
-                self.unlock(rt);
-            }
-            Job::WaitAndNote => {
-                self.lock(rt, data)?;
-                self.wait(rt, data)?;
-                self.note(data.number());
-                self.unlock(rt);
-            }
-            Job::Count => self.count(rt, data)?,
-        }
-        self.done.fetch_add(1, Ordering::SeqCst);
-        Some(())
+    fn count(&self) {
+        let count = self.count.load(Ordering::SeqCst);
+        self.count.store(count.wrapping_add(1), Ordering::SeqCst);
     }
 
     // Waits until just these threads stand on the key, in this order.
@@ -149,7 +110,70 @@ impl<P: ThreadParkerT> Table<P> {
     }
 }
 
-// Starts a thread with this job.
+// A thread of the table's lot.
+#[derive(Drop)]
+struct Guest<'a, P: ThreadParkerT> {
+    table: &'a Table<P>,
+    thread: ThreadData,
+    ghost own: { IsDataOf table.now.lot thread },
+}
+
+impl<'a, P: ThreadParkerT> Guest<'a, P> {
+    fn register<R: Wait>(rt: &R, alloc: Global, table: &'a Table<P>) -> Option<Guest<'a, P>> {
+        let thread = table.lot.thread_data(rt, alloc).ok()?;
+        Some(Guest { table, thread })
+    }
+
+    fn lock<R: Wait + Clock>(&mut self, rt: &R) {
+        let table = self.table;
+        table.mutex.lock(rt, &table.lot, &mut self.thread);
+    }
+
+    // `None` says that the keys are one.
+    fn wait<R: Wait + Clock>(&mut self, rt: &R) -> Option<()> {
+        let table = self.table;
+        if table.condvar.key() == table.mutex.key() {
+            return None;
+        }
+        table
+            .condvar
+            .wait(rt, &table.mutex, &table.lot, &mut self.thread);
+        Some(())
+    }
+
+    fn note(&self) {
+        self.table.note(self.thread.number());
+    }
+
+    fn count_by_rounds<R: Wait + Clock>(&mut self, rt: &R) {
+        for _ in 0..ROUNDS {
+            self.lock(rt);
+            self.table.count();
+            self.table.unlock(rt);
+        }
+    }
+
+    fn do_job<R: Wait + Clock>(&mut self, rt: &R, job: Job) -> Option<()> {
+        match job {
+            Job::Note => {
+                self.lock(rt);
+                self.note();
+                self.table.unlock(rt);
+            }
+            Job::WaitAndNote => {
+                self.lock(rt);
+                self.wait(rt)?;
+                self.note();
+                self.table.unlock(rt);
+            }
+            Job::Count => self.count_by_rounds(rt),
+        }
+        self.table.done.fetch_add(1, Ordering::SeqCst);
+        Some(())
+    }
+}
+
+// Starts a thread that registers and does this job.
 fn start<P, R>(
     rt: &R,
     alloc: Global,
@@ -161,10 +185,13 @@ where
     P::UnparkHandle: 'static,
     R: Threads + Wait + Clock + Copy + Send + 'static,
 {
-    let mut data = table.lot.thread_data(rt, alloc).ok()?;
     let table = Arc::try_clone(table).ok()?;
     let runtime = *rt;
-    thread::spawn(rt, move || table.do_job(&runtime, &mut data, job)).ok()
+    thread::spawn(rt, move || {
+        let mut guest = Guest::register(&runtime, alloc, &table)?;
+        guest.do_job(&runtime, job)
+    })
+    .ok()
 }
 
 /// While one thread holds the mutex two others queue, one after the other; once it unlocks they
@@ -176,8 +203,8 @@ where
     R: Threads + Wait + Clock + Copy + Send + 'static,
 {
     let table = Table::<P>::shared(alloc)?;
-    let mut data = table.lot.thread_data(rt, alloc).ok()?;
-    table.lock(rt, &mut data)?;
+    let mut guest = Guest::register(rt, alloc, &table)?;
+    guest.lock(rt);
     let first = start(rt, alloc, &table, Job::Note)?;
     table.comes_to_stand(rt, alloc, MUTEX_KEY, [1].as_slice())?;
     let second = start(rt, alloc, &table, Job::Note)?;
@@ -220,12 +247,12 @@ where
     R: Threads + Wait + Clock + Copy + Send + 'static,
 {
     let table = Table::<P>::shared(alloc)?;
-    let mut data = table.lot.thread_data(rt, alloc).ok()?;
+    let mut guest = Guest::register(rt, alloc, &table)?;
     let first = start(rt, alloc, &table, Job::WaitAndNote)?;
     table.comes_to_stand(rt, alloc, CONDVAR_KEY, [1].as_slice())?;
     let second = start(rt, alloc, &table, Job::WaitAndNote)?;
     table.comes_to_stand(rt, alloc, CONDVAR_KEY, [1, 2].as_slice())?;
-    table.lock(rt, &mut data)?;
+    guest.lock(rt);
     let moved = UnparkResult {
         unparked_threads: 0,
         requeued_threads: 2,

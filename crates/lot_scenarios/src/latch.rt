@@ -2,7 +2,7 @@
 
 use crate::meeting::{Meeting, Stay};
 use crate::turns::{TURNS, comes_to, unpark_by_turns};
-use parking_lot_core::{DEFAULT_UNPARK_TOKEN, ParkingLot, ThreadData, ThreadParkerT, unpark_all};
+use parking_lot_core::{DEFAULT_UNPARK_TOKEN, Member, ParkingLot, ThreadParkerT, unpark_all};
 use std::alloc::Global;
 use std::sync::atomic::{AtomicUsize, Ordering};
 use std::sync::{Arc, Wait};
@@ -42,7 +42,7 @@ where
     }
     gate.let_all_through(rt, alloc, usize::from(plan.threads))?;
     for thread in threads {
-        thread.join(rt);
+        thread.join(rt)?;
     }
     Some(())
 }
@@ -71,12 +71,12 @@ impl Latch {
         &self,
         rt: &R,
         meeting: &Meeting<P>,
-        data: &mut ThreadData,
+        member: &mut Member<'_, P>,
     ) {
         if self.permits.fetch_sub(1, Ordering::SeqCst) <= TAKEN {
-            let _ = meeting.park(rt, data, Stay::on(self.key));
+            meeting.park(rt, member, Stay::on(self.key));
         }
-        self.last_awake.store(data.number(), Ordering::SeqCst);
+        self.last_awake.store(member.number(), Ordering::SeqCst);
         self.awake.fetch_add(1, Ordering::SeqCst);
     }
 
@@ -167,9 +167,9 @@ impl<P: ThreadParkerT> Gate<P> {
     }
 
     // Comes through the latch of this index.
-    fn come_through<R: Wait + Clock>(&self, rt: &R, data: &mut ThreadData, index: u8) {
+    fn come_through<R: Wait + Clock>(&self, rt: &R, member: &mut Member<'_, P>, index: u8) {
         if let Some(latch) = self.latches.get(usize::from(index)) {
-            latch.come_through(rt, &self.meeting, data);
+            latch.come_through(rt, &self.meeting, member);
         }
     }
 
@@ -196,7 +196,7 @@ fn start_all<P, R>(
     alloc: Global,
     gate: &Arc<Gate<P>, Global>,
     plan: Plan,
-) -> Option<Vec<JoinHandle<()>>>
+) -> Option<Vec<JoinHandle<Option<()>>>>
 where
     P: ThreadParkerT + Send + Sync + 'static,
     P::UnparkHandle: 'static,
@@ -216,14 +216,18 @@ fn start_thread<P, R>(
     alloc: Global,
     gate: &Arc<Gate<P>, Global>,
     latch: u8,
-) -> Option<JoinHandle<()>>
+) -> Option<JoinHandle<Option<()>>>
 where
     P: ThreadParkerT + Send + Sync + 'static,
     P::UnparkHandle: 'static,
     R: Threads + Wait + Clock + Copy + Send + 'static,
 {
-    let mut data = gate.meeting.lot.thread_data(rt, alloc).ok()?;
     let gate = Arc::try_clone(gate).ok()?;
     let runtime = *rt;
-    thread::spawn(rt, move || gate.come_through(&runtime, &mut data, latch)).ok()
+    thread::spawn(rt, move || {
+        let mut member = Member::register(&runtime, alloc, &gate.meeting.lot).ok()?;
+        gate.come_through(&runtime, &mut member, latch);
+        Some(())
+    })
+    .ok()
 }

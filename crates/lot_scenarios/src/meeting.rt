@@ -3,8 +3,7 @@
 use crate::TOKEN;
 use crate::turns::{comes_to, unpark_first};
 use parking_lot_core::{
-    DEFAULT_PARK_TOKEN, ParkResult, ParkToken, ParkingLot, ThreadData, ThreadParkerT, UnparkToken,
-    park,
+    DEFAULT_PARK_TOKEN, Member, ParkResult, ParkToken, ParkingLot, ThreadParkerT, UnparkToken,
 };
 use std::alloc::Global;
 use std::sync::atomic::{AtomicUsize, Ordering};
@@ -109,21 +108,11 @@ impl<P: ThreadParkerT> Meeting<P> {
         Arc::new(alloc, Meeting::new(alloc)?).ok()
     }
 
-    /// Parks. `None` says that the data is of another lot.
-    pub fn park<R: Wait + Clock>(
-        &self,
-        rt: &R,
-        data: &mut ThreadData,
-        stay: Stay,
-    ) -> Option<Parked> {
-        if !self.lot.accepts(data) {
-            return None;
-        }
+    /// Parks the member, which is one of the meeting's lot.
+    pub fn park<R: Wait + Clock>(&self, rt: &R, member: &mut Member<'_, P>, stay: Stay) -> Parked {
         let mut told = None;
-        let result = park(
+        let result = member.park(
             rt,
-            &self.lot,
-            data,
             stay.key,
             || self.validate(stay.part),
             || self.get_ready(rt, stay),
@@ -132,7 +121,7 @@ impl<P: ThreadParkerT> Meeting<P> {
             stay.deadline,
         );
         self.back.fetch_add(1, Ordering::SeqCst);
-        Some(Parked { result, told })
+        Parked { result, told }
     }
 
     // Whether the thread is to sleep.
@@ -170,8 +159,11 @@ where
     P::UnparkHandle: 'static,
     R: Threads + Wait + Clock + Copy + Send + 'static,
 {
-    let mut data = meeting.lot.thread_data(rt, alloc).ok()?;
     let meeting = Arc::try_clone(meeting).ok()?;
     let runtime = *rt;
-    thread::spawn(rt, move || meeting.park(&runtime, &mut data, stay)).ok()
+    thread::spawn(rt, move || {
+        let mut member = Member::register(&runtime, alloc, &meeting.lot).ok()?;
+        Some(meeting.park(&runtime, &mut member, stay))
+    })
+    .ok()
 }

@@ -3,7 +3,7 @@
 use crate::meeting::{Meeting, Parked, Part, Stay, start};
 use crate::turns::comes_to;
 use crate::{KEY, TOKEN, from_now};
-use parking_lot_core::{ThreadData, ThreadParkerT, unpark_all};
+use parking_lot_core::{Member, ThreadParkerT, unpark_all};
 use std::alloc::Global;
 use std::sync::Wait;
 use std::thread::{JoinHandle, Threads};
@@ -13,21 +13,21 @@ use std::time::{Clock, Duration, Instant};
 /// it, and leaves nobody on the key.
 pub fn time_out<P: ThreadParkerT, R: Wait + Clock>(rt: &R, alloc: Global) -> Option<()> {
     let meeting = Meeting::<P>::new(alloc)?;
-    let mut data = meeting.lot.thread_data(rt, alloc).ok()?;
-    times_out(rt, &meeting, &mut data)
+    let mut member = Member::register(rt, alloc, &meeting.lot).ok()?;
+    times_out(rt, &meeting, &mut member)
 }
 
 fn times_out<P: ThreadParkerT, R: Wait + Clock>(
     rt: &R,
     meeting: &Meeting<P>,
-    data: &mut ThreadData,
+    member: &mut Member<'_, P>,
 ) -> Option<()> {
     let deadline = from_now(rt, Duration::from_millis(20))?;
     let stay = Stay {
         deadline: Some(deadline),
         ..Stay::on(KEY)
     };
-    let parked = meeting.park(rt, data, stay)?;
+    let parked = meeting.park(rt, member, stay);
     if Instant::now(rt).ok()? < deadline {
         return None;
     }

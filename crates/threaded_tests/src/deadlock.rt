@@ -2,7 +2,7 @@
 
 use crate::expect_equal;
 use parking_lot_core::deadlock::{acquire_resource, release_resource};
-use parking_lot_core::{ParkingLot, ThreadData, ThreadParker};
+use parking_lot_core::{Member, ParkingLot, ThreadParker};
 use std::process::Abort;
 use std::test::Fail;
 
@@ -11,9 +11,9 @@ type Lot = ParkingLot<ThreadParker>;
 // More than a byte or 16 bits count.
 const MANY: usize = 70_000;
 
-fn expect(rt: &impl Abort, data: &ThreadData, times: [(usize, usize); 3]) {
+fn expect(rt: &impl Abort, member: &Member<'_, ThreadParker>, times: [(usize, usize); 3]) {
     for (key, expected) in times {
-        expect_equal(rt, (key, data.records(key)), (key, expected));
+        expect_equal(rt, (key, member.records(key)), (key, expected));
     }
 }
 
@@ -22,20 +22,20 @@ fn expect(rt: &impl Abort, data: &ThreadData, times: [(usize, usize); 3]) {
 #[test]
 fn a_thread_records_each_key_as_often_as_it_holds_it(rt: HostRuntime) -> Result<(), Fail> {
     let lot = Lot::new(rt.alloc(), 1)?;
-    let mut data = lot.thread_data(&rt, rt.alloc())?;
-    expect(&rt, &data, [(5, 0), (7, 0), (9, 0)]);
+    let mut member = Member::register(&rt, rt.alloc(), &lot)?;
+    expect(&rt, &member, [(5, 0), (7, 0), (9, 0)]);
     for key in [5, 5, 7] {
-        expect_equal(&rt, acquire_resource(&mut data, key), Ok(()));
+        expect_equal(&rt, member.acquire_resource(key), Ok(()));
     }
-    expect(&rt, &data, [(5, 2), (7, 1), (9, 0)]);
-    release_resource(&mut data, 5);
-    release_resource(&mut data, 9);
-    expect(&rt, &data, [(5, 1), (7, 1), (9, 0)]);
-    expect_equal(&rt, data.number(), 0);
+    expect(&rt, &member, [(5, 2), (7, 1), (9, 0)]);
+    member.release_resource(5);
+    member.release_resource(9);
+    expect(&rt, &member, [(5, 1), (7, 1), (9, 0)]);
+    expect_equal(&rt, member.number(), 0);
     for _ in 0..MANY {
-        expect_equal(&rt, acquire_resource(&mut data, 9), Ok(()));
+        expect_equal(&rt, member.acquire_resource(9), Ok(()));
     }
-    expect(&rt, &data, [(5, 1), (7, 1), (9, MANY)]);
+    expect(&rt, &member, [(5, 1), (7, 1), (9, MANY)]);
     Ok(())
 }
 
@@ -49,16 +49,18 @@ fn a_recording_that_is_refused_leaves_the_records(rt: HostRuntime) {
     let Ok(mut data) = lot.thread_data(&rt, rt.alloc()) else {
         return;
     };
-    let refused = acquire_resource(&mut data, 5).is_err();
+    let refused = acquire_resource(&lot, &mut data, 5).is_err();
+    release_resource(&lot, &mut data, 9);
+    let mut member = Member::of(&lot, data);
     expect(
         &rt,
-        &data,
+        &member,
         [(5, if refused { 0 } else { 1 }), (7, 0), (9, 0)],
     );
     if refused {
-        expect_equal(&rt, acquire_resource(&mut data, 5), Ok(()));
+        expect_equal(&rt, member.acquire_resource(5), Ok(()));
     }
-    expect(&rt, &data, [(5, 1), (7, 0), (9, 0)]);
-    release_resource(&mut data, 5);
-    expect(&rt, &data, [(5, 0), (7, 0), (9, 0)]);
+    expect(&rt, &member, [(5, 1), (7, 0), (9, 0)]);
+    member.release_resource(5);
+    expect(&rt, &member, [(5, 0), (7, 0), (9, 0)]);
 }

@@ -1,5 +1,7 @@
 //! Threads that park and unpark.
 
+ghost use Rattle.parking_lot_core.specs.Members.{IsDataOf};
+
 mod alone;
 mod calls;
 mod races;
@@ -12,8 +14,8 @@ use lot_base::token::{
     RequeueOp, UnparkResult, UnparkToken,
 };
 use parking_lot_core::{
-    ParkingLot, ThreadData, ThreadParker, ThreadParkerT, WordParker, YieldParker, park, unpark_all,
-    unpark_filter, unpark_one, unpark_requeue,
+    Member, ParkingLot, ThreadData, ThreadParker, ThreadParkerT, WordParker, YieldParker, park,
+    unpark_all, unpark_filter, unpark_one, unpark_requeue,
 };
 use std::alloc::Global;
 use std::process::Abort;
@@ -39,16 +41,14 @@ fn from_now<R: Clock + Abort>(rt: &R, duration: Duration) -> Instant {
 }
 
 // Parks on the key until another thread unparks this one, and shows filters the thread's number.
-// `None` says that the data is of another lot.
 fn wait<P: ThreadParkerT, R: Wait + Clock>(
     rt: &R,
-    lot: &ParkingLot<P>,
-    mut data: ThreadData,
+    mut member: Member<'_, P>,
     key: usize,
-) -> Option<ParkResult> {
-    let park_token = ParkToken(data.number());
-    let (result, _) = park_then(rt, lot, &mut data, key, park_token, None, || ())?;
-    Some(result)
+) -> ParkResult {
+    let park_token = ParkToken(member.number());
+    let (result, _) = park_then(rt, &mut member, key, park_token, None, || ());
+    result
 }
 
 // Waits until the flag is raised, and tells whether it was.
@@ -122,7 +122,7 @@ fn expect_list<P: ThreadParkerT, R: Wait + Abort>(
     expect_equal(rt, (key, found.as_slice()), (key, numbers));
 }
 
-// Registers four threads, whose data it drops, and tells their numbers.
+// Registers four threads, which it drops, and tells their numbers.
 fn register_four<P: ThreadParkerT, R: Wait>(
     rt: &R,
     alloc: Global,
@@ -154,11 +154,11 @@ fn register_eight<P: ThreadParkerT + Send + Sync, R: Threads + Wait + Sync>(
     Ok(numbers)
 }
 
-// Starts a thread that parks on the key.
+// Starts a thread that registers and parks on the key.
 fn start_waiter<P, R>(
     rt: &R,
+    alloc: Global,
     lot: Arc<ParkingLot<P>, Global>,
-    data: ThreadData,
     key: usize,
 ) -> Option<JoinHandle<Option<ParkResult>>>
 where
@@ -167,7 +167,11 @@ where
     R: Threads + Wait + Clock + Copy + Send + 'static,
 {
     let runtime = *rt;
-    thread::spawn(rt, move || wait(&runtime, &lot, data, key)).ok()
+    thread::spawn(rt, move || {
+        let member = register(&runtime, alloc, &lot).ok()?;
+        Some(wait(&runtime, member, key))
+    })
+    .ok()
 }
 
 // Starts a thread for each of these keys, which parks there, so that so many wait on the key then.
@@ -184,8 +188,7 @@ where
 {
     let mut waiters = Vec::new(alloc);
     for (key, threads) in keys {
-        let data = register(rt, alloc, lot)?;
-        let started = start_waiter(rt, Arc::try_clone(lot)?, data, *key);
+        let started = start_waiter(rt, alloc, Arc::try_clone(lot)?, *key);
         waiters.push(started.expect(rt, "a thread"))?;
         await_threads(rt, alloc, lot, *key, *threads);
     }
@@ -205,8 +208,7 @@ fn expect_tokens<R: Threads + Abort>(rt: &R, waiters: Waiters, tokens: &[usize])
 #[test]
 fn two_threads_park_and_unpark(rt: HostRuntime) -> Result<(), Fail> {
     let lot = Arc::new(rt.alloc(), new_lot(rt.alloc(), 1)?)?;
-    let data = register(&rt, rt.alloc(), &lot)?;
-    let waiter = start_waiter(&rt, Arc::try_clone(&lot)?, data, KEY).expect(&rt, "a thread");
+    let waiter = start_waiter(&rt, rt.alloc(), Arc::try_clone(&lot)?, KEY).expect(&rt, "a thread");
     assert!(rt;
         unpark_by_turns(&rt, &lot, KEY, UnparkToken(42)),
         "nobody parked"
@@ -223,8 +225,7 @@ fn two_threads_park_and_unpark(rt: HostRuntime) -> Result<(), Fail> {
 #[test]
 fn a_park_that_is_not_valid_ends_at_once(rt: HostRuntime) -> Result<(), Fail> {
     let lot = new_lot(rt.alloc(), 1)?;
-    let mut data = register(&rt, rt.alloc(), &lot)?;
-    assert!(rt; lot.accepts(&data), "a number of this lot");
+    let mut data = lot.thread_data(&rt, rt.alloc())?;
     let mut validations = 0;
     let result = park(
         &rt,
@@ -262,13 +263,10 @@ fn an_unpark_of_nobody_calls_back_with_the_default_result(rt: HostRuntime) -> Re
 }
 
 // Registers a thread, and compares its number.
-fn expect_registered<R: Wait + Abort>(
-    rt: &R,
-    alloc: Global,
-    lot: &Lot,
-    number: usize,
-) -> ThreadData {
-    let data = register(rt, alloc, lot).expect(rt, "a number is left");
+fn expect_registered<R: Wait + Abort>(rt: &R, alloc: Global, lot: &Lot, number: usize) -> ThreadData
+    ensures { IsDataOf lot.now result }
+{
+    let data = lot.thread_data(rt, alloc).expect(rt, "a number is left");
     expect_equal(rt, data.number(), number);
     data
 }
@@ -283,22 +281,9 @@ fn dropped_data_keeps_its_number_and_retired_data_frees_it(rt: HostRuntime) -> R
     let second = expect_registered(&rt, rt.alloc(), &lot, 1);
     drop(expect_registered(&rt, rt.alloc(), &lot, 2));
     assert!(rt; is_full(&rt, rt.alloc(), &lot));
-    assert!(rt; lot.accepts(&second));
     lot.retire(&rt, second);
     drop(expect_registered(&rt, rt.alloc(), &lot, 1));
     assert!(rt; is_full(&rt, rt.alloc(), &lot));
-    Ok(())
-}
-
-// It refuses a `thread_data` that gives one number always.
-#[test]
-fn a_lot_accepts_no_number_that_only_a_larger_lot_has(rt: HostRuntime) -> Result<(), Fail> {
-    let (lot, larger) = (new_lot(rt.alloc(), 2)?, new_lot(rt.alloc(), 3)?);
-    for number in 0..3 {
-        let data = register(&rt, rt.alloc(), &larger)?;
-        assert!(rt; larger.accepts(&data));
-        expect_equal(&rt, (number, lot.accepts(&data)), (number, number < 2));
-    }
     Ok(())
 }
 
@@ -351,11 +336,11 @@ fn waiters_stay_where_the_table_grows_twice_under_them(rt: HostRuntime) -> Resul
 }
 
 // Registers a thread, a second time where the first was refused for want of memory.
-fn register_again_if_refused<R: Wait>(
+fn register_again_if_refused<'a, R: Wait>(
     rt: &R,
     alloc: Global,
-    lot: &Lot,
-) -> Result<ThreadData, LotError> {
+    lot: &'a Lot,
+) -> Result<Member<'a, ThreadParker>, LotError> {
     match register(rt, alloc, lot) {
         Err(LotError::NoMemory) => register(rt, alloc, lot),
         registered => registered,
@@ -366,16 +351,16 @@ fn register_again_if_refused<R: Wait>(
 // N` refuses the Nth: the call that was refused does what it should when it is made again. Six
 // threads need a second row of buckets.
 //
-// It refuses, there, a `thread_data` that takes the number before it has the node or the row: the
-// number that was refused is then lost, and the lot full with a thread less.
+// It refuses, there, a `thread_data` that takes the number before it has the row: the number that
+// was refused is then lost, and the lot full with a thread less.
 #[test]
 fn a_refused_request_for_memory_leaves_the_lot_as_it_was(rt: HostRuntime) -> Result<(), Fail> {
     let Ok(lot) = new_lot(rt.alloc(), 6) else {
         return Ok(());
     };
     for number in 0..6 {
-        let data = register_again_if_refused(&rt, rt.alloc(), &lot)?;
-        expect_equal(&rt, data.number(), number);
+        let member = register_again_if_refused(&rt, rt.alloc(), &lot)?;
+        expect_equal(&rt, member.number(), number);
     }
     let seventh = register_again_if_refused(&rt, rt.alloc(), &lot);
     assert!(rt; matches!(&seventh, Err(LotError::Full)));

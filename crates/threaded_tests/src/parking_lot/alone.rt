@@ -8,7 +8,7 @@ const OTHER_KEY: usize = 8;
 const TOKEN: UnparkToken = UnparkToken(42);
 
 // How a park ends that was unparked with the token.
-const UNPARKED: Option<(ParkResult, Option<usize>)> = Some((ParkResult::Unparked(TOKEN), None));
+const UNPARKED: (ParkResult, Option<usize>) = (ParkResult::Unparked(TOKEN), None);
 
 // Aborts a requeue of the one waiter, and then unparks it.
 fn abort_and_unpark<R: Wait + Abort>(rt: &R, lot: &Lot) {
@@ -22,9 +22,9 @@ fn abort_and_unpark<R: Wait + Abort>(rt: &R, lot: &Lot) {
 #[test]
 fn a_requeue_that_aborts_does_nothing(rt: HostRuntime) -> Result<(), Fail> {
     let lot = new_lot(rt.alloc(), 1)?;
-    let mut data = register(&rt, rt.alloc(), &lot)?;
+    let mut member = register(&rt, rt.alloc(), &lot)?;
     let park_token = DEFAULT_PARK_TOKEN;
-    let result = park_then(&rt, &lot, &mut data, KEY, park_token, None, || {
+    let result = park_then(&rt, &mut member, KEY, park_token, None, || {
         abort_and_unpark(&rt, &lot)
     });
     expect_equal(&rt, result, UNPARKED);
@@ -61,9 +61,9 @@ fn expect_filters_called<R: Wait + Abort>(rt: &R, lot: &Lot) {
 #[test]
 fn a_filter_that_counts_is_called_once_a_waiter(rt: HostRuntime) -> Result<(), Fail> {
     let lot = new_lot(rt.alloc(), 1)?;
-    let mut data = register(&rt, rt.alloc(), &lot)?;
+    let mut member = register(&rt, rt.alloc(), &lot)?;
     let park_token = DEFAULT_PARK_TOKEN;
-    let result = park_then(&rt, &lot, &mut data, KEY, park_token, None, || {
+    let result = park_then(&rt, &mut member, KEY, park_token, None, || {
         expect_filters_called(&rt, &lot)
     });
     expect_equal(&rt, result, UNPARKED);
@@ -84,12 +84,12 @@ fn unpark_the_greatest<R: Wait + Abort>(rt: &R, alloc: Global, lot: &Lot) {
 fn the_greatest_key_and_tokens_come_through(rt: HostRuntime) -> Result<(), Fail> {
     let lot = new_lot(rt.alloc(), 2)?;
     drop(register(&rt, rt.alloc(), &lot)?);
-    let mut data = register(&rt, rt.alloc(), &lot)?;
+    let mut member = register(&rt, rt.alloc(), &lot)?;
     let park_token = ParkToken(usize::MAX);
-    let result = park_then(&rt, &lot, &mut data, usize::MAX, park_token, None, || {
+    let result = park_then(&rt, &mut member, usize::MAX, park_token, None, || {
         unpark_the_greatest(&rt, rt.alloc(), &lot)
     });
     let unparked = ParkResult::Unparked(UnparkToken(usize::MAX));
-    expect_equal(&rt, result, Some((unparked, None)));
+    expect_equal(&rt, result, (unparked, None));
     Ok(())
 }

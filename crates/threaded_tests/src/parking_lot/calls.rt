@@ -7,35 +7,29 @@ pub fn new_lot(alloc: Global, threads: usize) -> Result<Lot, LotError> {
     Lot::new(alloc, threads)
 }
 
-pub fn register<P: ThreadParkerT, R: Wait>(
+pub fn register<'a, P: ThreadParkerT, R: Wait>(
     rt: &R,
     alloc: Global,
-    lot: &ParkingLot<P>,
-) -> Result<ThreadData, LotError> {
-    lot.thread_data(rt, alloc)
+    lot: &'a ParkingLot<P>,
+) -> Result<Member<'a, P>, LotError> {
+    Member::register(rt, alloc, lot)
 }
 
 // Parks, and calls this before it sleeps. It tells the key, too, that the callback was told after
-// the deadline. `None` says that the data is of another lot.
+// the deadline.
 pub fn park_then<P: ThreadParkerT, R: Wait + Clock, B: FnOnce()>(
     rt: &R,
-    lot: &ParkingLot<P>,
-    data: &mut ThreadData,
+    member: &mut Member<'_, P>,
     key: usize,
     park_token: ParkToken,
     timeout: Option<Instant>,
     before_sleep: B,
-) -> Option<(ParkResult, Option<usize>)>
+) -> (ParkResult, Option<usize>)
     requires { B.IsAlwaysCallable before_sleep }
 {
-    if !lot.accepts(data) {
-        return None;
-    }
     let mut left = None;
-    let result = park(
+    let result = member.park(
         rt,
-        lot,
-        data,
         key,
         || true,
         before_sleep,
@@ -43,7 +37,7 @@ pub fn park_then<P: ThreadParkerT, R: Wait + Clock, B: FnOnce()>(
         park_token,
         timeout,
     );
-    Some((result, left))
+    (result, left)
 }
 
 pub fn unpark_first<P: ThreadParkerT, R: Wait>(

@@ -36,9 +36,9 @@ impl Race {
 
 // What one of the threads does.
 #[derive(Drop)]
-enum Job {
+enum Job<'a, P: ThreadParkerT> {
     // Parks on the keys 0 and 13 by turns.
-    Park(ThreadData),
+    Park(Member<'a, P>),
 
     // Calls this unpark until the parks are done.
     Unpark(Call),
@@ -69,13 +69,11 @@ struct Tally {
 // Parks on the key for 1 ms at most, and tells whether another thread unparked this one.
 fn park_briefly<P: ThreadParkerT, R: Wait + Clock + Abort>(
     rt: &R,
-    lot: &ParkingLot<P>,
-    data: &mut ThreadData,
+    member: &mut Member<'_, P>,
     key: usize,
 ) -> bool {
     let deadline = Some(from_now(rt, Duration::from_millis(1)));
-    let parked = park_then(rt, lot, data, key, DEFAULT_PARK_TOKEN, deadline, || ());
-    let (result, _) = parked.expect(rt, "a number of this lot");
+    let (result, _) = park_then(rt, member, key, DEFAULT_PARK_TOKEN, deadline, || ());
     assert!(rt;
         result != ParkResult::Invalid,
         "the validation answered true"
@@ -85,8 +83,7 @@ fn park_briefly<P: ThreadParkerT, R: Wait + Clock + Abort>(
 
 fn park_by_turns<P: ThreadParkerT, R: Wait + Clock + Abort>(
     rt: &R,
-    lot: &ParkingLot<P>,
-    mut data: ThreadData,
+    mut member: Member<'_, P>,
     race: &Race,
 ) -> Tally {
     let mut received = 0_usize;
@@ -95,7 +92,7 @@ fn park_by_turns<P: ThreadParkerT, R: Wait + Clock + Abort>(
             break;
         }
         let key = if round % 2 == 0 { 0 } else { 13 };
-        if park_briefly(rt, lot, &mut data, key) {
+        if park_briefly(rt, &mut member, key) {
             received = received.wrapping_add(1);
         }
     }
@@ -149,13 +146,13 @@ fn register_the_rest<P: ThreadParkerT, R: Wait + Clock + Abort>(
             break;
         }
         thread::sleep(rt, Duration::from_millis(1));
-        let data = register(rt, alloc, lot).expect(rt, "a number is left");
-        registered.push(data).expect(rt, "memory");
+        let member = register(rt, alloc, lot).expect(rt, "a number is left");
+        registered.push(member).expect(rt, "memory");
     }
     let are_all = registered.len() == MAX_REGISTERED - PARKERS;
     expect_equal(rt, is_full(rt, alloc, lot), are_all);
-    for data in registered {
-        lot.retire(rt, data);
+    for member in registered {
+        member.retire(rt);
     }
     Tally {
         received: 0,
@@ -166,7 +163,6 @@ fn register_the_rest<P: ThreadParkerT, R: Wait + Clock + Abort>(
 // Trims the table, 2 ms apart.
 fn trim_by_turns<P: ThreadParkerT, R: Wait + Clock + Abort>(
     rt: &R,
-    alloc: Global,
     lot: &ParkingLot<P>,
     race: &Race,
 ) -> Tally {
@@ -175,7 +171,7 @@ fn trim_by_turns<P: ThreadParkerT, R: Wait + Clock + Abort>(
             break;
         }
         thread::sleep(rt, Duration::from_millis(2));
-        lot.trim(rt, alloc).expect(rt, "memory");
+        lot.trim(rt);
     }
     Tally {
         received: 0,
@@ -188,13 +184,13 @@ fn play<P: ThreadParkerT, R: Wait + Clock + Abort>(
     alloc: Global,
     lot: &ParkingLot<P>,
     race: &Race,
-    job: Job,
+    job: Job<'_, P>,
 ) -> Tally {
     match job {
-        Job::Park(data) => park_by_turns(rt, lot, data, race),
+        Job::Park(member) => park_by_turns(rt, member, race),
         Job::Unpark(call) => unpark_until_done(rt, lot, race, call),
         Job::Register => register_the_rest(rt, alloc, lot, race),
-        Job::Trim => trim_by_turns(rt, alloc, lot, race),
+        Job::Trim => trim_by_turns(rt, lot, race),
     }
 }
 
@@ -202,7 +198,7 @@ fn play_all<P, R>(
     rt: &R,
     alloc: Global,
     lot: &ParkingLot<P>,
-    jobs: Vec<Job>,
+    jobs: Vec<Job<'_, P>>,
 ) -> Result<Vec<Tally>, NoMemory>
 where
     P: ThreadParkerT + Send + Sync,

@@ -43,19 +43,13 @@ where
 // whether the other came.
 fn validate_slowly<P: ThreadParkerT, R: Wait + Clock>(
     rt: &R,
-    lot: &ParkingLot<P>,
-    mut data: ThreadData,
+    mut member: Member<'_, P>,
     inside: &AtomicBool,
     done: &AtomicBool,
-) -> Option<(ParkResult, bool)> {
-    if !lot.accepts(&data) {
-        return None;
-    }
+) -> (ParkResult, bool) {
     let mut came = false;
-    let result = park(
+    let result = member.park(
         rt,
-        lot,
-        &mut data,
         1,
         || {
             inside.store(true, Ordering::SeqCst);
@@ -67,7 +61,7 @@ fn validate_slowly<P: ThreadParkerT, R: Wait + Clock>(
         DEFAULT_PARK_TOKEN,
         None,
     );
-    Some((result, came))
+    (result, came)
 }
 
 // Unparks all threads of key 2 while the other thread validates.
@@ -88,12 +82,12 @@ fn unpark_meanwhile<P: ThreadParkerT, R: Wait>(
 fn two_sections_at_once<P: ThreadParkerT + Send + Sync, R: Threads + Wait + Clock + Sync>(
     rt: &R,
     lot: &ParkingLot<P>,
-    data: ThreadData,
-) -> (Option<(ParkResult, bool)>, Option<usize>) {
+    member: Member<'_, P>,
+) -> ((ParkResult, bool), Option<usize>) {
     let (inside, done) = (AtomicBool::new(false), AtomicBool::new(false));
     thread::join(
         rt,
-        || validate_slowly(rt, lot, data, &inside, &done),
+        || validate_slowly(rt, member, &inside, &done),
         || unpark_meanwhile(rt, lot, &inside, &done),
     )
 }
@@ -105,12 +99,12 @@ where
     R: Threads + Wait + Clock + Abort + Sync,
 {
     let lot = ParkingLot::<P>::new(alloc, 6)?;
-    let data = register(rt, alloc, &lot)?;
+    let member = register(rt, alloc, &lot)?;
     for _ in 1..6 {
         drop(register(rt, alloc, &lot)?);
     }
-    let (parked, unparked) = two_sections_at_once(rt, &lot, data);
-    expect_equal(rt, parked, Some((ParkResult::Invalid, true)));
+    let (parked, unparked) = two_sections_at_once(rt, &lot, member);
+    expect_equal(rt, parked, (ParkResult::Invalid, true));
     expect_equal(rt, unparked, Some(0));
     Ok(())
 }
@@ -119,14 +113,13 @@ where
 // which key it left.
 fn time_out_after_a_move<P: ThreadParkerT, R: Wait + Clock>(
     rt: &R,
-    lot: &ParkingLot<P>,
-    mut data: ThreadData,
+    mut member: Member<'_, P>,
     from: usize,
     deadline: Instant,
     moved: &AtomicBool,
-) -> Option<(ParkResult, Option<usize>)> {
+) -> (ParkResult, Option<usize>) {
     let deadline = Some(deadline);
-    park_then(rt, lot, &mut data, from, DEFAULT_PARK_TOKEN, deadline, || {
+    park_then(rt, &mut member, from, DEFAULT_PARK_TOKEN, deadline, || {
         raised_by_turns(moved);
     })
 }
@@ -154,15 +147,15 @@ fn move_by_turns<P: ThreadParkerT, R: Wait>(
 fn is_moved_and_times_out<P: ThreadParkerT + Send + Sync, R: Threads + Wait + Clock + Sync>(
     rt: &R,
     lot: &ParkingLot<P>,
-    data: ThreadData,
+    member: Member<'_, P>,
     from: usize,
     to: usize,
     deadline: Instant,
-) -> (Option<(ParkResult, Option<usize>)>, bool) {
+) -> ((ParkResult, Option<usize>), bool) {
     let moved = AtomicBool::new(false);
     thread::join(
         rt,
-        || time_out_after_a_move(rt, lot, data, from, deadline, &moved),
+        || time_out_after_a_move(rt, member, from, deadline, &moved),
         || move_by_turns(rt, lot, from, to, &moved),
     )
 }
@@ -174,11 +167,11 @@ fn leaves_its_new_key<P: ThreadParkerT + Send + Sync, R: Threads + Wait + Clock 
     to: usize,
 ) -> Result<(), Fail> {
     let lot = ParkingLot::<P>::new(alloc, 1)?;
-    let data = register(rt, alloc, &lot)?;
+    let member = register(rt, alloc, &lot)?;
     let deadline = from_now(rt, Duration::from_millis(20));
-    let (left, moved) = is_moved_and_times_out(rt, &lot, data, from, to, deadline);
+    let (left, moved) = is_moved_and_times_out(rt, &lot, member, from, to, deadline);
     assert!(rt; moved, "nobody came to be moved");
-    expect_equal(rt, left, Some((ParkResult::TimedOut, Some(to))));
+    expect_equal(rt, left, (ParkResult::TimedOut, Some(to)));
     expect_list(rt, alloc, &lot, to, &[]);
     Ok(())
 }
