@@ -82,16 +82,13 @@ fn a_member_parks_with_its_token_and_is_unparked(rt: HostRuntime) {
 }
 
 #[test]
-fn data_whose_number_the_lot_has_not_comes_back(rt: HostRuntime) {
-    let small = lot_for(&rt, rt.alloc(), 1);
+fn a_member_has_the_number_of_its_data(rt: HostRuntime) {
     let lot = lot_for(&rt, rt.alloc(), 2);
     drop(lot.thread_data(&rt, rt.alloc()).expect(&rt, "the number 0"));
     let data = lot.thread_data(&rt, rt.alloc()).expect(&rt, "the number 1");
-    let refused = Member::of(&small, data).err();
-    let back = refused.expect(&rt, "a number that is none of the lot's");
-    let accepted = Member::of(&lot, back).ok();
-    let member = accepted.expect(&rt, "a number of the lot's");
+    let member = Member::of(&lot, data);
     expect_equal(&rt, member.number(), 1);
+    expect_equal(&rt, member.into_data().number(), 1);
 }
 
 // Ends a try to lock, and tells whether it had the mutex.

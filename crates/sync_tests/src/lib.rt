@@ -23,7 +23,6 @@ mod semaphore;
 mod woken;
 
 #[cfg(test)]
-#[cfg(test)]
 use parking_lot_core::{
     DEFAULT_UNPARK_TOKEN, FilterOp, Member, ParkingLot, ThreadParkerT, WordParker, unpark_chosen,
 };

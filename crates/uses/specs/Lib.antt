@@ -1,5 +1,6 @@
 pub mod SemaphoreState
 pub mod KeyedState
+pub mod SameMember
 pub mod BoundedQueueState
 pub mod JobQueueState
 pub mod JobQueueSteps

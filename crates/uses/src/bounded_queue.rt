@@ -1,6 +1,7 @@
 //! A queue of bounded length for threads, by a fair mutex and a condition variable.
 
 ghost use Rattle.std.specs.Prelude.{◌≡◌, ◌≢◌, ◌<◌, IfOk, vec_len};
+ghost use Rattle.parking_lot_core.specs.Members.{IsDataOf, Stays, member_of};
 
 use lot_locks::fair::{FairCondvar, FairMutex};
 use parking_lot_core::{NoMemory, ParkingLot, ThreadData, ThreadParkerT};
@@ -66,8 +67,8 @@ impl BoundedQueue {
         })
     }
 
-    /// Puts a number last, and sleeps while the queue is full. The data's number is below the lot's
-    /// greatest number of threads.
+    /// Puts a number last, and sleeps while the queue is full. The data is that of a thread of the
+    /// lot.
     pub fn put<P: ThreadParkerT, R: Wait + Clock>(
         &self,
         rt: &R,
@@ -75,9 +76,10 @@ impl BoundedQueue {
         thread_data: &mut ThreadData,
         item: usize,
     )
-        requires number { thread_data.old.number < lot.now.max_threads }
+        requires own { IsDataOf lot.now thread_data.old }
 
-        ensures number { thread_data.new ≡ thread_data.old }
+        ensures stays { Stays (member_of lot.now thread_data.old)
+            (member_of lot.now thread_data.new) }
     {
         self.mutex.lock(rt, lot, thread_data);
         self.wait_while(rt, lot, thread_data, self.places.len());
@@ -87,17 +89,18 @@ impl BoundedQueue {
         self.mutex.unlock(rt, lot);
     }
 
-    /// Takes the first number, and sleeps while the queue is empty. The data's number is below the
-    /// lot's greatest number of threads.
+    /// Takes the first number, and sleeps while the queue is empty. The data is that of a thread of
+    /// the lot.
     pub fn take<P: ThreadParkerT, R: Wait + Clock>(
         &self,
         rt: &R,
         lot: &ParkingLot<P>,
         thread_data: &mut ThreadData,
     ) -> usize
-        requires number { thread_data.old.number < lot.now.max_threads }
+        requires own { IsDataOf lot.now thread_data.old }
 
-        ensures number { thread_data.new ≡ thread_data.old }
+        ensures stays { Stays (member_of lot.now thread_data.old)
+            (member_of lot.now thread_data.new) }
     {
         self.mutex.lock(rt, lot, thread_data);
         self.wait_while(rt, lot, thread_data, 0);
@@ -117,9 +120,10 @@ impl BoundedQueue {
         thread_data: &mut ThreadData,
         count: usize,
     )
-        requires number { thread_data.old.number < lot.now.max_threads }
+        requires own { IsDataOf lot.now thread_data.old }
 
-        ensures number { thread_data.new ≡ thread_data.old }
+        ensures stays { Stays (member_of lot.now thread_data.old)
+            (member_of lot.now thread_data.new) }
     {
         for _ in rt.forever() {
             let put = self.put.load(Ordering::SeqCst);

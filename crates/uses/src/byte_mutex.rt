@@ -1,6 +1,7 @@
 //! A mutex whose state is one byte, for threads who wait on a key of a threaded lot.
 
 ghost use Rattle.std.specs.Prelude.{◌≡◌, ◌↔◌, IfSome, IsTrue, IsFalse};
+ghost use Rattle.uses.specs.SameMember.{IsSameMember};
 
 use parking_lot_core::{
     DEFAULT_PARK_TOKEN, DEFAULT_UNPARK_TOKEN, Member, ParkingLot, ThreadParkerT, UnparkResult,
@@ -84,7 +85,7 @@ impl ByteMutex {
         member: &mut Member<'_, P>,
     ) -> Held
         ensures held { result.key ≡ self.now.key }
-        ensures unchanged { member.new ≡ member.old }
+        ensures same { IsSameMember member.old member.new }
     {
         for _ in rt.forever() {
             if let Some(held) = self.try_lock() {

@@ -1,6 +1,7 @@
 //! An event, for which any number of threads wait on a key of a threaded lot.
 
 ghost use Rattle.std.specs.Prelude.{◌≡◌, ◌≢◌, None, IsFalse};
+ghost use Rattle.parking_lot_core.specs.Members.{Stays};
 
 use parking_lot_core::{
     DEFAULT_PARK_TOKEN, DEFAULT_UNPARK_TOKEN, Member, ParkResult, ParkingLot, ThreadParkerT,
@@ -55,7 +56,7 @@ impl Event {
         timeout: Option<Instant>,
     ) -> bool
         ensures late { IsFalse result → timeout ≢ None }
-        ensures unchanged { member.new ≡ member.old }
+        ensures stays { Stays member.old member.new }
     {
         let result = member.park(
             rt,

@@ -1,6 +1,7 @@
 //! A counting semaphore for threads, who wait on a key of a threaded lot.
 
 ghost use Rattle.std.specs.Prelude.{◌≡◌, ◌<◌};
+ghost use Rattle.uses.specs.SameMember.{IsSameMember};
 
 use parking_lot_core::{
     DEFAULT_PARK_TOKEN, DEFAULT_UNPARK_TOKEN, Member, ParkingLot, ThreadParkerT, unpark_one,
@@ -50,7 +51,7 @@ impl ThreadSemaphore {
         member: &mut Member<'_, P>,
     ) -> usize
         ensures free { 0 < result }
-        ensures unchanged { member.new ≡ member.old }
+        ensures same { IsSameMember member.old member.new }
     {
         for _ in rt.forever() {
             let free = self.permits.load(Ordering::SeqCst);

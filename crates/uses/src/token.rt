@@ -7,8 +7,8 @@ ghost use Rattle.parking_lot_core.specs.Laws.{WasHandedOver};
 ghost use Rattle.parking_lot_core.specs.Members.{ComesBack, Stays};
 ghost use Rattle.uses.specs.HandsOver.{HandsOver, HandsOverAndSees};
 
-use lot_base::token::{DEFAULT_PARK_TOKEN, ParkResult, UnparkToken};
-use parking_lot_core::{Member, ThreadParkerT, parks_get_tokens_of_unparks};
+use parking_lot_core::history_laws::parks_get_tokens_of_unparks;
+use parking_lot_core::{DEFAULT_PARK_TOKEN, Member, ParkResult, ThreadParkerT, UnparkToken};
 use std::sync::Wait;
 use std::sync::atomic::{AtomicBool, Ordering};
 use std::thread;

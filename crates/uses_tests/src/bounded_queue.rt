@@ -1,12 +1,11 @@
 //! Tests of the queue of bounded length among threads.
 
 ghost use Rattle.std.specs.Prelude.{◌<◌};
+ghost use Rattle.parking_lot_core.specs.Members.{IsDataOf};
 
 use crate::expect_equal;
-use crate::lots::register;
 use parking_lot_core::{LotError, ParkingLot, ThreadData, ThreadParkerT, WordParker};
 use std::alloc::Global;
-use std::process::Abort;
 use std::sync::Wait;
 use std::test::Fail;
 use std::thread;
@@ -22,32 +21,48 @@ const CAPACITY: usize = 3;
 
 const ROUNDS: usize = 500;
 
-// A thread with its part: whether it produces.
+// A thread of a lot, with the queue that it uses.
 #[derive(Drop)]
-struct Worker {
-    data: ThreadData,
-    produces: bool,
+struct Worker<'a, P: ThreadParkerT> {
+    lot: &'a ParkingLot<P>,
+    queue: &'a BoundedQueue,
+    thread: ThreadData,
+    ghost own: { IsDataOf lot.now thread },
 }
 
-// Puts the numbers from 1 to `ROUNDS`, or takes so many, and tells their sum. Data of another lot
-// answers 0.
+impl<'a, P: ThreadParkerT> Worker<'a, P> {
+    fn register<R: Wait>(
+        rt: &R,
+        alloc: Global,
+        lot: &'a ParkingLot<P>,
+        queue: &'a BoundedQueue,
+    ) -> Result<Worker<'a, P>, LotError> {
+        let thread = lot.thread_data(rt, alloc)?;
+        Ok(Worker { lot, queue, thread })
+    }
+
+    fn put<R: Wait + Clock>(&mut self, rt: &R, number: usize) {
+        self.queue.put(rt, self.lot, &mut self.thread, number);
+    }
+
+    fn take<R: Wait + Clock>(&mut self, rt: &R) -> usize {
+        self.queue.take(rt, self.lot, &mut self.thread)
+    }
+}
+
+// Puts the numbers from 1 to `ROUNDS`, or takes so many, and tells their sum.
 fn work<P: ThreadParkerT, R: Wait + Clock>(
     rt: &R,
-    lot: &ParkingLot<P>,
-    queue: &BoundedQueue,
-    worker: Worker,
+    mut worker: Worker<'_, P>,
+    produces: bool,
 ) -> usize {
-    let mut data = worker.data;
     let mut sum: usize = 0;
     for number in 1..=ROUNDS {
-        if !lot.accepts(&data) {
-            return 0;
-        }
-        if worker.produces {
-            queue.put(rt, lot, &mut data, number);
+        if produces {
+            worker.put(rt, number);
             sum = sum.wrapping_add(number);
         } else {
-            sum = sum.wrapping_add(queue.take(rt, lot, &mut data));
+            sum = sum.wrapping_add(worker.take(rt));
         }
     }
     sum
@@ -65,10 +80,14 @@ fn sum_through<R: Threads + Wait + Clock + Sync>(
     let queue = BoundedQueue::new(alloc, MUTEX_KEY, CONDVAR_KEY, capacity)?;
     let mut workers = Vec::new(alloc);
     for produces in [true, false, true, false] {
-        let data = register(rt, alloc, &lot)?;
-        workers.push(Worker { data, produces })?;
+        let worker = Worker::register(rt, alloc, &lot, &queue)?;
+        workers.push((worker, produces))?;
     }
-    let sums = thread::map_vec(rt, workers, &|worker| work(rt, &lot, &queue, worker))?;
+    let sums = thread::map_vec(
+        rt,
+        workers,
+        &|(worker, produces)| work(rt, worker, produces),
+    )?;
     Ok(
         sums.into_iter()
             .fold(0usize, |all, sum| all.wrapping_add(sum)),
@@ -88,21 +107,17 @@ fn consumers_take_what_producers_put(rt: HostRuntime) -> Result<(), Fail> {
 }
 
 // Puts as many numbers as there are places, and takes them. Tells whether they came in order.
-fn fill_and_empty<P: ThreadParkerT, R: Wait + Clock + Abort>(
+fn fill_and_empty<P: ThreadParkerT, R: Wait + Clock>(
     rt: &R,
-    lot: &ParkingLot<P>,
-    queue: &BoundedQueue,
-    data: &mut ThreadData,
+    worker: &mut Worker<'_, P>,
     capacity: usize,
 ) -> bool {
     let mut in_order = true;
     for number in 0..capacity {
-        assert!(rt; lot.accepts(data), "data of this lot");
-        queue.put(rt, lot, data, number);
+        worker.put(rt, number);
     }
     for number in 0..capacity {
-        assert!(rt; lot.accepts(data), "data of this lot");
-        in_order = queue.take(rt, lot, data) == number && in_order;
+        in_order = worker.take(rt) == number && in_order;
     }
     in_order
 }
@@ -110,12 +125,12 @@ fn fill_and_empty<P: ThreadParkerT, R: Wait + Clock + Abort>(
 // It refuses a `put` that sleeps while a place is free, and a `take` in another order.
 #[test]
 fn a_queue_takes_as_many_as_it_has_places(rt: HostRuntime) -> Result<(), Fail> {
-    let lot = ParkingLot::<WordParker>::new(rt.alloc(), 1)?;
-    let mut data = register(&rt, rt.alloc(), &lot)?;
     for capacity in [1, CAPACITY, 3_000] {
+        let lot = ParkingLot::<WordParker>::new(rt.alloc(), 1)?;
         let queue = BoundedQueue::new(rt.alloc(), MUTEX_KEY, CONDVAR_KEY, capacity)?;
+        let mut worker = Worker::register(&rt, rt.alloc(), &lot, &queue)?;
         for _ in 0..2 {
-            assert!(rt; fill_and_empty(&rt, &lot, &queue, &mut data, capacity));
+            assert!(rt; fill_and_empty(&rt, &mut worker, capacity));
         }
     }
     Ok(())

@@ -6,7 +6,7 @@ use crate::clock::{from_now, is_past};
 use crate::expect_equal;
 use crate::lots::register;
 use crate::slow_parker::SlowParker;
-use parking_lot_core::{Member, ParkingLot, ThreadData, ThreadParkerT, WordParker};
+use parking_lot_core::{Member, ParkingLot, ThreadParkerT, WordParker};
 use std::alloc::Global;
 use std::process::Abort;
 use std::sync::atomic::{AtomicUsize, Ordering};
@@ -68,13 +68,12 @@ impl<P: ThreadParkerT> Shared<P> {
 }
 
 // Counts under the mutex in rounds, and tells how often. `None` says that the counters were not
-// always equal, or that the data is of another lot.
+// always equal.
 fn count_in_rounds<P: ThreadParkerT, R: Wait + Clock + Abort>(
     rt: &R,
     shared: &Shared<P>,
-    data: ThreadData,
+    mut member: Member<'_, P>,
 ) -> Option<usize> {
-    let mut member = Member::of(&shared.lot, data).ok()?;
     let end = from_now(rt, LONG);
     let mut rounds = 0_usize;
     let mut all_equal = true;
@@ -94,8 +93,8 @@ fn count_in_rounds<P: ThreadParkerT, R: Wait + Clock + Abort>(
 // Starts a thread that counts in rounds.
 fn start_counting<P, R>(
     rt: &R,
+    alloc: Global,
     shared: Arc<Shared<P>, Global>,
-    data: ThreadData,
 ) -> Option<JoinHandle<Option<usize>>>
 where
     P: ThreadParkerT + Send + Sync + 'static,
@@ -103,7 +102,11 @@ where
     R: Threads + Wait + Clock + Abort + Copy + Send + 'static,
 {
     let runtime = *rt;
-    thread::spawn(rt, move || count_in_rounds(&runtime, &shared, data)).ok()
+    thread::spawn(rt, move || {
+        let member = register(&runtime, alloc, &shared.lot);
+        count_in_rounds(&runtime, &shared, member)
+    })
+    .ok()
 }
 
 // Waits until the thread has counted, and tells how often.
@@ -120,8 +123,8 @@ fn threads_count_in_turn(rt: HostRuntime) -> Result<(), Fail> {
     let shared = Arc::new(rt.alloc(), Shared::new(lot))?;
     let mut counting = Vec::new(rt.alloc());
     for _ in 0..THREADS {
-        let data = register(&rt, rt.alloc(), &shared.lot)?;
-        counting.push(start_counting(&rt, Arc::try_clone(&shared)?, data))?;
+        let theirs = Arc::try_clone(&shared)?;
+        counting.push(start_counting(&rt, rt.alloc(), theirs))?;
     }
     let mut all = 0_usize;
     for started in counting {
@@ -131,38 +134,33 @@ fn threads_count_in_turn(rt: HostRuntime) -> Result<(), Fail> {
     Ok(())
 }
 
-// Locks and unlocks, often. Data of another lot answers false.
+// Locks and unlocks, often.
 fn lock_often<P: ThreadParkerT, R: Wait + Clock + Abort>(
     rt: &R,
     shared: &Shared<P>,
-    data: ThreadData,
-) -> bool {
-    let Ok(mut member) = Member::of(&shared.lot, data) else {
-        return false;
-    };
+    mut member: Member<'_, P>,
+) {
     let end = from_now(rt, LONG);
     for _ in 0..OFTEN {
         let held = shared.mutex.lock(rt, &mut member);
         shared.mutex.unlock(rt, &shared.lot, held);
         if is_past(rt, end) {
-            break;
+            return;
         }
     }
-    true
 }
 
 // With a `lock` that marks a mutex which was let go since it looked, most runs do not end.
 #[test]
 fn two_threads_lock_a_mutex_that_is_let_go_meanwhile(rt: HostRuntime) -> Result<(), Fail> {
     let shared = Shared::new(ParkingLot::<WordParker>::new(rt.alloc(), 2)?);
-    let first = register(&rt, rt.alloc(), &shared.lot)?;
-    let second = register(&rt, rt.alloc(), &shared.lot)?;
-    let ended = thread::join(
+    let first = register(&rt, rt.alloc(), &shared.lot);
+    let second = register(&rt, rt.alloc(), &shared.lot);
+    thread::join(
         &rt,
         || lock_often(&rt, &shared, first),
         || lock_often(&rt, &shared, second),
     );
-    expect_equal(&rt, ended, (true, true));
     Ok(())
 }
 
@@ -208,10 +206,9 @@ fn is_locked_once<P: ThreadParkerT, R: Wait>(rt: &R, shared: &Shared<P>) -> bool
 fn a_waiter_is_handed_the_mutex(rt: HostRuntime) -> Result<(), Fail> {
     let lot = ParkingLot::<WordParker>::new(rt.alloc(), 1)?;
     let shared = Arc::new(rt.alloc(), Shared::new(lot))?;
-    let data = register(&rt, rt.alloc(), &shared.lot)?;
     let theirs = Arc::try_clone(&shared)?;
     let held = shared.mutex.try_lock().expect(&rt, "nobody holds it");
-    let started = start_counting(&rt, theirs, data);
+    let started = start_counting(&rt, rt.alloc(), theirs);
     let came = wait_for_waiters(&rt, rt.alloc(), &shared.lot, 1);
     let counts = shared.counts();
     let handed = shared.mutex.unlock(&rt, &shared.lot, held);
@@ -246,10 +243,9 @@ fn lock_once_more<P: ThreadParkerT, R: Wait + Clock>(
 fn a_thread_sleeps_only_while_the_byte_tells_of_waiters(rt: HostRuntime) -> Result<(), Fail> {
     let lot = ParkingLot::<SlowParker>::new(rt.alloc(), 1)?;
     let shared = Arc::new(rt.alloc(), Shared::new(lot))?;
-    let data = register(&rt, rt.alloc(), &shared.lot)?;
     let theirs = Arc::try_clone(&shared)?;
     let held = shared.mutex.try_lock().expect(&rt, "nobody holds it");
-    let started = start_counting(&rt, theirs, data);
+    let started = start_counting(&rt, rt.alloc(), theirs);
     lock_once_more(&rt, rt.alloc(), &shared, held);
     let rounds = join_counting(&rt, started);
     expect_equal(&rt, shared.counts(), (rounds, rounds));
@@ -261,7 +257,6 @@ fn start_once_nobody_waits<P, R>(
     rt: &R,
     alloc: Global,
     shared: Arc<Shared<P>, Global>,
-    data: ThreadData,
 ) -> Option<JoinHandle<Option<usize>>>
 where
     P: ThreadParkerT + Send + Sync + 'static,
@@ -270,8 +265,9 @@ where
 {
     let runtime = *rt;
     thread::spawn(rt, move || {
+        let member = register(&runtime, alloc, &shared.lot);
         wait_for_waiters(&runtime, alloc, &shared.lot, 0);
-        count_in_rounds(&runtime, &shared, data)
+        count_in_rounds(&runtime, &shared, member)
     })
     .ok()
 }
@@ -282,13 +278,11 @@ where
 fn who_comes_to_wait_while_another_is_woken_is_woken_too(rt: HostRuntime) -> Result<(), Fail> {
     let lot = ParkingLot::<SlowParker>::new(rt.alloc(), 2)?;
     let shared = Arc::new(rt.alloc(), Shared::new(lot))?;
-    let data = register(&rt, rt.alloc(), &shared.lot)?;
-    let others = register(&rt, rt.alloc(), &shared.lot)?;
-    let (theirs, others_shared) = (Arc::try_clone(&shared)?, Arc::try_clone(&shared)?);
+    let (theirs, others) = (Arc::try_clone(&shared)?, Arc::try_clone(&shared)?);
     let held = shared.mutex.try_lock().expect(&rt, "nobody holds it");
-    let first = start_counting(&rt, theirs, data);
+    let first = start_counting(&rt, rt.alloc(), theirs);
     wait_for_waiters(&rt, rt.alloc(), &shared.lot, 1);
-    let second = start_once_nobody_waits(&rt, rt.alloc(), others_shared, others);
+    let second = start_once_nobody_waits(&rt, rt.alloc(), others);
     let handed = shared.mutex.unlock(&rt, &shared.lot, held);
     let rounds = join_counting(&rt, first).wrapping_add(join_counting(&rt, second));
     expect_equal(&rt, handed, true);

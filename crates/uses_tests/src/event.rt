@@ -2,8 +2,9 @@
 
 use crate::expect_equal;
 use crate::lots::register;
-use parking_lot_core::{Member, ParkingLot, ThreadData, ThreadParkerT, WordParker};
+use parking_lot_core::{Member, ParkingLot, ThreadParkerT, WordParker};
 use std::alloc::{AllocError, Global};
+use std::process::Abort;
 use std::sync::{Arc, Wait};
 use std::test::Fail;
 use std::thread;
@@ -26,32 +27,30 @@ struct Shared<P: ThreadParkerT> {
     event: Event,
 }
 
-// Waits for the event, and tells whether it was set then. Data of another lot answers false.
-fn see_it_set<P: ThreadParkerT, R: Wait + Clock>(
+// Waits for the event, and tells whether it was set then.
+fn see_it_set<P: ThreadParkerT, R: Wait + Clock + Abort>(
     rt: &R,
+    alloc: Global,
     shared: &Shared<P>,
-    data: ThreadData,
     timeout: Option<Instant>,
 ) -> bool {
-    let Ok(mut member) = Member::of(&shared.lot, data) else {
-        return false;
-    };
+    let mut member = register(rt, alloc, &shared.lot);
     shared.event.wait(rt, &mut member, timeout) && shared.event.is_set()
 }
 
 // Starts a thread that waits for the event.
 fn start_waiter<P, R>(
     rt: &R,
+    alloc: Global,
     shared: Arc<Shared<P>, Global>,
-    data: ThreadData,
 ) -> Option<JoinHandle<bool>>
 where
     P: ThreadParkerT + Send + Sync + 'static,
     P::UnparkHandle: 'static,
-    R: Threads + Wait + Clock + Copy + Send + 'static,
+    R: Threads + Wait + Clock + Abort + Copy + Send + 'static,
 {
     let runtime = *rt;
-    thread::spawn(rt, move || see_it_set(&runtime, &shared, data, None)).ok()
+    thread::spawn(rt, move || see_it_set(&runtime, alloc, &shared, None)).ok()
 }
 
 // Waits until all threads wait for the event, and tells whether they came.
@@ -79,8 +78,7 @@ fn the_event_wakes_every_thread(rt: HostRuntime) -> Result<(), Fail> {
     let shared = Arc::new(rt.alloc(), shared)?;
     let mut waiters = Vec::new(rt.alloc());
     for _ in 0..THREADS {
-        let data = register(&rt, rt.alloc(), &shared.lot)?;
-        let started = start_waiter(&rt, Arc::try_clone(&shared)?, data);
+        let started = start_waiter(&rt, rt.alloc(), Arc::try_clone(&shared)?);
         waiters.push(started.expect(&rt, "a thread"))?;
     }
     come_by_turns(&rt, rt.alloc(), &shared.lot).expect(&rt, "the waiters");
@@ -91,8 +89,8 @@ fn the_event_wakes_every_thread(rt: HostRuntime) -> Result<(), Fail> {
     }
 
     // Who comes after the event does not sleep, and is not late.
-    let data = register(&rt, rt.alloc(), &shared.lot)?;
-    assert!(rt; see_it_set(&rt, &shared, data, Some(Instant::now(&rt)?)));
+    let now = Instant::now(&rt)?;
+    assert!(rt; see_it_set(&rt, rt.alloc(), &shared, Some(now)));
     expect_equal(&rt, shared.event.set(&rt, &shared.lot), 0);
     Ok(())
 }
@@ -102,7 +100,7 @@ fn the_event_wakes_every_thread(rt: HostRuntime) -> Result<(), Fail> {
 fn a_wait_for_an_event_that_does_not_come_is_late(rt: HostRuntime) -> Result<(), Fail> {
     let lot = ParkingLot::<WordParker>::new(rt.alloc(), 1)?;
     let event = Event::new(KEY);
-    let mut member = Member::register(&rt, rt.alloc(), &lot)?;
+    let mut member = register(&rt, rt.alloc(), &lot);
     let timeout = Some(Instant::now(&rt)?);
     let was_set = event.wait(&rt, &mut member, timeout);
     expect_equal(&rt, was_set, false);
@@ -139,8 +137,8 @@ fn two_threads_set_events_for_each_other(rt: HostRuntime) -> Result<(), Fail> {
     let lot = ParkingLot::<WordParker>::new(rt.alloc(), 2)?;
     let one = many_events(rt.alloc(), 0)?;
     let other = many_events(rt.alloc(), EVENTS)?;
-    let first = Member::register(&rt, rt.alloc(), &lot)?;
-    let second = Member::register(&rt, rt.alloc(), &lot)?;
+    let first = register(&rt, rt.alloc(), &lot);
+    let second = register(&rt, rt.alloc(), &lot);
     let ended = thread::join(
         &rt,
         || exchange(&rt, first, one.as_slice(), other.as_slice()),

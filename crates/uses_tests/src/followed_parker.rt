@@ -1,7 +1,7 @@
 //! A parker whose thread is held up as it comes to park, or is followed as it is woken.
 
 use parking_lot_core::{
-    NoMemory, Node, ParkerKey, ParkerT, UnparkHandleT, YieldHandle, YieldParker,
+    Letter, NoMemory, Node, ParkerKey, ParkerT, Payload, UnparkHandleT, YieldHandle, YieldParker,
 };
 use std::alloc::Global;
 use std::sync::Wait;
@@ -69,7 +69,7 @@ impl FollowedParker {
 }
 
 impl ParkerT for FollowedParker {
-    type Payload = ();
+    type Payload = Letter;
 
     type UnparkHandle = FollowedHandle;
 
@@ -79,7 +79,10 @@ impl ParkerT for FollowedParker {
 
     ghost home = { λ followed. ⟦<YieldParker as ParkerT>⟧.home followed.parker };
 
-    fn new(alloc: Global, key: &ParkerKey<()>) -> Result<FollowedParker, NoMemory> {
+    fn new(
+        alloc: Global,
+        key: &ParkerKey<<Letter as Payload>::Home>,
+    ) -> Result<FollowedParker, NoMemory> {
         Ok(FollowedParker {
             parker: YieldParker::new(alloc, key)?,
             is_followed: AtomicBool::new(key.number == 0),
@@ -106,7 +109,7 @@ impl ParkerT for FollowedParker {
         self.parker.timed_out(rt)
     }
 
-    fn park<R: Wait>(&self, rt: &R) -> (Box<Node>, Option<()>) {
+    fn park<R: Wait>(&self, rt: &R) -> (Box<Node>, Option<Letter>) {
         self.parked.fetch_add(1, Ordering::SeqCst);
         self.parker.park(rt)
     }
@@ -115,12 +118,12 @@ impl ParkerT for FollowedParker {
         &self,
         rt: &R,
         timeout: Instant,
-    ) -> Option<(Box<Node>, Option<()>)> {
+    ) -> Option<(Box<Node>, Option<Letter>)> {
         self.parked.fetch_add(1, Ordering::SeqCst);
         self.parker.park_until(rt, timeout)
     }
 
-    fn unpark_lock<R: Wait>(&self, rt: &R, node: Box<Node>, payload: ()) -> FollowedHandle {
+    fn unpark_lock<R: Wait>(&self, rt: &R, node: Box<Node>, payload: Letter) -> FollowedHandle {
         let until = self.until(node.key);
         let handle = self.parker.unpark_lock(rt, node, payload);
         FollowedHandle { handle, until }

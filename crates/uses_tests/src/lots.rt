@@ -4,7 +4,7 @@
 use crate::expect_equal;
 use parking_lot_core::lot::Lot;
 use parking_lot_core::{
-    DEFAULT_PARK_TOKEN, LotError, Member, Misfit, NoMemory, ParkingLot, ThreadData, ThreadParkerT,
+    DEFAULT_PARK_TOKEN, LotError, Member, Misfit, NoMemory, ParkingLot, ThreadParkerT,
 };
 use std::alloc::Global;
 use std::process::Abort;
@@ -42,13 +42,13 @@ pub fn expect_list<R: Abort>(
     Ok(())
 }
 
-// Registers a thread of a threaded lot.
-pub fn register<P: ThreadParkerT, R: Wait>(
+// Registers the calling thread.
+pub fn register<'a, P: ThreadParkerT, R: Wait + Abort>(
     rt: &R,
     alloc: Global,
-    lot: &ParkingLot<P>,
-) -> Result<ThreadData, LotError> {
-    lot.thread_data(rt, alloc)
+    lot: &'a ParkingLot<P>,
+) -> Member<'a, P> {
+    Member::register(rt, alloc, lot).expect(rt, "a number")
 }
 
 // Registers so many threads.
@@ -60,7 +60,7 @@ pub fn register_all<'a, P: ThreadParkerT, R: Wait + Abort>(
 ) -> Vec<Member<'a, P>> {
     let mut members = Vec::new(alloc);
     for _ in 0..threads {
-        let member = Member::register(rt, alloc, lot).expect(rt, "a number");
+        let member = register(rt, alloc, lot);
         members.push(member).expect(rt, "room for a member");
     }
     members

@@ -1,7 +1,7 @@
 //! A parker that takes long to prepare and long to wake.
 
 use parking_lot_core::{
-    NoMemory, Node, ParkerKey, ParkerT, UnparkHandleT, YieldHandle, YieldParker,
+    Letter, NoMemory, Node, ParkerKey, ParkerT, Payload, UnparkHandleT, YieldHandle, YieldParker,
 };
 use std::alloc::Global;
 use std::hint;
@@ -33,7 +33,7 @@ fn spin_once(flag: &AtomicBool) {
 }
 
 impl ParkerT for SlowParker {
-    type Payload = ();
+    type Payload = Letter;
 
     type UnparkHandle = SlowHandle;
 
@@ -43,7 +43,10 @@ impl ParkerT for SlowParker {
 
     ghost home = { λ slow. ⟦<YieldParker as ParkerT>⟧.home slow.parker };
 
-    fn new(alloc: Global, key: &ParkerKey<()>) -> Result<SlowParker, NoMemory> {
+    fn new(
+        alloc: Global,
+        key: &ParkerKey<<Letter as Payload>::Home>,
+    ) -> Result<SlowParker, NoMemory> {
         Ok(SlowParker {
             parker: YieldParker::new(alloc, key)?,
             is_prepared: AtomicBool::new(key.number != 0),
@@ -59,7 +62,7 @@ impl ParkerT for SlowParker {
         self.parker.timed_out(rt)
     }
 
-    fn park<R: Wait>(&self, rt: &R) -> (Box<Node>, Option<()>) {
+    fn park<R: Wait>(&self, rt: &R) -> (Box<Node>, Option<Letter>) {
         self.parker.park(rt)
     }
 
@@ -67,11 +70,11 @@ impl ParkerT for SlowParker {
         &self,
         rt: &R,
         timeout: Instant,
-    ) -> Option<(Box<Node>, Option<()>)> {
+    ) -> Option<(Box<Node>, Option<Letter>)> {
         self.parker.park_until(rt, timeout)
     }
 
-    fn unpark_lock<R: Wait>(&self, rt: &R, node: Box<Node>, payload: ()) -> SlowHandle {
+    fn unpark_lock<R: Wait>(&self, rt: &R, node: Box<Node>, payload: Letter) -> SlowHandle {
         let handle = self.parker.unpark_lock(rt, node, payload);
         SlowHandle { handle }
     }

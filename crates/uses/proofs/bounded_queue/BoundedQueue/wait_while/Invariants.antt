@@ -1,10 +1,10 @@
-use Rattle.std.proofs.Common.{◌≡◌}
+use Rattle.parking_lot_core.specs.Members.{Stays, member_of}
 use Rattle.uses.proofs.bounded_queue.BoundedQueue.wait_while.Given as goal
 
--- the thread's data keeps its number
+-- the data stays that of the same thread
 abbrev pub invariant-loop : goal.invariant-loop
 invariant-loop g l = record {
   can_next : (goal.iterator-loop g).can_next l.iterator';
   is_finite : (goal.iterator-loop g).is_finite l.iterator';
-  kept : l.thread_data ≡ l.fn.thread_data;
+  stays : Stays (member_of l.lot l.fn.thread_data) (member_of l.lot l.thread_data);
 }

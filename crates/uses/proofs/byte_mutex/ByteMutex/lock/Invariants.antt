@@ -1,10 +1,10 @@
-use Rattle.std.proofs.Common.{◌≡◌}
+use Rattle.uses.specs.SameMember.{IsSameMember}
 use Rattle.uses.proofs.byte_mutex.ByteMutex.lock.Given as goal
 
--- the member stays as it is
+-- the member stays the same
 abbrev pub invariant-loop : goal.invariant-loop
 invariant-loop g l = record {
   can_next : (goal.iterator-loop g).can_next l.iterator';
   is_finite : (goal.iterator-loop g).is_finite l.iterator';
-  kept : l.member ≡ l.fn.member;
+  same : IsSameMember l.fn.member l.member;
 }
