@@ -1,4 +1,4 @@
-//! What else members of such a lot call: lists, filters, requeues, records, and the end of a
+//! What else members of a lot call: lists, filters, requeues, records, and the end of a
 //! registration.
 
 use crate::expect_equal;
@@ -99,7 +99,7 @@ fn a_filter_decides_by_the_park_token(rt: HostRuntime) {
 fn hear_of_the_past<'a, P: ThreadParkerT, R: Wait + Clock + Abort>(
     rt: &R,
     alloc: Global,
-    lot: &'a Lot<P>,
+    lot: &'a ParkingLot<P>,
 ) -> Member<'a, P> {
     let one = Member::register(rt, alloc, lot).expect(rt, "a number");
     let mut two = Member::register(rt, alloc, lot).expect(rt, "a number");

@@ -77,7 +77,7 @@ fn unpark<P: ThreadParkerT, R: Wait + Clock + Abort>(
 fn play<P: ThreadParkerT, R: Wait + Clock + Abort>(
     rt: &R,
     alloc: Global,
-    lot: &Lot<P>,
+    lot: &ParkingLot<P>,
     way: Way,
     index: usize,
 ) -> bool {
@@ -180,7 +180,7 @@ fn move_often<'a, P: ThreadParkerT, R: Wait + Clock>(
 fn move_both_ways<P: ThreadParkerT + Send + Sync, R: Threads + Wait + Clock + Abort + Sync>(
     rt: &R,
     alloc: Global,
-    lot: &Lot<P>,
+    lot: &ParkingLot<P>,
 ) -> usize {
     let one = register(rt, alloc, lot);
     let two = register(rt, alloc, lot);

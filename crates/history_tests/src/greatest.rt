@@ -20,7 +20,7 @@ const LONG: u64 = 20;
 fn register_last<'a, P: ThreadParkerT, R: Wait + Clock + Abort>(
     rt: &R,
     alloc: Global,
-    lot: &'a Lot<P>,
+    lot: &'a ParkingLot<P>,
 ) -> Member<'a, P> {
     for _ in 2..MAX_THREADS {
         drop(register(rt, alloc, lot));

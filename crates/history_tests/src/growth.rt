@@ -1,4 +1,4 @@
-//! Members of such a lot whose table grows and is trimmed while threads wait.
+//! Members of a lot whose table grows and is trimmed while threads wait.
 
 use crate::expect_equal;
 use crate::members::{
@@ -53,7 +53,7 @@ fn wake<P: ThreadParkerT, R: Wait + Clock>(rt: &R, me: &mut Member<'_, P>) -> bo
 fn grow_and_trim<P: ThreadParkerT, R: Wait + Clock + Abort>(
     rt: &R,
     alloc: Global,
-    lot: &Lot<P>,
+    lot: &ParkingLot<P>,
     mut me: Member<'_, P>,
 ) -> bool {
     let mut guests = Vec::new(alloc);
@@ -117,7 +117,7 @@ fn threads_park_while_the_table_grows_and_is_trimmed(rt: HostRuntime) {
 fn come<'a, P: ThreadParkerT, R: Wait + Clock + Abort>(
     rt: &R,
     alloc: Global,
-    lot: &'a Lot<P>,
+    lot: &'a ParkingLot<P>,
 ) -> Vec<Member<'a, P>> {
     let mut guests = Vec::new(alloc);
     for _ in 0..GUESTS {
@@ -143,7 +143,7 @@ fn go<P: ThreadParkerT, R: Wait + Clock>(
 fn come_and_go<P: ThreadParkerT, R: Wait + Clock + Abort>(
     rt: &R,
     alloc: Global,
-    lot: &Lot<P>,
+    lot: &ParkingLot<P>,
     me: &mut Member<'_, P>,
 ) {
     let guests = come(rt, alloc, lot);
@@ -154,7 +154,7 @@ fn come_and_go<P: ThreadParkerT, R: Wait + Clock + Abort>(
 fn wake_both<P: ThreadParkerT, R: Wait + Clock + Abort>(
     rt: &R,
     alloc: Global,
-    lot: &Lot<P>,
+    lot: &ParkingLot<P>,
     me: &mut Member<'_, P>,
 ) {
     come_and_go(rt, alloc, lot, me);

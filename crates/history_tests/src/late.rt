@@ -1,4 +1,4 @@
-//! Members of such a lot whose deadline has passed, beside sections of the same bucket.
+//! Members of a lot whose deadline has passed, beside sections of the same bucket.
 
 use crate::expect_equal;
 use crate::members::{
@@ -174,7 +174,7 @@ impl Race {
         &self,
         rt: &R,
         alloc: Global,
-        lot: &Lot<P>,
+        lot: &ParkingLot<P>,
         index: usize,
     ) {
         let mut me = register(rt, alloc, lot);
@@ -190,7 +190,7 @@ fn race_at_deadline<P: ThreadParkerT + Send + Sync, R: Threads + Wait + Clock + 
     rt: &R,
     alloc: Global,
 ) -> Left {
-    let lot: Lot<P> = new_lot(rt, alloc, VISITORS + 2);
+    let lot: ParkingLot<P> = new_lot(rt, alloc, VISITORS + 2);
     let late = register(rt, alloc, &lot);
     let race = Race {
         ended: AtomicUsize::new(0),

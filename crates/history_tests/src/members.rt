@@ -35,20 +35,24 @@ pub fn now<R: Clock + Abort>(rt: &R) -> Instant {
     Instant::now(rt).expect(rt, "a clock")
 }
 
-pub fn new_lot<P: ThreadParkerT, R: Abort>(rt: &R, alloc: Global, threads: usize) -> Lot<P> {
-    Lot::new(alloc, threads).expect(rt, "a lot")
+pub fn new_lot<P: ThreadParkerT, R: Abort>(rt: &R, alloc: Global, threads: usize) -> ParkingLot<P> {
+    ParkingLot::new(alloc, threads).expect(rt, "a lot")
 }
 
 pub fn register<'a, P: ThreadParkerT, R: Wait + Clock + Abort>(
     rt: &R,
     alloc: Global,
-    lot: &'a Lot<P>,
+    lot: &'a ParkingLot<P>,
 ) -> Member<'a, P> {
     Member::register(rt, alloc, lot).expect(rt, "a number")
 }
 
 // No number is free.
-pub fn expect_full<P: ThreadParkerT, R: Wait + Clock + Abort>(rt: &R, alloc: Global, lot: &Lot<P>) {
+pub fn expect_full<P: ThreadParkerT, R: Wait + Clock + Abort>(
+    rt: &R,
+    alloc: Global,
+    lot: &ParkingLot<P>,
+) {
     let refused = Member::register(rt, alloc, lot);
     assert!(rt; matches!(&refused, Err(LotError::Full)));
 }

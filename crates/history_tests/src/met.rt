@@ -1,4 +1,4 @@
-//! A park that meets a growth of such a lot's table.
+//! A park that meets a growth of a lot's table.
 
 use crate::expect_equal;
 use crate::members::{TOKEN, TURNS, UNPARKED, new_lot, park, register, unpark_one};
@@ -56,7 +56,7 @@ impl Growth {
         &self,
         rt: &R,
         alloc: Global,
-        lot: &Lot<P>,
+        lot: &ParkingLot<P>,
     ) -> bool {
         raised_by_turns(&self.may_begin, TURNS);
         let mut sixth = register(rt, alloc, lot);

@@ -68,7 +68,7 @@ pub fn raised_by_turns(flag: &AtomicBool, looks: usize) -> bool {
 pub fn are_apart<P: ThreadParkerT + Send + Sync, R: Threads + Wait + Clock + Abort + Sync>(
     rt: &R,
     alloc: Global,
-    lot: &Lot<P>,
+    lot: &ParkingLot<P>,
     looks: usize,
 ) -> bool {
     let mut one = register(rt, alloc, lot);

@@ -52,7 +52,7 @@ fn a_token_goes_from_one_thread_to_another(rt: HostRuntime) {
 fn two_members<'a, P: ThreadParkerT, R: Wait + Clock + Abort>(
     rt: &R,
     alloc: Global,
-    lot: &'a Lot<P>,
+    lot: &'a ParkingLot<P>,
 ) -> (Member<'a, P>, Member<'a, P>) {
     let mut one = Member::register(rt, alloc, lot).expect(rt, "a number");
     let mut two = Member::register(rt, alloc, lot).expect(rt, "a number");

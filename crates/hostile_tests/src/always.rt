@@ -1,10 +1,10 @@
 //! Sections beside a table that grows and is trimmed always: each finds the one thread that waits.
 
-use crate::common::now;
+use crate::common::{now, register, wait};
 use crate::expect_equal;
 use parking_lot_core::{
-    DEFAULT_PARK_TOKEN, DEFAULT_UNPARK_TOKEN, FilterOp, Member, ParkingLot, RequeueOp, WordParker,
-    unpark_chosen, unpark_one, unpark_requeue,
+    DEFAULT_UNPARK_TOKEN, FilterOp, ParkingLot, RequeueOp, WordParker, unpark_chosen, unpark_one,
+    unpark_requeue,
 };
 use std::alloc::Global;
 use std::process::Abort;
@@ -40,13 +40,13 @@ impl Scene {
             }
             let mut more = Vec::new(alloc);
             for _ in 0..6 {
-                let data = self.lot.thread_data(rt, alloc).expect(rt, "a number");
-                more.push(data).expect(rt, "memory");
+                let member = register(rt, alloc, &self.lot);
+                more.push(member).expect(rt, "memory");
             }
-            for data in more {
-                self.lot.retire(rt, data);
+            for member in more {
+                member.retire(rt);
             }
-            self.lot.trim(rt, alloc).expect(rt, "memory");
+            self.lot.trim(rt);
         }
         unreachable!()
     }
@@ -112,9 +112,8 @@ impl Scene {
     }
 
     fn wait<R: Wait + Clock + Abort>(&self, rt: &R, alloc: Global) -> bool {
-        let mut member = Member::register(rt, alloc, &self.lot).expect(rt, "a number");
-        let result = member.park(rt, 1, || true, || (), |_, _| (), DEFAULT_PARK_TOKEN, None);
-        result.is_unparked()
+        let mut member = register(rt, alloc, &self.lot);
+        wait(rt, &mut member, 1, None).is_unparked()
     }
 }
 

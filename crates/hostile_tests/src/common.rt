@@ -3,8 +3,8 @@
 
 use crate::expect_equal;
 use parking_lot_core::{
-    FilterOp, LotError, ParkResult, ParkToken, ParkingLot, RequeueOp, ThreadData, ThreadParkerT,
-    UnparkResult, UnparkToken, park, unpark_all, unpark_chosen, unpark_one, unpark_requeue,
+    FilterOp, LotError, Member, ParkResult, ParkToken, ParkingLot, RequeueOp, ThreadParkerT,
+    UnparkResult, UnparkToken, unpark_all, unpark_chosen, unpark_one, unpark_requeue,
 };
 use std::alloc::Global;
 use std::process::Abort;
@@ -78,17 +78,17 @@ pub fn new_lot<P: ThreadParkerT, R: Abort>(rt: &R, alloc: Global, threads: usize
     ParkingLot::new(alloc, threads).expect(rt, "a lot")
 }
 
-pub fn register<P: ThreadParkerT, R: Wait + Abort>(
+pub fn register<'a, P: ThreadParkerT, R: Wait + Abort>(
     rt: &R,
     alloc: Global,
-    lot: &ParkingLot<P>,
-) -> ThreadData {
-    lot.thread_data(rt, alloc).expect(rt, "a number")
+    lot: &'a ParkingLot<P>,
+) -> Member<'a, P> {
+    Member::register(rt, alloc, lot).expect(rt, "a number")
 }
 
 // No number is free.
 pub fn expect_full<P: ThreadParkerT, R: Wait + Abort>(rt: &R, alloc: Global, lot: &ParkingLot<P>) {
-    let refused = lot.thread_data(rt, alloc);
+    let refused = Member::register(rt, alloc, lot);
     assert!(rt; matches!(&refused, Err(LotError::Full)));
 }
 
@@ -137,22 +137,18 @@ pub fn token_of(key: usize) -> ParkToken {
 }
 
 // Parks on the key, with its token for filters, and does this before it sleeps.
-pub fn park_and<P: ThreadParkerT, R: Wait + Clock + Abort, B: FnOnce()>(
+pub fn park_and<P: ThreadParkerT, R: Wait + Clock, B: FnOnce()>(
     rt: &R,
-    lot: &ParkingLot<P>,
-    data: &mut ThreadData,
+    member: &mut Member<'_, P>,
     key: usize,
     before_sleep: B,
     deadline: Option<Instant>,
 ) -> Left
     requires { B.pre before_sleep }
 {
-    assert!(rt; lot.accepts(data), "data of this lot");
     let mut told = None;
-    let result = park(
+    let result = member.park(
         rt,
-        lot,
-        data,
         key,
         || true,
         before_sleep,
@@ -164,14 +160,13 @@ pub fn park_and<P: ThreadParkerT, R: Wait + Clock + Abort, B: FnOnce()>(
 }
 
 // Parks on the key until another thread unparks this one, or until the deadline.
-pub fn wait<P: ThreadParkerT, R: Wait + Clock + Abort>(
+pub fn wait<P: ThreadParkerT, R: Wait + Clock>(
     rt: &R,
-    lot: &ParkingLot<P>,
-    data: &mut ThreadData,
+    member: &mut Member<'_, P>,
     key: usize,
     deadline: Option<Instant>,
 ) -> ParkResult {
-    park_and(rt, lot, data, key, || (), deadline).0
+    park_and(rt, member, key, || (), deadline).0
 }
 
 // Unparks all waiters of the key, by a filter.

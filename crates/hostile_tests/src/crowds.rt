@@ -1,11 +1,14 @@
 //! Several threads that sleep on one key, and are all woken by one call.
 
+ghost use Rattle.std.specs.Arc.{arc_value};
+ghost use Rattle.parking_lot_core.specs.Members.{IsDataOf};
+
 use crate::common::{
-    KEY, TOKEN, Way, come_by_turns, from_now, move_all, new_lot, now, register, unpark, wait,
+    KEY, TOKEN, Way, come_by_turns, from_now, move_all, new_lot, now, unpark, wait,
 };
 use crate::expect_equal;
 use parking_lot_core::{
-    ParkResult, ParkingLot, ThreadData, ThreadParker, ThreadParkerT, YieldParker, unpark_all,
+    Member, ParkResult, ParkingLot, ThreadParker, ThreadParkerT, YieldParker, unpark_all,
 };
 use std::alloc::Global;
 use std::process::Abort;
@@ -62,11 +65,13 @@ fn unpark_everybody<P: ThreadParkerT, R: Wait>(
     }
 }
 
-// Starts a thread that parks on `KEY`. A wake that never comes leaves it there until the deadline.
+// Registers a thread, which is to have this number, and starts it: it parks on `KEY`. A wake that
+// never comes leaves it there until the deadline.
 fn start_waiter<P, R>(
     rt: &R,
+    alloc: Global,
     lot: Arc<ParkingLot<P>, Global>,
-    data: ThreadData,
+    number: usize,
     deadline: Instant,
 ) -> Option<JoinHandle<ParkResult>>
 where
@@ -74,11 +79,18 @@ where
     P::UnparkHandle: 'static,
     R: Threads + Wait + Clock + Abort + Copy + Send + 'static,
 {
+    let waiter = lot.thread_data(rt, alloc).expect(rt, "a number");
+    expect_equal(rt, waiter.number(), number);
     let runtime = *rt;
-    let mut data = data;
-    thread::spawn(rt, move || {
-        wait(&runtime, &lot, &mut data, KEY, Some(deadline))
-    })
+    thread::spawn(
+        rt,
+        move ||
+            requires { IsDataOf (arc_value lot) waiter }
+        {
+            let mut member = Member::of(&lot, waiter);
+            wait(&runtime, &mut member, KEY, Some(deadline))
+        },
+    )
     .ok()
 }
 
@@ -96,10 +108,8 @@ where
     let deadline = from_now(rt, Duration::from_secs(30));
     let mut crowd = Vec::with_capacity(alloc, threads).expect(rt, "memory");
     for number in 0..threads {
-        let data = register(rt, alloc, lot);
-        expect_equal(rt, data.number(), number);
         let shared = Arc::try_clone(lot).expect(rt, "memory");
-        let started = start_waiter(rt, shared, data, deadline);
+        let started = start_waiter(rt, alloc, shared, number, deadline);
         let _ = crowd.push(started.expect(rt, "a thread"));
     }
     crowd

@@ -6,8 +6,7 @@ use crate::common::{
 };
 use crate::expect_equal;
 use parking_lot_core::{
-    LotError, ParkResult, ParkingLot, ThreadData, ThreadParker, ThreadParkerT, YieldParker,
-    unpark_all,
+    LotError, Member, ParkResult, ParkingLot, ThreadParker, ThreadParkerT, YieldParker, unpark_all,
 };
 use std::alloc::Global;
 use std::process::Abort;
@@ -22,13 +21,13 @@ const NUMBERS: usize = 4;
 const THREADS: usize = 12;
 
 // Registers a thread as soon as a number is free.
-fn register_by_turns<P: ThreadParkerT, R: Wait>(
+fn register_by_turns<'a, P: ThreadParkerT, R: Wait>(
     rt: &R,
     alloc: Global,
-    lot: &ParkingLot<P>,
-) -> Result<ThreadData, LotError> {
+    lot: &'a ParkingLot<P>,
+) -> Result<Member<'a, P>, LotError> {
     for _ in 0..TURNS {
-        match lot.thread_data(rt, alloc) {
+        match Member::register(rt, alloc, lot) {
             Err(LotError::Full) => thread::yield_now(),
             answer => return answer,
         }
@@ -43,13 +42,13 @@ fn take_a_turn<P: ThreadParkerT, R: Wait + Clock + Abort>(
     lot: &ParkingLot<P>,
     users: &[AtomicUsize],
 ) {
-    let mut data = register_by_turns(rt, alloc, lot).expect(rt, "a number");
-    let users = users.get(data.number()).expect(rt, "a number of the lot");
+    let mut member = register_by_turns(rt, alloc, lot).expect(rt, "a number");
+    let users = users.get(member.number()).expect(rt, "a number of the lot");
     expect_equal(rt, users.fetch_add(1, Ordering::SeqCst), 0);
-    let result = wait(rt, lot, &mut data, KEY, Some(now(rt)));
+    let result = wait(rt, &mut member, KEY, Some(now(rt)));
     expect_equal(rt, result, ParkResult::TimedOut);
     users.fetch_sub(1, Ordering::SeqCst);
-    lot.retire(rt, data);
+    member.retire(rt);
 }
 
 fn more_threads_than_numbers<P, R>(rt: &R, alloc: Global)
@@ -78,12 +77,11 @@ fn more_threads_than_numbers_take_turns(rt: HostRuntime) {
 // Parks, and does not come to sleep before the other is back.
 fn come_last<P: ThreadParkerT, R: Wait + Clock + Abort>(
     rt: &R,
-    lot: &ParkingLot<P>,
-    mut data: ThreadData,
+    mut member: Member<'_, P>,
     is_back: &AtomicBool,
 ) {
     let before_sleep = || expect_equal(rt, raised_by_turns(is_back), true);
-    let left = park_and(rt, lot, &mut data, KEY, before_sleep, None);
+    let left = park_and(rt, &mut member, KEY, before_sleep, None);
     expect_equal(rt, left, UNPARKED);
 }
 
@@ -91,12 +89,11 @@ fn come_last<P: ThreadParkerT, R: Wait + Clock + Abort>(
 fn come_back<P: ThreadParkerT, R: Wait + Clock + Abort>(
     rt: &R,
     alloc: Global,
-    lot: &ParkingLot<P>,
-    mut data: ThreadData,
+    mut member: Member<'_, P>,
     is_back: &AtomicBool,
 ) {
-    come_by_turns(rt, alloc, lot, KEY, 1);
-    let result = wait(rt, lot, &mut data, KEY, None);
+    come_by_turns(rt, alloc, member.lot(), KEY, 1);
+    let result = wait(rt, &mut member, KEY, None);
     is_back.store(true, Ordering::SeqCst);
     expect_equal(rt, result, ParkResult::Unparked(TOKEN));
 }
@@ -110,8 +107,8 @@ fn meet<P: ThreadParkerT, R: Wait + Clock + Abort>(
     index: usize,
 ) {
     match index {
-        0 => come_last(rt, lot, register(rt, alloc, lot), is_back),
-        1 => come_back(rt, alloc, lot, register(rt, alloc, lot), is_back),
+        0 => come_last(rt, register(rt, alloc, lot), is_back),
+        1 => come_back(rt, alloc, register(rt, alloc, lot), is_back),
         _ => {
             come_by_turns(rt, alloc, lot, KEY, 2);
             expect_equal(rt, unpark_all(rt, lot, KEY, TOKEN), 2);
@@ -136,17 +133,4 @@ where
 fn a_thread_that_does_not_come_to_sleep_holds_nobody_up(rt: HostRuntime) {
     nobody_waits_for_who_does_not_come::<ThreadParker, _>(&rt, rt.alloc());
     nobody_waits_for_who_does_not_come::<YieldParker, _>(&rt, rt.alloc());
-}
-
-// It refuses a lot that keeps its numbers beside those of another, and a `retire` that frees
-// the number where the data is from.
-#[test]
-fn data_of_another_lot_frees_that_number_here(rt: HostRuntime) {
-    let lot = new_lot::<ThreadParker, _>(&rt, rt.alloc(), 1);
-    let other = new_lot::<ThreadParker, _>(&rt, rt.alloc(), 1);
-    let data = register(&rt, rt.alloc(), &lot);
-    drop(register(&rt, rt.alloc(), &other));
-    other.retire(&rt, data);
-    expect_full(&rt, rt.alloc(), &lot);
-    expect_equal(&rt, register(&rt, rt.alloc(), &other).number(), 0);
 }

@@ -1,18 +1,15 @@
 //! A parker whose thread goes on before the commit or the wake of its first unpark ends.
 
-ghost use Rattle.std.specs.Prelude.{◌≡◌};
-ghost use Rattle.lot_base.specs.Node.{fields};
-
 use crate::common::{
     KEY, TOKEN, WAYS, Way, come_by_turns, comes_to, expect_list, from_now, new_lot, register,
     unpark, wait,
 };
 use crate::expect_equal;
+use crate::faults::{Faults, faults_of};
 use crate::watch::TURNS_INSIDE;
-use lot_base::thread_parker::{ParkerKey, ParkerT, YieldHandle};
 use parking_lot_core::{
-    NoMemory, Node, ParkResult, ParkingLot, ThreadData, UnparkHandleT, UnparkToken, YieldParker,
-    unpark_all,
+    Letter, Member, NoMemory, Node, ParkResult, ParkerKey, ParkerT, ParkingLot, Payload,
+    UnparkHandleT, UnparkToken, YieldHandle, YieldParker, unpark_all,
 };
 use std::alloc::Global;
 use std::process::Abort;
@@ -30,14 +27,14 @@ const CROWD: usize = 12;
 
 // A `YieldParker` that counts how often its thread came to park. The commit of its first unpark
 // ends a while after the thread prepares to park again, and the wake once it has parked again. If
-// the thread parks again before the commit ends, or not while it is woken, that adds one to the
-// tokens of the nodes that come back then.
+// the thread parks again before the commit ends, or not while it is woken, that is a fault, which a
+// third park tells.
 #[derive(Drop)]
 struct FollowedParker {
     parker: YieldParker,
     prepared: AtomicUsize,
     parked: AtomicUsize,
-    faults: AtomicUsize,
+    faults: Faults,
 }
 
 impl FollowedParker {
@@ -47,25 +44,16 @@ impl FollowedParker {
         comes_to(&self.prepared, 2);
         for _ in 0..TURNS_INSIDE {
             if self.parked.load(Ordering::SeqCst) == 2 {
-                self.faults.fetch_add(1, Ordering::SeqCst);
+                self.faults.note();
                 return;
             }
             thread::yield_now();
         }
     }
-
-    // Tells in the token of the thread's node how many faults there were.
-    fn tell(&self, mut node: Box<Node>) -> Box<Node>
-        ensures { (fields result.value).number ≡ (fields node.value).number }
-    {
-        let faults = self.faults.load(Ordering::SeqCst);
-        node.unpark_token = UnparkToken(node.unpark_token.0.wrapping_add(faults));
-        node
-    }
 }
 
 impl ParkerT for FollowedParker {
-    type Payload = ();
+    type Payload = Letter;
 
     type UnparkHandle = FollowedHandle;
 
@@ -75,12 +63,15 @@ impl ParkerT for FollowedParker {
 
     ghost home = { λ followed. ⟦<YieldParker as ParkerT>⟧.home followed.parker };
 
-    fn new(alloc: Global, key: &ParkerKey<()>) -> Result<FollowedParker, NoMemory> {
+    fn new(
+        alloc: Global,
+        key: &ParkerKey<<Letter as Payload>::Home>,
+    ) -> Result<FollowedParker, NoMemory> {
         Ok(FollowedParker {
             parker: YieldParker::new(alloc, key)?,
             prepared: AtomicUsize::new(0),
             parked: AtomicUsize::new(0),
-            faults: AtomicUsize::new(0),
+            faults: Faults::new(),
         })
     }
 
@@ -92,25 +83,24 @@ impl ParkerT for FollowedParker {
         self.parker.timed_out(rt)
     }
 
-    fn park<R: Wait>(&self, rt: &R) -> (Box<Node>, Option<()>) {
+    fn park<R: Wait>(&self, rt: &R) -> (Box<Node>, Option<Letter>) {
         self.parked.fetch_add(1, Ordering::SeqCst);
-        let (node, payload) = self.parker.park(rt);
-        (self.tell(node), payload)
+        self.parker.park(rt)
     }
 
     fn park_until<R: Wait + Clock>(
         &self,
         rt: &R,
         timeout: Instant,
-    ) -> Option<(Box<Node>, Option<()>)> {
+    ) -> Option<(Box<Node>, Option<Letter>)> {
         self.parked.fetch_add(1, Ordering::SeqCst);
-        let (node, payload) = self.parker.park_until(rt, timeout)?;
-        Some((self.tell(node), payload))
+        self.faults.tell(rt);
+        self.parker.park_until(rt, timeout)
     }
 
-    fn unpark_lock<R: Wait>(&self, rt: &R, node: Box<Node>, payload: ()) -> FollowedHandle {
+    fn unpark_lock<R: Wait>(&self, rt: &R, node: Box<Node>, letter: Letter) -> FollowedHandle {
         let is_first = self.prepared.load(Ordering::SeqCst) == 1;
-        let handle = self.parker.unpark_lock(rt, node, payload);
+        let handle = self.parker.unpark_lock(rt, node, letter);
         if is_first {
             self.be_followed();
         }
@@ -133,23 +123,23 @@ impl UnparkHandleT<FollowedParker> for FollowedHandle {
 
     fn unpark(self, parker: &FollowedParker) {
         if !comes_to(&parker.parked, 2) {
-            parker.faults.fetch_add(1, Ordering::SeqCst);
+            parker.faults.note();
         }
     }
 }
 
 type Lot = ParkingLot<FollowedParker>;
 
-// Parks twice on the key, and tells how both ended.
+// Parks twice on the key, and tells how both ended, and how many faults the parker noted.
 fn park_twice<R: Wait + Clock + Abort>(
     rt: &R,
-    lot: &Lot,
-    mut data: ThreadData,
+    mut member: Member<'_, FollowedParker>,
     key: usize,
     deadline: Option<Instant>,
-) -> (ParkResult, ParkResult) {
-    let first = wait(rt, lot, &mut data, key, deadline);
-    (first, wait(rt, lot, &mut data, key, deadline))
+) -> (ParkResult, ParkResult, usize) {
+    let first = wait(rt, &mut member, key, deadline);
+    let second = wait(rt, &mut member, key, deadline);
+    (first, second, faults_of(rt, &mut member))
 }
 
 // Unparks the thread once it waits on the key, this way.
@@ -179,15 +169,15 @@ fn both_twice<R: Threads + Wait + Clock + Abort + Sync>(
     deadline: Option<Instant>,
 ) {
     let lot = new_lot(rt, alloc, 1);
-    let data = register(rt, alloc, &lot);
+    let member = register(rt, alloc, &lot);
     let (results, ()) = thread::join(
         rt,
-        || park_twice(rt, &lot, data, key, deadline),
+        || park_twice(rt, member, key, deadline),
         || unpark_twice(rt, alloc, &lot, key, way),
     );
     let first = ParkResult::Unparked(UnparkToken(1));
     let second = ParkResult::Unparked(UnparkToken(2));
-    expect_equal(rt, (key, way, results), (key, way, (first, second)));
+    expect_equal(rt, (key, way, results), (key, way, (first, second, 0)));
 }
 
 // A requeue stays in the bucket of the one key, and goes from that of the other to it. It refuses
@@ -208,15 +198,14 @@ fn a_thread_that_parks_during_its_wake_waits_for_the_next_unpark(rt: HostRuntime
 fn come_back<R: Wait + Clock + Abort>(
     rt: &R,
     alloc: Global,
-    lot: &Lot,
-    mut data: ThreadData,
+    mut member: Member<'_, FollowedParker>,
     back: &AtomicUsize,
 ) {
-    come_by_turns(rt, alloc, lot, KEY, data.number());
-    wait(rt, lot, &mut data, KEY, None);
+    come_by_turns(rt, alloc, member.lot(), KEY, member.number());
+    wait(rt, &mut member, KEY, None);
     let before = back.fetch_add(1, Ordering::SeqCst);
-    wait(rt, lot, &mut data, OTHER_KEY, None);
-    expect_equal(rt, before, data.number());
+    wait(rt, &mut member, OTHER_KEY, None);
+    expect_equal(rt, before, member.number());
 }
 
 // Unparks all once they wait on the key.
@@ -234,7 +223,7 @@ fn play<R: Wait + Clock + Abort>(
     index: usize,
 ) {
     if index < CROWD {
-        return come_back(rt, alloc, lot, register(rt, alloc, lot), back);
+        return come_back(rt, alloc, register(rt, alloc, lot), back);
     }
     unpark_crowd(rt, alloc, lot, KEY);
     unpark_crowd(rt, alloc, lot, OTHER_KEY);

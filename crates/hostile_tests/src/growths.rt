@@ -90,19 +90,19 @@ where
     R: Threads + Wait + Clock + Abort + Sync,
 {
     let lot = new_lot::<P, _>(rt, alloc, THREADS);
-    let mut data = register(rt, alloc, &lot);
+    let mut member = register(rt, alloc, &lot);
     for _ in 2..THREADS {
         register(rt, alloc, &lot);
     }
     let mut took = delay;
     let before_sleep = || took = watch_a_growth(rt, alloc, &lot, delay);
-    let left = park_and(rt, &lot, &mut data, KEY, before_sleep, None);
+    let left = park_and(rt, &mut member, KEY, before_sleep, None);
     expect_equal(rt, left, UNPARKED);
     took
 }
 
-// It refuses a growth that empties the old buckets before it says that it has begun, and one that
-// says that it is over before the new ones are filled.
+// It refuses a section that takes a place whose bucket is away for one where nobody waits, and a
+// growth that puts a bucket at its place before it is filled.
 #[test]
 fn a_waiter_is_seen_at_each_moment_of_a_growth(rt: HostRuntime) {
     let took = is_seen_after::<WordParker, _>(&rt, rt.alloc(), Duration::from_micros(0));
@@ -126,10 +126,10 @@ fn grow_and_move<P: ThreadParkerT, R: Wait + Abort>(rt: &R, alloc: Global, lot: 
 #[test]
 fn a_late_thread_that_was_moved_after_a_growth_leaves_its_new_key(rt: HostRuntime) {
     let lot = new_lot::<WordParker, _>(&rt, rt.alloc(), 6);
-    let mut data = register(&rt, rt.alloc(), &lot);
+    let mut member = register(&rt, rt.alloc(), &lot);
     let passed = Some(now(&rt));
     let moved = || grow_and_move(&rt, rt.alloc(), &lot);
-    let left = park_and(&rt, &lot, &mut data, KEY, moved, passed);
+    let left = park_and(&rt, &mut member, KEY, moved, passed);
     expect_equal(&rt, left, late_on(OTHER_KEY));
 }
 
@@ -141,8 +141,8 @@ fn queue_up<P: ThreadParkerT, R: Wait + Clock + Abort>(
     place: usize,
 ) {
     come_by_turns(rt, alloc, lot, KEY, place);
-    let mut data = register(rt, alloc, lot);
-    let left = park_and(rt, lot, &mut data, KEY, || (), None);
+    let mut member = register(rt, alloc, lot);
+    let left = park_and(rt, &mut member, KEY, || (), None);
     expect_equal(rt, left, UNPARKED);
 }
 
@@ -167,10 +167,10 @@ fn grow_and_trim<P: ThreadParkerT, R: Wait + Abort>(rt: &R, alloc: Global, lot: 
         register(rt, alloc, lot),
     );
     expect_list(rt, alloc, lot, KEY, &[0, 1, 2]);
-    lot.retire(rt, others.0);
-    lot.retire(rt, others.1);
-    lot.retire(rt, others.2);
-    assert!(rt; lot.trim(rt, alloc).is_ok());
+    others.0.retire(rt);
+    others.1.retire(rt);
+    others.2.retire(rt);
+    lot.trim(rt);
     expect_list(rt, alloc, lot, KEY, &[0, 1, 2]);
     expect_equal(rt, unpark_by_token(rt, lot, KEY), QUEUED);
 }

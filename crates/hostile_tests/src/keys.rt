@@ -5,7 +5,6 @@ use crate::common::{
     register, unpark,
 };
 use crate::expect_equal;
-use parking_lot_core::deadlock::{acquire_resource, release_resource};
 use parking_lot_core::{
     ParkResult, ParkingLot, ThreadParker, ThreadParkerT, UnparkToken, YieldParker,
 };
@@ -52,9 +51,9 @@ fn the_greatest_comes_through<P: ThreadParkerT, R: Wait + Clock + Abort>(
     way: Way,
 ) {
     let lot = new_lot::<P, _>(rt, alloc, 1);
-    let mut data = register(rt, alloc, &lot);
+    let mut member = register(rt, alloc, &lot);
     let before_sleep = || unpark_the_greatest(rt, alloc, &lot, way);
-    let left = park_and(rt, &lot, &mut data, GREATEST, before_sleep, None);
+    let left = park_and(rt, &mut member, GREATEST, before_sleep, None);
     let unparked = ParkResult::Unparked(UnparkToken(GREATEST));
     expect_equal(rt, left, (unparked, None));
 }
@@ -76,9 +75,9 @@ fn time_out_on<P: ThreadParkerT, R: Wait + Clock + Abort>(
     to: usize,
 ) {
     let lot = new_lot::<P, _>(rt, alloc, 1);
-    let mut data = register(rt, alloc, &lot);
+    let mut member = register(rt, alloc, &lot);
     let before_sleep = || expect_equal(rt, move_all(rt, &lot, key, to), 1);
-    let left = park_and(rt, &lot, &mut data, key, before_sleep, Some(now(rt)));
+    let left = park_and(rt, &mut member, key, before_sleep, Some(now(rt)));
     expect_equal(rt, left, late_on(to));
 }
 
@@ -102,16 +101,18 @@ fn a_late_thread_is_told_the_key_to_which_it_was_moved(rt: HostRuntime) {
 #[test]
 fn a_thread_has_many_records_of_great_keys(rt: HostRuntime) {
     let lot = new_lot::<ThreadParker, _>(&rt, rt.alloc(), 1);
-    let mut data = register(&rt, rt.alloc(), &lot);
+    let mut member = register(&rt, rt.alloc(), &lot);
     for below in 0..1_000 {
-        acquire_resource(&mut data, GREATEST - below).expect(&rt, "memory");
+        member
+            .acquire_resource(GREATEST - below)
+            .expect(&rt, "memory");
     }
-    expect_equal(&rt, data.records(GREATEST), 1);
-    expect_equal(&rt, data.records(GREATEST - 999), 1);
-    expect_equal(&rt, data.records(u32::MAX as usize), 0);
-    release_resource(&mut data, GREATEST);
-    expect_equal(&rt, data.records(GREATEST), 0);
-    expect_equal(&rt, data.records(GREATEST - 999), 1);
+    expect_equal(&rt, member.records(GREATEST), 1);
+    expect_equal(&rt, member.records(GREATEST - 999), 1);
+    expect_equal(&rt, member.records(u32::MAX as usize), 0);
+    member.release_resource(GREATEST);
+    expect_equal(&rt, member.records(GREATEST), 0);
+    expect_equal(&rt, member.records(GREATEST - 999), 1);
 }
 
 // Unparks nobody on the other lot, and the thread on its own.
@@ -135,8 +136,8 @@ fn unpark_on_both<P: ThreadParkerT, R: Wait + Abort>(
 fn a_key_of_another_lot_is_another_key(rt: HostRuntime) {
     let lot = new_lot::<ThreadParker, _>(&rt, rt.alloc(), 1);
     let other = new_lot::<ThreadParker, _>(&rt, rt.alloc(), 1);
-    let mut data = register(&rt, rt.alloc(), &lot);
+    let mut member = register(&rt, rt.alloc(), &lot);
     let before_sleep = || unpark_on_both(&rt, rt.alloc(), &lot, &other);
-    let left = park_and(&rt, &lot, &mut data, KEY, before_sleep, None);
+    let left = park_and(&rt, &mut member, KEY, before_sleep, None);
     expect_equal(&rt, left, UNPARKED);
 }

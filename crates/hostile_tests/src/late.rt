@@ -6,8 +6,8 @@ use crate::common::{
 };
 use crate::expect_equal;
 use parking_lot_core::{
-    DEFAULT_PARK_TOKEN, DEFAULT_UNPARK_TOKEN, ParkResult, ParkingLot, RequeueOp, ThreadData,
-    ThreadParker, ThreadParkerT, YieldParker, park, unpark_all, unpark_one, unpark_requeue,
+    DEFAULT_PARK_TOKEN, DEFAULT_UNPARK_TOKEN, Member, ParkResult, ParkingLot, RequeueOp,
+    ThreadParker, ThreadParkerT, YieldParker, unpark_all, unpark_one, unpark_requeue,
 };
 use std::alloc::Global;
 use std::process::Abort;
@@ -74,13 +74,12 @@ impl Meeting {
 // Parks with a deadline that has passed.
 fn leave_late<P: ThreadParkerT, R: Wait + Clock + Abort>(
     rt: &R,
-    lot: &ParkingLot<P>,
-    mut data: ThreadData,
+    mut member: Member<'_, P>,
     from: usize,
     meeting: &Meeting,
 ) -> Left {
     let before_sleep = || meeting.come_late();
-    let left = park_and(rt, lot, &mut data, from, before_sleep, Some(now(rt)));
+    let left = park_and(rt, &mut member, from, before_sleep, Some(now(rt)));
     meeting.has_left.store(true, Ordering::SeqCst);
     left
 }
@@ -104,15 +103,15 @@ fn requeue_meanwhile<P: ThreadParkerT, R: Wait + Clock>(
 
 fn meet<P: ThreadParkerT + Send + Sync, R: Threads + Wait + Clock + Abort + Sync>(
     rt: &R,
-    lot: &ParkingLot<P>,
-    data: ThreadData,
+    member: Member<'_, P>,
     from: usize,
     to: usize,
 ) -> (Left, usize) {
+    let lot = member.lot();
     let meeting = Meeting::new();
     thread::join(
         rt,
-        || leave_late(rt, lot, data, from, &meeting),
+        || leave_late(rt, member, from, &meeting),
         || requeue_meanwhile(rt, lot, from, to, &meeting),
     )
 }
@@ -123,8 +122,8 @@ where
     R: Threads + Wait + Clock + Abort + Sync,
 {
     let lot = new_lot::<P, _>(rt, alloc, 1);
-    let data = register(rt, alloc, &lot);
-    let met = meet(rt, &lot, data, from, to);
+    let member = register(rt, alloc, &lot);
+    let met = meet(rt, member, from, to);
     expect_equal(rt, (from, met), (from, (late_on(to), 1)));
 }
 
@@ -164,16 +163,12 @@ impl Watch {
 // Parks with a deadline that has passed. `None` says that it was not told.
 fn leave_watched<P: ThreadParkerT, R: Wait + Clock + Abort>(
     rt: &R,
-    lot: &ParkingLot<P>,
-    mut data: ThreadData,
+    mut member: Member<'_, P>,
     watch: &Watch,
 ) -> Option<bool> {
-    assert!(rt; lot.accepts(&data), "data of this lot");
     let mut listed = None;
-    park(
+    member.park(
         rt,
-        lot,
-        &mut data,
         KEY,
         || true,
         || (),
@@ -202,11 +197,11 @@ where
     R: Threads + Wait + Clock + Abort + Sync,
 {
     let lot = new_lot::<P, _>(rt, alloc, 1);
-    let data = register(rt, alloc, &lot);
+    let member = register(rt, alloc, &lot);
     let watch = Watch::new();
     let told = thread::join(
         rt,
-        || leave_watched(rt, &lot, data, &watch),
+        || leave_watched(rt, member, &watch),
         || list_meanwhile(rt, alloc, &lot, &watch),
     );
     expect_equal(rt, told, (Some(false), 0));
@@ -320,17 +315,14 @@ impl Rounds {
 // Parks, and looks a second time once the thread was moved. It tells how it left.
 fn be_late<P: ThreadParkerT, R: Wait + Clock + Abort>(
     rt: &R,
-    lot: &ParkingLot<P>,
-    data: &mut ThreadData,
+    member: &mut Member<'_, P>,
     rounds: &Rounds,
     round: usize,
 ) -> Left {
-    assert!(rt; lot.accepts(data), "data of this lot");
+    let lot = member.lot();
     let mut told = None;
-    let result = park(
+    let result = member.park(
         rt,
-        lot,
-        data,
         1,
         || rounds.enter(rt, round),
         || rounds.be_moved(rt, lot, round),
@@ -346,13 +338,12 @@ fn be_late<P: ThreadParkerT, R: Wait + Clock + Abort>(
 // was moved, or else in the last.
 fn be_late_by_rounds<P: ThreadParkerT, R: Wait + Clock + Abort>(
     rt: &R,
-    lot: &ParkingLot<P>,
-    mut data: ThreadData,
+    mut member: Member<'_, P>,
     rounds: &Rounds,
 ) -> Left {
     let expected = late_on(rounds.section.keys().1);
     for round in 1..=ROUNDS {
-        let left = be_late(rt, lot, &mut data, rounds, round);
+        let left = be_late(rt, &mut member, rounds, round);
         if left != expected || now(rt) > rounds.end {
             rounds.finish();
             return left;
@@ -390,10 +381,10 @@ fn requeue_by_rounds<P: ThreadParkerT, R: Wait>(rt: &R, lot: &ParkingLot<P>, rou
 fn play_rounds<P: ThreadParkerT + Send + Sync, R: Threads + Wait + Clock + Abort + Sync>(
     rt: &R,
     alloc: Global,
-    lot: &ParkingLot<P>,
-    data: ThreadData,
+    member: Member<'_, P>,
     rounds: &Rounds,
 ) -> Left {
+    let lot = member.lot();
     let others = || {
         thread::join(
             rt,
@@ -401,7 +392,7 @@ fn play_rounds<P: ThreadParkerT + Send + Sync, R: Threads + Wait + Clock + Abort
             || requeue_by_rounds(rt, lot, rounds),
         )
     };
-    let (left, _) = thread::join(rt, || be_late_by_rounds(rt, lot, data, rounds), others);
+    let (left, _) = thread::join(rt, || be_late_by_rounds(rt, member, rounds), others);
     left
 }
 
@@ -411,9 +402,9 @@ where
     R: Threads + Wait + Clock + Abort + Sync,
 {
     let lot = new_lot::<P, _>(rt, alloc, 1);
-    let data = register(rt, alloc, &lot);
+    let member = register(rt, alloc, &lot);
     let rounds = Rounds::new(rt, section);
-    let left = play_rounds(rt, alloc, &lot, data, &rounds);
+    let left = play_rounds(rt, alloc, member, &rounds);
     let expected = late_on(section.keys().1);
     expect_equal(rt, (section, left), (section, expected));
 }
@@ -437,12 +428,12 @@ fn leave_one_behind<P: ThreadParkerT, R: Wait + Clock + Abort>(
     lot: &ParkingLot<P>,
     place: usize,
 ) -> Left {
-    let mut data = register(rt, alloc, lot);
+    let mut member = register(rt, alloc, lot);
     come_by_turns(rt, alloc, lot, KEY, place);
     let before_sleep = || {
         come_by_turns(rt, alloc, lot, KEY, 2);
     };
-    let left = park_and(rt, lot, &mut data, KEY, before_sleep, Some(now(rt)));
+    let left = park_and(rt, &mut member, KEY, before_sleep, Some(now(rt)));
     unpark_one(rt, lot, KEY, |_| TOKEN);
     left
 }
@@ -453,9 +444,9 @@ fn stay_behind<P: ThreadParkerT, R: Wait + Clock + Abort>(
     lot: &ParkingLot<P>,
     place: usize,
 ) -> ParkResult {
-    let mut data = register(rt, alloc, lot);
+    let mut member = register(rt, alloc, lot);
     come_by_turns(rt, alloc, lot, KEY, place);
-    wait(rt, lot, &mut data, KEY, None)
+    wait(rt, &mut member, KEY, None)
 }
 
 fn two_of_whom_one_is_late<P, R>(
@@ -503,11 +494,11 @@ fn leave_after_the_move<P: ThreadParkerT, R: Wait + Clock + Abort>(
     lot: &ParkingLot<P>,
     is_moved: &AtomicBool,
 ) -> Option<(usize, bool)> {
-    let mut data = register(rt, alloc, lot);
+    let mut member = register(rt, alloc, lot);
     let before_sleep = || {
         raised_by_turns(is_moved);
     };
-    park_and(rt, lot, &mut data, 1, before_sleep, Some(now(rt))).1
+    park_and(rt, &mut member, 1, before_sleep, Some(now(rt))).1
 }
 
 // Moves all others once they wait.

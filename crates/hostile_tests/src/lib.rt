@@ -11,6 +11,8 @@ mod crowds;
 #[cfg(test)]
 mod ends;
 #[cfg(test)]
+mod faults;
+#[cfg(test)]
 mod followed;
 #[cfg(test)]
 mod growths;

@@ -3,7 +3,7 @@
 use crate::common::{KEY, Left, TOKEN, late_on, new_lot, now, park_and, raised_by_turns, register};
 use crate::expect_equal;
 use parking_lot_core::{
-    ParkingLot, RequeueOp, ThreadData, ThreadParker, ThreadParkerT, WordParker, YieldParker,
+    Member, ParkingLot, RequeueOp, ThreadParker, ThreadParkerT, WordParker, YieldParker,
     unpark_one, unpark_requeue,
 };
 use std::alloc::Global;
@@ -72,12 +72,11 @@ impl Meeting {
 // Parks with a deadline that has passed.
 fn leave_late<P: ThreadParkerT, R: Wait + Clock + Abort>(
     rt: &R,
-    lot: &ParkingLot<P>,
-    mut data: ThreadData,
+    mut member: Member<'_, P>,
     meeting: &Meeting,
 ) -> Left {
     let before_sleep = || meeting.come_late();
-    let left = park_and(rt, lot, &mut data, KEY, before_sleep, Some(now(rt)));
+    let left = park_and(rt, &mut member, KEY, before_sleep, Some(now(rt)));
     meeting.has_left.store(true, Ordering::SeqCst);
     left
 }
@@ -120,7 +119,7 @@ where
     R: Threads + Wait + Clock + Abort + Sync,
 {
     let lot = new_lot::<P, _>(rt, alloc, 1);
-    let data = register(rt, alloc, &lot);
+    let member = register(rt, alloc, &lot);
     let meeting = Meeting::new();
     let others = || {
         thread::join(
@@ -129,11 +128,7 @@ where
             || keep_its_first_bucket(rt, &lot, &meeting),
         )
     };
-    let (left, (moved, has_left)) = thread::join(
-        rt,
-        || leave_late(rt, &lot, data, &meeting),
-        others,
-    );
+    let (left, (moved, has_left)) = thread::join(rt, || leave_late(rt, member, &meeting), others);
     expect_equal(rt, (left, moved), (late_on(OTHER_KEY), 1));
     expect_equal(rt, has_left, true);
 }

@@ -6,7 +6,7 @@ use crate::common::{
 };
 use crate::expect_equal;
 use parking_lot_core::{
-    ParkingLot, ThreadData, ThreadParker, ThreadParkerT, WordParker, YieldParker, unpark_all,
+    Member, ParkingLot, ThreadParker, ThreadParkerT, WordParker, YieldParker, unpark_all,
 };
 use std::alloc::Global;
 use std::process::Abort;
@@ -33,7 +33,7 @@ fn take_the_last<P: ThreadParkerT, R: Wait + Abort>(rt: &R, alloc: Global, lot: 
     let last = register(rt, alloc, lot);
     expect_equal(rt, last.number(), MAX_THREADS - 1);
     expect_full(rt, alloc, lot);
-    lot.retire(rt, last);
+    last.retire(rt);
 }
 
 // Registers all numbers that are left; the waiter of the key stays where it is. The last number is
@@ -56,9 +56,9 @@ fn register_the_rest<P: ThreadParkerT, R: Wait + Abort>(
 // The table grows from 16 buckets to 65,536 while one thread waits.
 fn a_waiter_stays<P: ThreadParkerT, R: Wait + Clock + Abort>(rt: &R, alloc: Global, key: usize) {
     let lot = new_lot::<P, _>(rt, alloc, MAX_THREADS);
-    let mut data = register(rt, alloc, &lot);
+    let mut member = register(rt, alloc, &lot);
     let before_sleep = || register_the_rest(rt, alloc, &lot, key);
-    let left = park_and(rt, &lot, &mut data, key, before_sleep, None);
+    let left = park_and(rt, &mut member, key, before_sleep, None);
     expect_equal(rt, left, UNPARKED);
 }
 
@@ -73,25 +73,21 @@ fn a_waiter_stays_at_the_first_and_the_last_place_of_each_size(rt: HostRuntime) 
 }
 
 // The thread parks and is unparked this way.
-fn parks<P: ThreadParkerT, R: Wait + Clock + Abort>(
-    rt: &R,
-    lot: &ParkingLot<P>,
-    data: &mut ThreadData,
-    way: Way,
-) {
+fn parks<P: ThreadParkerT, R: Wait + Clock + Abort>(rt: &R, member: &mut Member<'_, P>, way: Way) {
+    let lot = member.lot();
     let before_sleep = || expect_equal(rt, unpark(rt, lot, way, KEY, TOKEN), 1);
-    let left = park_and(rt, lot, data, KEY, before_sleep, None);
+    let left = park_and(rt, member, KEY, before_sleep, None);
     expect_equal(rt, (way, left), (way, UNPARKED));
 }
 
 // The thread is moved, and times out.
 fn times_out_after_a_move<P: ThreadParkerT, R: Wait + Clock + Abort>(
     rt: &R,
-    lot: &ParkingLot<P>,
-    data: &mut ThreadData,
+    member: &mut Member<'_, P>,
 ) {
+    let lot = member.lot();
     let before_sleep = || expect_equal(rt, move_all(rt, lot, KEY, OTHER_KEY), 1);
-    let left = park_and(rt, lot, data, KEY, before_sleep, Some(now(rt)));
+    let left = park_and(rt, member, KEY, before_sleep, Some(now(rt)));
     expect_equal(rt, left, late_on(OTHER_KEY));
 }
 
@@ -106,25 +102,26 @@ fn wake<P: ThreadParkerT, R: Wait + Clock + Abort>(rt: &R, lot: &ParkingLot<P>) 
     false
 }
 
-fn sleeps_and_is_woken<P, R>(rt: &R, lot: &ParkingLot<P>, mut data: ThreadData)
+fn sleeps_and_is_woken<P, R>(rt: &R, mut member: Member<'_, P>)
 where
     P: ThreadParkerT + Send + Sync,
     R: Threads + Wait + Clock + Abort + Sync,
 {
+    let lot = member.lot();
     let ended = thread::join(
         rt,
-        || park_and(rt, lot, &mut data, KEY, || (), None),
+        || park_and(rt, &mut member, KEY, || (), None),
         || wake(rt, lot),
     );
     expect_equal(rt, ended, (UNPARKED, true));
 }
 
 // Registers all threads, and answers the last.
-fn register_all<P: ThreadParkerT, R: Wait + Abort>(
+fn register_all<'a, P: ThreadParkerT, R: Wait + Abort>(
     rt: &R,
     alloc: Global,
-    lot: &ParkingLot<P>,
-) -> ThreadData {
+    lot: &'a ParkingLot<P>,
+) -> Member<'a, P> {
     for _ in 1..MAX_THREADS {
         register(rt, alloc, lot);
     }
@@ -135,17 +132,16 @@ fn register_all<P: ThreadParkerT, R: Wait + Abort>(
 #[test]
 fn the_last_of_16384_is_woken(rt: HostRuntime) {
     let lot = new_lot::<WordParker, _>(&rt, rt.alloc(), MAX_THREADS);
-    let data = register_all(&rt, rt.alloc(), &lot);
-    sleeps_and_is_woken(&rt, &lot, data);
+    sleeps_and_is_woken(&rt, register_all(&rt, rt.alloc(), &lot));
 }
 
 fn the_last_number_parks<P: ThreadParkerT, R: Wait + Clock + Abort>(rt: &R, alloc: Global) {
     let lot = new_lot::<P, _>(rt, alloc, MAX_THREADS);
-    let mut data = register_all(rt, alloc, &lot);
+    let mut member = register_all(rt, alloc, &lot);
     for way in WAYS {
-        parks(rt, &lot, &mut data, way);
+        parks(rt, &mut member, way);
     }
-    times_out_after_a_move(rt, &lot, &mut data);
+    times_out_after_a_move(rt, &mut member);
 }
 
 // It refuses a number that is cut where its thread is handed its node, woken, or noted on its key.

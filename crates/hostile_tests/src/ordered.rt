@@ -1,11 +1,13 @@
 //! A parker that looks whether it is called in order.
 
-use crate::common::{KEY, TOKEN, UNPARKED, WAYS, Way, new_lot, now, park_and, register, unpark};
+use crate::common::{
+    KEY, Left, TOKEN, UNPARKED, WAYS, Way, new_lot, now, park_and, register, unpark,
+};
 use crate::expect_equal;
-use lot_base::thread_parker::{ParkerKey, ParkerT, YieldHandle};
+use crate::faults::{Faults, faults_of};
 use parking_lot_core::{
-    DEFAULT_PARK_TOKEN, NoMemory, Node, ParkResult, ParkingLot, ThreadData, ThreadParkerT,
-    UnparkHandleT, UnparkToken, YieldParker, park,
+    DEFAULT_PARK_TOKEN, Letter, Member, NoMemory, Node, ParkResult, ParkerKey, ParkerT, Payload,
+    UnparkHandleT, YieldHandle, YieldParker,
 };
 use std::alloc::Global;
 use std::process::Abort;
@@ -24,7 +26,7 @@ struct Calls {
 
 // A `YieldParker` that notes its calls. Its deadlines pass before it has looked. Its thread parks
 // twice: the first time in vain, since that is not valid, and then until it is unparked. Each call
-// that was not in its order adds one to the token of the node that comes back.
+// that was not in its order is a fault, which a third park tells.
 #[derive(Drop)]
 struct OrderedParker {
     parker: YieldParker,
@@ -32,7 +34,7 @@ struct OrderedParker {
     committed: AtomicUsize,
     timed: AtomicUsize,
     parked: AtomicUsize,
-    faults: AtomicUsize,
+    faults: Faults,
 }
 
 impl OrderedParker {
@@ -45,13 +47,13 @@ impl OrderedParker {
             park: self.parked.load(Ordering::SeqCst),
         };
         if calls != expected {
-            self.faults.fetch_add(1, Ordering::SeqCst);
+            self.faults.note();
         }
     }
 }
 
 impl ParkerT for OrderedParker {
-    type Payload = ();
+    type Payload = Letter;
 
     type UnparkHandle = OrderedHandle;
 
@@ -61,14 +63,17 @@ impl ParkerT for OrderedParker {
 
     ghost home = { λ ordered. ⟦<YieldParker as ParkerT>⟧.home ordered.parker };
 
-    fn new(alloc: Global, key: &ParkerKey<()>) -> Result<OrderedParker, NoMemory> {
+    fn new(
+        alloc: Global,
+        key: &ParkerKey<<Letter as Payload>::Home>,
+    ) -> Result<OrderedParker, NoMemory> {
         Ok(OrderedParker {
             parker: YieldParker::new(alloc, key)?,
             prepared: AtomicUsize::new(0),
             committed: AtomicUsize::new(0),
             timed: AtomicUsize::new(0),
             parked: AtomicUsize::new(0),
-            faults: AtomicUsize::new(0),
+            faults: Faults::new(),
         })
     }
 
@@ -81,31 +86,30 @@ impl ParkerT for OrderedParker {
         self.parker.timed_out(rt)
     }
 
-    fn park<R: Wait>(&self, rt: &R) -> (Box<Node>, Option<()>) {
+    fn park<R: Wait>(&self, rt: &R) -> (Box<Node>, Option<Letter>) {
         self.parked.fetch_add(1, Ordering::SeqCst);
-        let (mut node, payload) = self.parker.park(rt);
+        let (node, letter) = self.parker.park(rt);
         self.expect_calls(Calls {
             prepare_park: 2,
             unpark_lock: 1,
             park_until: usize::from(node.timed),
             park: 1,
         });
-        let faults = self.faults.load(Ordering::SeqCst);
-        node.unpark_token = UnparkToken(node.unpark_token.0.wrapping_add(faults));
-        (node, payload)
+        (node, letter)
     }
 
     fn park_until<R: Wait + Clock>(
         &self,
-        _rt: &R,
+        rt: &R,
         _timeout: Instant,
-    ) -> Option<(Box<Node>, Option<()>)> {
+    ) -> Option<(Box<Node>, Option<Letter>)> {
         self.timed.fetch_add(1, Ordering::SeqCst);
+        self.faults.tell(rt);
         None
     }
 
     // The thread is unparked before it sleeps.
-    fn unpark_lock<R: Wait>(&self, rt: &R, node: Box<Node>, payload: ()) -> OrderedHandle {
+    fn unpark_lock<R: Wait>(&self, rt: &R, node: Box<Node>, letter: Letter) -> OrderedHandle {
         self.committed.fetch_add(1, Ordering::SeqCst);
         self.expect_calls(Calls {
             prepare_park: 2,
@@ -114,7 +118,7 @@ impl ParkerT for OrderedParker {
             park: 0,
         });
         OrderedHandle {
-            handle: self.parker.unpark_lock(rt, node, payload),
+            handle: self.parker.unpark_lock(rt, node, letter),
         }
     }
 }
@@ -137,20 +141,14 @@ impl UnparkHandleT<OrderedParker> for OrderedHandle {
     }
 }
 
-type Lot = ParkingLot<OrderedParker>;
-
 // Parks while that is not valid.
-fn park_in_vain<R: Wait + Clock + Abort>(
+fn park_in_vain<R: Wait + Clock>(
     rt: &R,
-    lot: &Lot,
-    data: &mut ThreadData,
+    member: &mut Member<'_, OrderedParker>,
     deadline: Option<Instant>,
 ) -> ParkResult {
-    assert!(rt; lot.accepts(data), "data of this lot");
-    park(
+    member.park(
         rt,
-        lot,
-        data,
         KEY,
         || false,
         || (),
@@ -160,7 +158,19 @@ fn park_in_vain<R: Wait + Clock + Abort>(
     )
 }
 
-// Parks in vain, and then unparks itself before it sleeps.
+// Parks, and unparks itself before it sleeps.
+fn park_and_unpark<R: Wait + Clock + Abort>(
+    rt: &R,
+    member: &mut Member<'_, OrderedParker>,
+    way: Way,
+    deadline: Option<Instant>,
+) -> Left {
+    let lot = member.lot();
+    let before_sleep = || expect_equal(rt, unpark(rt, lot, way, KEY, TOKEN), 1);
+    park_and(rt, member, KEY, before_sleep, deadline)
+}
+
+// The thread parks in vain, and then until it is unparked.
 fn is_called_in_order<R: Wait + Clock + Abort>(
     rt: &R,
     alloc: Global,
@@ -168,12 +178,12 @@ fn is_called_in_order<R: Wait + Clock + Abort>(
     deadline: Option<Instant>,
 ) {
     let lot = new_lot(rt, alloc, 1);
-    let mut data = register(rt, alloc, &lot);
-    let invalid = park_in_vain(rt, &lot, &mut data, deadline);
+    let mut member = register(rt, alloc, &lot);
+    let invalid = park_in_vain(rt, &mut member, deadline);
     expect_equal(rt, (way, invalid), (way, ParkResult::Invalid));
-    let before_sleep = || expect_equal(rt, unpark(rt, &lot, way, KEY, TOKEN), 1);
-    let left = park_and(rt, &lot, &mut data, KEY, before_sleep, deadline);
+    let left = park_and_unpark(rt, &mut member, way, deadline);
     expect_equal(rt, (way, left), (way, UNPARKED));
+    expect_equal(rt, (way, faults_of(rt, &mut member)), (way, 0));
 }
 
 // It refuses a `park` that calls its parker in another order or not at all, and a second look that

@@ -1,14 +1,12 @@
 //! Sections that sleep at their bucket while the table changes its row of buckets: each has read
-//! before which row was in use, and gets a bucket that was left meanwhile.
+//! before which row was in use, and gets a place whose bucket was taken away meanwhile.
 
 use crate::common::{
     TOKEN, UNPARKED, WAYS, Way, from_now, new_lot, now, park_and, raised_by_turns, register,
     unpark, waiting,
 };
 use crate::expect_equal;
-use parking_lot_core::{
-    FilterOp, ParkingLot, ThreadData, ThreadParkerT, WordParker, unpark_chosen,
-};
+use parking_lot_core::{FilterOp, Member, ParkingLot, ThreadParkerT, WordParker, unpark_chosen};
 use std::alloc::Global;
 use std::process::Abort;
 use std::sync::Wait;
@@ -45,26 +43,27 @@ fn change_table<P: ThreadParkerT, R: Wait + Abort>(
 ) {
     match change {
         Change::Growth => drop(register(rt, alloc, lot)),
-        Change::Trim => expect_equal(rt, lot.trim(rt, alloc), Ok(())),
+        Change::Trim => lot.trim(rt),
     }
 }
 
-// A lot whose table the change finds, with the rows of both sizes made, and a thread of it.
-fn lot_before<P: ThreadParkerT, R: Wait + Abort>(
+// Makes the table of a new lot what the change is to find, with the rows of both sizes made, and
+// answers a thread of it.
+fn come_before<'a, P: ThreadParkerT, R: Wait + Abort>(
     rt: &R,
     alloc: Global,
+    lot: &'a ParkingLot<P>,
     change: Change,
-) -> (ParkingLot<P>, ThreadData) {
-    let lot = new_lot(rt, alloc, FEW + 1);
-    let data = register(rt, alloc, &lot);
+) -> Member<'a, P> {
+    let member = register(rt, alloc, lot);
     for _ in 1..FEW {
-        drop(register(rt, alloc, &lot));
+        drop(register(rt, alloc, lot));
     }
-    lot.retire(rt, register(rt, alloc, &lot));
+    register(rt, alloc, lot).retire(rt);
     if change == Change::Growth {
-        change_table(rt, alloc, &lot, Change::Trim);
+        change_table(rt, alloc, lot, Change::Trim);
     }
-    (lot, data)
+    member
 }
 
 // What the thread in its section and the one that comes meanwhile tell each other.
@@ -141,14 +140,15 @@ where
     P: ThreadParkerT + Send + Sync,
     R: Threads + Wait + Clock + Abort + Sync,
 {
-    let (lot, mut data) = lot_before::<P, _>(rt, alloc, change);
+    let lot = new_lot::<P, _>(rt, alloc, FEW + 1);
+    let mut member = come_before(rt, alloc, &lot, change);
     let before_sleep = || unpark_meanwhile(rt, alloc, &lot, change, way);
-    let left = park_and(rt, &lot, &mut data, KEY, before_sleep, None);
+    let left = park_and(rt, &mut member, KEY, before_sleep, None);
     expect_equal(rt, (change, way, left), (change, way, UNPARKED));
 }
 
-// It refuses an unpark and a requeue that do not look again, once they have the bucket, whether its
-// row is in use: they find nobody there.
+// It refuses an unpark and a requeue that do not look again where the bucket is away: they find
+// nobody there.
 #[test]
 fn an_unpark_that_a_change_of_rows_overtakes_finds_who_waits(rt: HostRuntime) {
     for _ in 0..ROUNDS {
@@ -162,12 +162,11 @@ fn an_unpark_that_a_change_of_rows_overtakes_finds_who_waits(rt: HostRuntime) {
 
 fn park_meanwhile<P: ThreadParkerT, R: Wait + Clock + Abort>(
     rt: &R,
-    lot: &ParkingLot<P>,
-    mut data: ThreadData,
+    mut member: Member<'_, P>,
     meeting: &Meeting,
 ) {
     meeting.come();
-    let left = park_and(rt, lot, &mut data, KEY, || (), None);
+    let left = park_and(rt, &mut member, KEY, || (), None);
     expect_equal(rt, left, UNPARKED);
 }
 
@@ -209,17 +208,18 @@ where
     P: ThreadParkerT + Send + Sync,
     R: Threads + Wait + Clock + Abort + Sync,
 {
-    let (lot, data) = lot_before::<P, _>(rt, alloc, change);
+    let lot = new_lot::<P, _>(rt, alloc, FEW + 1);
+    let member = come_before(rt, alloc, &lot, change);
     let meeting = Meeting::new();
     thread::join(
         rt,
-        || park_meanwhile(rt, &lot, data, &meeting),
+        || park_meanwhile(rt, member, &meeting),
         || change_and_unpark(rt, alloc, &lot, &meeting, change),
     );
 }
 
-// It refuses a park that does not look again, once it has the bucket, whether its row is in use:
-// nobody finds the thread there.
+// It refuses a park that does not look again where the bucket is away: nobody finds the thread
+// there.
 #[test]
 fn a_thread_whose_park_a_change_of_rows_overtakes_is_found(rt: HostRuntime) {
     for _ in 0..ROUNDS {

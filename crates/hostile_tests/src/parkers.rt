@@ -6,8 +6,9 @@ ghost use Rattle.lot_base.specs.Node.{fields};
 use crate::common::{TOKEN, from_now, now, raised_by_turns};
 use crate::expect_equal;
 use lot_base::queue::Node;
-use lot_base::thread_parker::{ParkerKey, UnparkHandleT};
-use parking_lot_core::{ThreadParker, ThreadParkerT, WordParker, YieldParker};
+use lot_base::thread_parker::{
+    ParkerKey, ThreadParker, ThreadParkerT, UnparkHandleT, WordParker, YieldParker,
+};
 use std::alloc::Global;
 use std::process::Abort;
 use std::sync::Wait;

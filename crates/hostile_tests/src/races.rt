@@ -50,8 +50,8 @@ fn wait_once<P: ThreadParkerT, R: Wait + Clock + Abort>(
     alloc: Global,
     lot: &ParkingLot<P>,
 ) {
-    let mut data = register(rt, alloc, lot);
-    let result = wait(rt, lot, &mut data, 0, None);
+    let mut member = register(rt, alloc, lot);
+    let result = wait(rt, &mut member, 0, None);
     expect_equal(rt, result, ParkResult::Unparked(TOKEN));
 }
 

@@ -4,9 +4,8 @@ use crate::common::{KEY, TOKEN, UNPARKED, new_lot, now, park_and, register};
 use crate::expect_equal;
 use crate::watch::{TURNS_INSIDE, Watch};
 use parking_lot_core::{
-    DEFAULT_PARK_TOKEN, FilterOp, ParkResult, ParkingLot, RequeueOp, ThreadData, ThreadParker,
-    ThreadParkerT, UnparkToken, WordParker, YieldParker, park, unpark_chosen, unpark_one,
-    unpark_requeue,
+    DEFAULT_PARK_TOKEN, FilterOp, Member, ParkResult, ParkingLot, RequeueOp, ThreadParker,
+    ThreadParkerT, UnparkToken, WordParker, YieldParker, unpark_chosen, unpark_one, unpark_requeue,
 };
 use std::alloc::Global;
 use std::process::Abort;
@@ -62,13 +61,13 @@ fn unpark_watched<P: ThreadParkerT, R: Wait>(
 // Parks, and unparks itself before it sleeps.
 fn park_and_unpark<P: ThreadParkerT, R: Wait + Clock + Abort>(
     rt: &R,
-    lot: &ParkingLot<P>,
-    mut data: ThreadData,
+    mut member: Member<'_, P>,
     watch: &Watch,
     unpark: Unpark,
 ) {
+    let lot = member.lot();
     let before_sleep = || expect_equal(rt, unpark_watched(rt, lot, watch, unpark), 1);
-    let left = park_and(rt, lot, &mut data, KEY, before_sleep, None);
+    let left = park_and(rt, &mut member, KEY, before_sleep, None);
     expect_equal(rt, (unpark, left), (unpark, UNPARKED));
 }
 
@@ -78,11 +77,11 @@ where
     R: Threads + Wait + Clock + Abort + Sync,
 {
     let lot = new_lot::<P, _>(rt, alloc, 1);
-    let data = register(rt, alloc, &lot);
+    let member = register(rt, alloc, &lot);
     let watch = Watch::new();
     thread::join(
         rt,
-        || park_and_unpark(rt, &lot, data, &watch, unpark),
+        || park_and_unpark(rt, member, &watch, unpark),
         || watch.list_meanwhile(rt, alloc, &lot, KEY),
     );
     expect_equal(rt, (unpark, watch.came_inside()), (unpark, Some(false)));
@@ -103,16 +102,12 @@ fn an_unpark_calls_its_closures_in_its_section(rt: HostRuntime) {
 // false, and else in `timed_out`.
 fn park_in_vain<P: ThreadParkerT, R: Wait + Clock + Abort>(
     rt: &R,
-    lot: &ParkingLot<P>,
-    mut data: ThreadData,
+    mut member: Member<'_, P>,
     watch: &Watch,
     valid: bool,
 ) -> ParkResult {
-    assert!(rt; lot.accepts(&data), "data of this lot");
-    park(
+    member.park(
         rt,
-        lot,
-        &mut data,
         KEY,
         || {
             if !valid {
@@ -133,11 +128,11 @@ where
     R: Threads + Wait + Clock + Abort + Sync,
 {
     let lot = new_lot::<P, _>(rt, alloc, 1);
-    let data = register(rt, alloc, &lot);
+    let member = register(rt, alloc, &lot);
     let watch = Watch::new();
     let (left, ()) = thread::join(
         rt,
-        || park_in_vain(rt, &lot, data, &watch, valid),
+        || park_in_vain(rt, member, &watch, valid),
         || watch.list_meanwhile(rt, alloc, &lot, KEY),
     );
     expect_equal(rt, (left, watch.came_inside()), (expected, Some(false)));

@@ -43,10 +43,10 @@ fn grow_and_trim<P: ThreadParkerT, R: Wait + Abort>(
     for _ in 0..threads {
         let _ = others.push(register(rt, alloc, lot));
     }
-    for data in others {
-        lot.retire(rt, data);
+    for member in others {
+        member.retire(rt);
     }
-    expect_equal(rt, lot.trim(rt, alloc), Ok(()));
+    lot.trim(rt);
 }
 
 // A wake that never comes leaves it there until the deadline.
@@ -57,8 +57,8 @@ fn wait_once<P: ThreadParkerT, R: Wait + Clock + Abort>(
     key: usize,
 ) {
     let deadline = from_now(rt, Duration::from_secs(30));
-    let mut data = register(rt, alloc, lot);
-    let result = wait(rt, lot, &mut data, key, Some(deadline));
+    let mut member = register(rt, alloc, lot);
+    let result = wait(rt, &mut member, key, Some(deadline));
     expect_equal(rt, (key, result), (key, ParkResult::Unparked(TOKEN)));
 }
 
@@ -122,12 +122,12 @@ fn park_until_done<P: ThreadParkerT, R: Wait + Clock + Abort>(
     key: usize,
     is_done: &AtomicBool,
 ) {
-    let mut data = register(rt, alloc, lot);
+    let mut member = register(rt, alloc, lot);
     for _ in 0..TURNS {
         if is_done.load(Ordering::SeqCst) {
             return;
         }
-        let left = park_and(rt, lot, &mut data, key, || wake_on(rt, lot, key), None);
+        let left = park_and(rt, &mut member, key, || wake_on(rt, lot, key), None);
         expect_equal(rt, left, UNPARKED);
     }
 }
