@@ -1,7 +1,7 @@
 //! Calls that do not wait, each of both lots.
 
 use crate::draws::key_at;
-use crate::subject::{Sieve, Subject};
+use crate::sieve::Sieve;
 use crate::walk::{Call, Walk};
 use lot_base::token::{ParkToken, UnparkToken};
 use std::alloc::Global;
@@ -14,7 +14,7 @@ const MOST_COMING: usize = 12;
 // Where no thread comes any more, and most wait.
 const LAST_CALLS: usize = 24;
 
-impl<S: Subject> Walk<S> {
+impl<'a> Walk<'a> {
     /// Makes a few calls, or none.
     pub fn calls<R: Wait>(&mut self, rt: &R, alloc: Global) {
         if !self.draws.is_one_in(self.shape.quiet) {
@@ -39,11 +39,11 @@ impl<S: Subject> Walk<S> {
             1..=4 => self.unpark_one(rt, key),
             5..=7 => self.unpark_some(rt, key),
             8..=10 => self.requeue(rt, key),
-            11 => self.trim(rt, alloc),
+            11 => self.trim(rt),
             12 => self.come(rt, alloc),
             13 => {
                 self.go(rt);
-                self.trim(rt, alloc);
+                self.trim(rt);
             }
             _ => self.list(rt, alloc, key),
         }
@@ -55,7 +55,7 @@ impl<S: Subject> Walk<S> {
 
     fn unpark_one<R: Wait>(&mut self, rt: &R, key: usize) {
         let token = self.token();
-        let result = self.subject.unpark_one(rt, key, token);
+        let result = self.me.unpark_one(rt, key, |_| token);
         let expected = self.machine.unpark_one(key, |_| token);
         self.expect(result == expected, Call::UnparkOne);
     }
@@ -63,7 +63,7 @@ impl<S: Subject> Walk<S> {
     /// Unparks all waiters of the key.
     pub fn unpark_all<R: Wait>(&mut self, rt: &R, key: usize) {
         let token = self.token();
-        let count = self.subject.unpark_all(rt, key, token);
+        let count = self.me.unpark_all(rt, key, token);
         let expected = self.machine.unpark_all(key, token);
         self.expect(count == expected, Call::UnparkAll);
     }
@@ -77,7 +77,9 @@ impl<S: Subject> Walk<S> {
 
     fn unpark_filter<R: Wait>(&mut self, rt: &R, key: usize, sieve: Sieve) {
         let token = self.token();
-        let result = self.subject.unpark_filter(rt, key, sieve, token);
+        let result = self
+            .me
+            .unpark_chosen(rt, key, |park_token| sieve.decide(park_token), |_| token);
         let expected = self
             .machine
             .unpark_chosen(key, |park_token| sieve.decide(park_token), |_| token);
@@ -88,15 +90,15 @@ impl<S: Subject> Walk<S> {
         let to = self.key();
         let op = self.draws.requeue_op();
         let token = self.token();
-        let result = self.subject.unpark_requeue(rt, from, to, op, token);
+        let result = self.me.unpark_requeue(rt, from, to, || op, |_, _| token);
         let expected = self.machine.unpark_requeue(from, to, || op, |_, _| token);
         self.expect(result == expected, Call::UnparkRequeue);
     }
 
-    fn trim<R: Wait>(&mut self, rt: &R, alloc: Global) {
-        let trimmed = self.subject.trim(rt, alloc);
+    fn trim<R: Wait>(&mut self, rt: &R) {
+        self.me.trim(rt);
         let expected = self.machine.trim();
-        self.expect(trimmed == expected, Call::Trim);
+        self.expect(expected.is_ok(), Call::Trim);
     }
 
     // More threads register, and are idle.
@@ -119,7 +121,7 @@ impl<S: Subject> Walk<S> {
 
     /// Compares who waits on the key.
     pub fn list<R: Wait>(&mut self, rt: &R, alloc: Global, key: usize) {
-        let listed = self.subject.list(rt, alloc, key);
+        let listed = self.me.list(rt, alloc, key);
         let expected = self.machine.list(key);
         self.expect(listed == expected, Call::List);
     }

@@ -1,4 +1,4 @@
-//! The program: `lot_nested SEED` and `lot_nested deep SEED` compare both lots of threads with the
+//! The program: `lot_nested SEED` and `lot_nested deep SEED` compare the lot of threads with the
 //! exclusive one, call by call.
 //!
 //! One thread does it all: while it parks by one thread's data, and before it sleeps, it parks by
@@ -9,11 +9,10 @@
 
 mod calls;
 mod draws;
-mod members;
+mod entry;
 mod nest;
 mod program;
-mod subject;
-mod threads;
+mod sieve;
 mod walk;
 
 use std::process::ExitCode;

@@ -2,7 +2,7 @@
 
 ghost use Rattle.std.specs.Prelude.{◌<◌};
 
-use crate::subject::Subject;
+use crate::entry::Thread;
 use crate::walk::Walk;
 use std::alloc::Global;
 use std::sync::Wait;
@@ -16,7 +16,7 @@ const SELDOM: usize = 6;
 /// Makes some calls, and lets a thread park a few times. While it waits, other threads do the same,
 /// as deep as this.
 #[cycle(nest)]
-pub fn nest<S: Subject, R: Wait + Clock>(rt: &R, alloc: Global, walk: &mut Walk<S>, depth: usize) {
+pub fn nest<R: Wait + Clock>(rt: &R, alloc: Global, walk: &mut Walk<'_>, depth: usize) {
     if depth == 0 || walk.parks_left == 0 {
         walk.last_calls(rt, alloc);
         return;
@@ -40,20 +40,20 @@ pub fn nest<S: Subject, R: Wait + Clock>(rt: &R, alloc: Global, walk: &mut Walk<
 
 // One that has no timeout is unparked before it sleeps, if it was not yet.
 #[cycle(nest)]
-fn park_beside<S: Subject, R: Wait + Clock>(
+fn park_beside<R: Wait + Clock>(
     rt: &R,
     alloc: Global,
-    walk: &mut Walk<S>,
-    thread: &mut S::Thread,
+    walk: &mut Walk<'_>,
+    thread: &mut Thread<'_>,
     depth: usize,
 )
     requires { 0 < depth }
 {
-    let number = S::number(thread);
+    let number = thread.number();
     let entry = walk.entry();
     walk.enter(number, entry);
     let left = depth - 1;
-    let ended = S::park(rt, thread, entry, || {
+    let ended = entry.park(rt, thread, || {
         nest(rt, alloc, walk, left);
         if entry.timeout.is_none() {
             walk.free(rt, number, entry.key, entry.park_token);

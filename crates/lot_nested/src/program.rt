@@ -1,12 +1,9 @@
 //! The commands of the program.
 
-use crate::members::Members;
 use crate::nest::nest;
-use crate::subject::Subject;
-use crate::threads::Threads;
 use crate::walk::{Call, Shape, Walk};
 use lot_base::token::LotError;
-use parking_lot_core::{ParkingLot, WordParker, parker};
+use parking_lot_core::ParkingLot;
 use std::alloc::Global;
 use std::process::ExitCode;
 use std::rt::Env;
@@ -129,31 +126,16 @@ fn follow<R: Print + Wait + Clock>(rt: &R, alloc: Global, command: Command) -> R
     }
 }
 
-// Compares both lots. Since nobody sleeps, one parker does.
+// Walks, and tells that both lots answered the same.
 fn compare<R: Print + Wait + Clock>(
     rt: &R,
     alloc: Global,
     shape: Shape,
     seed: u64,
 ) -> Result<(), Fault> {
-    let lot = ParkingLot::<WordParker>::new(alloc, shape.max_threads)?;
-    walk_with(rt, alloc, Threads::new(&lot), 0, shape, seed)?;
-    let lot = Lot::<parker::WordParker>::new(alloc, shape.max_threads)?;
-    let members = Members::new(rt, alloc, &lot)?;
-    walk_with(rt, alloc, members, 1, shape, seed)
-}
-
-// Walks, and tells that both lots answered the same.
-fn walk_with<S: Subject, R: Print + Wait + Clock>(
-    rt: &R,
-    alloc: Global,
-    subject: S,
-    registered: usize,
-    shape: Shape,
-    seed: u64,
-) -> Result<(), Fault> {
+    let lot = ParkingLot::new(alloc, shape.max_threads)?;
     let past = Instant::now(rt)?;
-    let mut walk = Walk::new(alloc, subject, registered, shape, seed, past)?;
+    let mut walk = Walk::new(rt, alloc, &lot, shape, seed, past)?;
     for _ in 0..shape.parks {
         if walk.parks_left > 0 {
             nest(rt, alloc, &mut walk, shape.max_threads);

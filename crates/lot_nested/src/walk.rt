@@ -1,9 +1,10 @@
 //! A walk: a lot that threads share and the exclusive one, side by side, and what was compared.
 
 use crate::draws::{Draws, key_at};
-use crate::subject::{Ended, Entry, Subject};
+use crate::entry::{Ended, Entry, Thread};
 use lot_base::token::{LotError, ParkResult, ParkToken};
 use lot_exclusive::lot::{Lot, Status};
+use parking_lot_core::{Member, ParkingLot, WordParker};
 use std::alloc::Global;
 use std::sync::Wait;
 use std::time::Instant;
@@ -68,12 +69,12 @@ impl Figures {
     }
 }
 
-/// The lot, and what it is compared with.
+/// The thread that unparks the others of its lot, and what the lot is compared with.
 #[derive(Drop)]
-pub struct Walk<S: Subject> {
-    pub subject: S,
+pub struct Walk<'a> {
+    pub me: Thread<'a>,
     pub machine: Lot,
-    pub idle: Vec<S::Thread>,
+    pub idle: Vec<Thread<'a>>,
     pub draws: Draws,
     pub shape: Shape,
     pub figures: Figures,
@@ -82,22 +83,20 @@ pub struct Walk<S: Subject> {
     unlike: Option<Call>,
 }
 
-impl<S: Subject> Walk<S> {
-    /// Begins a walk with a new lot, which has so many threads registered.
-    pub fn new(
+impl<'a> Walk<'a> {
+    /// Begins a walk with a new lot, of this shape.
+    pub fn new<R: Wait>(
+        rt: &R,
         alloc: Global,
-        subject: S,
-        registered: usize,
+        lot: &'a ParkingLot<WordParker>,
         shape: Shape,
         seed: u64,
         past: Instant,
-    ) -> Result<Walk<S>, LotError> {
+    ) -> Result<Walk<'a>, LotError> {
         let mut machine = Lot::new(alloc, shape.max_threads)?;
-        for _ in 0..registered {
-            machine.register()?;
-        }
+        machine.register()?;
         Ok(Walk {
-            subject,
+            me: Member::register(rt, alloc, lot)?,
             machine,
             idle: Vec::with_capacity(alloc, shape.max_threads)?,
             draws: Draws::new(seed),
@@ -139,7 +138,7 @@ impl<S: Subject> Walk<S> {
     }
 
     /// A thread that is idle, or one that registers now, where there is one.
-    pub fn take_thread<R: Wait>(&mut self, rt: &R, alloc: Global) -> Option<S::Thread> {
+    pub fn take_thread<R: Wait>(&mut self, rt: &R, alloc: Global) -> Option<Thread<'a>> {
         if self.draws.is_one_in(2)
             && let Some(thread) = self.take_idle()
         {
@@ -151,7 +150,7 @@ impl<S: Subject> Walk<S> {
         }
     }
 
-    pub fn take_idle(&mut self) -> Option<S::Thread> {
+    pub fn take_idle(&mut self) -> Option<Thread<'a>> {
         let index = self.draws.below(self.idle.len());
         if index < self.idle.len() {
             Some(self.idle.swap_remove(index))
@@ -161,12 +160,12 @@ impl<S: Subject> Walk<S> {
     }
 
     /// Registers a thread with both lots.
-    pub fn register<R: Wait>(&mut self, rt: &R, alloc: Global) -> Option<S::Thread> {
-        let registered = self.subject.register(rt, alloc);
+    pub fn register<R: Wait>(&mut self, rt: &R, alloc: Global) -> Option<Thread<'a>> {
+        let registered = Member::register(rt, alloc, self.me.lot());
         let expected = self.machine.register();
         match registered {
             Ok(thread) => {
-                self.expect(expected == Ok(S::number(&thread)), Call::Register);
+                self.expect(expected == Ok(thread.number()), Call::Register);
                 Some(thread)
             }
             Err(error) => {
@@ -177,14 +176,14 @@ impl<S: Subject> Walk<S> {
     }
 
     /// Retires a thread from both lots.
-    pub fn retire<R: Wait>(&mut self, rt: &R, thread: S::Thread) {
-        let retired = self.machine.retire(S::number(&thread));
+    pub fn retire<R: Wait>(&mut self, rt: &R, thread: Thread<'a>) {
+        let retired = self.machine.retire(thread.number());
         self.expect(retired.is_ok(), Call::Retire);
-        self.subject.retire(rt, thread);
+        thread.retire(rt);
     }
 
     /// Keeps the thread for later, or retires it.
-    pub fn give_thread<R: Wait>(&mut self, rt: &R, thread: S::Thread) {
+    pub fn give_thread<R: Wait>(&mut self, rt: &R, thread: Thread<'a>) {
         if self.draws.is_one_in(4) || self.idle.len() == self.idle.capacity() {
             self.retire(rt, thread);
         } else {

@@ -3,8 +3,8 @@
 
 use lot_memory::fault::Fault;
 use parking_lot_core::{
-    DEFAULT_PARK_TOKEN, ParkResult, ParkingLot, ThreadData, ThreadParker, ThreadParkerT,
-    UnparkToken, WordParker, YieldParker, park, unpark_one,
+    DEFAULT_PARK_TOKEN, Member, ParkResult, ParkingLot, ThreadParker, ThreadParkerT, UnparkToken,
+    WordParker, YieldParker, unpark_one,
 };
 use std::alloc::Global;
 use std::sync::Wait;
@@ -39,16 +39,15 @@ fn park_often<P: ThreadParkerT, R: Wait + Clock>(
     figures: &mut Figures,
 ) -> Result<(), Fault> {
     let lot = ParkingLot::<P>::new(alloc, 1)?;
-    let mut data = lot.thread_data(rt, alloc)?;
-    park_on_each_key(rt, &lot, &mut data, count, figures)?;
-    lot.retire(rt, data);
+    let mut member = Member::register(rt, alloc, &lot)?;
+    park_on_each_key(rt, &mut member, count, figures)?;
+    member.retire(rt);
     Ok(())
 }
 
 fn park_on_each_key<P: ThreadParkerT, R: Wait + Clock>(
     rt: &R,
-    lot: &ParkingLot<P>,
-    data: &mut ThreadData,
+    member: &mut Member<'_, P>,
     count: usize,
     figures: &mut Figures,
 ) -> Result<(), Fault> {
@@ -56,10 +55,10 @@ fn park_on_each_key<P: ThreadParkerT, R: Wait + Clock>(
     for key in 0..count {
         let ends = if key % 4 == 0 {
             figures.timed_out = figures.timed_out.wrapping_add(1);
-            times_out(rt, lot, data, key, past)
+            times_out(rt, member, key, past)
         } else {
             figures.unparked = figures.unparked.wrapping_add(1);
-            is_unparked(rt, lot, data, key, (key % 4 == 1).then_some(past))
+            is_unparked(rt, member, key, (key % 4 == 1).then_some(past))
         };
         if !ends {
             return Err(Fault::Unlike("the end of a park"));
@@ -72,19 +71,13 @@ fn park_on_each_key<P: ThreadParkerT, R: Wait + Clock>(
 // that nobody else waits there.
 fn times_out<P: ThreadParkerT, R: Wait + Clock>(
     rt: &R,
-    lot: &ParkingLot<P>,
-    data: &mut ThreadData,
+    member: &mut Member<'_, P>,
     key: usize,
     past: Instant,
 ) -> bool {
-    if !lot.accepts(data) {
-        return false;
-    }
     let mut is_told = false;
-    let result = park(
+    let result = member.park(
         rt,
-        lot,
-        data,
         key,
         || true,
         || (),
@@ -99,19 +92,14 @@ fn times_out<P: ThreadParkerT, R: Wait + Clock>(
 // the park, with the token that it gave.
 fn is_unparked<P: ThreadParkerT, R: Wait + Clock>(
     rt: &R,
-    lot: &ParkingLot<P>,
-    data: &mut ThreadData,
+    member: &mut Member<'_, P>,
     key: usize,
     deadline: Option<Instant>,
 ) -> bool {
-    if !lot.accepts(data) {
-        return false;
-    }
+    let lot = member.lot();
     let mut unparked = 0;
-    let result = park(
+    let result = member.park(
         rt,
-        lot,
-        data,
         key,
         || true,
         || unparked = unpark_one(rt, lot, key, |_| UnparkToken(key)).unparked_threads,

@@ -1,8 +1,9 @@
 //! The commands of the program.
 
 use crate::{cost, locks, parks, race, rest};
+use lot_base::thread_parker as parker;
+use lot_memory::Scenario;
 use lot_memory::fault::Fault;
-use lot_memory::{Scenario, parker};
 use parking_lot_core::{ThreadParker, WordParker, YieldParker};
 use std::process::ExitCode;
 use std::rt::Env;

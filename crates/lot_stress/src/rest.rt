@@ -6,12 +6,13 @@ mod deadline;
 
 ghost use Rattle.std.specs.Prelude.{⊤};
 
+use lot_base::thread_parker as parker;
 use lot_base::word_lock::{Fits, WordLock};
 use lot_memory::fault::Fault;
 use lot_memory::turns::comes_to;
 use parking_lot_core::{
-    DEFAULT_PARK_TOKEN, DEFAULT_UNPARK_TOKEN, ParkResult, ParkingLot, ThreadData, ThreadParker,
-    ThreadParkerT, WordParker, park, unpark_all,
+    DEFAULT_PARK_TOKEN, DEFAULT_UNPARK_TOKEN, Member, ParkResult, ParkingLot, ThreadParker,
+    ThreadParkerT, WordParker, unpark_all,
 };
 use std::alloc::Global;
 use std::sync::Wait;
@@ -52,10 +53,10 @@ pub fn run<R: Print + Threads + Wait + Clock + Copy + Send + Sync + 'static>(
     let are_woken = rest_parked::<WordParker, _>(rt, alloc, rest)?
         && rest_parked::<ThreadParker, _>(rt, alloc, rest)?
         && rest_at_a_lock(rt, alloc, rest)?
-        && deadline::rest_after_late_wake::<WordParker, _>(rt, alloc, rest)?
-        && deadline::rest_after_late_wake::<ThreadParker, _>(rt, alloc, rest)?
-        && deadline::rest_after_mark::<WordParker, _>(rt, alloc, rest, far)
-        && deadline::rest_after_mark::<ThreadParker, _>(rt, alloc, rest, far)
+        && deadline::rest_after_late_wake::<parker::WordParker, _>(rt, alloc, rest)?
+        && deadline::rest_after_late_wake::<parker::ThreadParker, _>(rt, alloc, rest)?
+        && deadline::rest_after_mark::<parker::WordParker, _>(rt, alloc, rest, far)
+        && deadline::rest_after_mark::<parker::ThreadParker, _>(rt, alloc, rest, far)
         && change::rest(rt, alloc, rest)?;
     if !are_woken {
         return Err(Fault::Unlike("how many threads came back"));
@@ -131,44 +132,37 @@ fn parks<P: ThreadParkerT, R: Wait + Clock>(
     come: &AtomicUsize,
     timeout: Option<Instant>,
 ) -> bool {
-    let Ok(mut data) = lot.thread_data(rt, alloc) else {
+    let Ok(mut member) = Member::register(rt, alloc, lot) else {
         return false;
     };
-    let is_late = is_late_soon(rt, lot, &mut data, come);
-    let ended = park_once(rt, lot, &mut data, come, timeout);
-    lot.retire(rt, data);
-    is_late && ended.is_some_and(|ended| ended.is_unparked())
+    let is_late = is_late_soon(rt, &mut member, come);
+    let ended = park_once(rt, &mut member, come, timeout);
+    member.retire(rt);
+    is_late && ended.is_unparked()
 }
 
 // Parks for a moment, and tells whether the time was up.
 fn is_late_soon<P: ThreadParkerT, R: Wait + Clock>(
     rt: &R,
-    lot: &ParkingLot<P>,
-    data: &mut ThreadData,
+    member: &mut Member<'_, P>,
     come: &AtomicUsize,
 ) -> bool {
     let Ok(now) = Instant::now(rt) else {
         return false;
     };
     let soon = now.checked_add(Duration::from_millis(SOON_MILLISECONDS));
-    soon.is_some() && park_once(rt, lot, data, come, soon) == Some(ParkResult::TimedOut)
+    soon.is_some() && park_once(rt, member, come, soon) == ParkResult::TimedOut
 }
 
-// Parks, and counts that it came. `None` says that the data is of another lot.
+// Parks, and counts that it came.
 fn park_once<P: ThreadParkerT, R: Wait + Clock>(
     rt: &R,
-    lot: &ParkingLot<P>,
-    data: &mut ThreadData,
+    member: &mut Member<'_, P>,
     come: &AtomicUsize,
     timeout: Option<Instant>,
-) -> Option<ParkResult> {
-    if !lot.accepts(data) {
-        return None;
-    }
-    Some(park(
+) -> ParkResult {
+    member.park(
         rt,
-        lot,
-        data,
         KEY,
         || true,
         || {
@@ -177,7 +171,7 @@ fn park_once<P: ThreadParkerT, R: Wait + Clock>(
         |_, _| (),
         DEFAULT_PARK_TOKEN,
         timeout,
-    ))
+    )
 }
 
 fn rest_at_a_lock<R: Threads + Wait + Clock + Copy + Send + Sync + 'static>(

@@ -13,10 +13,11 @@ use std::time::{Clock, Duration};
 // The table grows at the registration of the last of these.
 const REGISTERED: usize = 6;
 
-// Its bucket is the first that a growth empties.
-const HELD_KEY: usize = 0;
+// Its bucket is one that a growth empties late.
+const HELD_KEY: usize = 1;
 
-const OTHER_KEY: usize = 1;
+// Its bucket is the first that a growth empties, so whoever comes to it waits for the growth.
+const OTHER_KEY: usize = 0;
 
 // Those who come, and the two on whom they wait.
 const THREADS: usize = 10;

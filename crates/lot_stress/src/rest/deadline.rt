@@ -3,9 +3,10 @@
 ghost use Rattle.std.specs.Prelude.{◌≡◌, IfOk};
 ghost use Rattle.lot_base.specs.Node.{fields};
 
+use lot_base::thread_parker::{ParkerKey, ThreadParkerT, UnparkHandleT};
 use lot_memory::fault::Fault;
 use lot_memory::turns::comes_to;
-use parking_lot_core::{NoMemory, Node, ParkerKey, ThreadParkerT, UnparkHandleT};
+use parking_lot_core::{NoMemory, Node};
 use std::alloc::Global;
 use std::sync::Wait;
 use std::sync::atomic::{AtomicUsize, Ordering};

@@ -4,8 +4,8 @@ use super::super::figures::Figures;
 use super::{KEYS, Round};
 use crate::draws::Draws;
 use parking_lot_core::{
-    FilterOp, ParkResult, ParkToken, RequeueOp, ThreadData, ThreadParkerT, UnparkResult,
-    UnparkToken, park, unpark_all, unpark_chosen, unpark_one, unpark_requeue,
+    FilterOp, Member, ParkResult, ParkToken, RequeueOp, ThreadParkerT, UnparkResult, UnparkToken,
+    unpark_all, unpark_chosen, unpark_one, unpark_requeue,
 };
 use std::alloc::Global;
 use std::sync::Wait;
@@ -56,9 +56,9 @@ pub(super) fn park_often<P: ThreadParkerT, R: Wait + Clock>(
 ) -> Option<Figures> {
     let mut figures = Figures::default();
     for _ in 0..u64::MAX {
-        let data = round.lot.thread_data(rt, alloc).ok()?;
+        let member = Member::register(rt, alloc, &round.lot).ok()?;
         figures.registrations = figures.registrations.wrapping_add(1);
-        if park_some(rt, round, data, &mut draws, &mut figures)? {
+        if park_some(rt, round, member, &mut draws, &mut figures)? {
             break;
         }
     }
@@ -70,7 +70,7 @@ pub(super) fn park_often<P: ThreadParkerT, R: Wait + Clock>(
 fn park_some<P: ThreadParkerT, R: Wait + Clock>(
     rt: &R,
     round: &Round<P>,
-    mut data: ThreadData,
+    mut member: Member<'_, P>,
     draws: &mut Draws,
     figures: &mut Figures,
 ) -> Option<bool> {
@@ -78,27 +78,22 @@ fn park_some<P: ThreadParkerT, R: Wait + Clock>(
         if round.is_over() {
             break;
         }
-        park_once(rt, round, &mut data, draws, figures)?;
+        park_once(rt, round, &mut member, draws, figures)?;
     }
-    round.lot.retire(rt, data);
+    member.retire(rt);
     Some(round.is_over())
 }
 
 fn park_once<P: ThreadParkerT, R: Wait + Clock>(
     rt: &R,
     round: &Round<P>,
-    data: &mut ThreadData,
+    member: &mut Member<'_, P>,
     draws: &mut Draws,
     figures: &mut Figures,
 ) -> Option<()> {
-    if !round.lot.accepts(data) {
-        return None;
-    }
     let start = Instant::now(rt).ok()?;
-    let result = park(
+    let result = member.park(
         rt,
-        &round.lot,
-        data,
         draws.choose(&KEYS, 0),
         || !round.is_over(),
         || (),
@@ -223,23 +218,24 @@ pub(super) fn register_often<P: ThreadParkerT, R: Wait + Clock>(
         let mut held = Vec::with_capacity(alloc, HELD).ok()?;
         register_some(rt, alloc, round, &mut draws, &mut held)?;
         figures.registrations = figures.registrations.wrapping_add(held.len() as u64);
-        for data in held {
-            round.lot.retire(rt, data);
+        for member in held {
+            member.retire(rt);
         }
     }
     Some(figures)
 }
 
 // Registers threads with pauses between.
-fn register_some<P: ThreadParkerT, R: Wait + Clock>(
+fn register_some<'a, P: ThreadParkerT, R: Wait + Clock>(
     rt: &R,
     alloc: Global,
-    round: &Round<P>,
+    round: &'a Round<P>,
     draws: &mut Draws,
-    held: &mut Vec<ThreadData>,
+    held: &mut Vec<Member<'a, P>>,
 ) -> Option<()> {
     for _ in 0..HELD {
-        held.push(round.lot.thread_data(rt, alloc).ok()?).ok()?;
+        held.push(Member::register(rt, alloc, &round.lot).ok()?)
+            .ok()?;
         pause(rt, draws);
     }
     Some(())
