@@ -3,9 +3,7 @@
 use crate::cost::{Cost, median_of};
 use crate::waiting::{KEYS, Lot, LotMember};
 use lot_sync::once::Once;
-use parking_lot_core::{
-    DEFAULT_PARK_TOKEN, DEFAULT_UNPARK_TOKEN, ParkResult, ThreadData, park, unpark_one,
-};
+use parking_lot_core::{DEFAULT_PARK_TOKEN, DEFAULT_UNPARK_TOKEN, ParkResult, unpark_one};
 use std::alloc::Global;
 use std::sync::Wait;
 use std::sync::atomic::{AtomicBool, Ordering};
@@ -74,26 +72,25 @@ fn cost_of_parks<R: Wait + Clock>(
     timeout: Option<Instant>,
     expected: ParkResult,
 ) -> Option<Cost> {
-    let mut data = lot.thread_data(rt, alloc).ok()?;
+    let mut member = LotMember::register(rt, alloc, lot).ok()?;
     let start = Instant::now(rt).ok()?;
-    let ended = count_parks(rt, lot, &mut data, is_valid, timeout, expected);
+    let ended = count_parks(rt, &mut member, is_valid, timeout, expected);
     let cost = Cost::since(rt, start, CALLS);
-    lot.retire(rt, data);
+    member.retire(rt);
     if ended == CALLS { cost } else { None }
 }
 
 // How many of the calls end with this result.
 fn count_parks<R: Wait + Clock>(
     rt: &R,
-    lot: &Lot,
-    data: &mut ThreadData,
+    member: &mut LotMember<'_>,
     is_valid: &AtomicBool,
     timeout: Option<Instant>,
     expected: ParkResult,
 ) -> u64 {
     let mut ended = 0u64;
     for _ in 0..CALLS {
-        ended = ended.wrapping_add(park_once(rt, lot, data, is_valid, timeout, expected));
+        ended = ended.wrapping_add(park_once(rt, member, is_valid, timeout, expected));
     }
     ended
 }
@@ -101,19 +98,13 @@ fn count_parks<R: Wait + Clock>(
 // 1 if the park ends with this result.
 fn park_once<R: Wait + Clock>(
     rt: &R,
-    lot: &Lot,
-    data: &mut ThreadData,
+    member: &mut LotMember<'_>,
     is_valid: &AtomicBool,
     timeout: Option<Instant>,
     expected: ParkResult,
 ) -> u64 {
-    if !lot.accepts(data) {
-        return 0;
-    }
-    let result = park(
+    let result = member.park(
         rt,
-        lot,
-        data,
         KEYS[0],
         || is_valid.load(Ordering::SeqCst),
         || (),

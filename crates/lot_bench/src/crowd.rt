@@ -2,10 +2,9 @@
 
 use crate::cost::{Cost, median};
 use crate::sizes;
-use crate::waiting::{KEYS, Lot, comes_to};
+use crate::waiting::{KEYS, Lot, LotMember, comes_to};
 use parking_lot_core::{
-    DEFAULT_PARK_TOKEN, DEFAULT_UNPARK_TOKEN, ParkResult, RequeueOp, ThreadData, park, unpark_all,
-    unpark_requeue,
+    DEFAULT_PARK_TOKEN, DEFAULT_UNPARK_TOKEN, ParkResult, RequeueOp, unpark_all, unpark_requeue,
 };
 use std::alloc::Global;
 use std::sync::Wait;
@@ -150,28 +149,23 @@ pub fn all_true(answers: &[bool]) -> bool {
 
 // Registers, parks so often, and retires.
 fn waits<R: Wait + Clock>(rt: &R, alloc: Global, lot: &Lot, board: &Board, parks: usize) -> bool {
-    let Ok(mut data) = lot.thread_data(rt, alloc) else {
+    let Ok(mut member) = LotMember::register(rt, alloc, lot) else {
         return false;
     };
     for _ in 0..parks {
-        if !waits_once(rt, lot, board, &mut data) {
+        if !waits_once(rt, board, &mut member) {
             return false;
         }
         board.awake.fetch_add(1, Ordering::SeqCst);
     }
-    lot.retire(rt, data);
+    member.retire(rt);
     true
 }
 
 // Parks, and tells whether it was unparked.
-fn waits_once<R: Wait + Clock>(rt: &R, lot: &Lot, board: &Board, data: &mut ThreadData) -> bool {
-    if !lot.accepts(data) {
-        return false;
-    }
-    let result = park(
+fn waits_once<R: Wait + Clock>(rt: &R, board: &Board, member: &mut LotMember<'_>) -> bool {
+    let result = member.park(
         rt,
-        lot,
-        data,
         KEYS[0],
         || !board.is_over.load(Ordering::SeqCst),
         || {

@@ -1,5 +1,7 @@
 //! The rows of the fair mutex and its condition variable.
 
+ghost use Rattle.parking_lot_core.specs.Members.{IsDataOf};
+
 use crate::cost::{Cost, median};
 use crate::crowd::{WAITERS, all_true};
 use crate::locking::LotMutex;
@@ -21,11 +23,8 @@ const MILLISECONDS_TO_SLEEP: u64 = 20;
 
 impl LotMutex for FairMutex {
     #[inline]
-    fn acquire<R: Wait + Clock>(&self, rt: &R, lot: &Lot, data: &mut ThreadData) -> bool {
-        if !lot.accepts(data) {
-            return false;
-        }
-        self.lock(rt, lot, data);
+    fn acquire<R: Wait + Clock>(&self, rt: &R, lot: &Lot, thread_data: &mut ThreadData) -> bool {
+        self.lock(rt, lot, thread_data);
         true
     }
 
@@ -60,15 +59,18 @@ impl Room {
     }
 
     // Sleeps once. False says that it did not.
-    fn sleep<R: Wait + Clock>(&self, rt: &R, data: &mut ThreadData) -> bool {
-        if !self.lot.accepts(data) || self.condvar.key() == self.mutex.key() {
+    fn sleep<R: Wait + Clock>(&self, rt: &R, thread_data: &mut ThreadData) -> bool
+        requires own { IsDataOf self.now.lot thread_data.old }
+        ensures own { IsDataOf self.now.lot thread_data.new }
+    {
+        if self.condvar.key() == self.mutex.key() {
             return false;
         }
-        self.mutex.lock(rt, &self.lot, data);
+        self.mutex.lock(rt, &self.lot, thread_data);
         let sleeps = !self.is_over.load(Ordering::SeqCst);
         if sleeps {
             self.sleeping.fetch_add(1, Ordering::SeqCst);
-            self.condvar.wait(rt, &self.mutex, &self.lot, data);
+            self.condvar.wait(rt, &self.mutex, &self.lot, thread_data);
             self.awake.fetch_add(1, Ordering::SeqCst);
         }
         self.mutex.unlock(rt, &self.lot);
@@ -89,10 +91,12 @@ impl Room {
 /// the time until each has held it.
 pub fn notify_all<R: Threads + Wait + Clock + Sync>(rt: &R, alloc: Global) -> Option<Cost> {
     let room = Room::new(alloc)?;
-    let mut data = room.lot.thread_data(rt, alloc).ok()?;
+    let mut thread_data = room.lot.thread_data(rt, alloc).ok()?;
     let (cost, slept) = thread::join(
         rt,
-        || lead(rt, alloc, &room, &mut data),
+        ||
+            requires { IsDataOf room.lot thread_data }
+        { lead(rt, alloc, &room, &mut thread_data) },
         || sleep_all(rt, alloc, &room),
     );
     if slept { cost } else { None }
@@ -107,15 +111,15 @@ fn sleep_all<R: Threads + Wait + Clock + Sync>(rt: &R, alloc: Global, room: &Roo
 }
 
 fn sleep_often<R: Wait + Clock>(rt: &R, alloc: Global, room: &Room) -> bool {
-    let Ok(mut data) = room.lot.thread_data(rt, alloc) else {
+    let Ok(mut thread_data) = room.lot.thread_data(rt, alloc) else {
         return false;
     };
     for _ in 0..NOTIFIES {
-        if !room.sleep(rt, &mut data) {
+        if !room.sleep(rt, &mut thread_data) {
             return false;
         }
     }
-    room.lot.retire(rt, data);
+    room.lot.retire(rt, thread_data);
     true
 }
 
@@ -124,10 +128,12 @@ fn lead<R: Wait + Clock>(
     rt: &R,
     alloc: Global,
     room: &Room,
-    data: &mut ThreadData,
-) -> Option<Cost> {
-    let cost = cost_of_notifies(rt, alloc, room, data);
-    if room.mutex.acquire(rt, &room.lot, data) {
+    thread_data: &mut ThreadData,
+) -> Option<Cost>
+    requires own { IsDataOf room.now.lot thread_data.old }
+{
+    let cost = cost_of_notifies(rt, alloc, room, thread_data);
+    if room.mutex.acquire(rt, &room.lot, thread_data) {
         room.is_over.store(true, Ordering::SeqCst);
         room.notify_all(rt);
         room.mutex.unlock(rt, &room.lot);
@@ -139,18 +145,30 @@ fn cost_of_notifies<R: Wait + Clock>(
     rt: &R,
     alloc: Global,
     room: &Room,
-    data: &mut ThreadData,
-) -> Option<Cost> {
+    thread_data: &mut ThreadData,
+) -> Option<Cost>
+    requires own { IsDataOf room.now.lot thread_data.old }
+    ensures own { IsDataOf room.now.lot thread_data.new }
+{
     let mut costs = Vec::with_capacity(alloc, NOTIFIES).ok()?;
     for _ in 0..NOTIFIES {
-        costs.push(cost_of_notify(rt, room, data)?).ok()?;
+        costs.push(cost_of_notify(rt, room, thread_data)?).ok()?;
     }
     median(costs)
 }
 
 // Notifies all once they have come and sleep. Who has the mutex knows that they have left it.
-fn cost_of_notify<R: Wait + Clock>(rt: &R, room: &Room, data: &mut ThreadData) -> Option<Cost> {
-    if !comes_to(&room.sleeping, WAITERS as u64) || !room.mutex.acquire(rt, &room.lot, data) {
+fn cost_of_notify<R: Wait + Clock>(
+    rt: &R,
+    room: &Room,
+    thread_data: &mut ThreadData,
+) -> Option<Cost>
+    requires own { IsDataOf room.now.lot thread_data.old }
+    ensures own { IsDataOf room.now.lot thread_data.new }
+{
+    if !comes_to(&room.sleeping, WAITERS as u64)
+        || !room.mutex.acquire(rt, &room.lot, thread_data)
+    {
         return None;
     }
     thread::sleep(rt, Duration::from_millis(MILLISECONDS_TO_SLEEP));

@@ -1,5 +1,7 @@
 //! The rows of mutexes whose threads wait in a lot.
 
+ghost use Rattle.parking_lot_core.specs.Members.{IsDataOf};
+
 use crate::cost::{Cost, median_of};
 use crate::together::{Span, whole_time};
 use crate::waiting::{KEYS, Lot};
@@ -23,8 +25,11 @@ const RUNS: usize = 7;
 
 /// A mutex whose threads wait in a lot.
 pub trait LotMutex {
-    /// Locks the mutex. False says that it could not be had.
-    fn acquire<R: Wait + Clock>(&self, rt: &R, lot: &Lot, data: &mut ThreadData) -> bool;
+    /// Locks the mutex. False says that it could not be had. The data is that of a thread of the
+    /// lot.
+    fn acquire<R: Wait + Clock>(&self, rt: &R, lot: &Lot, thread_data: &mut ThreadData) -> bool
+        requires own { IsDataOf lot.now thread_data.old }
+        ensures own { IsDataOf lot.now thread_data.new };
 
     /// Unlocks the mutex, which this thread has locked.
     fn release<R: Wait>(&self, rt: &R, lot: &Lot);
@@ -99,11 +104,11 @@ fn count_pairs<R: Wait + Clock, M: LotMutex>(
     pairs: u64,
     count: &AtomicU64,
 ) -> Option<()> {
-    let mut data = lot.thread_data(rt, alloc).ok()?;
+    let mut thread_data = lot.thread_data(rt, alloc).ok()?;
     for _ in 0..pairs {
-        count_one(rt, lot, mutex, &mut data, count);
+        count_one(rt, lot, mutex, &mut thread_data, count);
     }
-    lot.retire(rt, data);
+    lot.retire(rt, thread_data);
     Some(())
 }
 
@@ -112,10 +117,13 @@ fn count_one<R: Wait + Clock, M: LotMutex>(
     rt: &R,
     lot: &Lot,
     mutex: &M,
-    data: &mut ThreadData,
+    thread_data: &mut ThreadData,
     count: &AtomicU64,
-) {
-    if mutex.acquire(rt, lot, data) {
+)
+    requires own { IsDataOf lot.now thread_data.old }
+    ensures own { IsDataOf lot.now thread_data.new }
+{
+    if mutex.acquire(rt, lot, thread_data) {
         let before = count.load(Ordering::SeqCst);
         count.store(before.wrapping_add(1), Ordering::SeqCst);
         mutex.release(rt, lot);
@@ -151,13 +159,13 @@ fn time_of_pairs<R: Wait + Clock, M: LotMutex>(
     pairs: u64,
     barrier: &Barrier,
 ) -> Option<Span> {
-    let data = lot.thread_data(rt, alloc).ok();
+    let thread_data = lot.thread_data(rt, alloc).ok();
     barrier.wait(rt);
-    let mut data = data?;
+    let mut thread_data = thread_data?;
     let start = Instant::now(rt).ok()?;
-    let locked = lock_and_unlock(rt, lot, mutex, pairs, &mut data);
+    let locked = lock_and_unlock(rt, lot, mutex, pairs, &mut thread_data);
     let end = Instant::now(rt).ok()?;
-    lot.retire(rt, data);
+    lot.retire(rt, thread_data);
     if locked == pairs {
         Some(Span { start, end })
     } else {
@@ -171,19 +179,30 @@ fn lock_and_unlock<R: Wait + Clock, M: LotMutex>(
     lot: &Lot,
     mutex: &M,
     pairs: u64,
-    data: &mut ThreadData,
-) -> u64 {
+    thread_data: &mut ThreadData,
+) -> u64
+    requires own { IsDataOf lot.now thread_data.old }
+    ensures own { IsDataOf lot.now thread_data.new }
+{
     let mut locked = 0u64;
     for _ in 0..pairs {
-        locked = locked.wrapping_add(pair(rt, lot, mutex, data));
+        locked = locked.wrapping_add(pair(rt, lot, mutex, thread_data));
     }
     locked
 }
 
 // 1 if it locked the mutex.
 #[inline]
-fn pair<R: Wait + Clock, M: LotMutex>(rt: &R, lot: &Lot, mutex: &M, data: &mut ThreadData) -> u64 {
-    if !mutex.acquire(rt, lot, data) {
+fn pair<R: Wait + Clock, M: LotMutex>(
+    rt: &R,
+    lot: &Lot,
+    mutex: &M,
+    thread_data: &mut ThreadData,
+) -> u64
+    requires own { IsDataOf lot.now thread_data.old }
+    ensures own { IsDataOf lot.now thread_data.new }
+{
+    if !mutex.acquire(rt, lot, thread_data) {
         return 0;
     }
     mutex.release(rt, lot);

@@ -1,8 +1,8 @@
 //! The row of many keys in a table of 4,096 buckets.
 
 use crate::cost::{Cost, median_of};
-use crate::waiting::Lot;
-use parking_lot_core::{DEFAULT_PARK_TOKEN, DEFAULT_UNPARK_TOKEN, ThreadData, park, unpark_one};
+use crate::waiting::{Lot, LotMember};
+use parking_lot_core::{DEFAULT_PARK_TOKEN, DEFAULT_UNPARK_TOKEN, unpark_one};
 use std::alloc::Global;
 use std::sync::Wait;
 use std::time::{Clock, Instant};
@@ -20,47 +20,43 @@ pub fn many_keys<R: Wait + Clock>(rt: &R, alloc: Global) -> Option<Cost> {
     let lot = Lot::new(alloc, REGISTERED).ok()?;
     let others = register_others(rt, alloc, &lot)?;
     let cost = median_of(alloc, RUNS, || cost_of_keys(rt, alloc, &lot));
-    for data in others {
-        lot.retire(rt, data);
+    for member in others {
+        member.retire(rt);
     }
     cost
 }
 
-fn register_others<R: Wait>(rt: &R, alloc: Global, lot: &Lot) -> Option<Vec<ThreadData>> {
+fn register_others<'a, R: Wait>(rt: &R, alloc: Global, lot: &'a Lot) -> Option<Vec<LotMember<'a>>> {
     let mut others = Vec::with_capacity(alloc, REGISTERED).ok()?;
     for _ in 1..REGISTERED {
-        others.push(lot.thread_data(rt, alloc).ok()?).ok()?;
+        others.push(LotMember::register(rt, alloc, lot).ok()?).ok()?;
     }
     Some(others)
 }
 
 fn cost_of_keys<R: Wait + Clock>(rt: &R, alloc: Global, lot: &Lot) -> Option<Cost> {
-    let mut data = lot.thread_data(rt, alloc).ok()?;
+    let mut member = LotMember::register(rt, alloc, lot).ok()?;
     let start = Instant::now(rt).ok()?;
-    let unparked = count_unparked(rt, lot, &mut data);
+    let unparked = count_unparked(rt, &mut member);
     let cost = Cost::since(rt, start, MANY_KEYS as u64);
-    lot.retire(rt, data);
+    member.retire(rt);
     if unparked == MANY_KEYS { cost } else { None }
 }
 
 // On how many of the keys the thread was unparked.
-fn count_unparked<R: Wait + Clock>(rt: &R, lot: &Lot, data: &mut ThreadData) -> usize {
+fn count_unparked<R: Wait + Clock>(rt: &R, member: &mut LotMember<'_>) -> usize {
     let mut unparked = 0usize;
     for key in 0..MANY_KEYS {
-        unparked = unparked.wrapping_add(usize::from(unparks_itself(rt, lot, data, key)));
+        unparked = unparked.wrapping_add(usize::from(unparks_itself(rt, member, key)));
     }
     unparked
 }
 
 // Parks, and unparks itself before it sleeps. False says that it was not unparked.
-fn unparks_itself<R: Wait + Clock>(rt: &R, lot: &Lot, data: &mut ThreadData, key: usize) -> bool {
-    if !lot.accepts(data) {
-        return false;
-    }
-    let result = park(
+fn unparks_itself<R: Wait + Clock>(rt: &R, member: &mut LotMember<'_>, key: usize) -> bool {
+    let lot = member.lot();
+    let result = member.park(
         rt,
-        lot,
-        data,
         key,
         || true,
         || {

@@ -2,10 +2,10 @@
 
 use crate::cost::{Cost, median_of};
 use crate::crowd;
-use crate::waiting::Lot;
+use crate::waiting::{Lot, LotMember};
 use parking_lot_core::lot::Lot as ExclusiveLot;
 use parking_lot_core::table::MAX_THREADS;
-use parking_lot_core::{DEFAULT_PARK_TOKEN, DEFAULT_UNPARK_TOKEN, ThreadData, unpark_one};
+use parking_lot_core::{DEFAULT_PARK_TOKEN, DEFAULT_UNPARK_TOKEN, unpark_one};
 use std::alloc::Global;
 use std::sync::Wait;
 use std::thread::Threads;
@@ -32,7 +32,7 @@ pub fn register_all<R: Wait + Clock>(rt: &R, alloc: Global) -> Option<Cost> {
 fn cost_of_threads<R: Wait + Clock>(rt: &R, alloc: Global, lot: &Lot) -> Option<Cost> {
     let start = Instant::now(rt).ok()?;
     let registered = register(rt, alloc, lot, MAX_THREADS)?;
-    retire(rt, lot, registered);
+    retire(rt, registered);
     Cost::since(rt, start, MAX_THREADS as u64)
 }
 
@@ -51,9 +51,9 @@ pub fn cost_of_trims<R: Wait + Clock>(rt: &R, alloc: Global, lot: &Lot) -> Optio
 
 fn cost_of_trim<R: Wait + Clock>(rt: &R, alloc: Global, lot: &Lot) -> Option<Cost> {
     let registered = register(rt, alloc, lot, MANY - WAITERS)?;
-    retire(rt, lot, registered);
+    retire(rt, registered);
     let start = Instant::now(rt).ok()?;
-    lot.trim(rt, alloc).ok()?;
+    lot.trim(rt);
     Cost::since(rt, start, 1)
 }
 
@@ -97,7 +97,7 @@ pub fn unpark_in_large_table<R: Wait + Clock>(rt: &R, alloc: Global) -> Option<C
     let lot = Lot::new(alloc, VERY_MANY).ok()?;
     let registered = register(rt, alloc, &lot, VERY_MANY)?;
     let cost = median_of(alloc, RUNS, || cost_of_unparks(rt, &lot));
-    retire(rt, &lot, registered);
+    retire(rt, registered);
     cost
 }
 
@@ -109,16 +109,23 @@ fn cost_of_unparks<R: Wait + Clock>(rt: &R, lot: &Lot) -> Option<Cost> {
     Cost::since(rt, start, CALLS as u64)
 }
 
-fn register<R: Wait>(rt: &R, alloc: Global, lot: &Lot, threads: usize) -> Option<Vec<ThreadData>> {
+fn register<'a, R: Wait>(
+    rt: &R,
+    alloc: Global,
+    lot: &'a Lot,
+    threads: usize,
+) -> Option<Vec<LotMember<'a>>> {
     let mut registered = Vec::with_capacity(alloc, threads).ok()?;
     for _ in 0..threads {
-        registered.push(lot.thread_data(rt, alloc).ok()?).ok()?;
+        registered
+            .push(LotMember::register(rt, alloc, lot).ok()?)
+            .ok()?;
     }
     Some(registered)
 }
 
-fn retire<R: Wait>(rt: &R, lot: &Lot, registered: Vec<ThreadData>) {
-    for data in registered {
-        lot.retire(rt, data);
+fn retire<R: Wait>(rt: &R, registered: Vec<LotMember<'_>>) {
+    for member in registered {
+        member.retire(rt);
     }
 }

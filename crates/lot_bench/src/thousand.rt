@@ -1,8 +1,8 @@
 //! The row of a thousand threads that register, park and are woken.
 
 use crate::cost::Cost;
-use crate::waiting::{Lot, comes_to};
-use parking_lot_core::{DEFAULT_PARK_TOKEN, DEFAULT_UNPARK_TOKEN, park, unpark_all};
+use crate::waiting::{Lot, LotMember, comes_to};
+use parking_lot_core::{DEFAULT_PARK_TOKEN, DEFAULT_UNPARK_TOKEN, unpark_all};
 use std::alloc::Global;
 use std::sync::atomic::{AtomicU64, Ordering};
 use std::sync::{Arc, Wait};
@@ -66,13 +66,11 @@ fn waits<R: Wait + Clock>(
     parked: &AtomicU64,
     key: usize,
 ) -> bool {
-    let Ok(mut data) = lot.thread_data(rt, alloc) else {
+    let Ok(mut member) = LotMember::register(rt, alloc, lot) else {
         return false;
     };
-    let result = park(
+    let result = member.park(
         rt,
-        lot,
-        &mut data,
         key,
         || true,
         || {
@@ -82,7 +80,7 @@ fn waits<R: Wait + Clock>(
         DEFAULT_PARK_TOKEN,
         None,
     );
-    lot.retire(rt, data);
+    member.retire(rt);
     result.is_unparked()
 }
 

@@ -5,7 +5,7 @@ use crate::locked::Tally;
 use crate::waiting::{KEYS, Lot, LotMember, TURNS};
 use lot_sync::mutex::{Condvar, Mutex};
 use parking_lot_core::{
-    DEFAULT_PARK_TOKEN, DEFAULT_UNPARK_TOKEN, ParkResult, ThreadData, park, unpark_all, unpark_one,
+    DEFAULT_PARK_TOKEN, DEFAULT_UNPARK_TOKEN, ParkResult, unpark_all, unpark_one,
 };
 use std::alloc::Global;
 use std::sync::Wait;
@@ -35,14 +35,14 @@ fn cost_of_strict<R: Threads + Wait + Clock + Sync>(
     alloc: Global,
     lot: &Lot,
 ) -> Option<Cost> {
-    let first = lot.thread_data(rt, alloc).ok()?;
-    let second = lot.thread_data(rt, alloc).ok()?;
+    let first = LotMember::register(rt, alloc, lot).ok()?;
+    let second = LotMember::register(rt, alloc, lot).ok()?;
     let gave_up = AtomicBool::new(false);
     let start = Instant::now(rt).ok()?;
     let (led, followed) = thread::join(
         rt,
-        || leads(rt, lot, first, &gave_up),
-        || follows(rt, lot, second, &gave_up),
+        || leads(rt, first, &gave_up),
+        || follows(rt, second, &gave_up),
     );
     if led && followed {
         Cost::since(rt, start, STRICT_ROUNDS)
@@ -52,46 +52,40 @@ fn cost_of_strict<R: Threads + Wait + Clock + Sync>(
 }
 
 // Unparks first and then parks, in each round. False says that a side gave up.
-fn leads<R: Wait + Clock>(rt: &R, lot: &Lot, mut data: ThreadData, gave_up: &AtomicBool) -> bool {
+fn leads<R: Wait + Clock>(rt: &R, mut member: LotMember<'_>, gave_up: &AtomicBool) -> bool {
     for _ in 0..STRICT_ROUNDS {
-        if !unpark_surely(rt, lot, KEYS[1], gave_up)
-            || !park_strictly(rt, lot, &mut data, KEYS[0], gave_up)
+        if !unpark_surely(rt, member.lot(), KEYS[1], gave_up)
+            || !park_strictly(rt, &mut member, KEYS[0], gave_up)
         {
             return false;
         }
     }
-    lot.retire(rt, data);
+    member.retire(rt);
     true
 }
 
 // Parks first and then unparks, in each round. False says that a side gave up.
-fn follows<R: Wait + Clock>(rt: &R, lot: &Lot, mut data: ThreadData, gave_up: &AtomicBool) -> bool {
+fn follows<R: Wait + Clock>(rt: &R, mut member: LotMember<'_>, gave_up: &AtomicBool) -> bool {
     for _ in 0..STRICT_ROUNDS {
-        if !park_strictly(rt, lot, &mut data, KEYS[1], gave_up)
-            || !unpark_surely(rt, lot, KEYS[0], gave_up)
+        if !park_strictly(rt, &mut member, KEYS[1], gave_up)
+            || !unpark_surely(rt, member.lot(), KEYS[0], gave_up)
         {
             return false;
         }
     }
-    lot.retire(rt, data);
+    member.retire(rt);
     true
 }
 
 // Parks until the other side unparks this one. False says that it gave up.
 fn park_strictly<R: Wait + Clock>(
     rt: &R,
-    lot: &Lot,
-    data: &mut ThreadData,
+    member: &mut LotMember<'_>,
     key: usize,
     gave_up: &AtomicBool,
 ) -> bool {
-    if !lot.accepts(data) {
-        return false;
-    }
-    let result = park(
+    let result = member.park(
         rt,
-        lot,
-        data,
         key,
         || !gave_up.load(Ordering::SeqCst),
         || (),
@@ -128,14 +122,14 @@ fn cost_by_word<R: Threads + Wait + Clock + Sync>(
     alloc: Global,
     lot: &Lot,
 ) -> Option<Cost> {
-    let first = lot.thread_data(rt, alloc).ok()?;
-    let second = lot.thread_data(rt, alloc).ok()?;
+    let first = LotMember::register(rt, alloc, lot).ok()?;
+    let second = LotMember::register(rt, alloc, lot).ok()?;
     let turn = AtomicU64::new(0);
     let start = Instant::now(rt).ok()?;
     let (one, other) = thread::join(
         rt,
-        || takes_turns(rt, lot, first, &turn, Side::FIRST),
-        || takes_turns(rt, lot, second, &turn, Side::SECOND),
+        || takes_turns(rt, first, &turn, Side::FIRST),
+        || takes_turns(rt, second, &turn, Side::SECOND),
     );
     if one && other {
         Cost::since(rt, start, WORD_ROUNDS)
@@ -172,16 +166,15 @@ impl Side {
 // Takes its turn in each round. False says that a side gave up.
 fn takes_turns<R: Wait + Clock>(
     rt: &R,
-    lot: &Lot,
-    mut data: ThreadData,
+    mut member: LotMember<'_>,
     turn: &AtomicU64,
     side: Side,
 ) -> bool {
     for _ in 0..WORD_ROUNDS {
-        let has_turn = awaits_turn(rt, lot, &mut data, turn, side);
+        let has_turn = awaits_turn(rt, &mut member, turn, side);
         give_turn(
             rt,
-            lot,
+            member.lot(),
             turn,
             if has_turn { side.other_turn } else { NOBODY },
             side,
@@ -190,15 +183,14 @@ fn takes_turns<R: Wait + Clock>(
             return false;
         }
     }
-    lot.retire(rt, data);
+    member.retire(rt);
     true
 }
 
 // Parks until it is this side's turn. False says that it is nobody's, or never came.
 fn awaits_turn<R: Wait + Clock>(
     rt: &R,
-    lot: &Lot,
-    data: &mut ThreadData,
+    member: &mut LotMember<'_>,
     turn: &AtomicU64,
     side: Side,
 ) -> bool {
@@ -207,26 +199,15 @@ fn awaits_turn<R: Wait + Clock>(
         if whose != side.other_turn {
             return whose == side.turn;
         }
-        park_by_word(rt, lot, data, turn, side);
+        park_by_word(rt, member, turn, side);
     }
     false
 }
 
 // Parks, if it is the other side's turn.
-fn park_by_word<R: Wait + Clock>(
-    rt: &R,
-    lot: &Lot,
-    data: &mut ThreadData,
-    turn: &AtomicU64,
-    side: Side,
-) {
-    if !lot.accepts(data) {
-        return;
-    }
-    park(
+fn park_by_word<R: Wait + Clock>(rt: &R, member: &mut LotMember<'_>, turn: &AtomicU64, side: Side) {
+    member.park(
         rt,
-        lot,
-        data,
         side.key,
         || turn.load(Ordering::SeqCst) == side.other_turn,
         || (),

@@ -1,5 +1,7 @@
 //! A mutex of one word, whose threads wait in a lot.
 
+ghost use Rattle.parking_lot_core.specs.Members.{IsDataOf};
+
 use crate::locking::LotMutex;
 use crate::waiting::{KEYS, Lot, TURNS};
 use parking_lot_core::{DEFAULT_PARK_TOKEN, DEFAULT_UNPARK_TOKEN, ThreadData, park, unpark_one};
@@ -46,7 +48,10 @@ impl WordMutex {
     }
 
     #[cold]
-    fn lock_slowly<R: Wait + Clock>(&self, rt: &R, lot: &Lot, data: &mut ThreadData) -> bool {
+    fn lock_slowly<R: Wait + Clock>(&self, rt: &R, lot: &Lot, thread_data: &mut ThreadData) -> bool
+        requires own { IsDataOf lot.now thread_data.old }
+        ensures own { IsDataOf lot.now thread_data.new }
+    {
         let mut spun = 0u32;
         for _ in 0..TURNS {
             let state = self.state.load(Ordering::SeqCst);
@@ -58,7 +63,7 @@ impl WordMutex {
                 spun += 1;
                 spin(spun);
             } else if state == CONTENDED || self.exchange(LOCKED, CONTENDED).is_ok() {
-                self.wait(rt, lot, data);
+                self.wait(rt, lot, thread_data);
                 spun = 0;
             }
         }
@@ -67,14 +72,14 @@ impl WordMutex {
 
     // Parks until the thread that has the mutex unlocks it, if it is locked still and says that
     // threads wait.
-    fn wait<R: Wait + Clock>(&self, rt: &R, lot: &Lot, data: &mut ThreadData) {
-        if !lot.accepts(data) {
-            return;
-        }
+    fn wait<R: Wait + Clock>(&self, rt: &R, lot: &Lot, thread_data: &mut ThreadData)
+        requires own { IsDataOf lot.now thread_data.old }
+        ensures own { IsDataOf lot.now thread_data.new }
+    {
         park(
             rt,
             lot,
-            data,
+            thread_data,
             KEYS[0],
             || self.state.load(Ordering::SeqCst) == CONTENDED,
             || (),
@@ -101,8 +106,8 @@ impl WordMutex {
 impl LotMutex for WordMutex {
     // False says that it was not free in all the turns that this thread waited.
     #[inline]
-    fn acquire<R: Wait + Clock>(&self, rt: &R, lot: &Lot, data: &mut ThreadData) -> bool {
-        self.exchange(FREE, LOCKED).is_ok() || self.lock_slowly(rt, lot, data)
+    fn acquire<R: Wait + Clock>(&self, rt: &R, lot: &Lot, thread_data: &mut ThreadData) -> bool {
+        self.exchange(FREE, LOCKED).is_ok() || self.lock_slowly(rt, lot, thread_data)
     }
 
     #[inline]

@@ -4,10 +4,11 @@ ghost use Rattle.std.specs.Prelude.{◌≡◌, ⊤};
 
 use crate::fault::Fault;
 use crate::{Moment, marks, tell_answer, tell_refused};
+use lot_base::thread_parker::ThreadParkerT;
 use lot_base::word_lock::{Fits, WordLock};
 use parking_lot_core::{
-    Bucket, FilterOp, NoMemory, Node, ParkToken, ParkerKey, Queue, Slot, SpinWait, ThreadParkerT,
-    UnparkHandleT, UnparkToken, place, thread_yield,
+    Bucket, FilterOp, NoMemory, Node, ParkToken, ParkerKey, Queue, Slot, SpinWait, UnparkHandleT,
+    UnparkToken, place, thread_yield,
 };
 use std::alloc::Global;
 use std::sync::Wait;

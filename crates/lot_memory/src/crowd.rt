@@ -8,10 +8,9 @@ use crate::turns::comes_to;
 use crate::unparks::{requeue, unpark_by_filter};
 use crate::{are_all_true, tell_answer, tell_refused};
 use lot_base::word_lock::{Fits, WordLock};
-use parking_lot_core::deadlock::{acquire_resource, release_resource};
 use parking_lot_core::{
-    DEFAULT_PARK_TOKEN, ParkResult, ParkingLot, RequeueOp, ThreadData, ThreadParkerT, UnparkToken,
-    park, unpark_all, unpark_one,
+    DEFAULT_PARK_TOKEN, Member, ParkResult, ParkingLot, RequeueOp, ThreadParkerT, UnparkToken,
+    unpark_all, unpark_one,
 };
 use std::alloc::Global;
 use std::sync::Wait;
@@ -69,42 +68,38 @@ impl<P: ThreadParkerT> Crowd<P> {
 
     // Registers, parks so often that it is unparked and once in vain, and retires.
     fn waits<R: Wait + Clock>(&self, rt: &R, alloc: Global) -> bool {
-        let Ok(mut data) = self.lot.thread_data(rt, alloc) else {
+        let Ok(mut member) = Member::register(rt, alloc, &self.lot) else {
             return false;
         };
-        if acquire_resource(&mut data, HELD).is_err() || !self.gate.pass() {
+        if member.acquire_resource(HELD).is_err() || !self.gate.pass() {
             return false;
         }
-        self.parks_each_time(rt, &mut data);
-        release_resource(&mut data, HELD);
-        self.records.fetch_add(data.records(HELD), Ordering::SeqCst);
-        self.lot.retire(rt, data);
+        self.parks_each_time(rt, &mut member);
+        member.release_resource(HELD);
+        self.records
+            .fetch_add(member.records(HELD), Ordering::SeqCst);
+        member.retire(rt);
         self.gate.leave()
     }
 
-    fn parks_each_time<R: Wait + Clock>(&self, rt: &R, data: &mut ThreadData) {
+    fn parks_each_time<R: Wait + Clock>(&self, rt: &R, member: &mut Member<'_, P>) {
         let Ok(now) = Instant::now(rt) else { return };
         let far = now.checked_add(Duration::from_secs(FAR_SECONDS));
-        self.parks(rt, data, PARK_KEYS[0], None);
-        self.parks(rt, data, PARK_KEYS[1], None);
-        self.parks(rt, data, PARK_KEYS[2], far);
-        self.parks(rt, data, PARK_KEYS[3], Some(now));
+        self.parks(rt, member, PARK_KEYS[0], None);
+        self.parks(rt, member, PARK_KEYS[1], None);
+        self.parks(rt, member, PARK_KEYS[2], far);
+        self.parks(rt, member, PARK_KEYS[3], Some(now));
     }
 
     fn parks<R: Wait + Clock>(
         &self,
         rt: &R,
-        data: &mut ThreadData,
+        member: &mut Member<'_, P>,
         key: usize,
         timeout: Option<Instant>,
     ) {
-        if !self.lot.accepts(data) {
-            return;
-        }
-        let result = park(
+        let result = member.park(
             rt,
-            &self.lot,
-            data,
             key,
             || true,
             || {

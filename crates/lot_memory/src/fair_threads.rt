@@ -1,5 +1,7 @@
 //! A scenario in which threads use a fair mutex and its condition variable.
 
+ghost use Rattle.parking_lot_core.specs.Members.{IsDataOf};
+
 use crate::fault::Fault;
 use crate::gate::Gate;
 use crate::turns::comes_to;
@@ -48,26 +50,26 @@ impl<P: ThreadParkerT> Room<P> {
 
     // Registers, counts so often, sleeps until it is notified, and retires.
     fn works<R: Wait + Clock>(&self, rt: &R, alloc: Global) -> bool {
-        let Ok(mut data) = self.lot.thread_data(rt, alloc) else {
+        let Ok(mut thread_data) = self.lot.thread_data(rt, alloc) else {
             return false;
         };
         if !self.gate.pass() {
             return false;
         }
         for _ in 0..COUNTS {
-            self.counts(rt, &mut data);
+            self.counts(rt, &mut thread_data);
         }
-        self.sleeps(rt, &mut data);
-        self.lot.retire(rt, data);
+        self.sleeps(rt, &mut thread_data);
+        self.lot.retire(rt, thread_data);
         self.gate.leave()
     }
 
     // Counts one with the mutex locked, and yields meanwhile, so that the others queue.
-    fn counts<R: Wait + Clock>(&self, rt: &R, data: &mut ThreadData) {
-        if !self.lot.accepts(data) {
-            return;
-        }
-        self.mutex.lock(rt, &self.lot, data);
+    fn counts<R: Wait + Clock>(&self, rt: &R, thread_data: &mut ThreadData)
+        requires own { IsDataOf self.now.lot thread_data.old }
+        ensures own { IsDataOf self.now.lot thread_data.new }
+    {
+        self.mutex.lock(rt, &self.lot, thread_data);
         let count = self.count.load(Ordering::SeqCst);
         thread::yield_now();
         self.count.store(count.wrapping_add(1), Ordering::SeqCst);
@@ -75,23 +77,28 @@ impl<P: ThreadParkerT> Room<P> {
     }
 
     // Sleeps on the condition variable, and then counts one more.
-    fn sleeps<R: Wait + Clock>(&self, rt: &R, data: &mut ThreadData) {
-        if !self.lot.accepts(data) || self.condvar.key() == self.mutex.key() {
+    fn sleeps<R: Wait + Clock>(&self, rt: &R, thread_data: &mut ThreadData)
+        requires own { IsDataOf self.now.lot thread_data.old }
+        ensures own { IsDataOf self.now.lot thread_data.new }
+    {
+        if self.condvar.key() == self.mutex.key() {
             return;
         }
-        self.mutex.lock(rt, &self.lot, data);
+        self.mutex.lock(rt, &self.lot, thread_data);
         self.asleep.fetch_add(1, Ordering::SeqCst);
-        self.condvar.wait(rt, &self.mutex, &self.lot, data);
+        self.condvar.wait(rt, &self.mutex, &self.lot, thread_data);
         self.count.fetch_add(1, Ordering::SeqCst);
         self.mutex.unlock(rt, &self.lot);
     }
 
     // Notifies one of those who sleep, and then the others, and answers how many each moved.
-    fn notifies<R: Wait + Clock>(&self, rt: &R, data: &mut ThreadData) -> (usize, usize) {
-        if !self.lot.accepts(data) || self.condvar.key() == self.mutex.key() {
+    fn notifies<R: Wait + Clock>(&self, rt: &R, thread_data: &mut ThreadData) -> (usize, usize)
+        requires own { IsDataOf self.now.lot thread_data.old }
+    {
+        if self.condvar.key() == self.mutex.key() {
             return (0, 0);
         }
-        self.mutex.lock(rt, &self.lot, data);
+        self.mutex.lock(rt, &self.lot, thread_data);
         let one = self.condvar.notify_one(rt, &self.mutex, &self.lot);
         let rest = self.condvar.notify_all(rt, &self.mutex, &self.lot);
         self.mutex.unlock(rt, &self.lot);
@@ -103,10 +110,12 @@ impl<P: ThreadParkerT> Room<P> {
         &self,
         rt: &R,
         alloc: Global,
-        data: &mut ThreadData,
-    ) -> Option<(usize, usize)> {
+        thread_data: &mut ThreadData,
+    ) -> Option<(usize, usize)>
+        requires own { IsDataOf self.now.lot thread_data.old }
+    {
         let have_come = self.gate.open(alloc, THREADS) && comes_to(&self.asleep, THREADS);
-        let notified = self.notifies(rt, data);
+        let notified = self.notifies(rt, thread_data);
         let are_done = self.gate.close(alloc, THREADS);
         (have_come && are_done).then_some(notified)
     }
@@ -131,10 +140,12 @@ where
     R: Print + Threads + Wait + Clock + Copy + Send + Sync + 'static,
 {
     let room = Room::<P>::new(alloc)?;
-    let mut data = room.lot.thread_data(rt, alloc)?;
+    let mut thread_data = room.lot.thread_data(rt, alloc)?;
     let (notified, worked) = thread::join(
         rt,
-        || room.leads(rt, alloc, &mut data),
+        ||
+            requires { IsDataOf room.lot thread_data }
+        { room.leads(rt, alloc, &mut thread_data) },
         || all_work(rt, alloc, &room),
     );
     room.finish(rt, if worked { notified } else { None })

@@ -6,6 +6,7 @@
 //! were refused. Last it looks whether later calls do what they should.
 #![tactic(auto)]
 
+mod all_registered;
 mod base;
 mod crowd;
 mod exclusive;
@@ -23,10 +24,9 @@ mod threaded;
 mod tools;
 pub mod turns;
 mod unparks;
-mod witnessed;
 
 use fault::Fault;
-pub use parking_lot_core::parker;
+pub use lot_base::thread_parker as parker;
 use parking_lot_core::{LotError, NoMemory, ThreadParkerT};
 pub use scenario::{ROWS, Scenario, named};
 use std::alloc::Global;
@@ -107,8 +107,8 @@ fn tell_unmade<R: Print>(rt: &R, error: LotError) -> Result<(), Fault> {
     tell_refused(rt, 0)
 }
 
-/// Does the scenario, with parkers of the first type where it has any, and of the second in the lot
-/// whose calls are one history, and prints what it saw. It gives back all memory that it had.
+/// Does the scenario, with parkers of the first type in a lot, and of the second without one, and
+/// prints what it saw. It gives back all memory that it had.
 pub fn play<P, Q, R>(rt: &R, alloc: Global, scenario: Scenario) -> Result<(), Fault>
 where
     P: ThreadParkerT + Send + Sync + 'static,
@@ -159,10 +159,7 @@ where
         Scenario::Registrations => threaded::register::<P, _>(rt, alloc, 0, threaded::MOST),
         Scenario::ParkingLotList => threaded::list::<P, _>(rt, alloc),
         Scenario::AcquireResource => threaded::acquire::<P, _>(rt, alloc),
-        Scenario::WitnessedNew => witnessed::new::<Q, _>(rt, alloc),
-        Scenario::WitnessedGrowth => witnessed::register_and_grow::<Q, _>(rt, alloc),
-        Scenario::WitnessedAgain => witnessed::register_again::<Q, _>(rt, alloc),
-        Scenario::WitnessedAll => witnessed::register_all_twice::<Q, _>(rt, alloc),
+        Scenario::AllRegisteredTwice => all_registered::register_all_twice::<P, _>(rt, alloc),
         Scenario::FairCoreNew => fair::new(rt, alloc),
         Scenario::FairRegister => fair::register(rt, alloc),
         Scenario::FairWaiters => fair::waiters(rt, alloc),
@@ -174,7 +171,7 @@ where
         Scenario::SpinWait => base::spin(rt, alloc),
         Scenario::Queue => base::use_queues(rt, alloc),
         Scenario::Bucket => base::use_bucket(rt, alloc),
-        Scenario::Parker => base::use_parker::<P, _>(rt, alloc),
+        Scenario::Parker => base::use_parker::<Q, _>(rt, alloc),
         Scenario::TableSteps => table::use_steps(rt, alloc),
         Scenario::LotSteps => exclusive::use_steps(rt, alloc),
         Scenario::ParkingLotTrim => threaded::trim::<P, _>(rt, alloc, FEW + 1),

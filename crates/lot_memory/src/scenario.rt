@@ -90,17 +90,8 @@ pub enum Scenario {
     /// `acquire_resource`, 130 times.
     AcquireResource,
 
-    /// `Lot::new` of the lot whose calls are one history.
-    WitnessedNew,
-
-    /// `Member::register` of that lot, where the table grows first.
-    WitnessedGrowth,
-
-    /// `Member::register` of that lot, where the table grows again after a trim.
-    WitnessedAgain,
-
     /// `Member::register` of 16,383 threads, and once more after they have retired and a trim.
-    WitnessedAll,
+    AllRegisteredTwice,
 
     /// `FairCore::new`.
     FairCoreNew,
@@ -226,15 +217,12 @@ pub const ROWS: &[Row] = &[
         "acquire_resource",
         "each",
     ),
-    (Scenario::WitnessedNew, "each", "witnessed_new", "each"),
     (
-        Scenario::WitnessedGrowth,
-        "each",
-        "witnessed_growth",
-        "each",
+        Scenario::AllRegisteredTwice,
+        "count",
+        "all_registered_twice",
+        "any",
     ),
-    (Scenario::WitnessedAgain, "none", "witnessed_again", "each"),
-    (Scenario::WitnessedAll, "count", "witnessed_all", "any"),
     (Scenario::FairCoreNew, "each", "fair_core_new", "any"),
     (Scenario::FairRegister, "each", "fair_register", "any"),
     (Scenario::FairWaiters, "each", "fair_waiters", "any"),

@@ -3,10 +3,9 @@
 use crate::fault::Fault;
 use crate::unparks::{requeue, unpark_by_filter};
 use crate::{FEW, KEYS, Moment, marks, show_waiting, tell_answer, tell_refused, tell_unmade};
-use parking_lot_core::deadlock::{acquire_resource, release_resource};
 use parking_lot_core::{
-    DEFAULT_PARK_TOKEN, LotError, NoMemory, ParkResult, ParkingLot, RequeueOp, ThreadData,
-    ThreadParkerT, UnparkToken, park, unpark_all, unpark_one,
+    DEFAULT_PARK_TOKEN, LotError, Member, NoMemory, ParkResult, ParkingLot, RequeueOp,
+    ThreadParkerT, UnparkToken, unpark_all, unpark_one,
 };
 use std::alloc::Global;
 use std::fmt;
@@ -46,7 +45,8 @@ pub fn register<P: ThreadParkerT, R: Print + Wait + Clock>(
     registered: usize,
     calls: usize,
 ) -> Result<(), Fault> {
-    let mut threads = Registered::<P>::new(rt, alloc, registered)?;
+    let lot = ParkingLot::<P>::new(alloc, MOST)?;
+    let mut threads = Registered::new(rt, alloc, &lot, registered)?;
     threads.play_registrations(rt, calls)
 }
 
@@ -57,14 +57,16 @@ pub fn trim<P: ThreadParkerT, R: Print + Wait + Clock>(
     alloc: Global,
     registered: usize,
 ) -> Result<(), Fault> {
-    let mut threads = Registered::<P>::new(rt, alloc, registered)?;
+    let lot = ParkingLot::<P>::new(alloc, MOST)?;
+    let mut threads = Registered::new(rt, alloc, &lot, registered)?;
     threads.retire_all_but(rt, FEW);
     threads.play_trim(rt, registered.wrapping_sub(FEW))
 }
 
 /// `ParkingLot::list`, in a park, which asks for nothing.
 pub fn list<P: ThreadParkerT, R: Print + Wait + Clock>(rt: &R, alloc: Global) -> Result<(), Fault> {
-    let mut threads = Registered::<P>::new(rt, alloc, FEW)?;
+    let lot = ParkingLot::<P>::new(alloc, MOST)?;
+    let mut threads = Registered::new(rt, alloc, &lot, FEW)?;
     threads.play_list(rt)
 }
 
@@ -73,7 +75,8 @@ pub fn acquire<P: ThreadParkerT, R: Print + Wait + Clock>(
     rt: &R,
     alloc: Global,
 ) -> Result<(), Fault> {
-    let mut threads = Registered::<P>::new(rt, alloc, FEW)?;
+    let lot = ParkingLot::<P>::new(alloc, MOST)?;
+    let mut threads = Registered::new(rt, alloc, &lot, FEW)?;
     threads.play_recordings(rt)
 }
 
@@ -82,24 +85,31 @@ pub fn park_each_way<P: ThreadParkerT, R: Print + Wait + Clock>(
     rt: &R,
     alloc: Global,
 ) -> Result<(), Fault> {
-    let mut parks = Parks::<P>::new(rt, alloc)?;
+    let lot = ParkingLot::<P>::new(alloc, MOST)?;
+    let mut parks = Parks::new(rt, alloc, &lot)?;
     parks.play(rt)
 }
 
-// A lot, and the data of its threads.
+// A lot, and its threads.
 #[derive(Drop)]
-struct Registered<P: ThreadParkerT> {
+struct Registered<'a, P: ThreadParkerT> {
     alloc: Global,
-    lot: ParkingLot<P>,
-    data: Vec<ThreadData>,
+    lot: &'a ParkingLot<P>,
+    members: Vec<Member<'a, P>>,
 }
 
-impl<P: ThreadParkerT> Registered<P> {
-    fn new<R: Wait>(rt: &R, alloc: Global, count: usize) -> Result<Registered<P>, Fault> {
+impl<'a, P: ThreadParkerT> Registered<'a, P> {
+    fn new<R: Wait>(
+        rt: &R,
+        alloc: Global,
+        lot: &'a ParkingLot<P>,
+        count: usize,
+    ) -> Result<Registered<'a, P>, Fault> {
+        let members = Vec::with_capacity(alloc, MOST)?;
         let mut registered = Registered {
             alloc,
-            lot: ParkingLot::new(alloc, MOST)?,
-            data: Vec::with_capacity(alloc, MOST)?,
+            lot,
+            members,
         };
         for _ in 0..count {
             registered.add(rt)?;
@@ -118,7 +128,7 @@ impl<P: ThreadParkerT> Registered<P> {
         marks::end(self.alloc);
         self.finish(rt, &answer)?;
         // Of a single call the answer says whether it was refused.
-        let added = if calls == 1 { 1 } else { self.data.len() };
+        let added = if calls == 1 { 1 } else { self.members.len() };
         self.gives_the_least_number(rt)?;
         tell_refused(rt, calls.wrapping_sub(added))
     }
@@ -134,7 +144,7 @@ impl<P: ThreadParkerT> Registered<P> {
 
     // Answers the number of the last thread for which the table has grown again.
     fn trim_and_grow<R: Wait>(&mut self, rt: &R, calls: usize) -> Result<usize, LotError> {
-        self.lot.trim(rt, self.alloc)?;
+        self.lot.trim(rt);
         self.add_often(rt, calls)
     }
 
@@ -162,7 +172,7 @@ impl<P: ThreadParkerT> Registered<P> {
     fn add<R: Wait>(&mut self, rt: &R) -> Result<usize, LotError> {
         let data = self.lot.thread_data(rt, self.alloc)?;
         let number = data.number();
-        self.data.push(data)?;
+        self.members.push(Member::of(self.lot, data))?;
         Ok(number)
     }
 
@@ -176,20 +186,20 @@ impl<P: ThreadParkerT> Registered<P> {
     }
 
     fn retire_all_but<R: Wait>(&mut self, rt: &R, left: usize) {
-        for _ in left..self.data.len() {
+        for _ in left..self.members.len() {
             self.retire_last(rt);
         }
     }
 
     fn retire_last<R: Wait>(&mut self, rt: &R) {
-        if let Some(data) = self.data.pop() {
-            self.lot.retire(rt, data);
+        if let Some(member) = self.members.pop() {
+            member.retire(rt);
         }
     }
 
     // Registrations that were refused have no number: the next gives the least.
     fn gives_the_least_number<R: Wait + Clock>(&mut self, rt: &R) -> Result<(), Fault> {
-        let registered = self.data.len();
+        let registered = self.members.len();
         if registered < MOST && self.add(rt)? != registered {
             return Err(Fault::Unlike("the number after a registration"));
         }
@@ -199,9 +209,9 @@ impl<P: ThreadParkerT> Registered<P> {
     // Records resources for the first thread, and answers how often it did.
     fn record_often(&mut self) -> Result<usize, Fault> {
         let mut recorded = 0usize;
-        if let Some(data) = self.data.first_mut() {
+        if let Some(member) = self.members.first_mut() {
             for call in 0..RECORDINGS {
-                recorded = recorded.wrapping_add(record(data, KEYS[call % 3])?);
+                recorded = recorded.wrapping_add(record(member, KEYS[call % 3])?);
             }
         }
         Ok(recorded)
@@ -213,16 +223,11 @@ impl<P: ThreadParkerT> Registered<P> {
         rt: &R,
         key: usize,
     ) -> Option<Result<Vec<usize>, NoMemory>> {
-        let (lot, alloc) = (&self.lot, self.alloc);
-        let data = self.data.first_mut()?;
-        if !lot.accepts(data) {
-            return None;
-        }
+        let (lot, alloc) = (self.lot, self.alloc);
+        let member = self.members.first_mut()?;
         let mut listed = None;
-        let result = park(
+        let result = member.park(
             rt,
-            lot,
-            data,
             key,
             || true,
             || {
@@ -242,7 +247,7 @@ impl<P: ThreadParkerT> Registered<P> {
 
     // The first thread, if there is one, parks on each key, is listed, and is unparked.
     fn can_wait<R: Wait + Clock>(&mut self, rt: &R) -> Result<(), Fault> {
-        if self.data.is_empty() {
+        if self.members.is_empty() {
             return Ok(());
         }
         for key in KEYS {
@@ -258,7 +263,7 @@ impl<P: ThreadParkerT> Registered<P> {
     }
 
     fn show<R: Print + Wait>(&self, rt: &R, moment: Moment) -> Result<(), Fault> {
-        let (most, registered) = (self.lot.max_threads(), self.data.len());
+        let (most, registered) = (self.lot.max_threads(), self.members.len());
         println!(rt; "{moment} most {most} registered {registered}")?;
         for key in KEYS {
             show_waiting(rt, moment, key, self.lot.list(rt, self.alloc, key))?;
@@ -268,9 +273,9 @@ impl<P: ThreadParkerT> Registered<P> {
 
     // Shows the first thread's records too.
     fn show_records<R: Print + Wait>(&self, rt: &R, moment: Moment) -> Result<(), Fault> {
-        if let Some(data) = self.data.first() {
+        if let Some(member) = self.members.first() {
             for key in KEYS {
-                println!(rt; "{moment} key {key} records {}", data.records(key))?;
+                println!(rt; "{moment} key {key} records {}", member.records(key))?;
             }
         }
         self.show(rt, moment)
@@ -288,13 +293,13 @@ impl<P: ThreadParkerT> Registered<P> {
 }
 
 // Records the key once more, and answers how often it did. A refusal leaves the count as it was.
-fn record(data: &mut ThreadData, key: usize) -> Result<usize, Fault> {
-    let before = data.records(key);
-    let recorded = match acquire_resource(data, key) {
+fn record<P: ThreadParkerT>(member: &mut Member<'_, P>, key: usize) -> Result<usize, Fault> {
+    let before = member.records(key);
+    let recorded = match member.acquire_resource(key) {
         Ok(()) => 1,
         Err(NoMemory) => 0,
     };
-    if data.records(key) == before.wrapping_add(recorded) {
+    if member.records(key) == before.wrapping_add(recorded) {
         Ok(recorded)
     } else {
         Err(Fault::Unlike("the records after a recording"))
@@ -313,16 +318,16 @@ enum Unpark {
 
 // Parks of the first thread, and how they ended.
 #[derive(Drop)]
-struct Parks<P: ThreadParkerT> {
-    threads: Registered<P>,
+struct Parks<'a, P: ThreadParkerT> {
+    threads: Registered<'a, P>,
     results: Vec<ParkResult>,
 }
 
-impl<P: ThreadParkerT> Parks<P> {
-    fn new<R: Wait>(rt: &R, alloc: Global) -> Result<Parks<P>, Fault> {
-        let mut threads = Registered::new(rt, alloc, FEW)?;
-        if let Some(data) = threads.data.first_mut() {
-            record(data, KEYS[0])?;
+impl<'a, P: ThreadParkerT> Parks<'a, P> {
+    fn new<R: Wait>(rt: &R, alloc: Global, lot: &'a ParkingLot<P>) -> Result<Parks<'a, P>, Fault> {
+        let mut threads = Registered::new(rt, alloc, lot, FEW)?;
+        if let Some(member) = threads.members.first_mut() {
+            record(member, KEYS[0])?;
         }
         let results = Vec::with_capacity(alloc, 16)?;
         Ok(Parks { threads, results })
@@ -363,17 +368,12 @@ impl<P: ThreadParkerT> Parks<P> {
         unpark: Unpark,
         timeout: Option<Instant>,
     ) {
-        let lot = &self.threads.lot;
-        let Some(data) = self.threads.data.first_mut() else {
+        let lot = self.threads.lot;
+        let Some(member) = self.threads.members.first_mut() else {
             return;
         };
-        if !lot.accepts(data) {
-            return;
-        }
-        let result = park(
+        let result = member.park(
             rt,
-            lot,
-            data,
             KEYS[0],
             || valid,
             || unpark_by(rt, lot, unpark),
@@ -385,16 +385,16 @@ impl<P: ThreadParkerT> Parks<P> {
     }
 
     fn release_twice(&mut self) {
-        if let Some(data) = self.threads.data.first_mut() {
-            release_resource(data, KEYS[0]);
-            release_resource(data, KEYS[0]);
+        if let Some(member) = self.threads.members.first_mut() {
+            member.release_resource(KEYS[0]);
+            member.release_resource(KEYS[0]);
         }
     }
 
     fn show<R: Print + Wait>(&self, rt: &R, moment: Moment) -> Result<(), Fault> {
         println!(rt; "{moment} results {:?}", self.results)?;
-        if let Some(data) = self.threads.data.first() {
-            println!(rt; "{moment} records {}", data.records(KEYS[0]))?;
+        if let Some(member) = self.threads.members.first() {
+            println!(rt; "{moment} records {}", member.records(KEYS[0]))?;
         }
         self.threads.show(rt, moment)
     }

@@ -1,0 +1,5 @@
+use Rattle.parking_lot_core.specs.Members.{IsDataOf}
+use Rattle.lot_bench.proofs.locking.lock_and_unlock.Given as goal
+
+abbrev pub invariant-loop : goal.invariant-loop
+invariant-loop g l = IsDataOf l.lot l.thread_data

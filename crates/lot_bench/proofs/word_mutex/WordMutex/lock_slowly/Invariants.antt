@@ -1,0 +1,5 @@
+use Rattle.parking_lot_core.specs.Members.{IsDataOf}
+use Rattle.lot_bench.proofs.word_mutex.WordMutex.lock_slowly.Given as goal
+
+abbrev pub invariant-loop : goal.invariant-loop
+invariant-loop g l = IsDataOf l.lot l.thread_data
