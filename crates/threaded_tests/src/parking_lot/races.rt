@@ -14,9 +14,11 @@ const TRIMS: usize = 50;
 // After so many milliseconds no thread parks, registers or trims any more, however often it did.
 const LONG: u64 = 500;
 
-// How many threads have parked for the last time, and the instant after which the others end, too.
+// How many of the threads that park have registered, how many have parked for the last time, and
+// the instant after which the others end, too.
 #[derive(Drop)]
 struct Race {
+    registered: AtomicUsize,
     done: AtomicUsize,
     end: Instant,
 }
@@ -24,6 +26,7 @@ struct Race {
 impl Race {
     fn new<R: Clock + Abort>(rt: &R) -> Race {
         Race {
+            registered: AtomicUsize::new(0),
             done: AtomicUsize::new(0),
             end: from_now(rt, Duration::from_millis(LONG)),
         }
@@ -32,13 +35,24 @@ impl Race {
     fn is_over<R: Clock + Abort>(&self, rt: &R) -> bool {
         Instant::now(rt).expect(rt, "a time of the clock") > self.end
     }
+
+    // Waits until all who park have registered, and tells whether they have.
+    fn comes_to_start(&self) -> bool {
+        for _ in 0..TURNS {
+            if self.registered.load(Ordering::SeqCst) == PARKERS {
+                return true;
+            }
+            thread::yield_now();
+        }
+        false
+    }
 }
 
 // What one of the threads does.
-#[derive(Drop)]
-enum Job<'a, P: ThreadParkerT> {
-    // Parks on the keys 0 and 13 by turns.
-    Park(Member<'a, P>),
+#[derive(Copy, Clone)]
+enum Job {
+    // Registers, and parks on the keys 0 and 13 by turns.
+    Park,
 
     // Calls this unpark until the parks are done.
     Unpark(Call),
@@ -83,9 +97,12 @@ fn park_briefly<P: ThreadParkerT, R: Wait + Clock + Abort>(
 
 fn park_by_turns<P: ThreadParkerT, R: Wait + Clock + Abort>(
     rt: &R,
-    mut member: Member<'_, P>,
+    alloc: Global,
+    lot: &ParkingLot<P>,
     race: &Race,
 ) -> Tally {
+    let mut member = register(rt, alloc, lot).expect(rt, "a number is left");
+    race.registered.fetch_add(1, Ordering::SeqCst);
     let mut received = 0_usize;
     for round in 0..PARKS_EACH {
         if race.is_over(rt) {
@@ -133,13 +150,14 @@ fn unpark_some<P: ThreadParkerT, R: Wait>(rt: &R, lot: &ParkingLot<P>, call: Cal
     }
 }
 
-// Registers all numbers that are left, 1 ms apart, and frees them again.
+// Registers all numbers that those who park leave, 1 ms apart, and frees them again.
 fn register_the_rest<P: ThreadParkerT, R: Wait + Clock + Abort>(
     rt: &R,
     alloc: Global,
     lot: &ParkingLot<P>,
     race: &Race,
 ) -> Tally {
+    assert!(rt; race.comes_to_start(), "all who park have registered");
     let mut registered = Vec::new(alloc);
     for _ in PARKERS..MAX_REGISTERED {
         if race.is_over(rt) {
@@ -184,10 +202,10 @@ fn play<P: ThreadParkerT, R: Wait + Clock + Abort>(
     alloc: Global,
     lot: &ParkingLot<P>,
     race: &Race,
-    job: Job<'_, P>,
+    job: Job,
 ) -> Tally {
     match job {
-        Job::Park(member) => park_by_turns(rt, member, race),
+        Job::Park => park_by_turns(rt, alloc, lot, race),
         Job::Unpark(call) => unpark_until_done(rt, lot, race, call),
         Job::Register => register_the_rest(rt, alloc, lot, race),
         Job::Trim => trim_by_turns(rt, lot, race),
@@ -198,7 +216,7 @@ fn play_all<P, R>(
     rt: &R,
     alloc: Global,
     lot: &ParkingLot<P>,
-    jobs: Vec<Job<'_, P>>,
+    jobs: Vec<Job>,
 ) -> Result<Vec<Tally>, NoMemory>
 where
     P: ThreadParkerT + Send + Sync,
@@ -216,7 +234,7 @@ where
     let lot = ParkingLot::<P>::new(alloc, MAX_REGISTERED)?;
     let mut jobs = Vec::new(alloc);
     for _ in 0..PARKERS {
-        jobs.push(Job::Park(register(rt, alloc, &lot)?))?;
+        jobs.push(Job::Park)?;
     }
     jobs.push(Job::Unpark(Call::Requeue))?;
     jobs.push(Job::Unpark(Call::UnparkAll))?;
