@@ -347,7 +347,8 @@ impl<'a, P: ThreadParkerT> Member<'a, P> {
         self.thread.records(key)
     }
 
-    /// Ends the registration of the thread, as `ParkingLot::retire` does, and gives back its witness.
+    /// Ends the registration of the thread, as `ParkingLot::retire` does, and gives back its
+    /// witness.
     pub fn retire<R: Wait>(self, rt: &R) -> Witness
         ensures still { IsStill self.entry.history self.entry.witness result }
         ensures retired { Extends self.entry.history self.entry.witness

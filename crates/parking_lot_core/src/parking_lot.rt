@@ -83,12 +83,13 @@ impl ThreadData {
 impl<P: ThreadParkerT> ParkingLot<P> {
     /// Registers a thread under the least free number. Its witness begins with that step.
     ///
-    /// It takes the lock of the numbers. It begins behind the number that was registered last, or at
-    /// the least one that was released since, and passes over numbers up to the one that it takes.
-    /// The thread's node was made with the lot. Where the table would have less than three buckets
-    /// for each thread, it puts the row of twice the size in use first, which adds nothing to the
-    /// history: it asks for the memory of that row if it was not needed before, then visits every
-    /// bucket and every waiting thread, and other calls wait for it. A section must not call it.
+    /// It takes the lock of the numbers. It begins behind the number that was registered last, or
+    /// at the least one that was released since, and passes over numbers up to the one that it
+    /// takes. The thread's node was made with the lot. Where the table would have less than three
+    /// buckets for each thread, it puts the row of twice the size in use first, which adds
+    /// nothing to the history: it asks for the memory of that row if it was not needed before,
+    /// then visits every bucket and every waiting thread, and other calls wait for it. A section
+    /// must not call it.
     ///
     /// Upstream registers a thread with its first use, by `ThreadData::new`, which grows the table.
     ///

@@ -235,8 +235,8 @@ pub(crate) fn leave_in<R: Wait, T: FnOnce(usize, bool)>(
         × (events_of me.new ≡ events_of me.old)) }
 {
     let (node, last) = cell.bucket.remove(number, key, |_, last| last)?;
-    // A thread whose deadline has passed entered with a timeout, but no contract tells what the node
-    // of a thread says.
+    // A thread whose deadline has passed entered with a timeout, but no contract tells what the
+    // node of a thread says.
     if !node.timed {
         never(rt);
     }
