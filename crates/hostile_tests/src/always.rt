@@ -3,8 +3,8 @@
 use crate::common::{now, register, wait};
 use crate::expect_equal;
 use parking_lot_core::{
-    DEFAULT_UNPARK_TOKEN, FilterOp, ParkingLot, RequeueOp, WordParker, unpark_chosen, unpark_one,
-    unpark_requeue,
+    DEFAULT_UNPARK_TOKEN, FilterOp, Member, ParkingLot, RequeueOp, WordParker, unpark_chosen,
+    unpark_one, unpark_requeue,
 };
 use std::alloc::Global;
 use std::process::Abort;
@@ -38,17 +38,21 @@ impl Scene {
             if self.is_over.load(Ordering::SeqCst) {
                 return true;
             }
-            let mut more = Vec::new(alloc);
-            for _ in 0..6 {
-                let member = register(rt, alloc, &self.lot);
-                more.push(member).expect(rt, "memory");
-            }
-            for member in more {
+            for member in self.register_six(rt, alloc) {
                 member.retire(rt);
             }
             self.lot.trim(rt);
         }
         unreachable!()
+    }
+
+    fn register_six<R: Wait + Abort>(&self, rt: &R, alloc: Global) -> Vec<Member<'_, WordParker>> {
+        let mut more = Vec::new(alloc);
+        for _ in 0..6 {
+            let member = register(rt, alloc, &self.lot);
+            more.push(member).expect(rt, "memory");
+        }
+        more
     }
 
     fn wait_for_sleeper<R: Wait + Abort>(&self, rt: &R, alloc: Global) {

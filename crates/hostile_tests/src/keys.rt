@@ -6,7 +6,7 @@ use crate::common::{
 };
 use crate::expect_equal;
 use parking_lot_core::{
-    ParkResult, ParkingLot, ThreadParker, ThreadParkerT, UnparkToken, YieldParker,
+    Member, ParkResult, ParkingLot, ThreadParker, ThreadParkerT, UnparkToken, YieldParker,
 };
 use std::alloc::Global;
 use std::process::Abort;
@@ -96,23 +96,35 @@ fn a_late_thread_is_told_the_key_to_which_it_was_moved(rt: HostRuntime) {
     }
 }
 
+// Records the thousand greatest keys.
+fn acquire_many<P: ThreadParkerT, R: Abort>(rt: &R, member: &mut Member<'_, P>) {
+    for below in 0..1_000 {
+        let acquired = member.acquire_resource(GREATEST - below);
+        acquired.expect(rt, "memory");
+    }
+}
+
+// Compares how often the greatest of them, the least, and another key are recorded.
+fn expect_records<P: ThreadParkerT, R: Abort>(rt: &R, member: &Member<'_, P>, greatest: usize) {
+    for (key, times) in [
+        (GREATEST, greatest),
+        (GREATEST - 999, 1),
+        (u32::MAX as usize, 0),
+    ] {
+        expect_equal(rt, (key, member.records(key)), (key, times));
+    }
+}
+
 // It refuses records that take less of a key than all of it, or answer `NoMemory` once there are
 // more than some.
 #[test]
 fn a_thread_has_many_records_of_great_keys(rt: HostRuntime) {
     let lot = new_lot::<ThreadParker, _>(&rt, rt.alloc(), 1);
     let mut member = register(&rt, rt.alloc(), &lot);
-    for below in 0..1_000 {
-        member
-            .acquire_resource(GREATEST - below)
-            .expect(&rt, "memory");
-    }
-    expect_equal(&rt, member.records(GREATEST), 1);
-    expect_equal(&rt, member.records(GREATEST - 999), 1);
-    expect_equal(&rt, member.records(u32::MAX as usize), 0);
+    acquire_many(&rt, &mut member);
+    expect_records(&rt, &member, 1);
     member.release_resource(GREATEST);
-    expect_equal(&rt, member.records(GREATEST), 0);
-    expect_equal(&rt, member.records(GREATEST - 999), 1);
+    expect_records(&rt, &member, 0);
 }
 
 // Unparks nobody on the other lot, and the thread on its own.

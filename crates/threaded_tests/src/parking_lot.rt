@@ -8,10 +8,12 @@ mod races;
 mod together;
 
 use crate::expect_equal;
-use calls::{new_lot, park_then, register, requeue, unpark_first, unpark_others};
+use calls::{
+    lot_for, new_lot, park_then, register, registered, requeue, unpark_first, unpark_others,
+};
 use lot_base::token::{
-    DEFAULT_PARK_TOKEN, DEFAULT_UNPARK_TOKEN, FilterOp, LotError, NoMemory, ParkResult, ParkToken,
-    RequeueOp, UnparkResult, UnparkToken,
+    DEFAULT_PARK_TOKEN, DEFAULT_UNPARK_TOKEN, FilterOp, LotError, ParkResult, ParkToken, RequeueOp,
+    UnparkResult, UnparkToken,
 };
 use parking_lot_core::{
     Member, ParkingLot, ThreadData, ThreadParker, ThreadParkerT, WordParker, YieldParker, park,
@@ -21,7 +23,6 @@ use std::alloc::Global;
 use std::process::Abort;
 use std::sync::atomic::{AtomicBool, AtomicUsize, Ordering};
 use std::sync::{Arc, Wait};
-use std::test::Fail;
 use std::thread;
 use std::thread::{JoinHandle, Threads};
 use std::time::{Clock, Duration, Instant};
@@ -122,43 +123,53 @@ fn expect_list<P: ThreadParkerT, R: Wait + Abort>(
     expect_equal(rt, (key, found.as_slice()), (key, numbers));
 }
 
-// Registers four threads, which it drops, and tells their numbers.
-fn register_four<P: ThreadParkerT, R: Wait>(
+// Registers a thread, which it drops, and tells its number.
+fn new_number<P: ThreadParkerT, R: Wait + Abort>(
     rt: &R,
     alloc: Global,
     lot: &ParkingLot<P>,
-) -> Result<Vec<usize>, LotError> {
-    let mut numbers = Vec::new(alloc);
-    for _ in 0..4 {
-        numbers.push(register(rt, alloc, lot)?.number())?;
-    }
-    Ok(numbers)
+) -> usize {
+    registered(rt, alloc, lot).number()
+}
+
+// The same, four times.
+fn register_four<P: ThreadParkerT, R: Wait + Abort>(
+    rt: &R,
+    alloc: Global,
+    lot: &ParkingLot<P>,
+) -> [usize; 4] {
+    [
+        new_number(rt, alloc, lot),
+        new_number(rt, alloc, lot),
+        new_number(rt, alloc, lot),
+        new_number(rt, alloc, lot),
+    ]
 }
 
 // Two threads register four each at the same time. It tells their numbers in order.
-fn register_eight<P: ThreadParkerT + Send + Sync, R: Threads + Wait + Sync>(
+fn register_eight<P: ThreadParkerT + Send + Sync, R: Threads + Wait + Abort + Sync>(
     rt: &R,
     alloc: Global,
     lot: &ParkingLot<P>,
-) -> Result<Vec<usize>, LotError> {
+) -> Vec<usize> {
     let (left, right) = thread::join(
         rt,
         || register_four(rt, alloc, lot),
         || register_four(rt, alloc, lot),
     );
-    let mut numbers = left?;
-    for number in right? {
-        numbers.push(number)?;
+    let mut numbers = Vec::new(alloc);
+    for number in left.into_iter().chain(right) {
+        numbers.push(number).expect(rt, "memory");
     }
-    numbers.sort()?;
-    Ok(numbers)
+    numbers.sort().expect(rt, "memory");
+    numbers
 }
 
 // Starts a thread that registers and parks on the key.
 fn start_waiter<P, R>(
     rt: &R,
     alloc: Global,
-    lot: Arc<ParkingLot<P>, Global>,
+    lot: &Arc<ParkingLot<P>, Global>,
     key: usize,
 ) -> Option<JoinHandle<Option<ParkResult>>>
 where
@@ -167,6 +178,7 @@ where
     R: Threads + Wait + Clock + Copy + Send + 'static,
 {
     let runtime = *rt;
+    let lot = Arc::try_clone(lot).ok()?;
     thread::spawn(rt, move || {
         let member = register(&runtime, alloc, &lot).ok()?;
         Some(wait(&runtime, member, key))
@@ -180,7 +192,7 @@ fn start_row<P, R>(
     alloc: Global,
     lot: &Arc<ParkingLot<P>, Global>,
     keys: &[(usize, usize)],
-) -> Result<Waiters, Fail>
+) -> Waiters
 where
     P: ThreadParkerT + Send + Sync + 'static,
     P::UnparkHandle: 'static,
@@ -188,11 +200,20 @@ where
 {
     let mut waiters = Vec::new(alloc);
     for (key, threads) in keys {
-        let started = start_waiter(rt, alloc, Arc::try_clone(lot)?, *key);
-        waiters.push(started.expect(rt, "a thread"))?;
+        let started = start_waiter(rt, alloc, lot, *key).expect(rt, "a thread");
+        waiters.push(started).expect(rt, "memory");
         await_threads(rt, alloc, lot, *key, *threads);
     }
-    Ok(waiters)
+    waiters
+}
+
+// A lot for so many threads, which they share.
+fn shared_lot<P: ThreadParkerT, R: Abort>(
+    rt: &R,
+    alloc: Global,
+    threads: usize,
+) -> Arc<ParkingLot<P>, Global> {
+    Arc::new(alloc, lot_for(rt, alloc, threads)).expect(rt, "memory")
 }
 
 // Joins the waiters, and compares the tokens with which they were unparked.
@@ -206,31 +227,27 @@ fn expect_tokens<R: Threads + Abort>(rt: &R, waiters: Waiters, tokens: &[usize])
 
 // It refuses an `unpark_one` that wakes nobody.
 #[test]
-fn two_threads_park_and_unpark(rt: HostRuntime) -> Result<(), Fail> {
-    let lot = Arc::new(rt.alloc(), new_lot(rt.alloc(), 1)?)?;
-    let waiter = start_waiter(&rt, rt.alloc(), Arc::try_clone(&lot)?, KEY).expect(&rt, "a thread");
-    assert!(rt;
-        unpark_by_turns(&rt, &lot, KEY, UnparkToken(42)),
-        "nobody parked"
-    );
-    expect_equal(
-        &rt,
-        waiter.join(&rt),
-        Some(ParkResult::Unparked(UnparkToken(42))),
-    );
-    Ok(())
+fn two_threads_park_and_unpark(rt: HostRuntime) {
+    let lot = shared_lot::<ThreadParker, _>(&rt, rt.alloc(), 1);
+    let waiters = start_row(&rt, rt.alloc(), &lot, &[(KEY, 1)]);
+    let was_unparked = unpark_by_turns(&rt, &lot, KEY, UnparkToken(42));
+    assert!(rt; was_unparked, "nobody parked");
+    expect_tokens(&rt, waiters, &[42]);
 }
 
-// It refuses a `park` that leaves the thread in its queue although `validate` answered false.
-#[test]
-fn a_park_that_is_not_valid_ends_at_once(rt: HostRuntime) -> Result<(), Fail> {
-    let lot = new_lot(rt.alloc(), 1)?;
-    let mut data = lot.thread_data(&rt, rt.alloc())?;
+// Parks without the validation, and tells how often that was asked.
+fn park_in_vain<R: Wait + Clock + Abort>(
+    rt: &R,
+    lot: &Lot,
+    data: &mut ThreadData,
+) -> (ParkResult, usize)
+    requires { IsDataOf lot.now data.old }
+{
     let mut validations = 0;
     let result = park(
-        &rt,
-        &lot,
-        &mut data,
+        rt,
+        lot,
+        data,
         KEY,
         || {
             validations += 1;
@@ -241,17 +258,23 @@ fn a_park_that_is_not_valid_ends_at_once(rt: HostRuntime) -> Result<(), Fail> {
         DEFAULT_PARK_TOKEN,
         None,
     );
-    expect_equal(&rt, result, ParkResult::Invalid);
-    expect_equal(&rt, validations, 1);
-    expect_equal(&rt, data.number(), 0);
+    (result, validations)
+}
+
+// It refuses a `park` that leaves the thread in its queue although `validate` answered false.
+#[test]
+fn a_park_that_is_not_valid_ends_at_once(rt: HostRuntime) {
+    let lot = lot_for(&rt, rt.alloc(), 1);
+    let mut data = expect_registered(&rt, rt.alloc(), &lot, 0);
+    let ended = park_in_vain(&rt, &lot, &mut data);
+    expect_equal(&rt, ended, (ParkResult::Invalid, 1));
     expect_list(&rt, rt.alloc(), &lot, KEY, &[]);
-    Ok(())
 }
 
 // It refuses an `unpark_one` that answers one thread where nobody waits.
 #[test]
-fn an_unpark_of_nobody_calls_back_with_the_default_result(rt: HostRuntime) -> Result<(), Fail> {
-    let lot = new_lot(rt.alloc(), 1)?;
+fn an_unpark_of_nobody_calls_back_with_the_default_result(rt: HostRuntime) {
+    let lot: Lot = lot_for(&rt, rt.alloc(), 1);
     let mut told = None;
     let result = unpark_one(&rt, &lot, KEY, |answer| {
         told = Some(answer);
@@ -259,7 +282,6 @@ fn an_unpark_of_nobody_calls_back_with_the_default_result(rt: HostRuntime) -> Re
     });
     expect_equal(&rt, result, UnparkResult::default());
     expect_equal(&rt, told, Some(UnparkResult::default()));
-    Ok(())
 }
 
 // Registers a thread, and compares its number.
@@ -271,31 +293,38 @@ fn expect_registered<R: Wait + Abort>(rt: &R, alloc: Global, lot: &Lot, number: 
     data
 }
 
+// Registers a thread, compares its number, and drops its data.
+fn expect_registered_and_dropped<R: Wait + Abort>(rt: &R, alloc: Global, lot: &Lot, number: usize) {
+    expect_registered(rt, alloc, lot, number);
+}
+
+fn expect_full<R: Wait + Abort>(rt: &R, alloc: Global, lot: &Lot) {
+    expect_equal(rt, is_full(rt, alloc, lot), true);
+}
+
 // It refuses a `retire` that does nothing, or that frees another number too, and a `thread_data`
 // that answers `NoMemory` at each call or gives a number twice.
 #[test]
-fn dropped_data_keeps_its_number_and_retired_data_frees_it(rt: HostRuntime) -> Result<(), Fail> {
-    let lot = new_lot(rt.alloc(), 3)?;
+fn dropped_data_keeps_its_number_and_retired_data_frees_it(rt: HostRuntime) {
+    let lot = lot_for(&rt, rt.alloc(), 3);
     expect_equal(&rt, lot.max_threads(), 3);
-    drop(expect_registered(&rt, rt.alloc(), &lot, 0));
+    expect_registered_and_dropped(&rt, rt.alloc(), &lot, 0);
     let second = expect_registered(&rt, rt.alloc(), &lot, 1);
-    drop(expect_registered(&rt, rt.alloc(), &lot, 2));
-    assert!(rt; is_full(&rt, rt.alloc(), &lot));
+    expect_registered_and_dropped(&rt, rt.alloc(), &lot, 2);
+    expect_full(&rt, rt.alloc(), &lot);
     lot.retire(&rt, second);
-    drop(expect_registered(&rt, rt.alloc(), &lot, 1));
-    assert!(rt; is_full(&rt, rt.alloc(), &lot));
-    Ok(())
+    expect_registered_and_dropped(&rt, rt.alloc(), &lot, 1);
+    expect_full(&rt, rt.alloc(), &lot);
 }
 
 // It refuses a `new` that answers `NoMemory` always.
 #[test]
-fn a_lot_is_for_at_most_16384_threads(rt: HostRuntime) -> Result<(), Fail> {
+fn a_lot_is_for_at_most_16384_threads(rt: HostRuntime) {
     let refused = new_lot(rt.alloc(), 16_385);
     assert!(rt; matches!(&refused, Err(LotError::TooManyThreads)));
-    expect_equal(&rt, new_lot(rt.alloc(), 16_384)?.max_threads(), 16_384);
-    let without_threads = new_lot(rt.alloc(), 0)?;
-    assert!(rt; is_full(&rt, rt.alloc(), &without_threads));
-    Ok(())
+    let greatest: Lot = lot_for(&rt, rt.alloc(), 16_384);
+    expect_equal(&rt, greatest.max_threads(), 16_384);
+    expect_full(&rt, rt.alloc(), &lot_for(&rt, rt.alloc(), 0));
 }
 
 // Unparks four threads on the keys 0 and 13 by turns, each with a token of its own.
@@ -308,17 +337,12 @@ fn unpark_four<R: Wait + Abort>(rt: &R, lot: &Lot) {
 }
 
 // Registers eight threads while four wait, and then unparks these.
-fn grow_and_unpark<R: Threads + Wait + Abort + Sync>(
-    rt: &R,
-    alloc: Global,
-    lot: &Lot,
-) -> Result<(), LotError> {
-    let numbers = register_eight(rt, alloc, lot)?;
+fn grow_and_unpark<R: Threads + Wait + Abort + Sync>(rt: &R, alloc: Global, lot: &Lot) {
+    let numbers = register_eight(rt, alloc, lot);
     expect_equal(rt, numbers.as_slice(), &[4, 5, 6, 7, 8, 9, 10, 11][..]);
     expect_list(rt, alloc, lot, 0, &[0, 2]);
     expect_list(rt, alloc, lot, 13, &[1, 3]);
     unpark_four(rt, lot);
-    Ok(())
 }
 
 // The keys 0 and 13 have place 0 in a table of 16, and the places 0 and 1 in one of 32, as six
@@ -326,13 +350,12 @@ fn grow_and_unpark<R: Threads + Wait + Abort + Sync>(
 //
 // It refuses a `list` that is always empty, and a growth that drops the nodes in the locks.
 #[test]
-fn waiters_stay_where_the_table_grows_twice_under_them(rt: HostRuntime) -> Result<(), Fail> {
-    let lot = Arc::new(rt.alloc(), new_lot(rt.alloc(), 12)?)?;
+fn waiters_stay_where_the_table_grows_twice_under_them(rt: HostRuntime) {
+    let lot = shared_lot(&rt, rt.alloc(), 12);
     let keys = [(0, 1), (13, 1), (0, 2), (13, 2)];
-    let waiters = start_row(&rt, rt.alloc(), &lot, &keys)?;
-    grow_and_unpark(&rt, rt.alloc(), &lot)?;
+    let waiters = start_row(&rt, rt.alloc(), &lot, &keys);
+    grow_and_unpark(&rt, rt.alloc(), &lot);
     expect_tokens(&rt, waiters, &[10, 11, 12, 13]);
-    Ok(())
 }
 
 // Registers a thread, a second time where the first was refused for want of memory.
@@ -354,15 +377,15 @@ fn register_again_if_refused<'a, R: Wait>(
 // It refuses, there, a `thread_data` that takes the number before it has the row: the number that
 // was refused is then lost, and the lot full with a thread less.
 #[test]
-fn a_refused_request_for_memory_leaves_the_lot_as_it_was(rt: HostRuntime) -> Result<(), Fail> {
+fn a_refused_request_for_memory_leaves_the_lot_as_it_was(rt: HostRuntime) {
     let Ok(lot) = new_lot(rt.alloc(), 6) else {
-        return Ok(());
+        return;
     };
     for number in 0..6 {
-        let member = register_again_if_refused(&rt, rt.alloc(), &lot)?;
+        let registered = register_again_if_refused(&rt, rt.alloc(), &lot);
+        let member = registered.expect(&rt, "a number is left");
         expect_equal(&rt, member.number(), number);
     }
     let seventh = register_again_if_refused(&rt, rt.alloc(), &lot);
     assert!(rt; matches!(&seventh, Err(LotError::Full)));
-    Ok(())
 }

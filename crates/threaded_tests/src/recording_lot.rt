@@ -320,7 +320,7 @@ where
         counted = counted.wrapping_add(ticket.count());
     }
     let recorded = lot.close(tickets);
-    assert!(rt; counted > CALLS);
+    expect_equal(rt, counted > CALLS, true);
     expect_equal(rt, recorded.journal().len(), counted);
     expect_replay(rt, alloc, &recorded, THREADS)
 }

@@ -1,12 +1,24 @@
 //! The program's scenarios, each with every parker, and those of latches also without a delay.
 
+use crate::expect_equal;
 use lot_scenarios::{Plan, Scenario};
-use parking_lot_core::{ThreadParker, WordParker, YieldParker};
+use parking_lot_core::{ThreadParker, ThreadParkerT, WordParker, YieldParker};
 use std::alloc::Global;
 use std::process::Abort;
 use std::sync::Wait;
 use std::thread::Threads;
 use std::time::{Clock, Duration};
+
+// Runs the scenario with parkers of this type.
+fn run<P, R>(rt: &R, alloc: Global, scenario: Scenario, parker: &str)
+where
+    P: ThreadParkerT + Send + Sync + 'static,
+    P::UnparkHandle: 'static,
+    R: Threads + Wait + Clock + Abort + Copy + Send + 'static,
+{
+    let passed = lot_scenarios::run::<P, _>(rt, alloc, scenario).is_some();
+    expect_equal(rt, (parker, passed), (parker, true));
+}
 
 // Runs the scenario so many times with each parker.
 fn passes<R: Threads + Wait + Clock + Abort + Copy + Send + 'static>(
@@ -16,15 +28,9 @@ fn passes<R: Threads + Wait + Clock + Abort + Copy + Send + 'static>(
     scenario: Scenario,
 ) {
     for _ in 0..repeats {
-        let passed = lot_scenarios::run::<WordParker, _>(rt, alloc, scenario).is_some();
-        assert!(rt; passed, "with the parker that sleeps on a word");
-        let passed = lot_scenarios::run::<ThreadParker, _>(rt, alloc, scenario).is_some();
-        assert!(rt;
-            passed,
-            "with the parker that sleeps on a condition variable"
-        );
-        let passed = lot_scenarios::run::<YieldParker, _>(rt, alloc, scenario).is_some();
-        assert!(rt; passed, "with the parker that yields");
+        run::<WordParker, _>(rt, alloc, scenario, "WordParker");
+        run::<ThreadParker, _>(rt, alloc, scenario, "ThreadParker");
+        run::<YieldParker, _>(rt, alloc, scenario, "YieldParker");
     }
 }
 

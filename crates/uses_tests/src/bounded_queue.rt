@@ -4,10 +4,11 @@ ghost use Rattle.std.specs.Prelude.{◌<◌};
 ghost use Rattle.parking_lot_core.specs.Members.{IsDataOf};
 
 use crate::expect_equal;
-use parking_lot_core::{LotError, ParkingLot, ThreadData, ThreadParkerT, WordParker};
+use crate::lots::threaded_lot;
+use parking_lot_core::{ParkingLot, ThreadData, ThreadParkerT, WordParker};
 use std::alloc::Global;
+use std::process::Abort;
 use std::sync::Wait;
-use std::test::Fail;
 use std::thread;
 use std::thread::Threads;
 use std::time::Clock;
@@ -31,14 +32,14 @@ struct Worker<'a, P: ThreadParkerT> {
 }
 
 impl<'a, P: ThreadParkerT> Worker<'a, P> {
-    fn register<R: Wait>(
+    fn register<R: Wait + Abort>(
         rt: &R,
         alloc: Global,
         lot: &'a ParkingLot<P>,
         queue: &'a BoundedQueue,
-    ) -> Result<Worker<'a, P>, LotError> {
-        let thread = lot.thread_data(rt, alloc)?;
-        Ok(Worker { lot, queue, thread })
+    ) -> Worker<'a, P> {
+        let thread = lot.thread_data(rt, alloc).expect(rt, "a number");
+        Worker { lot, queue, thread }
     }
 
     fn put<R: Wait + Clock>(&mut self, rt: &R, number: usize) {
@@ -68,42 +69,60 @@ fn work<P: ThreadParkerT, R: Wait + Clock>(
     sum
 }
 
-// What two producers and two consumers put and took, all together, through so many places.
-fn sum_through<R: Threads + Wait + Clock + Sync>(
+fn new_queue<R: Abort>(rt: &R, alloc: Global, capacity: usize) -> BoundedQueue
+    requires { 0 < capacity }
+{
+    BoundedQueue::new(alloc, MUTEX_KEY, CONDVAR_KEY, capacity).expect(rt, "a queue")
+}
+
+// Two producers and two consumers, by turns.
+fn register_four<'a, P: ThreadParkerT, R: Wait + Abort>(
+    rt: &R,
+    alloc: Global,
+    lot: &'a ParkingLot<P>,
+    queue: &'a BoundedQueue,
+) -> Vec<(Worker<'a, P>, bool)> {
+    let mut workers = Vec::new(alloc);
+    for produces in [true, false, true, false] {
+        let worker = Worker::register(rt, alloc, lot, queue);
+        workers.push((worker, produces)).expect(rt, "memory");
+    }
+    workers
+}
+
+// What all together put and took.
+fn sum_of_all<R: Threads + Wait + Clock + Abort + Sync>(
+    rt: &R,
+    workers: Vec<(Worker<'_, WordParker>, bool)>,
+) -> usize {
+    let play = |(worker, produces)| work(rt, worker, produces);
+    let sums = thread::map_vec(rt, workers, &play).expect(rt, "threads");
+    sums.into_iter()
+        .fold(0usize, |all, sum| all.wrapping_add(sum))
+}
+
+// The same, through so many places.
+fn sum_through<R: Threads + Wait + Clock + Abort + Sync>(
     rt: &R,
     alloc: Global,
     capacity: usize,
-) -> Result<usize, LotError>
+) -> usize
     requires { 0 < capacity }
 {
-    let lot = ParkingLot::<WordParker>::new(alloc, 4)?;
-    let queue = BoundedQueue::new(alloc, MUTEX_KEY, CONDVAR_KEY, capacity)?;
-    let mut workers = Vec::new(alloc);
-    for produces in [true, false, true, false] {
-        let worker = Worker::register(rt, alloc, &lot, &queue)?;
-        workers.push((worker, produces))?;
-    }
-    let sums = thread::map_vec(
-        rt,
-        workers,
-        &|(worker, produces)| work(rt, worker, produces),
-    )?;
-    Ok(
-        sums.into_iter()
-            .fold(0usize, |all, sum| all.wrapping_add(sum)),
-    )
+    let lot = threaded_lot(rt, alloc, 4);
+    let queue = new_queue(rt, alloc, capacity);
+    let workers = register_four(rt, alloc, &lot, &queue);
+    sum_of_all(rt, workers)
 }
 
 // It refuses a `put` that overwrites, a `take` that takes a number twice, and where there is one
 // place, which is full or empty at each look, changes that are told to one sleeper alone. The
 // numbers from 1 to 500 have the sum 125_250, and two producers put each.
 #[test]
-fn consumers_take_what_producers_put(rt: HostRuntime) -> Result<(), Fail> {
+fn consumers_take_what_producers_put(rt: HostRuntime) {
     for capacity in [1, CAPACITY] {
-        let all = sum_through(&rt, rt.alloc(), capacity)?;
-        expect_equal(&rt, all, 4 * 125_250);
+        expect_equal(&rt, sum_through(&rt, rt.alloc(), capacity), 4 * 125_250);
     }
-    Ok(())
 }
 
 // Puts as many numbers as there are places, and takes them. Tells whether they came in order.
@@ -122,16 +141,22 @@ fn fill_and_empty<P: ThreadParkerT, R: Wait + Clock>(
     in_order
 }
 
+// Does so twice with a queue of so many places, alone.
+fn takes_as_many<R: Wait + Clock + Abort>(rt: &R, alloc: Global, capacity: usize)
+    requires { 0 < capacity }
+{
+    let lot = threaded_lot::<WordParker, _>(rt, alloc, 1);
+    let queue = new_queue(rt, alloc, capacity);
+    let mut worker = Worker::register(rt, alloc, &lot, &queue);
+    for _ in 0..2 {
+        expect_equal(rt, fill_and_empty(rt, &mut worker, capacity), true);
+    }
+}
+
 // It refuses a `put` that sleeps while a place is free, and a `take` in another order.
 #[test]
-fn a_queue_takes_as_many_as_it_has_places(rt: HostRuntime) -> Result<(), Fail> {
+fn a_queue_takes_as_many_as_it_has_places(rt: HostRuntime) {
     for capacity in [1, CAPACITY, 3_000] {
-        let lot = ParkingLot::<WordParker>::new(rt.alloc(), 1)?;
-        let queue = BoundedQueue::new(rt.alloc(), MUTEX_KEY, CONDVAR_KEY, capacity)?;
-        let mut worker = Worker::register(&rt, rt.alloc(), &lot, &queue)?;
-        for _ in 0..2 {
-            assert!(rt; fill_and_empty(&rt, &mut worker, capacity));
-        }
+        takes_as_many(&rt, rt.alloc(), capacity);
     }
-    Ok(())
 }

@@ -4,14 +4,13 @@ ghost use Rattle.std.specs.Prelude.{◌≡◌};
 
 use crate::clock::{from_now, is_past};
 use crate::expect_equal;
-use crate::lots::register;
+use crate::lots::{register, threaded_lot};
 use crate::slow_parker::SlowParker;
 use parking_lot_core::{Member, ParkingLot, ThreadParkerT, WordParker};
 use std::alloc::Global;
 use std::process::Abort;
 use std::sync::atomic::{AtomicUsize, Ordering};
 use std::sync::{Arc, Wait};
-use std::test::Fail;
 use std::thread;
 use std::thread::{JoinHandle, Threads};
 use std::time::{Clock, Duration};
@@ -48,6 +47,12 @@ impl<P: ThreadParkerT> Shared<P> {
             first: AtomicUsize::new(0),
             second: AtomicUsize::new(0),
         }
+    }
+
+    // The same for so many threads, who share it.
+    fn for_threads<R: Abort>(rt: &R, alloc: Global, threads: usize) -> Arc<Shared<P>, Global> {
+        let lot = threaded_lot(rt, alloc, threads);
+        Arc::new(alloc, Shared::new(lot)).expect(rt, "memory")
     }
 
     fn counts(&self) -> (usize, usize) {
@@ -94,7 +99,7 @@ fn count_in_rounds<P: ThreadParkerT, R: Wait + Clock + Abort>(
 fn start_counting<P, R>(
     rt: &R,
     alloc: Global,
-    shared: Arc<Shared<P>, Global>,
+    shared: &Arc<Shared<P>, Global>,
 ) -> Option<JoinHandle<Option<usize>>>
 where
     P: ThreadParkerT + Send + Sync + 'static,
@@ -102,6 +107,7 @@ where
     R: Threads + Wait + Clock + Abort + Copy + Send + 'static,
 {
     let runtime = *rt;
+    let shared = Arc::try_clone(shared).ok()?;
     thread::spawn(rt, move || {
         let member = register(&runtime, alloc, &shared.lot);
         count_in_rounds(&runtime, &shared, member)
@@ -115,23 +121,37 @@ fn join_counting<R: Threads + Abort>(rt: &R, started: Option<JoinHandle<Option<u
     counted.expect(rt, "equal counters")
 }
 
+// Starts all threads.
+fn start_all<R: Threads + Wait + Clock + Abort + Copy + Send + 'static>(
+    rt: &R,
+    alloc: Global,
+    shared: &Arc<Shared<WordParker>, Global>,
+) -> Vec<Option<JoinHandle<Option<usize>>>> {
+    let mut counting = Vec::new(alloc);
+    for _ in 0..THREADS {
+        let started = start_counting(rt, alloc, shared);
+        counting.push(started).expect(rt, "memory");
+    }
+    counting
+}
+
+// Waits until all have counted, and tells how often.
+fn join_all<R: Threads + Abort>(rt: &R, counting: Vec<Option<JoinHandle<Option<usize>>>>) -> usize {
+    let mut all = 0_usize;
+    for started in counting {
+        all = all.wrapping_add(join_counting(rt, started));
+    }
+    all
+}
+
 // It refuses an `unlock` that forgets the waiters who are left, and one that hands the mutex over
 // and unlocks it too.
 #[test]
-fn threads_count_in_turn(rt: HostRuntime) -> Result<(), Fail> {
-    let lot = ParkingLot::<WordParker>::new(rt.alloc(), THREADS)?;
-    let shared = Arc::new(rt.alloc(), Shared::new(lot))?;
-    let mut counting = Vec::new(rt.alloc());
-    for _ in 0..THREADS {
-        let theirs = Arc::try_clone(&shared)?;
-        counting.push(start_counting(&rt, rt.alloc(), theirs))?;
-    }
-    let mut all = 0_usize;
-    for started in counting {
-        all = all.wrapping_add(join_counting(&rt, started));
-    }
+fn threads_count_in_turn(rt: HostRuntime) {
+    let shared = Shared::for_threads(&rt, rt.alloc(), THREADS);
+    let counting = start_all(&rt, rt.alloc(), &shared);
+    let all = join_all(&rt, counting);
     expect_equal(&rt, shared.counts(), (all, all));
-    Ok(())
 }
 
 // Locks and unlocks, often.
@@ -150,18 +170,26 @@ fn lock_often<P: ThreadParkerT, R: Wait + Clock + Abort>(
     }
 }
 
+fn both_lock_often<R: Threads + Wait + Clock + Abort + Sync>(
+    rt: &R,
+    shared: &Shared<WordParker>,
+    first: Member<'_, WordParker>,
+    second: Member<'_, WordParker>,
+) {
+    thread::join(
+        rt,
+        || lock_often(rt, shared, first),
+        || lock_often(rt, shared, second),
+    );
+}
+
 // With a `lock` that marks a mutex which was let go since it looked, most runs do not end.
 #[test]
-fn two_threads_lock_a_mutex_that_is_let_go_meanwhile(rt: HostRuntime) -> Result<(), Fail> {
-    let shared = Shared::new(ParkingLot::<WordParker>::new(rt.alloc(), 2)?);
+fn two_threads_lock_a_mutex_that_is_let_go_meanwhile(rt: HostRuntime) {
+    let shared = Shared::for_threads(&rt, rt.alloc(), 2);
     let first = register(&rt, rt.alloc(), &shared.lot);
     let second = register(&rt, rt.alloc(), &shared.lot);
-    thread::join(
-        &rt,
-        || lock_often(&rt, &shared, first),
-        || lock_often(&rt, &shared, second),
-    );
-    Ok(())
+    both_lock_often(&rt, &shared, first, second);
 }
 
 // Waits until so many threads wait for the mutex, and tells whether they did.
@@ -200,23 +228,36 @@ fn is_locked_once<P: ThreadParkerT, R: Wait>(rt: &R, shared: &Shared<P>) -> bool
     }
 }
 
+// Hands the mutex to the one that waits for it.
+fn hand_over<R: Wait + Abort>(rt: &R, alloc: Global, shared: &Shared<WordParker>, held: Held)
+    requires { held.key ≡ shared.now.mutex.key }
+{
+    let came = wait_for_waiters(rt, alloc, &shared.lot, 1);
+    let counts = shared.counts();
+    let handed = shared.mutex.unlock(rt, &shared.lot, held);
+    expect_equal(rt, (came, counts, handed), (true, (0, 0), true));
+}
+
+// Waits until the thread has counted, and compares how often with the counters.
+fn expect_counted<P: ThreadParkerT, R: Threads + Abort>(
+    rt: &R,
+    shared: &Shared<P>,
+    started: Option<JoinHandle<Option<usize>>>,
+) {
+    let rounds = join_counting(rt, started);
+    expect_equal(rt, shared.counts(), (rounds, rounds));
+}
+
 // It refuses a `lock` that does not wait, an `unlock` that wakes nobody, and a mutex that is not
 // free once its waiters had it.
 #[test]
-fn a_waiter_is_handed_the_mutex(rt: HostRuntime) -> Result<(), Fail> {
-    let lot = ParkingLot::<WordParker>::new(rt.alloc(), 1)?;
-    let shared = Arc::new(rt.alloc(), Shared::new(lot))?;
-    let theirs = Arc::try_clone(&shared)?;
+fn a_waiter_is_handed_the_mutex(rt: HostRuntime) {
+    let shared = Shared::for_threads(&rt, rt.alloc(), 1);
     let held = shared.mutex.try_lock().expect(&rt, "nobody holds it");
-    let started = start_counting(&rt, rt.alloc(), theirs);
-    let came = wait_for_waiters(&rt, rt.alloc(), &shared.lot, 1);
-    let counts = shared.counts();
-    let handed = shared.mutex.unlock(&rt, &shared.lot, held);
-    expect_equal(&rt, (came, counts, handed), (true, (0, 0), true));
-    let rounds = join_counting(&rt, started);
-    expect_equal(&rt, shared.counts(), (rounds, rounds));
-    assert!(rt; is_locked_once(&rt, &shared));
-    Ok(())
+    let started = start_counting(&rt, rt.alloc(), &shared);
+    hand_over(&rt, rt.alloc(), &shared, held);
+    expect_counted(&rt, &shared, started);
+    expect_equal(&rt, is_locked_once(&rt, &shared), true);
 }
 
 // Unlocks the mutex and locks it again while the other thread prepares to park, and unlocks it once
@@ -240,23 +281,19 @@ fn lock_once_more<P: ThreadParkerT, R: Wait + Clock>(
 // It refuses a `lock` that sleeps while the byte tells that nobody waits: whoever unlocks then
 // looks for no waiter.
 #[test]
-fn a_thread_sleeps_only_while_the_byte_tells_of_waiters(rt: HostRuntime) -> Result<(), Fail> {
-    let lot = ParkingLot::<SlowParker>::new(rt.alloc(), 1)?;
-    let shared = Arc::new(rt.alloc(), Shared::new(lot))?;
-    let theirs = Arc::try_clone(&shared)?;
+fn a_thread_sleeps_only_while_the_byte_tells_of_waiters(rt: HostRuntime) {
+    let shared = Shared::<SlowParker>::for_threads(&rt, rt.alloc(), 1);
     let held = shared.mutex.try_lock().expect(&rt, "nobody holds it");
-    let started = start_counting(&rt, rt.alloc(), theirs);
+    let started = start_counting(&rt, rt.alloc(), &shared);
     lock_once_more(&rt, rt.alloc(), &shared, held);
-    let rounds = join_counting(&rt, started);
-    expect_equal(&rt, shared.counts(), (rounds, rounds));
-    Ok(())
+    expect_counted(&rt, &shared, started);
 }
 
 // Starts a thread that counts in rounds once nobody waits for the mutex.
 fn start_once_nobody_waits<P, R>(
     rt: &R,
     alloc: Global,
-    shared: Arc<Shared<P>, Global>,
+    shared: &Arc<Shared<P>, Global>,
 ) -> Option<JoinHandle<Option<usize>>>
 where
     P: ThreadParkerT + Send + Sync + 'static,
@@ -264,6 +301,7 @@ where
     R: Threads + Wait + Clock + Abort + Copy + Send + 'static,
 {
     let runtime = *rt;
+    let shared = Arc::try_clone(shared).ok()?;
     thread::spawn(rt, move || {
         let member = register(&runtime, alloc, &shared.lot);
         wait_for_waiters(&runtime, alloc, &shared.lot, 0);
@@ -272,20 +310,26 @@ where
     .ok()
 }
 
+// Waits until both threads have counted, and compares how often with the counters.
+fn expect_both_counted<R: Threads + Abort>(
+    rt: &R,
+    shared: &Shared<SlowParker>,
+    first: Option<JoinHandle<Option<usize>>>,
+    second: Option<JoinHandle<Option<usize>>>,
+) {
+    let rounds = join_counting(rt, first).wrapping_add(join_counting(rt, second));
+    expect_equal(rt, shared.counts(), (rounds, rounds));
+}
+
 // It refuses an `unlock` that changes the byte behind its section: it would not know of a thread
 // that came to wait meanwhile.
 #[test]
-fn who_comes_to_wait_while_another_is_woken_is_woken_too(rt: HostRuntime) -> Result<(), Fail> {
-    let lot = ParkingLot::<SlowParker>::new(rt.alloc(), 2)?;
-    let shared = Arc::new(rt.alloc(), Shared::new(lot))?;
-    let (theirs, others) = (Arc::try_clone(&shared)?, Arc::try_clone(&shared)?);
+fn who_comes_to_wait_while_another_is_woken_is_woken_too(rt: HostRuntime) {
+    let shared = Shared::for_threads(&rt, rt.alloc(), 2);
     let held = shared.mutex.try_lock().expect(&rt, "nobody holds it");
-    let first = start_counting(&rt, rt.alloc(), theirs);
+    let first = start_counting(&rt, rt.alloc(), &shared);
     wait_for_waiters(&rt, rt.alloc(), &shared.lot, 1);
-    let second = start_once_nobody_waits(&rt, rt.alloc(), others);
-    let handed = shared.mutex.unlock(&rt, &shared.lot, held);
-    let rounds = join_counting(&rt, first).wrapping_add(join_counting(&rt, second));
-    expect_equal(&rt, handed, true);
-    expect_equal(&rt, shared.counts(), (rounds, rounds));
-    Ok(())
+    let second = start_once_nobody_waits(&rt, rt.alloc(), &shared);
+    expect_equal(&rt, shared.mutex.unlock(&rt, &shared.lot, held), true);
+    expect_both_counted(&rt, &shared, first, second);
 }

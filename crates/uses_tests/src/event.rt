@@ -1,12 +1,11 @@
 //! Tests of the event among threads.
 
 use crate::expect_equal;
-use crate::lots::register;
+use crate::lots::{register, threaded_lot};
 use parking_lot_core::{Member, ParkingLot, ThreadParkerT, WordParker};
-use std::alloc::{AllocError, Global};
+use std::alloc::Global;
 use std::process::Abort;
 use std::sync::{Arc, Wait};
-use std::test::Fail;
 use std::thread;
 use std::thread::{JoinHandle, Threads};
 use std::time::{Clock, Instant};
@@ -42,7 +41,7 @@ fn see_it_set<P: ThreadParkerT, R: Wait + Clock + Abort>(
 fn start_waiter<P, R>(
     rt: &R,
     alloc: Global,
-    shared: Arc<Shared<P>, Global>,
+    shared: &Arc<Shared<P>, Global>,
 ) -> Option<JoinHandle<bool>>
 where
     P: ThreadParkerT + Send + Sync + 'static,
@@ -50,7 +49,27 @@ where
     R: Threads + Wait + Clock + Abort + Copy + Send + 'static,
 {
     let runtime = *rt;
+    let shared = Arc::try_clone(shared).ok()?;
     thread::spawn(rt, move || see_it_set(&runtime, alloc, &shared, None)).ok()
+}
+
+fn start_waiters<R: Threads + Wait + Clock + Abort + Copy + Send + 'static>(
+    rt: &R,
+    alloc: Global,
+    shared: &Arc<Shared<WordParker>, Global>,
+) -> Vec<JoinHandle<bool>> {
+    let mut waiters = Vec::new(alloc);
+    for _ in 0..THREADS {
+        let started = start_waiter(rt, alloc, shared).expect(rt, "a thread");
+        waiters.push(started).expect(rt, "memory");
+    }
+    waiters
+}
+
+fn join_waiters<R: Threads + Abort>(rt: &R, waiters: Vec<JoinHandle<bool>>) {
+    for waiter in waiters {
+        expect_equal(rt, waiter.join(rt), true);
+    }
 }
 
 // Waits until all threads wait for the event, and tells whether they came.
@@ -68,52 +87,56 @@ fn come_by_turns<P: ThreadParkerT, R: Wait>(
     None
 }
 
+// Sets the event once all threads wait for it, and compares how many it wakes.
+fn set_once_all_wait<R: Wait + Abort>(rt: &R, alloc: Global, shared: &Shared<WordParker>) {
+    come_by_turns(rt, alloc, &shared.lot).expect(rt, "the waiters");
+    let was_set = shared.event.is_set();
+    expect_equal(
+        rt,
+        (was_set, shared.event.set(rt, &shared.lot)),
+        (false, THREADS),
+    );
+}
+
+// Who comes after the event does not sleep, and is not late.
+fn come_after<R: Wait + Clock + Abort>(rt: &R, alloc: Global, shared: &Shared<WordParker>) {
+    let now = Instant::now(rt).expect(rt, "a clock");
+    let is_set = see_it_set(rt, alloc, shared, Some(now));
+    expect_equal(rt, (is_set, shared.event.set(rt, &shared.lot)), (true, 0));
+}
+
 // It refuses a `set` that wakes one thread alone, and a `wait` that does not look at the event.
 #[test]
-fn the_event_wakes_every_thread(rt: HostRuntime) -> Result<(), Fail> {
+fn the_event_wakes_every_thread(rt: HostRuntime) {
     let shared = Shared {
-        lot: ParkingLot::<WordParker>::new(rt.alloc(), THREADS + 1)?,
+        lot: threaded_lot(&rt, rt.alloc(), THREADS + 1),
         event: Event::new(KEY),
     };
-    let shared = Arc::new(rt.alloc(), shared)?;
-    let mut waiters = Vec::new(rt.alloc());
-    for _ in 0..THREADS {
-        let started = start_waiter(&rt, rt.alloc(), Arc::try_clone(&shared)?);
-        waiters.push(started.expect(&rt, "a thread"))?;
-    }
-    come_by_turns(&rt, rt.alloc(), &shared.lot).expect(&rt, "the waiters");
-    assert!(rt; !shared.event.is_set());
-    expect_equal(&rt, shared.event.set(&rt, &shared.lot), THREADS);
-    for waiter in waiters {
-        assert!(rt; waiter.join(&rt));
-    }
-
-    // Who comes after the event does not sleep, and is not late.
-    let now = Instant::now(&rt)?;
-    assert!(rt; see_it_set(&rt, rt.alloc(), &shared, Some(now)));
-    expect_equal(&rt, shared.event.set(&rt, &shared.lot), 0);
-    Ok(())
+    let shared = Arc::new(rt.alloc(), shared).expect(&rt, "memory");
+    let waiters = start_waiters(&rt, rt.alloc(), &shared);
+    set_once_all_wait(&rt, rt.alloc(), &shared);
+    join_waiters(&rt, waiters);
+    come_after(&rt, rt.alloc(), &shared);
 }
 
 // It refuses a `wait` that keeps no deadline, and one that answers that the event was set.
 #[test]
-fn a_wait_for_an_event_that_does_not_come_is_late(rt: HostRuntime) -> Result<(), Fail> {
-    let lot = ParkingLot::<WordParker>::new(rt.alloc(), 1)?;
+fn a_wait_for_an_event_that_does_not_come_is_late(rt: HostRuntime) {
+    let lot = threaded_lot::<WordParker, _>(&rt, rt.alloc(), 1);
     let event = Event::new(KEY);
     let mut member = register(&rt, rt.alloc(), &lot);
-    let timeout = Some(Instant::now(&rt)?);
-    let was_set = event.wait(&rt, &mut member, timeout);
-    expect_equal(&rt, was_set, false);
-    Ok(())
+    let timeout = Instant::now(&rt).expect(&rt, "a clock");
+    expect_equal(&rt, event.wait(&rt, &mut member, Some(timeout)), false);
 }
 
 // So many events, each with a key of its own from this one on.
-fn many_events(alloc: Global, first_key: usize) -> Result<Vec<Event>, AllocError> {
+fn many_events<R: Abort>(rt: &R, alloc: Global, first_key: usize) -> Vec<Event> {
     let mut events = Vec::new(alloc);
     for number in 0..EVENTS {
-        events.push(Event::new(first_key.wrapping_add(number)))?;
+        let event = Event::new(first_key.wrapping_add(number));
+        events.push(event).expect(rt, "memory");
     }
-    Ok(events)
+    events
 }
 
 // Sets each event of the other thread and waits for its own, by turns.
@@ -130,20 +153,29 @@ fn exchange<P: ThreadParkerT, R: Wait + Clock>(
     Some(())
 }
 
+// What both threads end with.
+fn both_exchange<R: Threads + Wait + Clock + Abort + Sync>(
+    rt: &R,
+    alloc: Global,
+    one: &[Event],
+    other: &[Event],
+) -> (Option<()>, Option<()>) {
+    let lot = threaded_lot::<WordParker, _>(rt, alloc, 2);
+    let first = register(rt, alloc, &lot);
+    let second = register(rt, alloc, &lot);
+    thread::join(
+        rt,
+        || exchange(rt, first, one, other),
+        || exchange(rt, second, other, one),
+    )
+}
+
 // It refuses a `set` that looks for waiters before the event is set: a thread that comes between
 // sleeps for ever.
 #[test]
-fn two_threads_set_events_for_each_other(rt: HostRuntime) -> Result<(), Fail> {
-    let lot = ParkingLot::<WordParker>::new(rt.alloc(), 2)?;
-    let one = many_events(rt.alloc(), 0)?;
-    let other = many_events(rt.alloc(), EVENTS)?;
-    let first = register(&rt, rt.alloc(), &lot);
-    let second = register(&rt, rt.alloc(), &lot);
-    let ended = thread::join(
-        &rt,
-        || exchange(&rt, first, one.as_slice(), other.as_slice()),
-        || exchange(&rt, second, other.as_slice(), one.as_slice()),
-    );
+fn two_threads_set_events_for_each_other(rt: HostRuntime) {
+    let one = many_events(&rt, rt.alloc(), 0);
+    let other = many_events(&rt, rt.alloc(), EVENTS);
+    let ended = both_exchange(&rt, rt.alloc(), one.as_slice(), other.as_slice());
     expect_equal(&rt, ended, (Some(()), Some(())));
-    Ok(())
 }

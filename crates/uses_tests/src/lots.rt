@@ -42,6 +42,15 @@ pub fn expect_list<R: Abort>(
     Ok(())
 }
 
+// A lot of threads, for so many.
+pub fn threaded_lot<P: ThreadParkerT, R: Abort>(
+    rt: &R,
+    alloc: Global,
+    max_threads: usize,
+) -> ParkingLot<P> {
+    ParkingLot::new(alloc, max_threads).expect(rt, "a lot")
+}
+
 // Registers the calling thread.
 pub fn register<'a, P: ThreadParkerT, R: Wait + Abort>(
     rt: &R,

@@ -6,6 +6,7 @@
 
 use crate::clock::from_now;
 use crate::expect_equal;
+use crate::lots::{register, threaded_lot};
 use lot_sync::semaphore::Semaphore;
 use parking_lot_core::{
     DEFAULT_PARK_TOKEN, DEFAULT_UNPARK_TOKEN, Member, ParkingLot, WordParker, unpark_all,
@@ -14,7 +15,6 @@ use std::alloc::Global;
 use std::cell::Cell;
 use std::process::Abort;
 use std::sync::Wait;
-use std::test::Fail;
 use std::time::Clock;
 
 const KEY: usize = 7;
@@ -71,26 +71,60 @@ fn release_both<R: Wait + Clock + Abort>(
     }
 }
 
+// What `release_both` tells, after which all who stand on the key are unparked.
+fn release_and_unpark<R: Wait + Clock + Abort>(
+    rt: &R,
+    alloc: Global,
+    lot: &Lot,
+    semaphore: &Semaphore,
+) -> Option<(usize, usize)> {
+    let mut holder = register(rt, alloc, lot);
+    let mut other = register(rt, alloc, lot);
+    let told = release_both(rt, alloc, semaphore, &mut holder, &mut other);
+    unpark_all(rt, lot, KEY, DEFAULT_UNPARK_TOKEN);
+    told
+}
+
+// The same, while a further member stands on the key.
+fn release_beside_one<R: Wait + Clock + Abort>(
+    rt: &R,
+    alloc: Global,
+    lot: &Lot,
+    semaphore: &Semaphore,
+) -> Option<(usize, usize)> {
+    let mut member = register(rt, alloc, lot);
+    let told = Cell::new(None);
+    park_and(
+        rt,
+        &mut member,
+        || told.set(release_and_unpark(rt, alloc, lot, semaphore)),
+    );
+    told.get()
+}
+
+// The same, while two do.
+fn release_beside_two<R: Wait + Clock + Abort>(
+    rt: &R,
+    alloc: Global,
+    lot: &Lot,
+    semaphore: &Semaphore,
+) -> Option<(usize, usize)> {
+    let mut member = register(rt, alloc, lot);
+    let told = Cell::new(None);
+    park_and(
+        rt,
+        &mut member,
+        || told.set(release_beside_one(rt, alloc, lot, semaphore)),
+    );
+    told.get()
+}
+
 // It refuses a release that wakes nobody while another permit is free: the thread that was woken
 // for that one has not gone on yet, and wakes nobody either.
 #[test]
-fn each_of_two_releases_wakes_a_thread_before_the_first_has_gone_on(
-    rt: HostRuntime,
-) -> Result<(), Fail> {
-    let lot = Lot::new(rt.alloc(), 4)?;
-    let semaphore = Semaphore::new(rt.alloc(), KEY, 2)?;
-    let mut first = Member::register(&rt, rt.alloc(), &lot)?;
-    let mut second = Member::register(&rt, rt.alloc(), &lot)?;
-    let mut holder = Member::register(&rt, rt.alloc(), &lot)?;
-    let mut other = Member::register(&rt, rt.alloc(), &lot)?;
-    let left = Cell::new(None);
-    park_and(&rt, &mut first, || {
-        park_and(&rt, &mut second, || {
-            let told = release_both(&rt, rt.alloc(), &semaphore, &mut holder, &mut other);
-            left.set(told);
-            unpark_all(&rt, &lot, KEY, DEFAULT_UNPARK_TOKEN);
-        });
-    });
-    expect_equal(&rt, left.get(), Some((1, 0)));
-    Ok(())
+fn each_of_two_releases_wakes_a_thread_before_the_first_has_gone_on(rt: HostRuntime) {
+    let lot = threaded_lot(&rt, rt.alloc(), 4);
+    let semaphore = Semaphore::new(rt.alloc(), KEY, 2).expect(&rt, "a semaphore");
+    let told = release_beside_two(&rt, rt.alloc(), &lot, &semaphore);
+    expect_equal(&rt, told, Some((1, 0)));
 }

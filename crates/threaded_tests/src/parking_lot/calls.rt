@@ -7,12 +7,26 @@ pub fn new_lot(alloc: Global, threads: usize) -> Result<Lot, LotError> {
     Lot::new(alloc, threads)
 }
 
+// The same, where memory is there.
+pub fn lot_for<P: ThreadParkerT, R: Abort>(rt: &R, alloc: Global, threads: usize) -> ParkingLot<P> {
+    ParkingLot::new(alloc, threads).expect(rt, "a lot")
+}
+
 pub fn register<'a, P: ThreadParkerT, R: Wait>(
     rt: &R,
     alloc: Global,
     lot: &'a ParkingLot<P>,
 ) -> Result<Member<'a, P>, LotError> {
     Member::register(rt, alloc, lot)
+}
+
+// The same, where a number is left.
+pub fn registered<'a, P: ThreadParkerT, R: Wait + Abort>(
+    rt: &R,
+    alloc: Global,
+    lot: &'a ParkingLot<P>,
+) -> Member<'a, P> {
+    register(rt, alloc, lot).expect(rt, "a number is left")
 }
 
 // Parks, and calls this before it sleeps. It tells the key, too, that the callback was told after

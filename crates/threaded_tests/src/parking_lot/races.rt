@@ -101,7 +101,7 @@ fn park_by_turns<P: ThreadParkerT, R: Wait + Clock + Abort>(
     lot: &ParkingLot<P>,
     race: &Race,
 ) -> Tally {
-    let mut member = register(rt, alloc, lot).expect(rt, "a number is left");
+    let mut member = registered(rt, alloc, lot);
     race.registered.fetch_add(1, Ordering::SeqCst);
     let mut received = 0_usize;
     for round in 0..PARKS_EACH {
@@ -150,7 +150,26 @@ fn unpark_some<P: ThreadParkerT, R: Wait>(rt: &R, lot: &ParkingLot<P>, call: Cal
     }
 }
 
-// Registers all numbers that those who park leave, 1 ms apart, and frees them again.
+// Registers the numbers that those who park leave, 1 ms apart.
+fn register_apart<'a, P: ThreadParkerT, R: Wait + Clock + Abort>(
+    rt: &R,
+    alloc: Global,
+    lot: &'a ParkingLot<P>,
+    race: &Race,
+) -> Vec<Member<'a, P>> {
+    let mut members = Vec::new(alloc);
+    for _ in PARKERS..MAX_REGISTERED {
+        if race.is_over(rt) {
+            break;
+        }
+        thread::sleep(rt, Duration::from_millis(1));
+        let member = registered(rt, alloc, lot);
+        members.push(member).expect(rt, "memory");
+    }
+    members
+}
+
+// Registers all numbers that those who park leave, and frees them again.
 fn register_the_rest<P: ThreadParkerT, R: Wait + Clock + Abort>(
     rt: &R,
     alloc: Global,
@@ -158,18 +177,10 @@ fn register_the_rest<P: ThreadParkerT, R: Wait + Clock + Abort>(
     race: &Race,
 ) -> Tally {
     assert!(rt; race.comes_to_start(), "all who park have registered");
-    let mut registered = Vec::new(alloc);
-    for _ in PARKERS..MAX_REGISTERED {
-        if race.is_over(rt) {
-            break;
-        }
-        thread::sleep(rt, Duration::from_millis(1));
-        let member = register(rt, alloc, lot).expect(rt, "a number is left");
-        registered.push(member).expect(rt, "memory");
-    }
-    let are_all = registered.len() == MAX_REGISTERED - PARKERS;
+    let members = register_apart(rt, alloc, lot, race);
+    let are_all = members.len() == MAX_REGISTERED - PARKERS;
     expect_equal(rt, is_full(rt, alloc, lot), are_all);
-    for member in registered {
+    for member in members {
         member.retire(rt);
     }
     Tally {
@@ -212,52 +223,54 @@ fn play<P: ThreadParkerT, R: Wait + Clock + Abort>(
     }
 }
 
-fn play_all<P, R>(
-    rt: &R,
-    alloc: Global,
-    lot: &ParkingLot<P>,
-    jobs: Vec<Job>,
-) -> Result<Vec<Tally>, NoMemory>
+// The job of each thread.
+fn job_of(thread: usize) -> Job {
+    match thread {
+        0 => Job::Unpark(Call::Requeue),
+        1 => Job::Unpark(Call::UnparkAll),
+        2 => Job::Register,
+        3 => Job::Trim,
+        _ => Job::Park,
+    }
+}
+
+fn play_all<P, R>(rt: &R, alloc: Global, lot: &ParkingLot<P>) -> Vec<Tally>
 where
     P: ThreadParkerT + Send + Sync,
     R: Threads + Wait + Clock + Abort + Sync,
 {
     let race = Race::new(rt);
-    Ok(thread::map_vec(rt, jobs, &|job| play(rt, alloc, lot, &race, job))?)
+    let work = |thread| play(rt, alloc, lot, &race, job_of(thread));
+    thread::map_indices(rt, alloc, 4 + PARKERS, &work).expect(rt, "threads")
 }
 
-fn nobody_is_lost<P, R>(rt: &R, alloc: Global) -> Result<(), Fail>
-where
-    P: ThreadParkerT + Send + Sync,
-    R: Threads + Wait + Clock + Abort + Sync,
-{
-    let lot = ParkingLot::<P>::new(alloc, MAX_REGISTERED)?;
-    let mut jobs = Vec::new(alloc);
-    for _ in 0..PARKERS {
-        jobs.push(Job::Park)?;
-    }
-    jobs.push(Job::Unpark(Call::Requeue))?;
-    jobs.push(Job::Unpark(Call::UnparkAll))?;
-    jobs.push(Job::Register)?;
-    jobs.push(Job::Trim)?;
+// Compares how many threads were unparked with how many the unparks answered.
+fn expect_as_many<R: Abort>(rt: &R, tallies: &[Tally]) {
     let (mut received, mut answered) = (0_usize, 0_usize);
-    for tally in play_all(rt, alloc, &lot, jobs)? {
+    for tally in tallies {
         received = received.wrapping_add(tally.received);
         answered = answered.wrapping_add(tally.answered);
     }
     expect_equal(rt, received, answered);
+}
+
+fn nobody_is_lost<P, R>(rt: &R, alloc: Global)
+where
+    P: ThreadParkerT + Send + Sync,
+    R: Threads + Wait + Clock + Abort + Sync,
+{
+    let lot = lot_for::<P, _>(rt, alloc, MAX_REGISTERED);
+    let tallies = play_all(rt, alloc, &lot);
+    expect_as_many(rt, tallies.as_slice());
     expect_list(rt, alloc, &lot, 0, &[]);
     expect_list(rt, alloc, &lot, 13, &[]);
-    Ok(())
 }
 
 // It refuses a section that goes on in a bucket of the table that was in use before, and a thread
 // that leaves its queue although its unpark was committed.
 #[test]
-fn nobody_is_lost_between_unparks_requeues_deadlines_growth_and_trims(
-    rt: HostRuntime,
-) -> Result<(), Fail> {
-    nobody_is_lost::<ThreadParker, _>(&rt, rt.alloc())?;
-    nobody_is_lost::<WordParker, _>(&rt, rt.alloc())?;
-    nobody_is_lost::<YieldParker, _>(&rt, rt.alloc())
+fn nobody_is_lost_between_unparks_requeues_deadlines_growth_and_trims(rt: HostRuntime) {
+    nobody_is_lost::<ThreadParker, _>(&rt, rt.alloc());
+    nobody_is_lost::<WordParker, _>(&rt, rt.alloc());
+    nobody_is_lost::<YieldParker, _>(&rt, rt.alloc());
 }

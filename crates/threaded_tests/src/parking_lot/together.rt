@@ -13,7 +13,7 @@ fn unpark_three<P: ThreadParkerT, R: Wait + Abort>(rt: &R, alloc: Global, lot: &
         (requeued.unparked_threads, requeued.requeued_threads),
         (1, 2),
     );
-    assert!(rt; !requeued.have_more_threads);
+    expect_equal(rt, requeued.have_more_threads, false);
     expect_list(rt, alloc, lot, 1, &[]);
     expect_list(rt, alloc, lot, 2, &[1, 2]);
     let filtered = unpark_others(rt, lot, 2, Some(ParkToken(1)), UnparkToken(5)).result;
@@ -22,21 +22,20 @@ fn unpark_three<P: ThreadParkerT, R: Wait + Abort>(rt: &R, alloc: Global, lot: &
         (filtered.unparked_threads, filtered.requeued_threads),
         (1, 0),
     );
-    assert!(rt; filtered.have_more_threads);
+    expect_equal(rt, filtered.have_more_threads, true);
     expect_equal(rt, unpark_all(rt, lot, 2, UnparkToken(42)), 1);
 }
 
-fn three_threads_are_unparked_in_three_ways<P, R>(rt: &R, alloc: Global) -> Result<(), Fail>
+fn three_threads_are_unparked_in_three_ways<P, R>(rt: &R, alloc: Global)
 where
     P: ThreadParkerT + Send + Sync + 'static,
     P::UnparkHandle: 'static,
     R: Threads + Wait + Clock + Abort + Copy + Send + 'static,
 {
-    let lot = Arc::new(alloc, ParkingLot::<P>::new(alloc, 3)?)?;
-    let waiters = start_row(rt, alloc, &lot, &[(1, 1), (1, 2), (1, 3)])?;
+    let lot = shared_lot::<P, _>(rt, alloc, 3);
+    let waiters = start_row(rt, alloc, &lot, &[(1, 1), (1, 2), (1, 3)]);
     unpark_three(rt, alloc, &lot);
     expect_tokens(rt, waiters, &[9, 42, 5]);
-    Ok(())
 }
 
 // Parks on key 1 with a validation that waits for the other thread and answers false, and tells
@@ -93,20 +92,19 @@ fn two_sections_at_once<P: ThreadParkerT + Send + Sync, R: Threads + Wait + Cloc
 }
 
 // With six threads, which have 32 buckets.
-fn buckets_are_locked_apart<P, R>(rt: &R, alloc: Global) -> Result<(), Fail>
+fn buckets_are_locked_apart<P, R>(rt: &R, alloc: Global)
 where
     P: ThreadParkerT + Send + Sync,
     R: Threads + Wait + Clock + Abort + Sync,
 {
-    let lot = ParkingLot::<P>::new(alloc, 6)?;
-    let member = register(rt, alloc, &lot)?;
+    let lot = lot_for::<P, _>(rt, alloc, 6);
+    let member = registered(rt, alloc, &lot);
     for _ in 1..6 {
-        drop(register(rt, alloc, &lot)?);
+        drop(registered(rt, alloc, &lot));
     }
     let (parked, unparked) = two_sections_at_once(rt, &lot, member);
     expect_equal(rt, parked, (ParkResult::Invalid, true));
     expect_equal(rt, unparked, Some(0));
-    Ok(())
 }
 
 // Parks with a deadline, to which it comes only after the other thread has moved it, and tells with
@@ -165,45 +163,43 @@ fn leaves_its_new_key<P: ThreadParkerT + Send + Sync, R: Threads + Wait + Clock 
     alloc: Global,
     from: usize,
     to: usize,
-) -> Result<(), Fail> {
-    let lot = ParkingLot::<P>::new(alloc, 1)?;
-    let member = register(rt, alloc, &lot)?;
+) {
+    let lot = lot_for::<P, _>(rt, alloc, 1);
+    let member = registered(rt, alloc, &lot);
     let deadline = from_now(rt, Duration::from_millis(20));
     let (left, moved) = is_moved_and_times_out(rt, &lot, member, from, to, deadline);
     assert!(rt; moved, "nobody came to be moved");
     expect_equal(rt, left, (ParkResult::TimedOut, Some(to)));
     expect_list(rt, alloc, &lot, to, &[]);
-    Ok(())
 }
 
 // It refuses a requeue that moves nobody, a filter that unparks nobody, and an `unpark_all` that
 // keeps the threads it took.
 #[test]
-fn thread_parkers_are_unparked_by_requeue_by_filter_and_all(rt: HostRuntime) -> Result<(), Fail> {
-    three_threads_are_unparked_in_three_ways::<ThreadParker, _>(&rt, rt.alloc())
+fn thread_parkers_are_unparked_by_requeue_by_filter_and_all(rt: HostRuntime) {
+    three_threads_are_unparked_in_three_ways::<ThreadParker, _>(&rt, rt.alloc());
 }
 
 // It refuses a `YieldParker` that takes no node which came while it looked.
 #[test]
-fn yield_parkers_are_unparked_by_requeue_by_filter_and_all(rt: HostRuntime) -> Result<(), Fail> {
-    three_threads_are_unparked_in_three_ways::<YieldParker, _>(&rt, rt.alloc())
+fn yield_parkers_are_unparked_by_requeue_by_filter_and_all(rt: HostRuntime) {
+    three_threads_are_unparked_in_three_ways::<YieldParker, _>(&rt, rt.alloc());
 }
 
 // It refuses a growth after which all buckets have one lock: the second section then waits for the
 // first.
 #[test]
-fn two_buckets_of_a_table_that_has_grown(rt: HostRuntime) -> Result<(), Fail> {
-    buckets_are_locked_apart::<ThreadParker, _>(&rt, rt.alloc())?;
-    buckets_are_locked_apart::<YieldParker, _>(&rt, rt.alloc())
+fn two_buckets_of_a_table_that_has_grown(rt: HostRuntime) {
+    buckets_are_locked_apart::<ThreadParker, _>(&rt, rt.alloc());
+    buckets_are_locked_apart::<YieldParker, _>(&rt, rt.alloc());
 }
 
 // Keys 1 and 2 have buckets of their own, 0 and 13 have one. It refuses a requeue that does not
 // note where the thread went: the thread then looks for itself in its old queue for ever.
 #[test]
-fn a_thread_that_was_moved_leaves_its_new_key_at_its_deadline(rt: HostRuntime) -> Result<(), Fail> {
+fn a_thread_that_was_moved_leaves_its_new_key_at_its_deadline(rt: HostRuntime) {
     for (from, to) in [(1, 2), (0, 13)] {
-        leaves_its_new_key::<ThreadParker, _>(&rt, rt.alloc(), from, to)?;
-        leaves_its_new_key::<YieldParker, _>(&rt, rt.alloc(), from, to)?;
+        leaves_its_new_key::<ThreadParker, _>(&rt, rt.alloc(), from, to);
+        leaves_its_new_key::<YieldParker, _>(&rt, rt.alloc(), from, to);
     }
-    Ok(())
 }
