@@ -20,7 +20,7 @@ pub fn unpark_one_nobody<R: Wait + Clock>(rt: &R, alloc: Global) -> Option<Cost>
 }
 
 fn cost_of_unparks<R: Wait + Clock>(rt: &R, lot: &Lot) -> Option<Cost> {
-    let start = Instant::now(rt).ok()?;
+    let start = Instant::now(rt).ok();
     if unparked_in_vain(rt, lot, KEYS[0], CALLS) != 0 {
         return None;
     }
@@ -73,7 +73,7 @@ fn cost_of_parks<R: Wait + Clock>(
     expected: ParkResult,
 ) -> Option<Cost> {
     let mut member = LotMember::register(rt, alloc, lot).ok()?;
-    let start = Instant::now(rt).ok()?;
+    let start = Instant::now(rt).ok();
     let ended = count_parks(rt, &mut member, is_valid, timeout, expected);
     let cost = Cost::since(rt, start, CALLS);
     member.retire(rt);
@@ -125,7 +125,7 @@ pub fn once_done<R: Wait + Clock>(rt: &R, alloc: Global) -> Option<Cost> {
 fn cost_of_calls<R: Wait + Clock>(rt: &R, alloc: Global, lot: &Lot, once: &Once) -> Option<Cost> {
     let mut member = LotMember::register(rt, alloc, lot).ok()?;
     once.call_once(rt, &mut member, || ());
-    let start = Instant::now(rt).ok()?;
+    let start = Instant::now(rt).ok();
     let called = count_called(rt, once, &mut member);
     let cost = Cost::since(rt, start, CALLS);
     member.retire(rt);

@@ -23,9 +23,10 @@ impl Cost {
         Some(Cost(hundredths.checked_div(operations)?))
     }
 
-    /// The cost of each of so many operations that began at this time and end now.
-    pub fn since<R: Clock>(rt: &R, start: Instant, operations: u64) -> Option<Cost> {
-        Cost::of_each(start.elapsed(rt).ok()?, operations)
+    /// The cost of each of so many operations that began at this time, if it could be read, and end
+    /// now.
+    pub fn since<R: Clock>(rt: &R, start: Option<Instant>, operations: u64) -> Option<Cost> {
+        Cost::of_each(start?.elapsed(rt).ok()?, operations)
     }
 }
 

@@ -216,7 +216,7 @@ fn cost_of_wake<R: Wait + Clock>(rt: &R, lot: &Lot, board: &Board, until: Until)
     await_sleepers(rt, board)?;
     board.parked.store(0, Ordering::SeqCst);
     board.awake.store(0, Ordering::SeqCst);
-    let start = Instant::now(rt).ok()?;
+    let start = Instant::now(rt).ok();
     let unparked = unpark_all(rt, lot, KEYS[0], DEFAULT_UNPARK_TOKEN);
     let answered = Cost::since(rt, start, 1)?;
     if unparked != board.waiters || !comes_to(&board.awake, board.waiters as u64) {
@@ -264,7 +264,7 @@ fn costs_of_trims<R: Wait + Clock>(
 // Moves all of them there and back so often.
 fn cost_of_moves<R: Wait + Clock>(rt: &R, lot: &Lot, waiters: usize) -> Option<Cost> {
     let all = waiters.checked_mul(2 * MOVES as usize)?;
-    let start = Instant::now(rt).ok()?;
+    let start = Instant::now(rt).ok();
     let mut moved = 0usize;
     for _ in 0..MOVES {
         moved = moved.wrapping_add(moved_there_and_back(rt, lot));

@@ -91,13 +91,17 @@ impl Room {
 /// the time until each has held it.
 pub fn notify_all<R: Threads + Wait + Clock + Sync>(rt: &R, alloc: Global) -> Option<Cost> {
     let room = Room::new(alloc)?;
+    cost_in(rt, alloc, &room)
+}
+
+fn cost_in<R: Threads + Wait + Clock + Sync>(rt: &R, alloc: Global, room: &Room) -> Option<Cost> {
     let mut thread_data = room.lot.thread_data(rt, alloc).ok()?;
     let (cost, slept) = thread::join(
         rt,
         ||
-            requires { IsDataOf room.lot thread_data }
-        { lead(rt, alloc, &room, &mut thread_data) },
-        || sleep_all(rt, alloc, &room),
+            requires { IsDataOf room.now.lot thread_data }
+        { lead(rt, alloc, room, &mut thread_data) },
+        || sleep_all(rt, alloc, room),
     );
     if slept { cost } else { None }
 }
@@ -180,5 +184,5 @@ fn cost_of_notify<R: Wait + Clock>(
     if notified != WAITERS || !comes_to(&room.awake, WAITERS as u64) {
         return None;
     }
-    Cost::since(rt, start?, 1)
+    Cost::since(rt, start, 1)
 }

@@ -184,20 +184,36 @@ pub fn cost_of_lock<R: Threads + Wait + Clock + Sync, L: TallyLock + Sync>(
     threads: usize,
     section: Section,
 ) -> Option<Cost> {
+    let counts = counts_of_all(threads, section)?;
     let lot = Lot::new(alloc, threads).ok()?;
     let cost = median_of(
         alloc,
         RUNS as usize,
         || cost_of_pairs(rt, alloc, &lot, lock, threads, section),
-    )?;
-    let hundreds = HUNDREDS.checked_mul(u64::try_from(threads).ok()?)?;
-    let counted = hundreds.checked_mul(u64::from(section.counts))?;
-    let mut member = LotMember::register(rt, alloc, &lot).ok()?;
-    if lock.count(rt, &mut member) == counted.checked_mul(u64::from(RUNS) + 1)? {
-        Some(cost)
+    );
+    if counted(rt, alloc, &lot, lock) == Some(counts) {
+        cost
     } else {
         None
     }
+}
+
+// How often all threads count in all runs.
+fn counts_of_all(threads: usize, section: Section) -> Option<u64> {
+    let hundreds = HUNDREDS.checked_mul(u64::try_from(threads).ok()?)?;
+    let counts = hundreds.checked_mul(u64::from(section.counts))?;
+    counts.checked_mul(u64::from(RUNS) + 1)
+}
+
+// What was counted under the lock.
+fn counted<R: Wait + Clock, L: TallyLock>(
+    rt: &R,
+    alloc: Global,
+    lot: &Lot,
+    lock: &L,
+) -> Option<u64> {
+    let mut member = LotMember::register(rt, alloc, lot).ok()?;
+    Some(lock.count(rt, &mut member))
 }
 
 fn cost_of_pairs<R: Threads + Wait + Clock + Sync, L: TallyLock + Sync>(
@@ -232,12 +248,12 @@ fn time_of_pairs<R: Wait + Clock, L: TallyLock>(
     let member = LotMember::register(rt, alloc, lot).ok();
     barrier.wait(rt);
     let mut member = member?;
-    let start = Instant::now(rt).ok()?;
+    let start = Instant::now(rt).ok();
     let is_ordered = all_pairs(rt, lock, &mut member, section);
-    let end = Instant::now(rt).ok()?;
+    let end = Instant::now(rt).ok();
     member.retire(rt);
     if is_ordered {
-        Some(Span { start, end })
+        Span::between(start, end)
     } else {
         None
     }

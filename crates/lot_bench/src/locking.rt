@@ -61,16 +61,17 @@ fn cost_of_mutex<R: Threads + Wait + Clock + Sync, M: LotMutex + Sync>(
     threads: usize,
     pairs: u64,
 ) -> Option<Cost> {
-    let lot = Lot::new(alloc, threads).ok()?;
     let all_pairs = pairs.checked_mul(u64::try_from(threads).ok()?)?;
-    if counted_by_all(rt, alloc, &lot, mutex, threads, pairs)? != all_pairs {
-        return None;
+    let lot = Lot::new(alloc, threads).ok()?;
+    if counted_by_all(rt, alloc, &lot, mutex, threads, pairs) == Some(all_pairs) {
+        median_of(
+            alloc,
+            RUNS,
+            || cost_of_pairs(rt, alloc, &lot, mutex, threads, pairs),
+        )
+    } else {
+        None
     }
-    median_of(
-        alloc,
-        RUNS,
-        || cost_of_pairs(rt, alloc, &lot, mutex, threads, pairs),
-    )
 }
 
 // What the threads count under the mutex, each as many as its pairs.
@@ -162,12 +163,12 @@ fn time_of_pairs<R: Wait + Clock, M: LotMutex>(
     let thread_data = lot.thread_data(rt, alloc).ok();
     barrier.wait(rt);
     let mut thread_data = thread_data?;
-    let start = Instant::now(rt).ok()?;
+    let start = Instant::now(rt).ok();
     let locked = lock_and_unlock(rt, lot, mutex, pairs, &mut thread_data);
-    let end = Instant::now(rt).ok()?;
+    let end = Instant::now(rt).ok();
     lot.retire(rt, thread_data);
     if locked == pairs {
-        Some(Span { start, end })
+        Span::between(start, end)
     } else {
         None
     }

@@ -1,7 +1,7 @@
 //! The row of many keys in a table of 4,096 buckets.
 
 use crate::cost::{Cost, median_of};
-use crate::waiting::{Lot, LotMember};
+use crate::waiting::{Lot, LotMember, register_all, retire_all};
 use parking_lot_core::{DEFAULT_PARK_TOKEN, DEFAULT_UNPARK_TOKEN, unpark_one};
 use std::alloc::Global;
 use std::sync::Wait;
@@ -18,25 +18,19 @@ const RUNS: usize = 7;
 /// registered. The cost is that of one park with its unpark.
 pub fn many_keys<R: Wait + Clock>(rt: &R, alloc: Global) -> Option<Cost> {
     let lot = Lot::new(alloc, REGISTERED).ok()?;
-    let others = register_others(rt, alloc, &lot)?;
-    let cost = median_of(alloc, RUNS, || cost_of_keys(rt, alloc, &lot));
-    for member in others {
-        member.retire(rt);
-    }
-    cost
+    cost_beside_others(rt, alloc, &lot)
 }
 
-fn register_others<'a, R: Wait>(rt: &R, alloc: Global, lot: &'a Lot) -> Option<Vec<LotMember<'a>>> {
-    let mut others = Vec::with_capacity(alloc, REGISTERED).ok()?;
-    for _ in 1..REGISTERED {
-        others.push(LotMember::register(rt, alloc, lot).ok()?).ok()?;
-    }
-    Some(others)
+fn cost_beside_others<R: Wait + Clock>(rt: &R, alloc: Global, lot: &Lot) -> Option<Cost> {
+    let others = register_all(rt, alloc, lot, REGISTERED - 1)?;
+    let cost = median_of(alloc, RUNS, || cost_of_keys(rt, alloc, lot));
+    retire_all(rt, others);
+    cost
 }
 
 fn cost_of_keys<R: Wait + Clock>(rt: &R, alloc: Global, lot: &Lot) -> Option<Cost> {
     let mut member = LotMember::register(rt, alloc, lot).ok()?;
-    let start = Instant::now(rt).ok()?;
+    let start = Instant::now(rt).ok();
     let unparked = count_unparked(rt, &mut member);
     let cost = Cost::since(rt, start, MANY_KEYS as u64);
     member.retire(rt);

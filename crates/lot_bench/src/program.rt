@@ -1,7 +1,7 @@
 //! The commands of the program.
 
 use crate::cost::Cost;
-use crate::row::{ROWS, Row, row_named};
+use crate::row::{Row, row_named, rows};
 use crate::{
     alone, crowd, fair, locked, locking, many_keys, sizes, synced, thousand, together, turns,
 };
@@ -49,7 +49,7 @@ fn chosen_command<R: Env + AllocGlobal>(rt: &R) -> Option<Command> {
 }
 
 fn print_names<R: Print>(rt: &R) -> io::Result<()> {
-    for (name, _) in ROWS {
+    for (name, _) in rows() {
         println!(rt; "{name}")?;
     }
     Ok(())
@@ -102,7 +102,7 @@ fn measure<R: AllocGlobal + Threads + Wait + Clock + Copy + Send + Sync + 'stati
         Row::CondvarTurns => turns::turns_by_condvar(rt, alloc),
         Row::ManyKeys => many_keys::many_keys(rt, alloc),
         Row::ThousandThreads => thousand::thousand_threads(rt, alloc),
-        Row::RegisterAll => sizes::register_all(rt, alloc),
+        Row::RegisterAll => sizes::register_and_retire(rt, alloc),
         Row::Trim => sizes::trim(rt, alloc),
         Row::TrimExclusive => sizes::trim_exclusive(rt, alloc),
         Row::UnparkInSmallTable => sizes::unpark_in_small_table(rt, alloc),

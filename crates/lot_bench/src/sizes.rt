@@ -2,7 +2,7 @@
 
 use crate::cost::{Cost, median_of};
 use crate::crowd;
-use crate::waiting::{Lot, LotMember};
+use crate::waiting::{Lot, register_all, retire_all};
 use parking_lot_core::lot::Lot as ExclusiveLot;
 use parking_lot_core::table::MAX_THREADS;
 use parking_lot_core::{DEFAULT_PARK_TOKEN, DEFAULT_UNPARK_TOKEN, unpark_one};
@@ -24,15 +24,15 @@ const CALLS: usize = 1_000_000;
 const RUNS: usize = 7;
 
 /// Registers as many threads as a lot can have, and retires them. The cost is that of one thread.
-pub fn register_all<R: Wait + Clock>(rt: &R, alloc: Global) -> Option<Cost> {
+pub fn register_and_retire<R: Wait + Clock>(rt: &R, alloc: Global) -> Option<Cost> {
     let lot = Lot::new(alloc, MAX_THREADS).ok()?;
     median_of(alloc, RUNS, || cost_of_threads(rt, alloc, &lot))
 }
 
 fn cost_of_threads<R: Wait + Clock>(rt: &R, alloc: Global, lot: &Lot) -> Option<Cost> {
-    let start = Instant::now(rt).ok()?;
-    let registered = register(rt, alloc, lot, MAX_THREADS)?;
-    retire(rt, registered);
+    let start = Instant::now(rt).ok();
+    let registered = register_all(rt, alloc, lot, MAX_THREADS)?;
+    retire_all(rt, registered);
     Cost::since(rt, start, MAX_THREADS as u64)
 }
 
@@ -50,9 +50,9 @@ pub fn cost_of_trims<R: Wait + Clock>(rt: &R, alloc: Global, lot: &Lot) -> Optio
 }
 
 fn cost_of_trim<R: Wait + Clock>(rt: &R, alloc: Global, lot: &Lot) -> Option<Cost> {
-    let registered = register(rt, alloc, lot, MANY - WAITERS)?;
-    retire(rt, registered);
-    let start = Instant::now(rt).ok()?;
+    let registered = register_all(rt, alloc, lot, MANY - WAITERS)?;
+    retire_all(rt, registered);
+    let start = Instant::now(rt).ok();
     lot.trim(rt);
     Cost::since(rt, start, 1)
 }
@@ -65,7 +65,7 @@ pub fn trim_exclusive<R: Clock>(rt: &R, alloc: Global) -> Option<Cost> {
 fn cost_of_exclusive_trim<R: Clock>(rt: &R, alloc: Global) -> Option<Cost> {
     let mut lot = ExclusiveLot::new(alloc, MANY).ok()?;
     fill(&mut lot)?;
-    let start = Instant::now(rt).ok()?;
+    let start = Instant::now(rt).ok();
     lot.trim().ok()?;
     let cost = Cost::since(rt, start, 1);
     if lot.size() == 16 { cost } else { None }
@@ -95,37 +95,20 @@ pub fn unpark_in_small_table<R: Wait + Clock>(rt: &R, alloc: Global) -> Option<C
 /// The same in a table of 65,536.
 pub fn unpark_in_large_table<R: Wait + Clock>(rt: &R, alloc: Global) -> Option<Cost> {
     let lot = Lot::new(alloc, VERY_MANY).ok()?;
-    let registered = register(rt, alloc, &lot, VERY_MANY)?;
-    let cost = median_of(alloc, RUNS, || cost_of_unparks(rt, &lot));
-    retire(rt, registered);
+    cost_beside_very_many(rt, alloc, &lot)
+}
+
+fn cost_beside_very_many<R: Wait + Clock>(rt: &R, alloc: Global, lot: &Lot) -> Option<Cost> {
+    let registered = register_all(rt, alloc, lot, VERY_MANY)?;
+    let cost = median_of(alloc, RUNS, || cost_of_unparks(rt, lot));
+    retire_all(rt, registered);
     cost
 }
 
 fn cost_of_unparks<R: Wait + Clock>(rt: &R, lot: &Lot) -> Option<Cost> {
-    let start = Instant::now(rt).ok()?;
+    let start = Instant::now(rt).ok();
     for key in 0..CALLS {
         unpark_one(rt, lot, key, |_| DEFAULT_UNPARK_TOKEN);
     }
     Cost::since(rt, start, CALLS as u64)
-}
-
-fn register<'a, R: Wait>(
-    rt: &R,
-    alloc: Global,
-    lot: &'a Lot,
-    threads: usize,
-) -> Option<Vec<LotMember<'a>>> {
-    let mut registered = Vec::with_capacity(alloc, threads).ok()?;
-    for _ in 0..threads {
-        registered
-            .push(LotMember::register(rt, alloc, lot).ok()?)
-            .ok()?;
-    }
-    Some(registered)
-}
-
-fn retire<R: Wait>(rt: &R, registered: Vec<LotMember<'_>>) {
-    for member in registered {
-        member.retire(rt);
-    }
 }

@@ -19,25 +19,54 @@ pub fn thousand_threads<R: Threads + Wait + Clock + Copy + Send + 'static>(
     rt: &R,
     alloc: Global,
 ) -> Option<Cost> {
-    let lot = Arc::new(alloc, Lot::new(alloc, THREADS).ok()?).ok()?;
-    let parked = Arc::new(alloc, AtomicU64::new(0)).ok()?;
-    let start = Instant::now(rt).ok()?;
-    let threads = start_all(rt, alloc, &lot, &parked)?;
-    if !comes_to(&parked, THREADS as u64) || woken(rt, &lot) != THREADS || !join_all(rt, threads) {
-        return None;
+    let crowd = Arc::new(alloc, Crowd::new(alloc)?).ok()?;
+    let start = Instant::now(rt).ok();
+    if come_and_go(rt, alloc, &crowd) {
+        Cost::since(rt, start, THREADS as u64)
+    } else {
+        None
     }
-    Cost::since(rt, start, THREADS as u64)
+}
+
+// What the threads share: the lot, and how many of them have parked.
+#[derive(Drop)]
+struct Crowd {
+    lot: Lot,
+    parked: AtomicU64,
+}
+
+impl Crowd {
+    fn new(alloc: Global) -> Option<Crowd> {
+        Some(Crowd {
+            lot: Lot::new(alloc, THREADS).ok()?,
+            parked: AtomicU64::new(0),
+        })
+    }
+}
+
+// Starts all threads, wakes each once all have parked, and joins them. False says that one of them
+// could not be started, or was not woken.
+fn come_and_go<R: Threads + Wait + Clock + Copy + Send + 'static>(
+    rt: &R,
+    alloc: Global,
+    crowd: &Arc<Crowd, Global>,
+) -> bool {
+    let Some(threads) = start_all(rt, alloc, crowd) else {
+        return false;
+    };
+    comes_to(&crowd.parked, THREADS as u64)
+        && woken(rt, &crowd.lot) == THREADS
+        && join_all(rt, threads)
 }
 
 fn start_all<R: Threads + Wait + Clock + Copy + Send + 'static>(
     rt: &R,
     alloc: Global,
-    lot: &Arc<Lot, Global>,
-    parked: &Arc<AtomicU64, Global>,
+    crowd: &Arc<Crowd, Global>,
 ) -> Option<Vec<JoinHandle<bool>>> {
     let mut threads = Vec::with_capacity(alloc, THREADS).ok()?;
     for key in 0..THREADS {
-        threads.push(start_one(rt, alloc, lot, parked, key)?).ok()?;
+        threads.push(start_one(rt, alloc, crowd, key)?).ok()?;
     }
     Some(threads)
 }
@@ -45,28 +74,20 @@ fn start_all<R: Threads + Wait + Clock + Copy + Send + 'static>(
 fn start_one<R: Threads + Wait + Clock + Copy + Send + 'static>(
     rt: &R,
     alloc: Global,
-    lot: &Arc<Lot, Global>,
-    parked: &Arc<AtomicU64, Global>,
+    crowd: &Arc<Crowd, Global>,
     key: usize,
 ) -> Option<JoinHandle<bool>> {
-    let lot = Arc::try_clone(lot).ok()?;
-    let parked = Arc::try_clone(parked).ok()?;
+    let crowd = Arc::try_clone(crowd).ok()?;
     let runtime = *rt;
     Builder::new()
         .stack_size(STACK_SIZE)
-        .spawn(rt, move || waits(&runtime, alloc, &lot, &parked, key))
+        .spawn(rt, move || waits(&runtime, alloc, &crowd, key))
         .ok()
 }
 
 // Registers and parks, and tells whether it was unparked.
-fn waits<R: Wait + Clock>(
-    rt: &R,
-    alloc: Global,
-    lot: &Lot,
-    parked: &AtomicU64,
-    key: usize,
-) -> bool {
-    let Ok(mut member) = LotMember::register(rt, alloc, lot) else {
+fn waits<R: Wait + Clock>(rt: &R, alloc: Global, crowd: &Crowd, key: usize) -> bool {
+    let Ok(mut member) = LotMember::register(rt, alloc, &crowd.lot) else {
         return false;
     };
     let result = member.park(
@@ -74,7 +95,7 @@ fn waits<R: Wait + Clock>(
         key,
         || true,
         || {
-            parked.fetch_add(1, Ordering::SeqCst);
+            crowd.parked.fetch_add(1, Ordering::SeqCst);
         },
         |_, _| (),
         DEFAULT_PARK_TOKEN,

@@ -20,6 +20,16 @@ pub struct Span {
     pub end: Instant,
 }
 
+impl Span {
+    /// The span between two readings of the clock, if both could be had.
+    pub fn between(start: Option<Instant>, end: Option<Instant>) -> Option<Span> {
+        Some(Span {
+            start: start?,
+            end: end?,
+        })
+    }
+}
+
 /// The time from the first start to the last end. There is none of no spans.
 pub fn whole_time(spans: &[Option<Span>]) -> Option<Duration> {
     let Span { mut start, mut end } = (*spans.first()?)?;
@@ -66,11 +76,11 @@ fn time_of_unparks<R: Wait + Clock>(
     key: usize,
 ) -> Option<Span> {
     barrier.wait(rt);
-    let start = Instant::now(rt).ok()?;
+    let start = Instant::now(rt).ok();
     let unparked = unparked_in_vain(rt, lot, key, CALLS);
-    let end = Instant::now(rt).ok()?;
+    let end = Instant::now(rt).ok();
     if unparked == 0 {
-        Some(Span { start, end })
+        Span::between(start, end)
     } else {
         None
     }

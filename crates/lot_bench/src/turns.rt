@@ -30,15 +30,25 @@ pub fn turns_strict<R: Threads + Wait + Clock + Sync>(rt: &R, alloc: Global) -> 
     median_of(alloc, RUNS, || cost_of_strict(rt, alloc, &lot))
 }
 
+// Both sides, registered.
+fn register_two<'a, R: Wait>(
+    rt: &R,
+    alloc: Global,
+    lot: &'a Lot,
+) -> Option<(LotMember<'a>, LotMember<'a>)> {
+    let first = LotMember::register(rt, alloc, lot).ok()?;
+    let second = LotMember::register(rt, alloc, lot).ok()?;
+    Some((first, second))
+}
+
 fn cost_of_strict<R: Threads + Wait + Clock + Sync>(
     rt: &R,
     alloc: Global,
     lot: &Lot,
 ) -> Option<Cost> {
-    let first = LotMember::register(rt, alloc, lot).ok()?;
-    let second = LotMember::register(rt, alloc, lot).ok()?;
+    let (first, second) = register_two(rt, alloc, lot)?;
     let gave_up = AtomicBool::new(false);
-    let start = Instant::now(rt).ok()?;
+    let start = Instant::now(rt).ok();
     let (led, followed) = thread::join(
         rt,
         || leads(rt, first, &gave_up),
@@ -122,10 +132,9 @@ fn cost_by_word<R: Threads + Wait + Clock + Sync>(
     alloc: Global,
     lot: &Lot,
 ) -> Option<Cost> {
-    let first = LotMember::register(rt, alloc, lot).ok()?;
-    let second = LotMember::register(rt, alloc, lot).ok()?;
+    let (first, second) = register_two(rt, alloc, lot)?;
     let turn = AtomicU64::new(0);
-    let start = Instant::now(rt).ok()?;
+    let start = Instant::now(rt).ok();
     let (one, other) = thread::join(
         rt,
         || takes_turns(rt, first, &turn, Side::FIRST),
@@ -235,14 +244,22 @@ fn cost_by_condvar<R: Threads + Wait + Clock + Sync>(
     lot: &Lot,
 ) -> Option<Cost> {
     let mutex = Mutex::new(alloc, KEYS[0], Tally::new()).ok()?;
+    cost_with_mutex(rt, alloc, lot, &mutex)
+}
+
+fn cost_with_mutex<R: Threads + Wait + Clock + Sync>(
+    rt: &R,
+    alloc: Global,
+    lot: &Lot,
+    mutex: &Mutex<Tally>,
+) -> Option<Cost> {
     let condvar = Condvar::new(KEYS[1]);
-    let first = LotMember::register(rt, alloc, lot).ok()?;
-    let second = LotMember::register(rt, alloc, lot).ok()?;
-    let start = Instant::now(rt).ok()?;
+    let (first, second) = register_two(rt, alloc, lot)?;
+    let start = Instant::now(rt).ok();
     let (one, other) = thread::join(
         rt,
-        || counts_by_turns(rt, first, &mutex, &condvar, 0),
-        || counts_by_turns(rt, second, &mutex, &condvar, 1),
+        || counts_by_turns(rt, first, mutex, &condvar, 0),
+        || counts_by_turns(rt, second, mutex, &condvar, 1),
     );
     if one.max(other) == 2 * WORD_ROUNDS {
         Cost::since(rt, start, WORD_ROUNDS)

@@ -1,6 +1,8 @@
 //! What the rows have in common: the lot, its keys, and waiting by turns.
 
 use parking_lot_core::{Member, ParkingLot, WordParker};
+use std::alloc::Global;
+use std::sync::Wait;
 use std::sync::atomic::{AtomicU64, Ordering};
 use std::thread;
 
@@ -15,6 +17,30 @@ pub const KEYS: [usize; 4] = [1, 2, 3, 4];
 
 /// How often a loop that waits by turns looks before it has failed.
 pub const TURNS: usize = 10_000_000;
+
+/// Registers so many threads. `None` says that they could not be had.
+pub fn register_all<'a, R: Wait>(
+    rt: &R,
+    alloc: Global,
+    lot: &'a Lot,
+    threads: usize,
+) -> Option<Vec<LotMember<'a>>> {
+    let mut registered = Vec::with_capacity(alloc, threads).ok()?;
+    for _ in 0..threads {
+        let Ok(member) = LotMember::register(rt, alloc, lot) else {
+            return None;
+        };
+        registered.push(member).ok()?;
+    }
+    Some(registered)
+}
+
+/// Ends the registrations of these threads.
+pub fn retire_all<R: Wait>(rt: &R, registered: Vec<LotMember<'_>>) {
+    for member in registered {
+        member.retire(rt);
+    }
+}
 
 /// Waits by turns until the word has this value. False says that it never had.
 pub fn comes_to(word: &AtomicU64, value: u64) -> bool {
