@@ -21,6 +21,9 @@ const KEY: usize = 7;
 
 type Lot = ParkingLot<WordParker>;
 
+// How many stand on the key after each of two releases. `None` says that there was a third permit.
+type Told = Option<(usize, usize)>;
+
 // Parks on the key, and calls the closure before it sleeps.
 fn park_and<R: Wait + Clock, B: FnOnce()>(rt: &R, member: &mut Member<'_, WordParker>, then: B)
     requires { B.pre then }
@@ -48,15 +51,14 @@ fn come_in_vain<R: Wait + Clock + Abort>(
     false
 }
 
-// Takes both permits of the semaphore and releases them, and tells how many stand on the key after
-// each release. `None` says that there was a third permit.
+// Takes both permits of the semaphore and releases them.
 fn release_both<R: Wait + Clock + Abort>(
     rt: &R,
     alloc: Global,
     semaphore: &Semaphore,
     holder: &mut Member<'_, WordParker>,
     other: &mut Member<'_, WordParker>,
-) -> Option<(usize, usize)> {
+) -> Told {
     let one = semaphore.acquire(rt, holder);
     let two = semaphore.acquire(rt, holder);
     let in_vain = come_in_vain(rt, semaphore, other);
@@ -77,7 +79,7 @@ fn release_and_unpark<R: Wait + Clock + Abort>(
     alloc: Global,
     lot: &Lot,
     semaphore: &Semaphore,
-) -> Option<(usize, usize)> {
+) -> Told {
     let mut holder = register(rt, alloc, lot);
     let mut other = register(rt, alloc, lot);
     let told = release_both(rt, alloc, semaphore, &mut holder, &mut other);
@@ -85,36 +87,23 @@ fn release_and_unpark<R: Wait + Clock + Abort>(
     told
 }
 
-// The same, while a further member stands on the key.
-fn release_beside_one<R: Wait + Clock + Abort>(
+// What the closure tells, which is called while a further member stands on the key.
+fn beside<R: Wait + Clock + Abort, F: FnOnce() -> Told>(
     rt: &R,
     alloc: Global,
     lot: &Lot,
-    semaphore: &Semaphore,
-) -> Option<(usize, usize)> {
+    then: F,
+) -> Told
+    requires { F.pre then }
+{
     let mut member = register(rt, alloc, lot);
     let told = Cell::new(None);
     park_and(
         rt,
         &mut member,
-        || told.set(release_and_unpark(rt, alloc, lot, semaphore)),
-    );
-    told.get()
-}
-
-// The same, while two do.
-fn release_beside_two<R: Wait + Clock + Abort>(
-    rt: &R,
-    alloc: Global,
-    lot: &Lot,
-    semaphore: &Semaphore,
-) -> Option<(usize, usize)> {
-    let mut member = register(rt, alloc, lot);
-    let told = Cell::new(None);
-    park_and(
-        rt,
-        &mut member,
-        || told.set(release_beside_one(rt, alloc, lot, semaphore)),
+        ||
+            requires { F.pre then }
+        { told.set(then()) },
     );
     told.get()
 }
@@ -125,6 +114,10 @@ fn release_beside_two<R: Wait + Clock + Abort>(
 fn each_of_two_releases_wakes_a_thread_before_the_first_has_gone_on(rt: HostRuntime) {
     let lot = threaded_lot(&rt, rt.alloc(), 4);
     let semaphore = Semaphore::new(rt.alloc(), KEY, 2).expect(&rt, "a semaphore");
-    let told = release_beside_two(&rt, rt.alloc(), &lot, &semaphore);
+    let told = beside(&rt, rt.alloc(), &lot, || {
+        beside(&rt, rt.alloc(), &lot, || {
+            release_and_unpark(&rt, rt.alloc(), &lot, &semaphore)
+        })
+    });
     expect_equal(&rt, told, Some((1, 0)));
 }

@@ -2,18 +2,16 @@
 
 use crate::clock::{from_now, is_past};
 use crate::expect_equal;
+use crate::lots::{register, register_all, threaded_lot};
 use lot_sync::fits::Fits;
-use parking_lot_core::{
-    LotError, Member, ParkingLot, ThreadParker, ThreadParkerT, WordParker, YieldParker,
-};
+use parking_lot_core::{Member, ParkingLot, ThreadParker, ThreadParkerT, WordParker, YieldParker};
 use std::alloc::Global;
 use std::process::Abort;
 use std::sync::Wait;
-use std::test::Fail;
 use std::thread;
 use std::thread::Threads;
 use std::time::Clock;
-use uses::thread_pool::{ThreadPool, do_jobs};
+use uses::thread_pool::{Done, ThreadPool, do_jobs};
 
 // Of the mutex, of workers without a job, and of jobs without room.
 const KEYS: [usize; 3] = [7, 8, 9];
@@ -51,53 +49,59 @@ impl<P: ThreadParkerT> Shared<P> {
     // With room for one job in each.
     fn new<R: Abort>(rt: &R, alloc: Global) -> Shared<P> {
         Shared {
-            lot: ParkingLot::<P>::new(alloc, WORKERS).expect(rt, "a lot"),
+            lot: threaded_lot(rt, alloc, WORKERS),
             pool: ThreadPool::new(alloc, KEYS, 1).expect(rt, "a pool"),
             other: ThreadPool::new(alloc, OTHER_KEYS, 1).expect(rt, "a pool"),
         }
     }
 
     fn enter<R: Wait + Abort>(&self, rt: &R, alloc: Global) -> Member<'_, P> {
-        Member::register(rt, alloc, &self.lot).expect(rt, "a number")
+        register(rt, alloc, &self.lot)
     }
 }
 
-// What four workers give for the numbers below 500, in the order of their places: what came for one
-// place is added up.
-fn sums_by_place<P, R>(rt: &R, alloc: Global) -> Result<Vec<u64>, LotError>
+// The numbers below 500.
+fn numbers<R: Abort>(rt: &R, alloc: Global) -> Vec<u64> {
+    let mut numbers = Vec::new(alloc);
+    for number in 0..JOBS {
+        numbers.push(number as u64).expect(rt, "memory");
+    }
+    numbers
+}
+
+// What four workers give for the numbers below 500: twice the number and one more.
+fn done_by_four<P, R>(rt: &R, alloc: Global) -> Vec<Done<u64>>
 where
     P: ThreadParkerT + Send + Sync,
     R: Threads + Wait + Clock + Abort + Sync,
 {
-    let lot = ParkingLot::<P>::new(alloc, WORKERS + 1)?;
-    let pool = ThreadPool::new(alloc, KEYS, 3)?;
-    let mut member = Member::register(rt, alloc, &lot)?;
-    let mut workers = Vec::new(alloc);
-    for _ in 0..WORKERS {
-        workers.push(Member::register(rt, alloc, &lot)?)?;
-    }
+    let lot = threaded_lot::<P, R>(rt, alloc, WORKERS + 1);
+    let pool = ThreadPool::new(alloc, KEYS, 3).expect(rt, "a pool");
+    let mut member = register(rt, alloc, &lot);
+    let workers = register_all(rt, alloc, &lot, WORKERS);
     assert!(rt; !workers.is_empty(), "workers");
-    let mut numbers = Vec::new(alloc);
-    for number in 0..JOBS {
-        numbers.push(number as u64)?;
-    }
-    let doubled_and_one = |number: &u64| number.wrapping_mul(2).wrapping_add(1);
-    let done = do_jobs(
+    let double_and_one = |number: &u64| number.wrapping_mul(2).wrapping_add(1);
+    do_jobs(
         rt,
         alloc,
         &pool,
         &mut member,
         workers,
-        &numbers,
-        &doubled_and_one,
-    )?;
-    let mut sums = vec![in alloc; 0u64; JOBS]?;
-    for each in &done {
+        &numbers(rt, alloc),
+        &double_and_one,
+    )
+    .expect(rt, "memory")
+}
+
+// In the order of the places: what came for one place is added up.
+fn sums_by_place<R: Abort>(rt: &R, alloc: Global, done: &[Done<u64>]) -> Vec<u64> {
+    let mut sums = vec![in alloc; 0u64; JOBS].expect(rt, "memory");
+    for each in done {
         if let Some(sum) = sums.get_mut(each.place) {
             *sum = sum.wrapping_add(each.output);
         }
     }
-    Ok(sums)
+    sums
 }
 
 fn all_is_done<P, R>(rt: &R, alloc: Global)
@@ -105,9 +109,9 @@ where
     P: ThreadParkerT + Send + Sync,
     R: Threads + Wait + Clock + Abort + Sync,
 {
-    let sums = sums_by_place::<P, R>(rt, alloc).expect(rt, "memory");
+    let done = done_by_four::<P, R>(rt, alloc);
     let mut odd: u64 = 1;
-    for sum in &sums {
+    for sum in &sums_by_place(rt, alloc, &done) {
         expect_equal(rt, *sum, odd);
         odd = odd.wrapping_add(2);
     }
@@ -122,25 +126,33 @@ fn each_job_is_done_once_and_has_its_place(rt: HostRuntime) {
     all_is_done::<YieldParker, _>(&rt, rt.alloc());
 }
 
+// Submits the jobs 1 to 3 and closes the pool, which refuses the job 4 then.
+fn submit_three_and_close<P: ThreadParkerT, R: Wait + Clock + Abort>(
+    rt: &R,
+    pool: &ThreadPool<Job>,
+    member: &mut Member<'_, P>,
+) {
+    for number in 1..=3 {
+        expect_equal(rt, pool.submit(rt, member, Job { number }), Ok(()));
+    }
+    pool.close(rt, member);
+    let refused = pool.submit(rt, member, Job { number: 4 });
+    expect_equal(rt, refused, Err(Job { number: 4 }));
+}
+
 // It refuses a `close` that drops the jobs that wait, a `take` in another order, and a closed pool
 // that still takes a job.
 #[test]
-fn a_closed_pool_gives_what_is_left_and_takes_no_more(rt: HostRuntime) -> Result<(), Fail> {
-    let lot = ParkingLot::<WordParker>::new(rt.alloc(), 1)?;
-    let pool = ThreadPool::new(rt.alloc(), KEYS, 3)?;
-    let mut member = Member::register(&rt, rt.alloc(), &lot)?;
-    for number in 1..=3 {
-        expect_equal(&rt, pool.submit(&rt, &mut member, Job { number }), Ok(()));
-    }
-    pool.close(&rt, &mut member);
-    let refused = pool.submit(&rt, &mut member, Job { number: 4 });
-    expect_equal(&rt, refused, Err(Job { number: 4 }));
+fn a_closed_pool_gives_what_is_left_and_takes_no_more(rt: HostRuntime) {
+    let lot = threaded_lot::<WordParker, _>(&rt, rt.alloc(), 1);
+    let pool = ThreadPool::new(rt.alloc(), KEYS, 3).expect(&rt, "a pool");
+    let mut member = register(&rt, rt.alloc(), &lot);
+    submit_three_and_close(&rt, &pool, &mut member);
     for number in 1..=3 {
         let taken = pool.take(&rt, &mut member);
         expect_equal(&rt, taken, Some(Job { number }));
     }
     expect_equal(&rt, pool.take(&rt, &mut member), None);
-    Ok(())
 }
 
 // Closes the pool once two threads sleep on the key.

@@ -1,14 +1,14 @@
 //! Tests of the semaphore among threads.
 
 use crate::expect_equal;
-use crate::lots::register_all;
+use crate::lots::{register, register_all, threaded_lot};
 use parking_lot_core::{
-    DEFAULT_UNPARK_TOKEN, LotError, Member, ParkingLot, ThreadParkerT, WordParker, unpark_one,
+    DEFAULT_UNPARK_TOKEN, Member, ParkingLot, ThreadParkerT, WordParker, unpark_one,
 };
-use std::alloc::{AllocError, Global};
+use std::alloc::Global;
+use std::process::Abort;
 use std::sync::Wait;
 use std::sync::atomic::{AtomicUsize, Ordering};
-use std::test::Fail;
 use std::thread;
 use std::thread::Threads;
 use std::time::Clock;
@@ -75,42 +75,38 @@ fn visit_in_rounds<P: ThreadParkerT, R: Wait + Clock>(
 }
 
 // Visits in rounds by a thread for each member, and tells whether there was always room.
-fn visit_together<P, R>(
-    rt: &R,
-    shared: &Shared<P>,
-    members: Vec<Member<'_, P>>,
-) -> Result<bool, AllocError>
+fn visit_together<P, R>(rt: &R, shared: &Shared<P>, members: Vec<Member<'_, P>>) -> bool
 where
     P: ThreadParkerT + Send + Sync,
-    R: Threads + Wait + Clock + Sync,
+    R: Threads + Wait + Clock + Abort + Sync,
 {
-    let visits = thread::map_vec(rt, members, &|member| visit_in_rounds(rt, shared, member))?;
-    Ok(visits.into_iter().all(|always_room| always_room))
+    let visits = thread::map_vec(rt, members, &|member| visit_in_rounds(rt, shared, member));
+    let visits = visits.expect(rt, "threads");
+    visits.into_iter().all(|always_room| always_room)
 }
 
 // How many permits are free, of which it takes one.
-fn free_permits<P: ThreadParkerT, R: Wait + Clock>(
+fn free_permits<P: ThreadParkerT, R: Wait + Clock + Abort>(
     rt: &R,
     alloc: Global,
     shared: &Shared<P>,
-) -> Result<usize, LotError> {
-    let mut member = Member::register(rt, alloc, &shared.lot)?;
-    Ok(shared.semaphore.acquire(rt, &mut member))
+) -> usize {
+    let mut member = register(rt, alloc, &shared.lot);
+    shared.semaphore.acquire(rt, &mut member)
 }
 
 // It refuses an `acquire` that takes no permit, and a `release` that wakes nobody.
 #[test]
-fn as_many_threads_are_inside_as_there_are_permits(rt: HostRuntime) -> Result<(), Fail> {
-    let lot = ParkingLot::<WordParker>::new(rt.alloc(), THREADS + 1)?;
+fn as_many_threads_are_inside_as_there_are_permits(rt: HostRuntime) {
+    let lot = threaded_lot::<WordParker, _>(&rt, rt.alloc(), THREADS + 1);
     let shared = Shared::new(lot, PERMITS);
     let members = register_all(&rt, rt.alloc(), &shared.lot, THREADS);
-    assert!(rt; visit_together(&rt, &shared, members)?);
+    expect_equal(&rt, visit_together(&rt, &shared, members), true);
     expect_equal(&rt, shared.came.load(Ordering::SeqCst), THREADS * ROUNDS);
 
     // All permits are free again.
-    let free = free_permits(&rt, rt.alloc(), &shared)?;
+    let free = free_permits(&rt, rt.alloc(), &shared);
     expect_equal(&rt, free, PERMITS);
-    Ok(())
 }
 
 // Waits until so many threads wait for a permit, and frees as many. Answers how many of these told
@@ -146,35 +142,36 @@ fn release_often<P: ThreadParkerT, R: Wait>(rt: &R, shared: &Shared<P>, permits:
 }
 
 // Frees permits for so many threads that wait, and answers how many releases told of one.
-fn releases_told<R: Threads + Wait + Clock + Sync>(
+fn releases_told<R: Threads + Wait + Clock + Abort + Sync>(
     rt: &R,
     alloc: Global,
     waiters: usize,
-) -> Result<Option<usize>, LotError> {
-    let lot = ParkingLot::<WordParker>::new(alloc, waiters)?;
+) -> Option<usize> {
+    let lot = threaded_lot::<WordParker, R>(rt, alloc, waiters);
     let shared = Shared::new(lot, 0);
     let play = |index: usize| {
         if index == waiters {
             return release_for_waiters(rt, alloc, &shared, waiters);
         }
-        free_permits(rt, alloc, &shared).ok()
+        Some(free_permits(rt, alloc, &shared))
     };
-    let told = thread::map_indices(rt, alloc, waiters + 1, &play)?;
-    Ok(told.last().copied().flatten())
+    let told = thread::map_indices(rt, alloc, waiters.saturating_add(1), &play).expect(
+        rt, "threads",
+    );
+    told.last().copied().flatten()
 }
 
 // It refuses a `release` that tells otherwise whether a thread waited, and a second one that wakes
 // nobody while the first permit is free still.
 #[test]
-fn each_release_wakes_a_thread_that_waits(rt: HostRuntime) -> Result<(), Fail> {
+fn each_release_wakes_a_thread_that_waits(rt: HostRuntime) {
     for waiters in [1, 2, 3] {
-        let told = releases_told(&rt, rt.alloc(), waiters)?;
+        let told = releases_told(&rt, rt.alloc(), waiters);
         expect_equal(&rt, told, Some(waiters));
     }
-    let lot = ParkingLot::<WordParker>::new(rt.alloc(), 1)?;
+    let lot = threaded_lot::<WordParker, _>(&rt, rt.alloc(), 1);
     let semaphore = ThreadSemaphore::new(KEY, 0);
     expect_equal(&rt, semaphore.release(&rt, &lot), false);
-    Ok(())
 }
 
 // Frees a permit for the other thread and takes one that it frees, by turns.
@@ -193,16 +190,15 @@ fn exchange<P: ThreadParkerT, R: Wait + Clock>(
 // It refuses a `release` that looks for a waiter before the permit is free, and an `acquire` that
 // looks for a permit before it stands in the queue: a thread sleeps then while a permit is free.
 #[test]
-fn two_threads_free_permits_for_each_other(rt: HostRuntime) -> Result<(), Fail> {
-    let lot = ParkingLot::<WordParker>::new(rt.alloc(), 2)?;
+fn two_threads_free_permits_for_each_other(rt: HostRuntime) {
+    let lot = threaded_lot::<WordParker, _>(&rt, rt.alloc(), 2);
     let one = ThreadSemaphore::new(KEY, 0);
     let other = ThreadSemaphore::new(OTHER_KEY, 0);
-    let first = Member::register(&rt, rt.alloc(), &lot)?;
-    let second = Member::register(&rt, rt.alloc(), &lot)?;
+    let first = register(&rt, rt.alloc(), &lot);
+    let second = register(&rt, rt.alloc(), &lot);
     thread::join(
         &rt,
         || exchange(&rt, first, &one, &other),
         || exchange(&rt, second, &other, &one),
     );
-    Ok(())
 }
