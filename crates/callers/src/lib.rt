@@ -4,7 +4,6 @@
 pub mod answer_text;
 pub mod count_by_four;
 pub mod hand_back;
-pub mod interleave;
 pub mod let_expire;
 pub mod mutex_accounts;
 pub mod open;

@@ -9,7 +9,8 @@ use lot_exclusive::lot::{Lot, Status};
 
 /// Lets a thread go on that was unparked, and tells the number in its token.
 pub fn resumed(lot: &mut Lot, number: usize) -> Result<usize, Misfit>
-    ensures { IfOk result (λ _. machine lot.new ≡ with_status (machine lot.old) number Status.Running) }
+    ensures { IfOk result (λ _.
+        machine lot.new ≡ with_status (machine lot.old) number Status.Running) }
 {
     let token = lot.give_back(number)?;
     Ok(token.0)

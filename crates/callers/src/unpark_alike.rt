@@ -14,8 +14,8 @@ pub fn unpark_alike(lot: &mut Lot, key: usize, wanted: ParkToken) -> UnparkResul
     ensures { let waiters = (machine lot.old).lists key in record {
       decisions : List FilterOp;
       answer : result ≡ result_of (split_filter decisions waiters);
-      after : machine lot.new
-          ≡ after_unpark (machine lot.old) key (split_filter decisions waiters) DEFAULT_UNPARK_TOKEN;
+      after : machine lot.new ≡ after_unpark (machine lot.old) key
+          (split_filter decisions waiters) DEFAULT_UNPARK_TOKEN;
     } }
 {
     lot.unpark_chosen(
