@@ -1,6 +1,6 @@
 //! The lower modules of a parking lot: tokens and results, queues of waiting threads, parkers with
-//! the slots that hand a thread its node back, and the buckets of the hash table. It hands on the
-//! word lock and the spinning of the crate below.
+//! the slots that hand a thread its node back, and the buckets of the hash table. It re-exports
+//! the word lock and the spinning of the crate below.
 #![tactic(auto)]
 
 pub mod bucket;

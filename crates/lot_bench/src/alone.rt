@@ -3,7 +3,7 @@
 use crate::cost::{Cost, median_of};
 use crate::waiting::{KEYS, Lot, LotMember};
 use lot_sync::once::Once;
-use parking_lot_core::{DEFAULT_PARK_TOKEN, DEFAULT_UNPARK_TOKEN, ParkResult, unpark_one};
+use lot_threads::{DEFAULT_PARK_TOKEN, DEFAULT_UNPARK_TOKEN, ParkResult, unpark_one};
 use std::alloc::Global;
 use std::sync::Wait;
 use std::sync::atomic::{AtomicBool, Ordering};

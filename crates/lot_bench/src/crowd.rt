@@ -3,7 +3,7 @@
 use crate::cost::{Cost, median};
 use crate::sizes;
 use crate::waiting::{KEYS, Lot, LotMember, comes_to};
-use parking_lot_core::{
+use lot_threads::{
     DEFAULT_PARK_TOKEN, DEFAULT_UNPARK_TOKEN, ParkResult, RequeueOp, unpark_all, unpark_requeue,
 };
 use std::alloc::Global;

@@ -1,13 +1,13 @@
 //! The rows of the fair mutex and its condition variable.
 
-ghost use Rattle.parking_lot_core.specs.Members.{IsDataOf};
+ghost use Rattle.lot_threads.specs.Members.{IsDataOf};
 
 use crate::cost::{Cost, median};
 use crate::crowd::{WAITERS, all_true};
 use crate::locking::LotMutex;
 use crate::waiting::{KEYS, Lot, comes_to};
-use lot_locks::fair::{FairCondvar, FairMutex};
-use parking_lot_core::ThreadData;
+use lot_sync::{FairCondvar, FairMutex};
+use lot_threads::ThreadData;
 use std::alloc::Global;
 use std::sync::Wait;
 use std::sync::atomic::{AtomicBool, AtomicU64, Ordering};

@@ -1,13 +1,13 @@
 //! The rows of mutexes whose threads wait in a lot.
 
-ghost use Rattle.parking_lot_core.specs.Members.{IsDataOf};
+ghost use Rattle.lot_threads.specs.Members.{IsDataOf};
 
 use crate::cost::{Cost, median_of};
 use crate::together::{Span, whole_time};
 use crate::waiting::{KEYS, Lot};
 use crate::word_mutex::WordMutex;
-use lot_locks::fair::FairMutex;
-use parking_lot_core::ThreadData;
+use lot_sync::fair_mutex::FairMutex;
+use lot_threads::ThreadData;
 use std::alloc::Global;
 use std::sync::atomic::{AtomicU64, Ordering};
 use std::sync::{Barrier, Wait};

@@ -2,7 +2,7 @@
 
 use crate::cost::{Cost, median_of};
 use crate::waiting::{Lot, LotMember, register_all, retire_all};
-use parking_lot_core::{DEFAULT_PARK_TOKEN, DEFAULT_UNPARK_TOKEN, unpark_one};
+use lot_threads::{DEFAULT_PARK_TOKEN, DEFAULT_UNPARK_TOKEN, unpark_one};
 use std::alloc::Global;
 use std::sync::Wait;
 use std::time::{Clock, Instant};

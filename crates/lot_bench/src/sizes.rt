@@ -3,9 +3,9 @@
 use crate::cost::{Cost, median_of};
 use crate::crowd;
 use crate::waiting::{Lot, register_all, retire_all};
-use parking_lot_core::lot::Lot as ExclusiveLot;
-use parking_lot_core::table::MAX_THREADS;
-use parking_lot_core::{DEFAULT_PARK_TOKEN, DEFAULT_UNPARK_TOKEN, unpark_one};
+use lot_simulator::lot::Lot as ExclusiveLot;
+use lot_simulator::table::MAX_THREADS;
+use lot_threads::{DEFAULT_PARK_TOKEN, DEFAULT_UNPARK_TOKEN, unpark_one};
 use std::alloc::Global;
 use std::sync::Wait;
 use std::thread::Threads;

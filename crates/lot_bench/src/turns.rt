@@ -4,9 +4,7 @@ use crate::cost::{Cost, median_of};
 use crate::locked::Tally;
 use crate::waiting::{KEYS, Lot, LotMember, TURNS};
 use lot_sync::mutex::{Condvar, Mutex};
-use parking_lot_core::{
-    DEFAULT_PARK_TOKEN, DEFAULT_UNPARK_TOKEN, ParkResult, unpark_all, unpark_one,
-};
+use lot_threads::{DEFAULT_PARK_TOKEN, DEFAULT_UNPARK_TOKEN, ParkResult, unpark_all, unpark_one};
 use std::alloc::Global;
 use std::sync::Wait;
 use std::sync::atomic::{AtomicBool, AtomicU64, Ordering};

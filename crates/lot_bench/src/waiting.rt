@@ -1,6 +1,6 @@
 //! What the rows have in common: the lot, its keys, and waiting by turns.
 
-use parking_lot_core::{Member, ParkingLot, WordParker};
+use lot_threads::{Member, ParkingLot, WordParker};
 use std::alloc::Global;
 use std::sync::Wait;
 use std::sync::atomic::{AtomicU64, Ordering};

@@ -1,10 +1,10 @@
 //! A mutex of one word, whose threads wait in a lot.
 
-ghost use Rattle.parking_lot_core.specs.Members.{IsDataOf};
+ghost use Rattle.lot_threads.specs.Members.{IsDataOf};
 
 use crate::locking::LotMutex;
 use crate::waiting::{KEYS, Lot, TURNS};
-use parking_lot_core::{DEFAULT_PARK_TOKEN, DEFAULT_UNPARK_TOKEN, ThreadData, park, unpark_one};
+use lot_threads::{DEFAULT_PARK_TOKEN, DEFAULT_UNPARK_TOKEN, ThreadData, park, unpark_one};
 use std::sync::Wait;
 use std::sync::atomic::{AtomicU64, Ordering};
 use std::time::Clock;

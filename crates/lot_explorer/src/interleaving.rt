@@ -6,9 +6,9 @@ use crate::picture::Picture;
 use crate::state::Queue;
 use crate::words::{first_word, number, text_of};
 use lot_base::token::LotError;
-use lot_exclusive::schedule::{Op, Step};
-use lot_interleaved::interleaved::{FineAnswer, FineLot, FineStep, run_fine};
 use lot_script::script::{Command, write_answer};
+use lot_simulator::interleaved::{FineAnswer, FineLot, FineStep, run_fine};
+use lot_simulator::schedule::{Op, Step};
 use std::alloc::{AllocError, Global};
 use std::mem;
 

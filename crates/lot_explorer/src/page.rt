@@ -1,7 +1,7 @@
 //! Text for whoever sits at the terminal.
 
-use lot_exclusive::schedule::Step;
 use lot_script::script::Cause;
+use lot_simulator::schedule::Step;
 use std::alloc::{AllocError, Global};
 use std::{fmt, io};
 

@@ -7,7 +7,7 @@ use crate::page::Page;
 use crate::state::{Doing, Queue, all_doing, queues_of};
 use lot_base::bucket::place;
 use lot_base::token::{LotError, UnparkToken};
-use lot_exclusive::lot::{Lot, Status};
+use lot_simulator::lot::{Lot, Status};
 use std::alloc::{AllocError, Global};
 
 /// A lot as rows of text.

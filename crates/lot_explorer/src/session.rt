@@ -7,8 +7,8 @@ use crate::picture::Picture;
 use crate::state::{Doing, doing_of, queues_of};
 use crate::words::text_of;
 use lot_base::token::LotError;
-use lot_exclusive::lot::Lot;
 use lot_script::script::{Cause, ScriptedLot};
+use lot_simulator::lot::Lot;
 use std::alloc::{AllocError, Global};
 use std::mem;
 

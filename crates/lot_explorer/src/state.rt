@@ -1,8 +1,8 @@
 //! What is asked of a lot.
 
 use lot_base::token::{LotError, UnparkToken};
-use lot_exclusive::lot::{Lot, Status};
-use lot_exclusive::table::MAX_THREADS;
+use lot_simulator::lot::{Lot, Status};
+use lot_simulator::table::MAX_THREADS;
 use std::alloc::Global;
 use std::fmt;
 

@@ -5,9 +5,9 @@ use Rattle.std.proofs.lemmas.Bool.{eq-eqb, ne_eqb}
 use Rattle.std.proofs.lemmas.List.{map-append}
 use Rattle.std.proofs.lemmas.List.Elements.{filter-append}
 use mathlib.Core.List.{IsPrefix}
-use Rattle.lot_exclusive.specs.Machine.{Machine, new_machine}
-use Rattle.lot_exclusive.specs.Steps.{IsStep}
-use Rattle.lot_exclusive.proofs.RunLemmas.{IsRun-push}
+use Rattle.lot_machine.specs.Machine.{Machine, new_machine}
+use Rattle.lot_machine.specs.Steps.{IsStep}
+use Rattle.lot_machine.proofs.RunLemmas.{IsRun-push}
 use Rattle.lot_history.specs.declared.event.Event.{Event}
 use Rattle.lot_history.specs.History.{LeadsTo, events_by}
 

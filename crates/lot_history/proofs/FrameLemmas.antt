@@ -1,9 +1,9 @@
 -- What a step does with some pieces it does beside any others, and however they are put together.
 use Rattle.std.proofs.Common.{ℕ, List, ◌++◌, refl, ◌∙◌, arith}
-use Rattle.lot_exclusive.specs.declared.schedule.Answer.{Answer}
-use Rattle.lot_exclusive.specs.declared.schedule.Step.{Step}
-use Rattle.lot_exclusive.specs.Machine.{Machine}
-use Rattle.lot_exclusive.proofs.StepLemmas.{IsConsistent-step}
+use Rattle.lot_machine.specs.declared.step.Answer.{Answer}
+use Rattle.lot_machine.specs.declared.step.Step.{Step}
+use Rattle.lot_machine.specs.Machine.{Machine}
+use Rattle.lot_machine.proofs.StepLemmas.{IsConsistent-step}
 use Rattle.lot_history.specs.declared.view.Piece.{Piece}
 use Rattle.lot_history.specs.Moves.{Finds, Reaches, Moves, Regroups}
 use Rattle.lot_history.proofs.MachineLemmas.{max_threads-step}

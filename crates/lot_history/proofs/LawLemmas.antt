@@ -8,30 +8,30 @@ use Rattle.std.proofs.lemmas.List.Elements.{All-nil, All-cons, All-head, All-tai
 use Rattle.lot_base.specs.declared.token.UnparkToken.{UnparkToken}
 use Rattle.lot_base.specs.Waiting.{with_value, has_any}
 use Rattle.lot_base.proofs.ValueLemmas.{with_value-same, with_value-other}
-use Rattle.lot_exclusive.specs.declared.lot.Status.{Status}
-use Rattle.lot_exclusive.specs.declared.lot.Status.TheVariants as status
-use Rattle.lot_exclusive.specs.declared.schedule.Answer.{Answer}
-use Rattle.lot_exclusive.specs.declared.schedule.Answer.TheVariants as answer
-use Rattle.lot_exclusive.specs.declared.schedule.Op.{Op}
-use Rattle.lot_exclusive.specs.declared.schedule.Op.TheVariants.{One, All, Filter, Requeue}
-use Rattle.lot_exclusive.specs.declared.schedule.Step.{Step}
-use Rattle.lot_exclusive.specs.declared.schedule.Step.TheVariants.{Register, Retire, Enter, Unpark, Deadline}
-use Rattle.lot_exclusive.specs.declared.schedule.Step.TheVariants.{Resolve, Return, Acquire, Release, Trim}
-use Rattle.lot_exclusive.specs.Machine.{Machine, IsConsistent, new_machine, entries_of, statuses_with_taken}
-use Rattle.lot_exclusive.specs.Run.{IsRun}
-use Rattle.lot_exclusive.specs.Status.{is_running, awaits_deadline, is_taken}
-use Rattle.lot_exclusive.specs.Steps.{IsRegister, IsUnpark, IsReturn, IsResolve, IsAcquire, IsStep, is_outcome}
-use Rattle.lot_exclusive.specs.Steps.{ends_park}
-use Rattle.lot_exclusive.specs.Totals.{taken_threads_of}
-use Rattle.lot_exclusive.proofs.AnswerLemmas.{IsStep-same_answer}
-use Rattle.lot_exclusive.proofs.StepLemmas.{IsConsistent-new, IsConsistent-step, MatchBool-either, IsTrim-unchanged}
-use Rattle.lot_exclusive.proofs.LawLemmas.{IsRun-fixes, IsStep-fixes, OutcomesAlternate-run}
-use Rattle.lot_exclusive.proofs.TotalLemmas.{IsRun-balances}
+use Rattle.lot_machine.specs.declared.status.Status.{Status}
+use Rattle.lot_machine.specs.declared.status.Status.TheVariants as status
+use Rattle.lot_machine.specs.declared.step.Answer.{Answer}
+use Rattle.lot_machine.specs.declared.step.Answer.TheVariants as answer
+use Rattle.lot_machine.specs.declared.step.Op.{Op}
+use Rattle.lot_machine.specs.declared.step.Op.TheVariants.{One, All, Filter, Requeue}
+use Rattle.lot_machine.specs.declared.step.Step.{Step}
+use Rattle.lot_machine.specs.declared.step.Step.TheVariants.{Register, Retire, Enter, Unpark, Deadline}
+use Rattle.lot_machine.specs.declared.step.Step.TheVariants.{Resolve, Return, Acquire, Release, Trim}
+use Rattle.lot_machine.specs.Machine.{Machine, IsConsistent, new_machine, entries_of, statuses_with_taken}
+use Rattle.lot_machine.specs.Run.{IsRun}
+use Rattle.lot_machine.specs.Status.{is_running, awaits_deadline, is_taken}
+use Rattle.lot_machine.specs.Steps.{IsRegister, IsUnpark, IsReturn, IsResolve, IsAcquire, IsStep, is_outcome}
+use Rattle.lot_machine.specs.Steps.{ends_park}
+use Rattle.lot_machine.specs.Totals.{taken_threads_of}
+use Rattle.lot_machine.proofs.AnswerLemmas.{IsStep-same_answer}
+use Rattle.lot_machine.proofs.StepLemmas.{IsConsistent-new, IsConsistent-step, MatchBool-either, IsTrim-unchanged}
+use Rattle.lot_machine.proofs.LawLemmas.{IsRun-fixes, IsStep-fixes, OutcomesAlternate-run}
+use Rattle.lot_machine.proofs.TotalLemmas.{IsRun-balances}
 use Rattle.lot_history.specs.declared.event.Event.{Event}
 use Rattle.lot_history.specs.History.{steps_of, answers_of}
 use Rattle.lot_history.specs.Laws.{EachLeadsToOneMachine, BeginningsAreHistories, ParksAndOutcomesAlternate}
 use Rattle.lot_history.specs.Laws.{UnparkedThreadsComeBack, TokensComeFromUnparks, Hands}
-use Rattle.lot_exclusive.specs.Operation.{split_of, token_of}
+use Rattle.lot_machine.specs.Operation.{split_of, token_of}
 use Rattle.lot_history.specs.Laws.{HaveNoOutcome, HaveMemory, HistoriesCanBeReplayed}
 use Rattle.lot_history.proofs.RunLemmas.{Runs, parts}
 

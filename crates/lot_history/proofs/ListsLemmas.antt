@@ -6,7 +6,7 @@ use Rattle.std.proofs.lemmas.List.{append-nil}
 use Rattle.lot_base.specs.Place.{place_of}
 use Rattle.lot_base.specs.Waiting.{Split, with_value, lists_after_requeue}
 use Rattle.lot_base.proofs.ValueLemmas.{with_value-same, with_value-other}
-use Rattle.lot_exclusive.specs.Machine.{Machine, Waiter}
+use Rattle.lot_machine.specs.Machine.{Machine, Waiter}
 use Rattle.lot_history.specs.declared.view.Standing.{Standing}
 use Rattle.lot_history.specs.declared.view.Piece.TheVariants.{Lists}
 use Rattle.lot_history.specs.Pieces.{Name, list, thread, records, numbers, covers, times_standing, at_key, waiter_of}

@@ -1,18 +1,18 @@
 -- What each step leaves of a machine.
 use Rattle.std.proofs.Common.{◌≡◌, ℕ, ap}
-use Rattle.lot_exclusive.specs.declared.lot.Status.{Status}
-use Rattle.lot_exclusive.specs.declared.lot.Status.TheVariants as status
-use Rattle.lot_exclusive.specs.declared.schedule.Answer.{Answer}
-use Rattle.lot_exclusive.specs.declared.schedule.Answer.TheVariants as answer
-use Rattle.lot_exclusive.specs.declared.schedule.Op.{Op}
-use Rattle.lot_exclusive.specs.declared.schedule.Op.TheVariants.{One, All, Filter, Requeue}
-use Rattle.lot_exclusive.specs.declared.schedule.Step.{Step}
-use Rattle.lot_exclusive.specs.declared.schedule.Step.TheVariants.{Register, Retire, Enter, Unpark, Deadline}
-use Rattle.lot_exclusive.specs.declared.schedule.Step.TheVariants.{Resolve, Return, Acquire, Release, Trim}
-use Rattle.lot_exclusive.specs.Machine.{Machine}
-use Rattle.lot_exclusive.specs.Status.{is_running, awaits_deadline}
-use Rattle.lot_exclusive.specs.Steps.{IsRegister, IsUnpark, IsReturn, IsResolve, IsAcquire, IsStep}
-use Rattle.lot_exclusive.proofs.StepLemmas.{MatchBool-either, IsTrim-unchanged}
+use Rattle.lot_machine.specs.declared.status.Status.{Status}
+use Rattle.lot_machine.specs.declared.status.Status.TheVariants as status
+use Rattle.lot_machine.specs.declared.step.Answer.{Answer}
+use Rattle.lot_machine.specs.declared.step.Answer.TheVariants as answer
+use Rattle.lot_machine.specs.declared.step.Op.{Op}
+use Rattle.lot_machine.specs.declared.step.Op.TheVariants.{One, All, Filter, Requeue}
+use Rattle.lot_machine.specs.declared.step.Step.{Step}
+use Rattle.lot_machine.specs.declared.step.Step.TheVariants.{Register, Retire, Enter, Unpark, Deadline}
+use Rattle.lot_machine.specs.declared.step.Step.TheVariants.{Resolve, Return, Acquire, Release, Trim}
+use Rattle.lot_machine.specs.Machine.{Machine}
+use Rattle.lot_machine.specs.Status.{is_running, awaits_deadline}
+use Rattle.lot_machine.specs.Steps.{IsRegister, IsUnpark, IsReturn, IsResolve, IsAcquire, IsStep}
+use Rattle.lot_machine.proofs.StepLemmas.{MatchBool-either, IsTrim-unchanged}
 
 -- a step does not change for how many threads a machine is
 module _ (m : Machine) (given : Answer) (next : Machine) where

@@ -17,12 +17,12 @@ use Rattle.lot_base.specs.Waiting.{Split, with_value, split_first, split_all, sp
 use Rattle.lot_base.specs.Waiting.{requeue_result, lists_after_requeue}
 use Rattle.lot_base.proofs.FilterLemmas.{unpark≢stop, skip≢stop}
 use Rattle.lot_base.proofs.ValueLemmas.{map-with_value}
-use Rattle.lot_exclusive.specs.declared.lot.Status.TheVariants as status
-use Rattle.lot_exclusive.specs.declared.schedule.Answer.{Answer}
-use Rattle.lot_exclusive.specs.declared.schedule.Answer.TheVariants as answer
-use Rattle.lot_exclusive.specs.declared.schedule.Op.{Op}
-use Rattle.lot_exclusive.specs.declared.schedule.Op.TheVariants as op
-use Rattle.lot_exclusive.specs.declared.schedule.Step.TheVariants as step
+use Rattle.lot_machine.specs.declared.status.Status.TheVariants as status
+use Rattle.lot_machine.specs.declared.step.Answer.{Answer}
+use Rattle.lot_machine.specs.declared.step.Answer.TheVariants as answer
+use Rattle.lot_machine.specs.declared.step.Op.{Op}
+use Rattle.lot_machine.specs.declared.step.Op.TheVariants as op
+use Rattle.lot_machine.specs.declared.step.Step.TheVariants as step
 use Rattle.lot_history.specs.declared.view.Standing.{Standing}
 use Rattle.lot_history.specs.declared.view.Piece.{Piece}
 use Rattle.lot_history.specs.declared.view.Piece.TheVariants.{Lists, Thread}

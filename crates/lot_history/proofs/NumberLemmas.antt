@@ -4,14 +4,14 @@ use Rattle.std.proofs.Common.{sym, ap, ◌∙◌, length, slice_set, subst, ⊎_
 use Rattle.std.proofs.lemmas.List.{get_or-set_same, get_or-set_other}
 use Rattle.std.proofs.lemmas.Bool.{cases_eq, eq-eqb, ne_eqb, cond-false, false≢true, true≢false}
 use Rattle.lot_base.proofs.ValueLemmas.{with_value-same, with_value-other}
-use Rattle.lot_exclusive.specs.declared.lot.Status.{Status}
-use Rattle.lot_exclusive.specs.declared.lot.Status.TheVariants as status
-use Rattle.lot_exclusive.specs.declared.schedule.Answer.TheVariants as answer
-use Rattle.lot_exclusive.specs.declared.schedule.Step.TheVariants as step
-use Rattle.lot_exclusive.specs.Machine.{Machine, IsLeastFree, with_status, after_retire}
-use Rattle.lot_exclusive.specs.Records.{times_recorded}
-use Rattle.lot_exclusive.specs.Status.{is_registered, is_running}
-use Rattle.lot_exclusive.specs.Steps.{Gives, IsStep}
+use Rattle.lot_machine.specs.declared.status.Status.{Status}
+use Rattle.lot_machine.specs.declared.status.Status.TheVariants as status
+use Rattle.lot_machine.specs.declared.step.Answer.TheVariants as answer
+use Rattle.lot_machine.specs.declared.step.Step.TheVariants as step
+use Rattle.lot_machine.specs.Machine.{Machine, IsLeastFree, with_status, after_retire}
+use Rattle.lot_machine.specs.Records.{times_recorded}
+use Rattle.lot_machine.specs.Status.{is_registered, is_running}
+use Rattle.lot_machine.specs.Steps.{Gives, IsStep}
 use Rattle.lot_history.specs.declared.view.Piece.{Piece}
 use Rattle.lot_history.specs.declared.view.Piece.TheVariants.{Thread, Records, Numbers}
 use Rattle.lot_history.specs.Moves.{Finds, Moves}

@@ -6,19 +6,19 @@ use Rattle.std.proofs.lemmas.List.{map-append}
 use Rattle.lot_base.specs.declared.token.ParkToken.{ParkToken}
 use Rattle.lot_base.specs.declared.token.UnparkToken.{UnparkToken}
 use Rattle.lot_base.proofs.ValueLemmas.{with_value-same}
-use Rattle.lot_exclusive.specs.declared.lot.Status.TheVariants as status
-use Rattle.lot_exclusive.specs.declared.schedule.Answer.{Answer}
-use Rattle.lot_exclusive.specs.declared.schedule.Answer.TheVariants as answer
-use Rattle.lot_exclusive.specs.declared.schedule.Op.{Op}
-use Rattle.lot_exclusive.specs.declared.schedule.Op.TheVariants.{One, All}
-use Rattle.lot_exclusive.specs.declared.schedule.Step.{Step}
-use Rattle.lot_exclusive.specs.declared.schedule.Step.TheVariants.{Enter}
-use Rattle.lot_exclusive.specs.Machine.{Machine, Waiter, IsConsistent, new_machine, entries_of, times_in}
-use Rattle.lot_exclusive.specs.Status.{is_running, is_queued}
-use Rattle.lot_exclusive.specs.Steps.{IsStep}
-use Rattle.lot_exclusive.proofs.StandingLemmas.{is_queued-standing}
-use Rattle.lot_exclusive.proofs.StepLemmas.{IsConsistent-new, IsConsistent-step, MatchBool-either, Running-from}
-use Rattle.lot_exclusive.proofs.WaiterLemmas.{times_in-append, times_in-own, times_in-not_own}
+use Rattle.lot_machine.specs.declared.status.Status.TheVariants as status
+use Rattle.lot_machine.specs.declared.step.Answer.{Answer}
+use Rattle.lot_machine.specs.declared.step.Answer.TheVariants as answer
+use Rattle.lot_machine.specs.declared.step.Op.{Op}
+use Rattle.lot_machine.specs.declared.step.Op.TheVariants.{One, All}
+use Rattle.lot_machine.specs.declared.step.Step.{Step}
+use Rattle.lot_machine.specs.declared.step.Step.TheVariants.{Enter}
+use Rattle.lot_machine.specs.Machine.{Machine, Waiter, IsConsistent, new_machine, entries_of, times_in}
+use Rattle.lot_machine.specs.Status.{is_running, is_queued}
+use Rattle.lot_machine.specs.Steps.{IsStep}
+use Rattle.lot_machine.proofs.StandingLemmas.{is_queued-standing}
+use Rattle.lot_machine.proofs.StepLemmas.{IsConsistent-new, IsConsistent-step, MatchBool-either, Running-from}
+use Rattle.lot_machine.proofs.WaiterLemmas.{times_in-append, times_in-own, times_in-not_own}
 use Rattle.lot_history.specs.declared.event.Event.{Event}
 use Rattle.lot_history.specs.History.{LeadsTo}
 use Rattle.lot_history.specs.Laws.{Hands}

@@ -4,10 +4,10 @@ use Rattle.std.proofs.Common.{All, length, refl, sym, ap, ◌∙◌, ⊎_elim, a
 use Rattle.std.proofs.lemmas.Bool.{cases_eq, eq-eqb, ne_eqb, cond-true}
 use Rattle.std.proofs.lemmas.List.Elements.{All-nil, All-cons, All-head, All-tail}
 use Rattle.lot_base.specs.Place.{place_of}
-use Rattle.lot_exclusive.specs.declared.lot.Status.{Status}
-use Rattle.lot_exclusive.specs.declared.lot.Status.TheVariants as status
-use Rattle.lot_exclusive.specs.Machine.{Machine, times_in, entries_of}
-use Rattle.lot_exclusive.specs.Status.{is_registered}
+use Rattle.lot_machine.specs.declared.status.Status.{Status}
+use Rattle.lot_machine.specs.declared.status.Status.TheVariants as status
+use Rattle.lot_machine.specs.Machine.{Machine, times_in, entries_of}
+use Rattle.lot_machine.specs.Status.{is_registered}
 use Rattle.lot_history.specs.declared.view.Standing.{Standing}
 use Rattle.lot_history.specs.declared.view.Piece.{Piece}
 use Rattle.lot_history.specs.declared.view.Piece.TheVariants.{Lists, Thread, Records, Numbers}

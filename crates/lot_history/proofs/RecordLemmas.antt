@@ -1,15 +1,15 @@
 -- A running thread records a key once more, or once less.
 use Rattle.std.proofs.Common.{◌≡◌, ℕ, List, [], ◌∷◌, MatchBool, refl, sym, ap, ◌∙◌, subst, arith}
 use Rattle.lot_base.proofs.ValueLemmas.{with_value-same, with_value-other}
-use Rattle.lot_exclusive.specs.declared.lot.Status.TheVariants as status
-use Rattle.lot_exclusive.specs.declared.schedule.Answer.{Answer}
-use Rattle.lot_exclusive.specs.declared.schedule.Answer.TheVariants as answer
-use Rattle.lot_exclusive.specs.declared.schedule.Step.{Step}
-use Rattle.lot_exclusive.specs.declared.schedule.Step.TheVariants as step
-use Rattle.lot_exclusive.specs.Machine.{Machine, with_records, after_release}
-use Rattle.lot_exclusive.specs.Records.{times_recorded, one_more, one_less}
-use Rattle.lot_exclusive.specs.Status.{is_running}
-use Rattle.lot_exclusive.specs.Steps.{Gives, IsStep, IsAcquire}
+use Rattle.lot_machine.specs.declared.status.Status.TheVariants as status
+use Rattle.lot_machine.specs.declared.step.Answer.{Answer}
+use Rattle.lot_machine.specs.declared.step.Answer.TheVariants as answer
+use Rattle.lot_machine.specs.declared.step.Step.{Step}
+use Rattle.lot_machine.specs.declared.step.Step.TheVariants as step
+use Rattle.lot_machine.specs.Machine.{Machine, with_records, after_release}
+use Rattle.lot_machine.specs.Records.{times_recorded, one_more, one_less}
+use Rattle.lot_machine.specs.Status.{is_running}
+use Rattle.lot_machine.specs.Steps.{Gives, IsStep, IsAcquire}
 use Rattle.lot_history.specs.declared.view.Piece.{Piece}
 use Rattle.lot_history.specs.declared.view.Piece.TheVariants.{Thread, Records}
 use Rattle.lot_history.specs.Moves.{Moves}

@@ -7,9 +7,9 @@ use mathlib.Core.List.{IsPrefix}
 use mathlib.Core.Option.{some, some-injective, some-ne-none}
 use lib.ListN.{get_elem?}
 use Rattle.atomic_table.proofs.Lists.{at_set}
-use Rattle.lot_exclusive.specs.declared.schedule.Answer.{Answer}
-use Rattle.lot_exclusive.specs.declared.schedule.Step.{Step}
-use Rattle.lot_exclusive.proofs.StepLemmas.{IsConsistent-step}
+use Rattle.lot_machine.specs.declared.step.Answer.{Answer}
+use Rattle.lot_machine.specs.declared.step.Step.{Step}
+use Rattle.lot_machine.proofs.StepLemmas.{IsConsistent-step}
 use Rattle.lot_history.proofs.MachineLemmas.{max_threads-step}
 use Rattle.lot_history.specs.declared.event.Event.{Event}
 use Rattle.lot_history.specs.declared.view.Piece.{Piece}

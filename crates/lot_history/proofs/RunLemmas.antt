@@ -1,9 +1,9 @@
 -- Runs of events, in parts.
 use Rattle.std.proofs.Common.{List, [], ◌∷◌, ◌++◌, refl, sym, subst}
-use Rattle.lot_exclusive.specs.Machine.{Machine, IsConsistent}
-use Rattle.lot_exclusive.specs.Run.{IsRun}
-use Rattle.lot_exclusive.specs.Steps.{IsStep}
-use Rattle.lot_exclusive.proofs.StepLemmas.{IsConsistent-step}
+use Rattle.lot_machine.specs.Machine.{Machine, IsConsistent}
+use Rattle.lot_machine.specs.Run.{IsRun}
+use Rattle.lot_machine.specs.Steps.{IsStep}
+use Rattle.lot_machine.proofs.StepLemmas.{IsConsistent-step}
 use Rattle.lot_history.specs.declared.event.Event.{Event}
 use Rattle.lot_history.specs.History.{steps_of, answers_of}
 

@@ -12,9 +12,9 @@ use Rattle.lot_base.specs.NodeLists.{with_saturated_counts}
 use Rattle.lot_base.specs.Waiting.{Split, split_first, split_all, split_filter, split_by, result_of, requeue_result}
 use Rattle.lot_base.proofs.FilterLemmas.{All-left_by, split_filter-moves_nobody}
 use Rattle.lot_base.proofs.RequeueLemmas.{All-left, All-moved}
-use Rattle.lot_exclusive.specs.Machine.{Waiter}
-use Rattle.lot_exclusive.proofs.SplitLemmas.{AreParts, AreParts-first, AreParts-all, AreParts-filter, AreParts-by}
-use Rattle.lot_exclusive.proofs.SplitLemmas.{has_any-map, result_of-few, requeue_result-few}
+use Rattle.lot_machine.specs.Machine.{Waiter}
+use Rattle.lot_machine.proofs.SplitLemmas.{AreParts, AreParts-first, AreParts-all, AreParts-filter, AreParts-by}
+use Rattle.lot_machine.proofs.SplitLemmas.{has_any-map, result_of-few, requeue_result-few}
 use Rattle.lot_history.specs.declared.view.Standing.{Standing}
 use Rattle.lot_history.specs.Pieces.{times_standing, waiter_of}
 use Rattle.lot_history.proofs.PieceLemmas.{times_in-waiters}

@@ -6,14 +6,14 @@ use mathlib.Core.Option.{some, some-injective, some-ne-none}
 use lib.ListN.{get_elem?}
 use Rattle.atomic_table.specs.Table.{State, Me, keeps, Allows, Enters, Splits, Joins}
 use Rattle.atomic_table.proofs.Lists.{set_else}
-use Rattle.lot_exclusive.specs.declared.schedule.Answer.{Answer}
-use Rattle.lot_exclusive.specs.declared.schedule.Step.{Step}
+use Rattle.lot_machine.specs.declared.step.Answer.{Answer}
+use Rattle.lot_machine.specs.declared.step.Step.{Step}
 use Rattle.lot_history.specs.declared.view.Piece.{Piece}
 use Rattle.lot_history.specs.declared.view.View.{View}
 use Rattle.lot_history.specs.Moves.{Moves, Regroups}
 use Rattle.lot_base.specs.Place.{place_of}
-use Rattle.lot_exclusive.specs.Machine.{Machine, new_machine}
-use Rattle.lot_exclusive.proofs.StepLemmas.{IsConsistent-new}
+use Rattle.lot_machine.specs.Machine.{Machine, new_machine}
+use Rattle.lot_machine.proofs.StepLemmas.{IsConsistent-new}
 use Rattle.lot_history.specs.Pieces.{Name, list, thread, records, numbers, cover, AllSo}
 use Rattle.lot_history.specs.Rule.{Knows, Kept}
 use Rattle.lot_history.specs.Views.{all_pieces, first_view, told_view, spent_view, first_of, rest_of, part_view}

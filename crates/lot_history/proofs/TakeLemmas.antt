@@ -11,14 +11,14 @@ use Rattle.lot_base.specs.NodeLists.{with_saturated_counts}
 use Rattle.lot_base.specs.Place.{place_of}
 use Rattle.lot_base.specs.Waiting.{Split, split_first, split_all, split_filter, result_of}
 use Rattle.lot_base.proofs.FilterLemmas.{split_filter-moves_nobody}
-use Rattle.lot_exclusive.specs.declared.schedule.Answer.{Answer}
-use Rattle.lot_exclusive.specs.declared.schedule.Answer.TheVariants as answer
-use Rattle.lot_exclusive.specs.declared.schedule.Op.TheVariants as op
-use Rattle.lot_exclusive.specs.declared.schedule.Step.{Step}
-use Rattle.lot_exclusive.specs.declared.schedule.Step.TheVariants as step
-use Rattle.lot_exclusive.specs.Machine.{Machine, Waiter, after_unpark}
-use Rattle.lot_exclusive.proofs.MachineLemmas.{length-le_from_MatchesStatus}
-use Rattle.lot_exclusive.proofs.StandingLemmas.{after_requeue-after_unpark}
+use Rattle.lot_machine.specs.declared.step.Answer.{Answer}
+use Rattle.lot_machine.specs.declared.step.Answer.TheVariants as answer
+use Rattle.lot_machine.specs.declared.step.Op.TheVariants as op
+use Rattle.lot_machine.specs.declared.step.Step.{Step}
+use Rattle.lot_machine.specs.declared.step.Step.TheVariants as step
+use Rattle.lot_machine.specs.Machine.{Machine, Waiter, after_unpark}
+use Rattle.lot_machine.proofs.MachineLemmas.{length-le_from_MatchesStatus}
+use Rattle.lot_machine.proofs.StandingLemmas.{after_requeue-after_unpark}
 use Rattle.lot_history.specs.declared.view.Standing.{Standing}
 use Rattle.lot_history.specs.declared.view.Piece.{Piece}
 use Rattle.lot_history.specs.declared.view.Piece.TheVariants.{Lists}

@@ -9,26 +9,26 @@ use Rattle.lot_base.specs.declared.token.RequeueOp.TheVariants.{RequeueOne}
 use Rattle.lot_base.specs.declared.token.UnparkToken.{UnparkToken}
 use Rattle.lot_base.specs.Waiting.{with_value, has_any, requeue_result, split_by}
 use Rattle.lot_base.proofs.ValueLemmas.{with_value-other}
-use Rattle.lot_exclusive.specs.declared.lot.Status.{Status}
-use Rattle.lot_exclusive.specs.declared.lot.Status.TheVariants as status
-use Rattle.lot_exclusive.specs.declared.schedule.Answer.{Answer}
-use Rattle.lot_exclusive.specs.declared.schedule.Answer.TheVariants as answer
-use Rattle.lot_exclusive.specs.declared.schedule.Op.{Op}
-use Rattle.lot_exclusive.specs.declared.schedule.Op.TheVariants.{One, All, Filter, Requeue}
-use Rattle.lot_exclusive.specs.declared.schedule.Step.{Step}
-use Rattle.lot_exclusive.specs.declared.schedule.Step.TheVariants.{Register, Retire, Enter, Unpark, Deadline}
-use Rattle.lot_exclusive.specs.declared.schedule.Step.TheVariants.{Resolve, Return, Acquire, Release, Trim}
-use Rattle.lot_exclusive.specs.Machine.{Machine, Waiter, IsConsistent, new_machine, entries_of, times_in}
-use Rattle.lot_exclusive.specs.Machine.{statuses_with_taken}
-use Rattle.lot_exclusive.specs.Operation.{split_of, token_of}
-use Rattle.lot_exclusive.specs.Status.{is_running, is_queued, awaits_deadline}
-use Rattle.lot_exclusive.specs.Steps.{IsRegister, IsUnpark, IsReturn, IsResolve, IsAcquire, IsStep, is_outcome}
-use Rattle.lot_exclusive.specs.Steps.{ends_park}
-use Rattle.lot_exclusive.specs.Totals.{unparked_by}
-use Rattle.lot_exclusive.proofs.SplitLemmas.{AreParts, AreParts-first, AreParts-all, AreParts-filter, AreParts-by}
-use Rattle.lot_exclusive.proofs.StandingLemmas.{is_queued-standing, StandsAt-standing, MatchBool-from}
-use Rattle.lot_exclusive.proofs.StepLemmas.{IsConsistent-new, IsConsistent-step, IsTrim-unchanged, MatchBool-either}
-use Rattle.lot_exclusive.proofs.StepLemmas.{Running-from, Waiting-from}
+use Rattle.lot_machine.specs.declared.status.Status.{Status}
+use Rattle.lot_machine.specs.declared.status.Status.TheVariants as status
+use Rattle.lot_machine.specs.declared.step.Answer.{Answer}
+use Rattle.lot_machine.specs.declared.step.Answer.TheVariants as answer
+use Rattle.lot_machine.specs.declared.step.Op.{Op}
+use Rattle.lot_machine.specs.declared.step.Op.TheVariants.{One, All, Filter, Requeue}
+use Rattle.lot_machine.specs.declared.step.Step.{Step}
+use Rattle.lot_machine.specs.declared.step.Step.TheVariants.{Register, Retire, Enter, Unpark, Deadline}
+use Rattle.lot_machine.specs.declared.step.Step.TheVariants.{Resolve, Return, Acquire, Release, Trim}
+use Rattle.lot_machine.specs.Machine.{Machine, Waiter, IsConsistent, new_machine, entries_of, times_in}
+use Rattle.lot_machine.specs.Machine.{statuses_with_taken}
+use Rattle.lot_machine.specs.Operation.{split_of, token_of}
+use Rattle.lot_machine.specs.Status.{is_running, is_queued, awaits_deadline}
+use Rattle.lot_machine.specs.Steps.{IsRegister, IsUnpark, IsReturn, IsResolve, IsAcquire, IsStep, is_outcome}
+use Rattle.lot_machine.specs.Steps.{ends_park}
+use Rattle.lot_machine.specs.Totals.{unparked_by}
+use Rattle.lot_machine.proofs.SplitLemmas.{AreParts, AreParts-first, AreParts-all, AreParts-filter, AreParts-by}
+use Rattle.lot_machine.proofs.StandingLemmas.{is_queued-standing, StandsAt-standing, MatchBool-from}
+use Rattle.lot_machine.proofs.StepLemmas.{IsConsistent-new, IsConsistent-step, IsTrim-unchanged, MatchBool-either}
+use Rattle.lot_machine.proofs.StepLemmas.{Running-from, Waiting-from}
 use Rattle.lot_history.specs.declared.event.Event.{Event}
 use Rattle.lot_history.specs.Laws.{Hands}
 use Rattle.lot_history.specs.Takings.{taken_by, first_outcome, ComesBackWith, Taking, TakenThreadsComeBack}

@@ -6,15 +6,15 @@ use Rattle.lot_base.specs.Place.{place_of}
 use Rattle.lot_base.specs.Waiting.{with_value, without_first, has_any}
 use Rattle.lot_base.proofs.RemoveLemmas.{All-without_first}
 use Rattle.lot_base.proofs.ValueLemmas.{with_value-same, with_value-other}
-use Rattle.lot_exclusive.specs.declared.lot.Status.TheVariants as status
-use Rattle.lot_exclusive.specs.declared.schedule.Answer.{Answer}
-use Rattle.lot_exclusive.specs.declared.schedule.Answer.TheVariants as answer
-use Rattle.lot_exclusive.specs.declared.schedule.Step.TheVariants as step
-use Rattle.lot_exclusive.specs.Machine.{Machine, Waiter, StandsAt, times_in, with_status, after_timeout}
-use Rattle.lot_exclusive.specs.Status.{awaits_deadline}
-use Rattle.lot_exclusive.specs.Steps.{Gives, IsStep, IsResolve}
-use Rattle.lot_exclusive.proofs.SplitLemmas.{has_any-map}
-use Rattle.lot_exclusive.proofs.StandingLemmas.{StandsAt-standing}
+use Rattle.lot_machine.specs.declared.status.Status.TheVariants as status
+use Rattle.lot_machine.specs.declared.step.Answer.{Answer}
+use Rattle.lot_machine.specs.declared.step.Answer.TheVariants as answer
+use Rattle.lot_machine.specs.declared.step.Step.TheVariants as step
+use Rattle.lot_machine.specs.Machine.{Machine, Waiter, StandsAt, times_in, with_status, after_timeout}
+use Rattle.lot_machine.specs.Status.{awaits_deadline}
+use Rattle.lot_machine.specs.Steps.{Gives, IsStep, IsResolve}
+use Rattle.lot_machine.proofs.SplitLemmas.{has_any-map}
+use Rattle.lot_machine.proofs.StandingLemmas.{StandsAt-standing}
 use Rattle.lot_history.specs.declared.view.Standing.{Standing}
 use Rattle.lot_history.specs.declared.view.Piece.{Piece}
 use Rattle.lot_history.specs.declared.view.Piece.TheVariants.{Lists, Thread}

@@ -8,22 +8,22 @@ use Rattle.std.proofs.lemmas.List.Elements.{All-nil, All-cons, All-head, All-tai
 use Rattle.lot_base.specs.declared.token.UnparkToken.{UnparkToken}
 use Rattle.lot_base.specs.Waiting.{with_value, has_any, without_first, split_by}
 use Rattle.lot_base.proofs.ValueLemmas.{with_value-same, with_value-other}
-use Rattle.lot_exclusive.specs.declared.lot.Status.{Status}
-use Rattle.lot_exclusive.specs.declared.lot.Status.TheVariants as status
-use Rattle.lot_exclusive.specs.declared.schedule.Answer.{Answer}
-use Rattle.lot_exclusive.specs.declared.schedule.Answer.TheVariants as answer
-use Rattle.lot_exclusive.specs.declared.schedule.Op.{Op}
-use Rattle.lot_exclusive.specs.declared.schedule.Op.TheVariants.{One, All, Filter, Requeue}
-use Rattle.lot_exclusive.specs.declared.schedule.Step.{Step}
-use Rattle.lot_exclusive.specs.declared.schedule.Step.TheVariants.{Register, Retire, Enter, Unpark, Deadline}
-use Rattle.lot_exclusive.specs.declared.schedule.Step.TheVariants.{Resolve, Return, Acquire, Release, Trim}
-use Rattle.lot_exclusive.specs.Machine.{Machine, Waiter, entries_of, times_in}
-use Rattle.lot_exclusive.specs.Machine.{list_without}
-use Rattle.lot_exclusive.specs.Operation.{split_of, token_of}
-use Rattle.lot_exclusive.specs.Status.{is_running, awaits_deadline}
-use Rattle.lot_exclusive.specs.Steps.{IsRegister, IsUnpark, IsReturn, IsResolve, IsAcquire, IsStep}
-use Rattle.lot_exclusive.proofs.StepLemmas.{IsTrim-unchanged, MatchBool-either}
-use Rattle.lot_exclusive.proofs.WaiterLemmas.{has_any-some, times_in-append, times_in-own, times_in-not_own}
+use Rattle.lot_machine.specs.declared.status.Status.{Status}
+use Rattle.lot_machine.specs.declared.status.Status.TheVariants as status
+use Rattle.lot_machine.specs.declared.step.Answer.{Answer}
+use Rattle.lot_machine.specs.declared.step.Answer.TheVariants as answer
+use Rattle.lot_machine.specs.declared.step.Op.{Op}
+use Rattle.lot_machine.specs.declared.step.Op.TheVariants.{One, All, Filter, Requeue}
+use Rattle.lot_machine.specs.declared.step.Step.{Step}
+use Rattle.lot_machine.specs.declared.step.Step.TheVariants.{Register, Retire, Enter, Unpark, Deadline}
+use Rattle.lot_machine.specs.declared.step.Step.TheVariants.{Resolve, Return, Acquire, Release, Trim}
+use Rattle.lot_machine.specs.Machine.{Machine, Waiter, entries_of, times_in}
+use Rattle.lot_machine.specs.Machine.{list_without}
+use Rattle.lot_machine.specs.Operation.{split_of, token_of}
+use Rattle.lot_machine.specs.Status.{is_running, awaits_deadline}
+use Rattle.lot_machine.specs.Steps.{IsRegister, IsUnpark, IsReturn, IsResolve, IsAcquire, IsStep}
+use Rattle.lot_machine.proofs.StepLemmas.{IsTrim-unchanged, MatchBool-either}
+use Rattle.lot_machine.proofs.WaiterLemmas.{has_any-some, times_in-append, times_in-own, times_in-not_own}
 use Rattle.lot_history.specs.declared.event.Event.{Event}
 use Rattle.lot_history.specs.Laws.{Hands}
 use Rattle.lot_history.specs.Turns.{takes_from_front, may_lose_turn, KeepsTurn}

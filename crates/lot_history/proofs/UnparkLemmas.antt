@@ -4,15 +4,15 @@ use Rattle.std.proofs.lemmas.Bool.{cases_eq}
 use Rattle.lot_base.specs.declared.token.UnparkToken.{UnparkToken}
 use Rattle.lot_base.specs.Waiting.{Split, with_value}
 use Rattle.lot_base.proofs.ValueLemmas.{with_value-other}
-use Rattle.lot_exclusive.specs.declared.lot.Status.TheVariants as status
-use Rattle.lot_exclusive.specs.declared.schedule.Answer.{Answer}
-use Rattle.lot_exclusive.specs.declared.schedule.Op.{Op}
-use Rattle.lot_exclusive.specs.declared.schedule.Step.{Step}
-use Rattle.lot_exclusive.specs.declared.schedule.Step.TheVariants as step
-use Rattle.lot_exclusive.specs.Machine.{Machine, Waiter, after_requeue}
-use Rattle.lot_exclusive.specs.Status.{is_registered}
-use Rattle.lot_exclusive.specs.Steps.{IsUnpark}
-use Rattle.lot_exclusive.proofs.WaiterLemmas.{statuses_with_taken-among, statuses_with_taken-other}
+use Rattle.lot_machine.specs.declared.status.Status.TheVariants as status
+use Rattle.lot_machine.specs.declared.step.Answer.{Answer}
+use Rattle.lot_machine.specs.declared.step.Op.{Op}
+use Rattle.lot_machine.specs.declared.step.Step.{Step}
+use Rattle.lot_machine.specs.declared.step.Step.TheVariants as step
+use Rattle.lot_machine.specs.Machine.{Machine, Waiter, after_requeue}
+use Rattle.lot_machine.specs.Status.{is_registered}
+use Rattle.lot_machine.specs.Steps.{IsUnpark}
+use Rattle.lot_machine.proofs.WaiterLemmas.{statuses_with_taken-among, statuses_with_taken-other}
 use Rattle.lot_history.specs.declared.view.Standing.{Standing}
 use Rattle.lot_history.specs.declared.view.Piece.{Piece}
 use Rattle.lot_history.specs.Moves.{Finds, Moves}

@@ -1,11 +1,11 @@
 -- Histories: events, each a step of the machine with its answer and who added it. That an event is what a lot did is the
 -- word of whoever adds it.
 use Rattle.std.specs.Prelude.{ℕ, ◌==◌, List, map, filter}
-use Rattle.lot_exclusive.specs.declared.schedule.Answer.{Answer}
-use Rattle.lot_exclusive.specs.declared.schedule.Step.{Step}
-use Rattle.lot_exclusive.specs.Machine.{Machine, new_machine}
-use Rattle.lot_exclusive.specs.Run.{IsRun}
-use Rattle.lot_exclusive.specs.Steps.{IsStep}
+use Rattle.lot_machine.specs.declared.step.Answer.{Answer}
+use Rattle.lot_machine.specs.declared.step.Step.{Step}
+use Rattle.lot_machine.specs.Machine.{Machine, new_machine}
+use Rattle.lot_machine.specs.Run.{IsRun}
+use Rattle.lot_machine.specs.Steps.{IsStep}
 use Rattle.lot_history.specs.declared.event.Event.{Event}
 
 -- the steps of events, and their answers

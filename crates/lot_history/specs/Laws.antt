@@ -3,15 +3,15 @@ use Rattle.std.specs.Prelude.{◌≡◌, ◌≢◌, ℕ, ◌+◌, true, false, L
 use Rattle.std.specs.List.{sum_by}
 use Rattle.lot_base.specs.declared.token.UnparkToken.{UnparkToken}
 use Rattle.lot_base.specs.Waiting.{has_any}
-use Rattle.lot_exclusive.specs.declared.schedule.Answer.{Answer}
-use Rattle.lot_exclusive.specs.declared.schedule.Answer.TheVariants.{Unparked, NoMemory}
-use Rattle.lot_exclusive.specs.declared.schedule.Op.{Op}
-use Rattle.lot_exclusive.specs.declared.schedule.Step.TheVariants.{Unpark}
-use Rattle.lot_exclusive.specs.Machine.{Machine, entries_of, new_machine}
-use Rattle.lot_exclusive.specs.Operation.{split_of, token_of}
-use Rattle.lot_exclusive.specs.Run.{IsRun, OutcomesAlternate}
-use Rattle.lot_exclusive.specs.Steps.{IsStep, parks, ends_park}
-use Rattle.lot_exclusive.specs.Totals.{unparked_by, returned_by, taken_threads_of}
+use Rattle.lot_machine.specs.declared.step.Answer.{Answer}
+use Rattle.lot_machine.specs.declared.step.Answer.TheVariants.{Unparked, NoMemory}
+use Rattle.lot_machine.specs.declared.step.Op.{Op}
+use Rattle.lot_machine.specs.declared.step.Step.TheVariants.{Unpark}
+use Rattle.lot_machine.specs.Machine.{Machine, entries_of, new_machine}
+use Rattle.lot_machine.specs.Operation.{split_of, token_of}
+use Rattle.lot_machine.specs.Run.{IsRun, OutcomesAlternate}
+use Rattle.lot_machine.specs.Steps.{IsStep, parks, ends_park}
+use Rattle.lot_machine.specs.Totals.{unparked_by, returned_by, taken_threads_of}
 use Rattle.lot_history.specs.declared.event.Event.{Event}
 use Rattle.lot_history.specs.History.{LeadsTo, IsHistory, steps_of, answers_of}
 

@@ -5,11 +5,11 @@ use Rattle.lot_base.specs.NodeFields.{NodeFields}
 use Rattle.lot_base.specs.Place.{place_of}
 use Rattle.lot_base.specs.Waiting.{with_value}
 use Rattle.lot_base.specs.declared.token.UnparkToken.{UnparkToken}
-use Rattle.lot_exclusive.specs.declared.lot.Status.{Status}
-use Rattle.lot_exclusive.specs.declared.lot.Status.TheVariants as status
-use Rattle.lot_exclusive.specs.Machine.{Machine, Waiter}
-use Rattle.lot_exclusive.specs.Records.{times_recorded}
-use Rattle.lot_exclusive.specs.Status.{is_registered}
+use Rattle.lot_machine.specs.declared.status.Status.{Status}
+use Rattle.lot_machine.specs.declared.status.Status.TheVariants as status
+use Rattle.lot_machine.specs.Machine.{Machine, Waiter}
+use Rattle.lot_machine.specs.Records.{times_recorded}
+use Rattle.lot_machine.specs.Status.{is_registered}
 use Rattle.lot_history.specs.declared.view.Standing.{Standing}
 use Rattle.lot_history.specs.declared.view.Piece.{Piece}
 use Rattle.lot_history.specs.declared.view.Piece.TheVariants.{Lists, Thread, Records, Numbers}

@@ -3,7 +3,7 @@ use Rattle.std.specs.Prelude.{◌≡◌, ℕ, ◌-◌, ◌<◌, ◌≤◌, ◌^�
 use mathlib.Core.List.{IsPrefix}
 use mathlib.Core.Option.{some}
 use lib.ListN.{get_elem?}
-use Rattle.lot_exclusive.specs.Machine.{Machine, IsConsistent}
+use Rattle.lot_machine.specs.Machine.{Machine, IsConsistent}
 use Rattle.lot_history.specs.declared.event.Event.{Event}
 use Rattle.lot_history.specs.declared.view.View.{View}
 use Rattle.lot_history.specs.History.{LeadsTo, events_by}

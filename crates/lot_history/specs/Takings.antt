@@ -2,16 +2,16 @@
 use Rattle.std.specs.Prelude.{◌≡◌, ℕ, ◌≤◌, if◌then◌else◌, List, [], ◌∷◌, ◌++◌, length, Option, None, Some, MatchOption}
 use Rattle.std.specs.Prelude.{IsTrue}
 use Rattle.lot_base.specs.declared.token.UnparkToken.{UnparkToken}
-use Rattle.lot_exclusive.specs.declared.lot.Status.TheVariants.{Taken}
-use Rattle.lot_exclusive.specs.declared.schedule.Answer.{Answer}
-use Rattle.lot_exclusive.specs.declared.schedule.Answer.TheVariants.{Unparked}
-use Rattle.lot_exclusive.specs.declared.schedule.Op.{Op}
-use Rattle.lot_exclusive.specs.declared.schedule.Step.TheVariants.{Unpark}
-use Rattle.lot_exclusive.specs.Machine.{Machine, Waiter, times_in}
-use Rattle.lot_exclusive.specs.Operation.{split_of, token_of}
-use Rattle.lot_exclusive.specs.Status.{is_queued}
-use Rattle.lot_exclusive.specs.Steps.{ends_park}
-use Rattle.lot_exclusive.specs.Totals.{unparked_by}
+use Rattle.lot_machine.specs.declared.status.Status.TheVariants.{Taken}
+use Rattle.lot_machine.specs.declared.step.Answer.{Answer}
+use Rattle.lot_machine.specs.declared.step.Answer.TheVariants.{Unparked}
+use Rattle.lot_machine.specs.declared.step.Op.{Op}
+use Rattle.lot_machine.specs.declared.step.Step.TheVariants.{Unpark}
+use Rattle.lot_machine.specs.Machine.{Machine, Waiter, times_in}
+use Rattle.lot_machine.specs.Operation.{split_of, token_of}
+use Rattle.lot_machine.specs.Status.{is_queued}
+use Rattle.lot_machine.specs.Steps.{ends_park}
+use Rattle.lot_machine.specs.Totals.{unparked_by}
 use Rattle.lot_history.specs.declared.event.Event.{Event}
 use Rattle.lot_history.specs.History.{LeadsTo}
 use Rattle.lot_history.specs.Laws.{Hands}

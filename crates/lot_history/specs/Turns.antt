@@ -1,14 +1,14 @@
 -- First come, first out.
 use Rattle.std.specs.Prelude.{◌≡◌, ℕ, ◌==◌, Bool, true, false, ◌&&◌, ◌⊎◌, List, [], ◌∷◌, ◌++◌, map, All}
 use Rattle.lot_base.specs.declared.token.UnparkToken.{UnparkToken}
-use Rattle.lot_exclusive.specs.declared.schedule.Answer.{Answer}
-use Rattle.lot_exclusive.specs.declared.schedule.Answer.TheVariants.{Entered, TimedOut}
-use Rattle.lot_exclusive.specs.declared.schedule.Op.{Op}
-use Rattle.lot_exclusive.specs.declared.schedule.Op.TheVariants.{One, All as AllOf, Filter, Requeue}
-use Rattle.lot_exclusive.specs.declared.schedule.Step.{Step}
-use Rattle.lot_exclusive.specs.declared.schedule.Step.TheVariants.{Enter, Unpark, Resolve}
-use Rattle.lot_exclusive.specs.Machine.{Machine, Waiter}
-use Rattle.lot_exclusive.specs.Operation.{token_of}
+use Rattle.lot_machine.specs.declared.step.Answer.{Answer}
+use Rattle.lot_machine.specs.declared.step.Answer.TheVariants.{Entered, TimedOut}
+use Rattle.lot_machine.specs.declared.step.Op.{Op}
+use Rattle.lot_machine.specs.declared.step.Op.TheVariants.{One, All as AllOf, Filter, Requeue}
+use Rattle.lot_machine.specs.declared.step.Step.{Step}
+use Rattle.lot_machine.specs.declared.step.Step.TheVariants.{Enter, Unpark, Resolve}
+use Rattle.lot_machine.specs.Machine.{Machine, Waiter}
+use Rattle.lot_machine.specs.Operation.{token_of}
 use Rattle.lot_history.specs.declared.event.Event.{Event}
 use Rattle.lot_history.specs.History.{LeadsTo}
 use Rattle.lot_history.specs.Laws.{Hands}

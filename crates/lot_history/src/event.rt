@@ -1,6 +1,6 @@
 //! What a history consists of.
 
-use lot_exclusive::schedule::{Answer, Step};
+use lot_machine::step::{Answer, Step};
 
 /// A step of a lot with its answer, and by whom it was added to the history. No value of it is
 /// made: proofs alone speak of it.

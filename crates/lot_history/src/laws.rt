@@ -12,7 +12,7 @@ pub fn histories_lead_to_one_machine()
 {}
 
 /// A history can be replayed. Any run of its steps from a new machine for as many threads, such as
-/// `lot_exclusive::schedule::run` makes with a new lot, gives the answers of the history and leads
+/// `lot_machine::step::run` makes with a new lot, gives the answers of the history and leads
 /// to the machine to which it leads, where neither has a step that is refused for want of memory.
 pub fn histories_can_be_replayed()
     ensures { HistoriesCanBeReplayed }

@@ -19,8 +19,8 @@ impl TableRule<(), View, usize> for OneHistory {
 /// Which step `History::add` makes, by what is said of it and of its answer. Whoever calls a
 /// function that is generic in it picks that, and may name what a closure answers.
 pub trait Told {
-    ghost use Rattle.lot_exclusive.specs.declared.schedule.Answer.{Answer};
-    ghost use Rattle.lot_exclusive.specs.declared.schedule.Step.{Step};
+    ghost use Rattle.lot_machine.specs.declared.step.Answer.{Answer};
+    ghost use Rattle.lot_machine.specs.declared.step.Step.{Step};
 
     ghost said: { Step → Answer → Type 0 };
 }
@@ -28,7 +28,7 @@ pub trait Told {
 /// Where a call picks nothing, it is a trim.
 impl Told for Brand {
     ghost use Rattle.std.specs.Prelude.{◌≡◌};
-    ghost use Rattle.lot_exclusive.specs.declared.schedule.Step.TheVariants.{Trim};
+    ghost use Rattle.lot_machine.specs.declared.step.Step.TheVariants.{Trim};
 
     ghost said = { λ step _. step ≡ Trim };
 }

@@ -2,7 +2,7 @@
 //! `History::add` where the bucket is.
 
 ghost use Rattle.std.specs.Prelude.{◌≡◌, ◌<◌, ◌∷◌, [], true, Bool, List, ℕ};
-ghost use Rattle.lot_exclusive.specs.Records.{one_less, one_more, times_recorded};
+ghost use Rattle.lot_machine.specs.Records.{one_less, one_more, times_recorded};
 ghost use Rattle.lot_history.specs.Pieces.{IsOneMore, has_number};
 ghost use Rattle.lot_history.specs.Views.{rest_of};
 ghost use Rattle.lot_history.specs.declared.view.Piece.{Piece};
@@ -12,8 +12,8 @@ ghost use Rattle.lot_history.specs.Witness.{Adds, Extends, IsStill, IsWitnessOf,
 use crate::history::{History, Witness};
 use crate::plays::Told;
 use lot_base::token::UnparkToken;
-use lot_exclusive::lot::Status;
-use lot_exclusive::schedule::{Answer, Step};
+use lot_machine::status::Status;
+use lot_machine::step::{Answer, Step};
 use std::marker::Brand;
 
 impl History {

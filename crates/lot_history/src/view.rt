@@ -3,7 +3,7 @@
 
 use crate::event::Event;
 use lot_base::token::ParkToken;
-use lot_exclusive::lot::Status;
+use lot_machine::status::Status;
 use std::collections::LinkedList;
 
 /// A thread that stands in a list.

@@ -12,9 +12,9 @@ use Rattle.lot_base.specs.declared.token.FilterOp.{FilterOp}
 use Rattle.lot_base.specs.declared.token.FilterOp.TheVariants as filter
 use Rattle.lot_base.specs.declared.token.RequeueOp.{RequeueOp}
 use Rattle.lot_base.specs.declared.token.RequeueOp.TheVariants as requeue
-use Rattle.lot_exclusive.specs.declared.schedule.Op.{Op}
-use Rattle.lot_exclusive.specs.declared.schedule.Op.TheVariants as op
-use Rattle.lot_exclusive.specs.declared.schedule.Step.TheVariants as step
+use Rattle.lot_machine.specs.declared.step.Op.{Op}
+use Rattle.lot_machine.specs.declared.step.Op.TheVariants as op
+use Rattle.lot_machine.specs.declared.step.Step.TheVariants as step
 use Rattle.lot_script.specs.declared.script.command.Command.{Command}
 use Rattle.lot_script.specs.declared.script.command.Command.TheVariants as command
 use Rattle.lot_script.specs.declared.script.keyword.Keyword.{Keyword}

@@ -11,8 +11,8 @@ use Rattle.lot_script.specs.declared.script.fault.Fault.{Fault}
 use Rattle.lot_script.specs.declared.script.input.Next.{Next}
 use Rattle.lot_script.specs.declared.script.input.Next.TheVariants as next
 use Rattle.lot_script.specs.declared.script.input.TheConstants.{MAX_LINE}
-use Rattle.lot_exclusive.specs.Run.{IsRun}
-use Rattle.lot_exclusive.proofs.RunLemmas.{IsRun-push}
+use Rattle.lot_machine.specs.Run.{IsRun}
+use Rattle.lot_machine.proofs.RunLemmas.{IsRun-push}
 use Rattle.lot_script.specs.Lines.{lines_of, bytes_of}
 use Rattle.lot_script.specs.Reply.{State}
 use Rattle.lot_script.specs.Script.{IsAnswered, MayStop, Answers, IsStopped, IsDone, IsScript}

@@ -2,13 +2,13 @@
 use Rattle.std.specs.Prelude.{◌≡◌, ℕ, List, [], ◌∷◌, map, length, codes, IsTrue}
 use Rattle.lot_base.specs.declared.token.UnparkResult.{UnparkResult}
 use Rattle.lot_base.specs.Waiting.{has_any}
-use Rattle.lot_exclusive.specs.declared.schedule.Answer.{Answer}
-use Rattle.lot_exclusive.specs.declared.schedule.Answer.TheVariants as answer
-use Rattle.lot_exclusive.specs.Machine.{Machine, new_machine, threads_of}
-use Rattle.lot_exclusive.specs.LotState.{LotState}
-use Rattle.lot_exclusive.specs.Lot.{machine}
-use Rattle.lot_exclusive.specs.Steps.{IsStep}
-use Rattle.lot_exclusive.specs.Size.{IsSizeAfter}
+use Rattle.lot_machine.specs.declared.step.Answer.{Answer}
+use Rattle.lot_machine.specs.declared.step.Answer.TheVariants as answer
+use Rattle.lot_machine.specs.Machine.{Machine, new_machine, threads_of}
+use Rattle.lot_simulator.specs.LotState.{LotState}
+use Rattle.lot_simulator.specs.Lot.{machine}
+use Rattle.lot_machine.specs.Steps.{IsStep}
+use Rattle.lot_machine.specs.Size.{IsSizeAfter}
 use Rattle.lot_script.specs.declared.script.command.Command.{Command}
 use Rattle.lot_script.specs.declared.script.command.Command.TheVariants as command
 use Rattle.lot_script.specs.declared.script.reply.Reply.{Reply}

@@ -1,8 +1,8 @@
 -- What a script does of its lines, and what it writes.
 use Rattle.std.specs.Prelude.{◌≡◌, ◌≢◌, ℕ, ◌+◌, ◌<◌, ◌≤◌, List, [], ◌∷◌, ◌++◌, length, codes, Option, Some, None}
 use Rattle.std.specs.Prelude.{Result, Ok, Err}
-use Rattle.lot_exclusive.specs.declared.table.TheConstants.{MAX_THREADS}
-use Rattle.lot_exclusive.specs.Run.{IsRun}
+use Rattle.lot_machine.specs.declared.numbers.TheConstants.{MAX_THREADS}
+use Rattle.lot_machine.specs.Run.{IsRun}
 use Rattle.lot_script.specs.declared.script.command.Command.{Command}
 use Rattle.lot_script.specs.declared.script.reply.Reply.{Reply}
 use Rattle.lot_script.specs.declared.script.fault.Cause.{Cause}

@@ -4,9 +4,9 @@
 mod journals;
 mod requeues;
 
-use lot_memory::fault::Fault;
-use parking_lot_core::lot::Lot;
-use parking_lot_core::{DEFAULT_PARK_TOKEN, DEFAULT_UNPARK_TOKEN, LotError};
+use crate::fault::Fault;
+use lot_simulator::lot::Lot;
+use lot_threads::{DEFAULT_PARK_TOKEN, DEFAULT_UNPARK_TOKEN, LotError};
 use std::alloc::Global;
 
 // As many as a lot can be made for.
@@ -29,16 +29,24 @@ pub fn run<R: Print>(rt: &R, alloc: Global) -> Result<(), Fault> {
     for _ in 0..LOTS {
         full_lot(alloc)?;
     }
-    let mut lot = full_lot(alloc)?;
-    register_again(&mut lot)?;
-    for _ in 0..ROUNDS {
-        park_and_unpark_all(&mut lot)?;
-    }
-    record_and_release(&mut lot)?;
+    work_in_full_lot(alloc)?;
     requeues::requeue_all(alloc)?;
     journals::fill_journals(alloc)?;
     println!(rt; "done")?;
     Ok(())
+}
+
+fn work_in_full_lot(alloc: Global) -> Result<(), Fault> {
+    let mut lot = full_lot(alloc)?;
+    work_in(&mut lot)
+}
+
+fn work_in(lot: &mut Lot) -> Result<(), Fault> {
+    register_again(lot)?;
+    for _ in 0..ROUNDS {
+        park_and_unpark_all(lot)?;
+    }
+    record_and_release(lot)
 }
 
 // A lot where all threads run.

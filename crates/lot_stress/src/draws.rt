@@ -1,5 +1,7 @@
 //! Numbers that look random, and are the same again for the same seed.
 
+use lot_threads::RequeueOp;
+
 /// A sequence of such numbers.
 #[derive(Copy, Clone)]
 pub struct Draws(u64);
@@ -9,9 +11,13 @@ impl Draws {
         Draws(seed)
     }
 
+    /// The next number, with all its bits mixed.
     pub fn next(&mut self) -> u64 {
         self.0 = self.0.wrapping_add(0x9E37_79B9_7F4A_7C15);
-        mixed(self.0)
+        let number = self.0;
+        let number = (number ^ (number >> 30)).wrapping_mul(0xBF58_476D_1CE4_E5B9);
+        let number = (number ^ (number >> 27)).wrapping_mul(0x94D0_49BB_1331_11EB);
+        number ^ (number >> 31)
     }
 
     /// A sequence of its own.
@@ -19,23 +25,32 @@ impl Draws {
         Draws(self.next())
     }
 
-    /// One of the values, or the other where there are none.
-    pub fn choose<T: Copy>(&mut self, values: &[T], other: T) -> T {
-        let index = (self.next() & 0xFFFF) as usize;
-        match values.get(index.checked_rem(values.len()).unwrap_or(0)) {
-            Some(value) => *value,
-            None => other,
+    /// A number below the bound, or 0 where there is none.
+    pub fn below(&mut self, bound: usize) -> usize {
+        let number = self.next() as usize;
+        if bound == 0 { 0 } else { number % bound }
+    }
+
+    pub fn is_one_in(&mut self, count: usize) -> bool {
+        self.below(count) == 0
+    }
+
+    /// One of the numbers, or 0 where there are none.
+    pub fn one_of(&mut self, numbers: &[usize]) -> usize {
+        let index = (self.next() as usize).checked_rem(numbers.len());
+        match numbers.get(index.unwrap_or(0)) {
+            Some(number) => *number,
+            None => 0,
         }
     }
 
-    pub fn is_one_in_sixteen(&mut self) -> bool {
-        self.next() & 15 == 0
+    pub fn requeue_op(&mut self) -> RequeueOp {
+        match self.next() % 5 {
+            0 => RequeueOp::Abort,
+            1 => RequeueOp::UnparkOneRequeueRest,
+            2 => RequeueOp::RequeueAll,
+            3 => RequeueOp::UnparkOne,
+            _ => RequeueOp::RequeueOne,
+        }
     }
-}
-
-/// The number with all its bits mixed.
-pub fn mixed(number: u64) -> u64 {
-    let number = (number ^ (number >> 30)).wrapping_mul(0xBF58_476D_1CE4_E5B9);
-    let number = (number ^ (number >> 27)).wrapping_mul(0x94D0_49BB_1331_11EB);
-    number ^ (number >> 31)
 }

@@ -4,11 +4,12 @@
 ghost use Rattle.std.specs.Prelude.{◌≡◌};
 
 use crate::draws::Draws;
-use lot_memory::fault::Fault;
+use crate::fault::Fault;
+use crate::task::{Seen, Task, parker_of, perform};
 use lot_sync::fits::Fits;
 use lot_sync::mutex::{Condvar, Held, Mutex};
 use lot_sync::rw_lock::{ReadHeld, RwLock, WriteHeld};
-use parking_lot_core::{Member, ParkingLot, ThreadParker, ThreadParkerT, WordParker, YieldParker};
+use lot_threads::{Member, ParkingLot, ThreadParkerT};
 use std::alloc::Global;
 use std::sync::Wait;
 use std::thread;
@@ -36,13 +37,13 @@ impl Fits for Pair {
     ghost fits = { λ pair. pair.first ≡ pair.second };
 }
 
-/// What a thread did: how often it added under the mutex and under the other lock, and whether both
-/// numbers were equal whenever it read.
+/// What threads did: how often they added under the mutex and under the other lock, and whether
+/// none was refused and both numbers were equal whenever one was read.
 #[derive(Copy, Clone)]
-struct Done {
+pub struct Done {
     locked: u64,
     written: u64,
-    is_even: bool,
+    is_right: bool,
 }
 
 #[derive(Drop)]
@@ -56,7 +57,7 @@ struct Shared<P: ThreadParkerT> {
 /// Lets threads use the locks for so long, in rounds, each on a lot of its own, with each parker by
 /// turns. How often they added in all is told on the output. A round that fails is told with the
 /// seed with which it is the first.
-pub fn run<R: Print + Eprint + Threads + Wait + Clock + Sync>(
+pub fn run<R: Print + Eprint + Threads + Wait + Clock + Copy + Send + Sync + 'static>(
     rt: &R,
     alloc: Global,
     seconds: u64,
@@ -64,52 +65,40 @@ pub fn run<R: Print + Eprint + Threads + Wait + Clock + Sync>(
 ) -> Result<(), Fault> {
     let start = Instant::now(rt)?;
     let whole = Duration::from_secs(seconds);
-    let (mut locked, mut written) = (0u64, 0u64);
+    let mut total = Done::nothing();
     for number in 0..u64::MAX {
         if start.elapsed(rt)? >= whole {
             break;
         }
-        let done = run_round(rt, alloc, seed.wrapping_add(number))?;
-        locked = locked.wrapping_add(done.locked);
-        written = written.wrapping_add(done.written);
+        total.add(run_and_tell(rt, alloc, seed.wrapping_add(number))?);
     }
-    println!(rt; "locked {locked} written {written}")?;
+    println!(rt; "locked {} written {}", total.locked, total.written)?;
     Ok(())
 }
 
-fn run_round<R: Eprint + Threads + Wait + Clock + Sync>(
+fn run_and_tell<R: Print + Eprint + Threads + Wait + Clock + Copy + Send + Sync + 'static>(
     rt: &R,
     alloc: Global,
     seed: u64,
 ) -> Result<Done, Fault> {
-    let done = match seed % 3 {
-        0 => play::<WordParker, _>(rt, alloc, seed),
-        1 => play::<ThreadParker, _>(rt, alloc, seed),
-        _ => play::<YieldParker, _>(rt, alloc, seed),
-    };
-    if done.is_err() {
-        eprintln!(rt; "a round failed: lot_stress locks 1 {seed}")?;
+    match perform(rt, alloc, parker_of(seed), Task::Locks(seed)) {
+        Ok(Seen::Locks(done)) => Ok(done),
+        Ok(_) => Ok(Done::nothing()),
+        Err(fault) => {
+            eprintln!(rt; "a round failed: lot_stress locks 1 {seed}")?;
+            Err(fault)
+        }
     }
-    done
 }
 
-fn play<P, R>(rt: &R, alloc: Global, seed: u64) -> Result<Done, Fault>
+/// Runs a round, and answers what its threads did.
+pub fn run_round<P, R>(rt: &R, alloc: Global, seed: u64) -> Result<Done, Fault>
 where
     P: ThreadParkerT + Send + Sync,
     R: Threads + Wait + Clock + Sync,
 {
     let shared = Shared::<P>::new(rt, alloc)?;
-    let act = |index: usize| shared.act(rt, alloc, seed.wrapping_add(index as u64));
-    let all = thread::map_indices(rt, alloc, THREADS, &act)?;
-    let mut sum = Done::nothing();
-    for done in all {
-        sum.add(done?);
-    }
-    if sum.is_even && shared.has(rt, alloc, sum)? {
-        Ok(sum)
-    } else {
-        Err(Fault::Unlike("what the locks are around"))
-    }
+    shared.play(rt, alloc, seed)
 }
 
 impl Done {
@@ -117,14 +106,23 @@ impl Done {
         Done {
             locked: 0,
             written: 0,
-            is_even: true,
+            is_right: true,
+        }
+    }
+
+    // What a thread did that was refused.
+    fn refused() -> Done {
+        Done {
+            locked: 0,
+            written: 0,
+            is_right: false,
         }
     }
 
     fn add(&mut self, other: Done) {
         self.locked = self.locked.wrapping_add(other.locked);
         self.written = self.written.wrapping_add(other.written);
-        self.is_even = self.is_even && other.is_even;
+        self.is_right = self.is_right && other.is_right;
     }
 }
 
@@ -152,23 +150,51 @@ impl Pair {
 impl<P: ThreadParkerT> Shared<P> {
     fn new<R: Wait>(rt: &R, alloc: Global) -> Result<Shared<P>, Fault> {
         Ok(Shared {
-            lot: ParkingLot::new(alloc, THREADS)?,
             mutex: Mutex::new(alloc, KEYS[0], Pair::zero())?,
+            lot: ParkingLot::new(alloc, THREADS)?,
             condvar: Condvar::new(KEYS[1]),
             lock: RwLock::new(rt, KEYS[2], Pair::zero()),
         })
     }
 
+    fn play<R>(&self, rt: &R, alloc: Global, seed: u64) -> Result<Done, Fault>
+    where
+        P: Send + Sync,
+        R: Threads + Wait + Clock + Sync,
+    {
+        let act = |index: usize| self.act(rt, alloc, seed.wrapping_add(index as u64));
+        let all = thread::map_indices(rt, alloc, THREADS, &act)?;
+        let mut sum = Done::nothing();
+        for done in all {
+            sum.add(done);
+        }
+        if sum.is_right && self.has(rt, alloc, sum) {
+            Ok(sum)
+        } else {
+            Err(Fault::Unlike("what the locks are around"))
+        }
+    }
+
     // Registers, does what is drawn, and retires.
-    fn act<R: Wait + Clock>(&self, rt: &R, alloc: Global, seed: u64) -> Result<Done, Fault> {
-        let mut member = Member::register(rt, alloc, &self.lot)?;
+    fn act<R: Wait + Clock>(&self, rt: &R, alloc: Global, seed: u64) -> Done {
+        let Ok(mut member) = Member::register(rt, alloc, &self.lot) else {
+            return Done::refused();
+        };
+        let done = self.act_often(rt, &mut member, seed);
+        member.retire(rt);
+        done
+    }
+
+    fn act_often<R: Wait + Clock>(&self, rt: &R, member: &mut Member<'_, P>, seed: u64) -> Done {
         let mut draws = Draws::new(seed);
         let mut done = Done::nothing();
         for _ in 0..OPERATIONS {
-            done.add(self.act_once(rt, &mut member, draws.next())?);
+            match moment_from_now(rt) {
+                Some(soon) => done.add(self.act_once(rt, member, draws.next(), soon)),
+                None => done.add(Done::refused()),
+            }
         }
-        member.retire(rt);
-        Ok(done)
+        done
     }
 
     fn act_once<R: Wait + Clock>(
@@ -176,19 +202,20 @@ impl<P: ThreadParkerT> Shared<P> {
         rt: &R,
         member: &mut Member<'_, P>,
         draw: u64,
-    ) -> Result<Done, Fault> {
+        soon: Instant,
+    ) -> Done {
         let mut done = Done::nothing();
         match draw % 8 {
             0 => done.locked = self.lock_once(rt, member),
-            1 => done.locked = self.lock_for_a_moment(rt, member)?,
-            2 => done.locked = self.sleep(rt, member)?,
+            1 => done.locked = self.lock_for_a_moment(rt, member, soon),
+            2 => done.locked = self.sleep(rt, member, soon),
             3 => self.notify(rt, member, draw),
             4 => done.written = self.write_once(rt, member),
-            5 => done.written = self.write_for_a_moment(rt, member)?,
-            6 => done.is_even = self.read_once(rt, member),
-            _ => done.is_even = self.downgrade(rt, member),
+            5 => done.written = self.write_for_a_moment(rt, member, soon),
+            6 => done.is_right = self.read_once(rt, member),
+            _ => done.is_right = self.downgrade(rt, member),
         }
-        Ok(done)
+        done
     }
 
     fn lock_once<R: Wait + Clock>(&self, rt: &R, member: &mut Member<'_, P>) -> u64 {
@@ -211,21 +238,20 @@ impl<P: ThreadParkerT> Shared<P> {
         &self,
         rt: &R,
         member: &mut Member<'_, P>,
-    ) -> Result<u64, Fault> {
-        let soon = moment_from_now(rt)?;
+        soon: Instant,
+    ) -> u64 {
         let Some(mut held) = self.mutex.lock_until(rt, member, soon) else {
-            return Ok(0);
+            return 0;
         };
         held.value.add_one();
         held.unlock_fair(rt, member);
-        Ok(1)
+        1
     }
 
-    fn sleep<R: Wait + Clock>(&self, rt: &R, member: &mut Member<'_, P>) -> Result<u64, Fault> {
-        let soon = moment_from_now(rt)?;
+    fn sleep<R: Wait + Clock>(&self, rt: &R, member: &mut Member<'_, P>, soon: Instant) -> u64 {
         let held = self.mutex.lock(rt, member);
         let (held, _) = self.condvar.wait_until(rt, member, held, soon);
-        Ok(add_under(rt, member, held))
+        add_under(rt, member, held)
     }
 
     fn notify<R: Wait + Clock>(&self, rt: &R, member: &Member<'_, P>, draw: u64) {
@@ -240,11 +266,11 @@ impl<P: ThreadParkerT> Shared<P> {
         &self,
         rt: &R,
         member: &mut Member<'_, P>,
-    ) -> Result<u64, Fault> {
-        let soon = moment_from_now(rt)?;
+        soon: Instant,
+    ) -> u64 {
         match self.lock.write_until(rt, member, soon) {
-            Some(held) => Ok(write_under(rt, member, held)),
-            None => Ok(0),
+            Some(held) => write_under(rt, member, held),
+            None => 0,
         }
     }
 
@@ -254,23 +280,29 @@ impl<P: ThreadParkerT> Shared<P> {
     }
 
     // Whether the locks are around as much as was added.
-    fn has<R: Wait + Clock>(&self, rt: &R, alloc: Global, sum: Done) -> Result<bool, Fault> {
-        let mut member = Member::register(rt, alloc, &self.lot)?;
-        let held = self.mutex.lock(rt, &mut member);
-        let locked = held.value.first;
-        held.unlock(rt, &member);
-        let read = self.lock.read(rt, &mut member);
-        let written = read.value().first;
-        read.unlock(rt, &member);
+    fn has<R: Wait + Clock>(&self, rt: &R, alloc: Global, sum: Done) -> bool {
+        let Ok(mut member) = Member::register(rt, alloc, &self.lot) else {
+            return false;
+        };
+        let (locked, written) = self.numbers(rt, &mut member);
         member.retire(rt);
-        Ok(locked == sum.locked && written == sum.written)
+        locked == sum.locked && written == sum.written
+    }
+
+    fn numbers<R: Wait + Clock>(&self, rt: &R, member: &mut Member<'_, P>) -> (u64, u64) {
+        let held = self.mutex.lock(rt, member);
+        let locked = held.value.first;
+        held.unlock(rt, member);
+        let read = self.lock.read(rt, member);
+        let written = read.value().first;
+        read.unlock(rt, member);
+        (locked, written)
     }
 }
 
-fn moment_from_now<R: Clock>(rt: &R) -> Result<Instant, Fault> {
-    let now = Instant::now(rt)?;
+fn moment_from_now<R: Clock>(rt: &R) -> Option<Instant> {
+    let now = Instant::now(rt).ok()?;
     now.checked_add(Duration::from_micros(MOMENT))
-        .ok_or(Fault::NoSystem)
 }
 
 fn add_under<P: ThreadParkerT, R: Wait>(

@@ -1,57 +1,78 @@
 //! `lot_stress parks`: one thread that parks so often that memory which its parks would keep shows
 //! in the size of the process.
 
-use lot_memory::fault::Fault;
-use parking_lot_core::{
-    DEFAULT_PARK_TOKEN, Member, ParkResult, ParkingLot, ThreadParker, ThreadParkerT, UnparkToken,
-    WordParker, YieldParker, unpark_one,
-};
+use crate::entry::Entry;
+use crate::fault::Fault;
+use crate::task::{PARKERS, Seen, Task, perform};
+use crate::unparks::unpark_first;
+use lot_threads::{Member, ParkResult, ParkingLot, ThreadParkerT, UnparkToken};
 use std::alloc::Global;
 use std::sync::Wait;
+use std::thread::Threads;
 use std::time::{Clock, Instant};
 
-// How many parks ended in which way.
+/// How many parks ended in which way.
 #[derive(Copy, Clone, Default)]
-struct Figures {
+pub struct Figures {
     unparked: usize,
     timed_out: usize,
 }
 
-/// Parks so often over each parker, and tells how the parks ended.
-pub fn run<R: Print + Wait + Clock>(rt: &R, alloc: Global, count: usize) -> Result<(), Fault> {
-    let mut figures = Figures::default();
-    park_often::<WordParker, _>(rt, alloc, count, &mut figures)?;
-    park_often::<ThreadParker, _>(rt, alloc, count, &mut figures)?;
-    park_often::<YieldParker, _>(rt, alloc, count, &mut figures)?;
-    println!(rt;
-        "unparked {} timed out {}",
-        figures.unparked, figures.timed_out
-    )?;
-    Ok(())
+impl Figures {
+    fn add(&mut self, other: Figures) {
+        self.unparked = self.unparked.wrapping_add(other.unparked);
+        self.timed_out = self.timed_out.wrapping_add(other.timed_out);
+    }
 }
 
-// Parks on one key after another. Of each four parks one ends by a deadline that has passed, and
-// three by an unpark, one of these with that deadline.
-fn park_often<P: ThreadParkerT, R: Wait + Clock>(
+/// Parks so often over each parker, and tells how the parks ended.
+pub fn run<R: Print + Threads + Wait + Clock + Copy + Send + Sync + 'static>(
     rt: &R,
     alloc: Global,
     count: usize,
-    figures: &mut Figures,
 ) -> Result<(), Fault> {
-    let lot = ParkingLot::<P>::new(alloc, 1)?;
-    let mut member = Member::register(rt, alloc, &lot)?;
-    park_on_each_key(rt, &mut member, count, figures)?;
-    member.retire(rt);
+    let mut total = Figures::default();
+    for parker in PARKERS {
+        if let Seen::Parks(figures) = perform(rt, alloc, parker, Task::Parks(count))? {
+            total.add(figures);
+        }
+    }
+    println!(rt; "unparked {} timed out {}", total.unparked, total.timed_out)?;
     Ok(())
+}
+
+/// Parks on one key after another. Of each four parks one ends by a deadline that has passed, and
+/// three by an unpark, one of these with that deadline.
+pub fn park_often<P: ThreadParkerT, R: Wait + Clock>(
+    rt: &R,
+    alloc: Global,
+    count: usize,
+) -> Result<Figures, Fault> {
+    let past = Instant::now(rt)?;
+    let lot = ParkingLot::<P>::new(alloc, 1)?;
+    park_on_lot(rt, alloc, &lot, count, past)
+}
+
+fn park_on_lot<P: ThreadParkerT, R: Wait + Clock>(
+    rt: &R,
+    alloc: Global,
+    lot: &ParkingLot<P>,
+    count: usize,
+    past: Instant,
+) -> Result<Figures, Fault> {
+    let mut member = Member::register(rt, alloc, lot)?;
+    let figures = park_on_each_key(rt, &mut member, count, past);
+    member.retire(rt);
+    figures
 }
 
 fn park_on_each_key<P: ThreadParkerT, R: Wait + Clock>(
     rt: &R,
     member: &mut Member<'_, P>,
     count: usize,
-    figures: &mut Figures,
-) -> Result<(), Fault> {
-    let past = Instant::now(rt)?;
+    past: Instant,
+) -> Result<Figures, Fault> {
+    let mut figures = Figures::default();
     for key in 0..count {
         let ends = if key % 4 == 0 {
             figures.timed_out = figures.timed_out.wrapping_add(1);
@@ -64,7 +85,7 @@ fn park_on_each_key<P: ThreadParkerT, R: Wait + Clock>(
             return Err(Fault::Unlike("the end of a park"));
         }
     }
-    Ok(())
+    Ok(figures)
 }
 
 // Parks on the key with a deadline that has passed. Answers whether the deadline ended it, and told
@@ -75,17 +96,8 @@ fn times_out<P: ThreadParkerT, R: Wait + Clock>(
     key: usize,
     past: Instant,
 ) -> bool {
-    let mut is_told = false;
-    let result = member.park(
-        rt,
-        key,
-        || true,
-        || (),
-        |left, is_last| is_told = left == key && is_last,
-        DEFAULT_PARK_TOKEN,
-        Some(past),
-    );
-    is_told && result == ParkResult::TimedOut
+    let ended = Entry::at(key, Some(past)).park(rt, member, || ());
+    ended == (ParkResult::TimedOut, Some((key, true)))
 }
 
 // Parks on the key, where the thread unparks itself before it sleeps. Answers whether that ended
@@ -96,16 +108,10 @@ fn is_unparked<P: ThreadParkerT, R: Wait + Clock>(
     key: usize,
     deadline: Option<Instant>,
 ) -> bool {
-    let lot = member.lot();
+    let (lot, token) = (member.lot(), UnparkToken(key));
     let mut unparked = 0;
-    let result = member.park(
-        rt,
-        key,
-        || true,
-        || unparked = unpark_one(rt, lot, key, |_| UnparkToken(key)).unparked_threads,
-        |_, _| (),
-        DEFAULT_PARK_TOKEN,
-        deadline,
-    );
-    unparked == 1 && result == ParkResult::Unparked(UnparkToken(key))
+    let ended = Entry::at(key, deadline).park(rt, member, || {
+        unparked = unpark_first(rt, lot, key, token);
+    });
+    unparked == 1 && ended == (ParkResult::Unparked(token), None)
 }

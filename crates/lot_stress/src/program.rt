@@ -1,10 +1,10 @@
 //! The commands of the program.
 
-use crate::{cost, locks, parks, race, rest};
-use lot_base::thread_parker as parker;
-use lot_memory::Scenario;
-use lot_memory::fault::Fault;
-use parking_lot_core::{ThreadParker, WordParker, YieldParker};
+use crate::fault::Fault;
+use crate::memory::{ROWS, Scenario};
+use crate::task::{Parker, Task, perform};
+use crate::{cost, locks, memory, nested, parks, race, rest};
+use std::alloc::Global;
 use std::process::ExitCode;
 use std::rt::Env;
 use std::sync::Wait;
@@ -14,14 +14,17 @@ use std::{env, io};
 
 const USAGE_STATUS: u8 = 2;
 
-#[derive(Copy, Clone)]
-enum Parker {
-    OfOneWord,
-    Sleeping,
-    Yielding,
-}
+const USAGE: &[&str] = &[
+    "usage: lot_stress memory [SCENARIO word|thread|yield]",
+    "       lot_stress cost",
+    "       lot_stress parks COUNT",
+    "       lot_stress rest MILLISECONDS",
+    "       lot_stress race SECONDS SEED",
+    "       lot_stress locks SECONDS SEED",
+    "       lot_stress nested [deep] SEED",
+];
 
-#[derive(Drop)]
+#[derive(Copy, Clone)]
 enum Command {
     List,
     Memory(Scenario, Parker),
@@ -30,6 +33,7 @@ enum Command {
     Rest { milliseconds: u64 },
     Race { seconds: u64, seed: u64 },
     Locks { seconds: u64, seed: u64 },
+    Nested { is_deep: bool, seed: u64 },
 }
 
 /// Runs the command that the arguments name. Any other words are answered by the usage lines on the
@@ -38,15 +42,12 @@ pub fn run<
     R: Env + Print + Eprint + AllocGlobal + Threads + Wait + Clock + Copy + Send + Sync + 'static,
 >(rt: &R) -> ExitCode {
     let Some(command) = chosen_command(rt) else {
-        let _ = eprintln!(rt; "usage: lot_stress memory [SCENARIO word|thread|yield]");
-        let _ = eprintln!(rt; "       lot_stress cost");
-        let _ = eprintln!(rt; "       lot_stress parks COUNT");
-        let _ = eprintln!(rt; "       lot_stress rest MILLISECONDS");
-        let _ = eprintln!(rt; "       lot_stress race SECONDS SEED");
-        let _ = eprintln!(rt; "       lot_stress locks SECONDS SEED");
+        for line in USAGE {
+            let _ = eprintln!(rt; "{line}");
+        }
         return ExitCode::from(USAGE_STATUS);
     };
-    match follow(rt, command) {
+    match follow(rt, rt.alloc(), command) {
         Ok(()) => ExitCode::SUCCESS,
         Err(fault) => {
             let _ = eprintln!(rt; "{fault}");
@@ -87,19 +88,27 @@ fn command_with_one(command: &str, word: &str) -> Option<Command> {
         "rest" => Some(Command::Rest {
             milliseconds: word.parse().ok()?,
         }),
+        "nested" => Some(Command::Nested {
+            is_deep: false,
+            seed: word.parse().ok()?,
+        }),
         _ => None,
     }
 }
 
 fn command_with_two(command: &str, first: &str, second: &str) -> Option<Command> {
     match command {
-        "memory" => Some(Command::Memory(lot_memory::named(first)?, parker_named(second)?)),
+        "memory" => Some(Command::Memory(memory::named(first)?, parker_named(second)?)),
         "race" => Some(Command::Race {
             seconds: first.parse().ok()?,
             seed: second.parse().ok()?,
         }),
         "locks" => Some(Command::Locks {
             seconds: first.parse().ok()?,
+            seed: second.parse().ok()?,
+        }),
+        "nested" if first == "deep" => Some(Command::Nested {
+            is_deep: true,
             seed: second.parse().ok()?,
         }),
         _ => None,
@@ -115,33 +124,30 @@ fn parker_named(name: &str) -> Option<Parker> {
     }
 }
 
-fn follow<R: Print + Eprint + AllocGlobal + Threads + Wait + Clock + Copy + Send + Sync + 'static>(
+fn follow<R: Print + Eprint + Threads + Wait + Clock + Copy + Send + Sync + 'static>(
     rt: &R,
+    alloc: Global,
     command: Command,
 ) -> Result<(), Fault> {
     match command {
-        Command::List => Ok(print_names(rt)?),
-        Command::Memory(scenario, Parker::OfOneWord) => {
-            lot_memory::play::<WordParker, parker::WordParker, _>(rt, rt.alloc(), scenario)
+        Command::List => print_names(rt)?,
+        Command::Memory(scenario, parker) => {
+            perform(rt, alloc, parker, Task::Memory(scenario))?;
         }
-        Command::Memory(scenario, Parker::Sleeping) => {
-            lot_memory::play::<ThreadParker, parker::ThreadParker, _>(rt, rt.alloc(), scenario)
-        }
-        Command::Memory(scenario, Parker::Yielding) => {
-            lot_memory::play::<YieldParker, parker::YieldParker, _>(rt, rt.alloc(), scenario)
-        }
-        Command::Cost => cost::run(rt, rt.alloc()),
-        Command::Parks { count } => parks::run(rt, rt.alloc(), count),
-        Command::Rest { milliseconds } => rest::run(rt, rt.alloc(), milliseconds),
-        Command::Race { seconds, seed } => race::run(rt, rt.alloc(), seconds, seed),
-        Command::Locks { seconds, seed } => locks::run(rt, rt.alloc(), seconds, seed),
+        Command::Cost => cost::run(rt, alloc)?,
+        Command::Parks { count } => parks::run(rt, alloc, count)?,
+        Command::Rest { milliseconds } => rest::run(rt, alloc, milliseconds)?,
+        Command::Race { seconds, seed } => race::run(rt, alloc, seconds, seed)?,
+        Command::Locks { seconds, seed } => locks::run(rt, alloc, seconds, seed)?,
+        Command::Nested { is_deep, seed } => nested::run(rt, alloc, is_deep, seed)?,
     }
+    Ok(())
 }
 
 // The scenarios by their names, each with how many of its requests are to be refused, and with
 // which parkers it is to be run.
 fn print_names<R: Print>(rt: &R) -> io::Result<()> {
-    for (_, kind, name, parkers) in lot_memory::ROWS {
+    for (_, kind, name, parkers) in ROWS {
         println!(rt; "{kind} {name} {parkers}")?;
     }
     Ok(())

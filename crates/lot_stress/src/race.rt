@@ -2,13 +2,14 @@
 //! tokens that were handed out are compared with those that were told.
 
 mod figures;
+mod roles;
 mod round;
 
-use figures::Figures;
-use lot_memory::fault::Fault;
-use parking_lot_core::{ThreadParker, WordParker, YieldParker};
+use crate::fault::Fault;
+use crate::task::{Seen, Task, parker_of, perform};
+pub use figures::Figures;
+pub use round::run_round;
 use std::alloc::Global;
-use std::io;
 use std::sync::Wait;
 use std::thread::Threads;
 use std::time::{Clock, Duration, Instant};
@@ -29,29 +30,24 @@ pub fn run<R: Print + Eprint + Threads + Wait + Clock + Copy + Send + Sync + 'st
         if start.elapsed(rt)? >= whole {
             break;
         }
-        total.add(run_round(rt, alloc, seed.wrapping_add(number))?);
+        total.add(run_and_tell(rt, alloc, seed.wrapping_add(number))?);
     }
     println!(rt; "{total}")?;
     Ok(())
 }
 
 // Runs the round of this seed. A failure is told with it.
-fn run_round<R: Eprint + Threads + Wait + Clock + Copy + Send + Sync + 'static>(
+fn run_and_tell<R: Print + Eprint + Threads + Wait + Clock + Copy + Send + Sync + 'static>(
     rt: &R,
     alloc: Global,
     seed: u64,
 ) -> Result<Figures, Fault> {
-    let figures = match seed % 3 {
-        0 => round::run::<WordParker, _>(rt, alloc, seed),
-        1 => round::run::<ThreadParker, _>(rt, alloc, seed),
-        _ => round::run::<YieldParker, _>(rt, alloc, seed),
-    };
-    if figures.is_err() {
-        tell_failure(rt, seed)?;
+    match perform(rt, alloc, parker_of(seed), Task::Race(seed)) {
+        Ok(Seen::Race(figures)) => Ok(figures),
+        Ok(_) => Ok(Figures::default()),
+        Err(fault) => {
+            eprintln!(rt; "a round failed: lot_stress race 1 {seed}")?;
+            Err(fault)
+        }
     }
-    figures
-}
-
-fn tell_failure<R: Eprint>(rt: &R, seed: u64) -> io::Result<()> {
-    eprintln!(rt; "a round failed: lot_stress race 1 {seed}")
 }

@@ -21,3 +21,5 @@ pub mod BarrierInvariant
 pub mod BarrierRule
 pub mod BarrierSteps
 pub mod Barrier
+-- A fair mutex and its condition variable as contracts see them.
+pub mod FairLockState

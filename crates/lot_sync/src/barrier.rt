@@ -27,7 +27,7 @@ use crate::barrier::view::View;
 use atomic_table::{Seat, Table, TableRule};
 use lot_base::spinwait::SpinWait;
 use lot_base::token::{DEFAULT_PARK_TOKEN, DEFAULT_UNPARK_TOKEN, NoMemory};
-use parking_lot_core::{Member, ThreadParkerT, unpark_all};
+use lot_threads::{Member, ThreadParkerT, unpark_all};
 use std::alloc::Global;
 use std::sync::Wait;
 use std::thread;

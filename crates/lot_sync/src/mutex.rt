@@ -35,7 +35,7 @@ use atomic_table::{Refused, Seat, Table, TableRule};
 pub use condvar::{Condvar, WaitResult};
 use lot_base::spinwait::SpinWait;
 use lot_base::token::{DEFAULT_PARK_TOKEN, NoMemory, ParkResult, UnparkToken};
-use parking_lot_core::{Member, ParkingLot, ThreadParkerT, unpark_one};
+use lot_threads::{Member, ParkingLot, ThreadParkerT, unpark_one};
 use std::alloc::Global;
 use std::sync::Wait;
 use std::time::{Clock, Instant};

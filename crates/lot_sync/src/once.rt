@@ -24,7 +24,7 @@ use crate::once::view::View;
 use atomic_table::{Table, TableRule};
 use lot_base::spinwait::SpinWait;
 use lot_base::token::{DEFAULT_PARK_TOKEN, DEFAULT_UNPARK_TOKEN, NoMemory};
-use parking_lot_core::{Member, ThreadParkerT, unpark_all};
+use lot_threads::{Member, ThreadParkerT, unpark_all};
 use std::alloc::Global;
 use std::sync::Wait;
 use std::time::Clock;

@@ -35,7 +35,7 @@ use crate::rw_lock::word::{
 use counted_slot::{Claim, Counted, FREE, ONE_READER, PRESENT};
 use lot_base::spinwait::SpinWait;
 use lot_base::token::{DEFAULT_UNPARK_TOKEN, FilterOp, ParkResult};
-use parking_lot_core::{Member, ParkingLot, ThreadParkerT, unpark_chosen};
+use lot_threads::{Member, ParkingLot, ThreadParkerT, unpark_chosen};
 use std::cell::Cell;
 use std::sync::Wait;
 use std::thread;

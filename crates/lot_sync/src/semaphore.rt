@@ -26,7 +26,7 @@ use crate::semaphore::view::View;
 use atomic_table::{Seat, Table, TableRule};
 use lot_base::spinwait::SpinWait;
 use lot_base::token::{DEFAULT_PARK_TOKEN, DEFAULT_UNPARK_TOKEN, NoMemory, ParkResult};
-use parking_lot_core::{Member, ThreadParkerT, unpark_one};
+use lot_threads::{Member, ThreadParkerT, unpark_one};
 use std::alloc::Global;
 use std::sync::Wait;
 use std::time::{Clock, Instant};

@@ -19,11 +19,11 @@
 //! Upstream's list is one of the waiters' own nodes, linked both ways, with a second bit in the
 //! word for whoever works on it after the release. Here the holder does that before it lets go.
 //!
-//! A lock has a key, which is fixed when it is made and tells proofs which lock it is: what a value
-//! has to fit may speak of it. Neither the lock nor a caller keeps a byte of it.
+//! A lock has a key, which is fixed when it is made and tells proofs which lock it is: the
+//! invariant of its value may speak of it. Neither the lock nor a caller keeps a byte of it.
 //!
-//! What is proved is `WordLockInvariant`, and that a `lock` and a `lend` give a value that fits the
-//! lock's key.
+//! What is proved is `WordLockInvariant`, and that a `lock` and a `lend` give a value that
+//! satisfies the invariant of the lock's key.
 //! That whoever sleeps is woken is shown by tests.
 
 ghost use Rattle.std.specs.Prelude.{◌≡◌, ◌-◌, ◌%◌, ◌/◌, ◌+◌, ℕ, List, [], ◌∷◌, IfOk, IfSome, IfNone, Option, IsTrue};
@@ -64,7 +64,7 @@ pub trait Fits: Drop {
     /// locks are alike.
     type Key;
 
-    /// What the value behind a lock of this key satisfies.
+    /// The invariant of the value behind a lock of this key.
     ghost fits: { Self.Key → Self → Type 0 };
 }
 
@@ -105,8 +105,8 @@ pub struct Claim<T: Fits> {
 impl<T: Fits> WordLock<T> {
     ghost use Rattle.lot_word_lock.specs.WordLock.{IsCallerOf, IsClaimOn, IsHeldOf, IsTrying, HasFullSlot, Sees, SeesMore, key_of, seat_of};
 
-    /// A lock of this key that nobody holds, around a value that fits it. The key is for proofs
-    /// alone: nothing reads or keeps it.
+    /// A lock of this key that nobody holds, around a value that satisfies the key's invariant. The
+    /// key is for proofs alone: nothing reads or keeps it.
     ///
     /// It asks for memory three times: for the block of the words, for the block of the value, and
     /// for a block of the value's size that is freed before it returns. No other call of a lock
@@ -127,8 +127,8 @@ impl<T: Fits> WordLock<T> {
         }
     }
 
-    /// Waits until nobody holds the lock, and takes it with its value, which fits the lock's key.
-    /// Any thread may call it; one that holds the lock already waits forever.
+    /// Waits until nobody holds the lock, and takes it with its value, which satisfies the lock's
+    /// invariant. Any thread may call it; one that holds the lock already waits forever.
     ///
     /// If nobody holds the lock or is in the list, it is one exchange of the word. If somebody
     /// holds it, it spins by a `SpinWait` while nobody is in the list, and then enters the list and
@@ -179,8 +179,8 @@ impl<T: Fits> WordLock<T> {
         }
     }
 
-    /// Calls the visitor once, with the value, which fits the lock's key. It has to leave a value
-    /// that does. The contract asks that this lock's `claim` gave what is passed.
+    /// Calls the visitor once, with the value, which satisfies the lock's invariant. It has to
+    /// leave a value that does. The contract asks that this lock's `claim` gave what is passed.
     ///
     /// It does not wait, and touches the value alone. Upstream has no such call.
     #[inline]

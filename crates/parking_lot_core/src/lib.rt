@@ -1,46 +1,20 @@
 //! A parking lot: queues of waiting threads by key, for building mutexes, condition variables and
-//! schedulers. Whatever its threads call is proved to be one history: a run, from a new one, of the
-//! machine with one list of waiters for each key.
+//! schedulers. This crate is where everything of it is found by the names that it has upstream: the
+//! lot that threads share, which is `lot_threads`, and beside it the lots without threads, which
+//! are `lot_simulator`.
 #![tactic(auto)]
 
-mod cell;
-mod claimed;
-pub mod deadlock;
-mod halves;
-pub mod history_laws;
-pub mod member;
-pub mod parker;
-pub mod parking_lot;
-mod registry;
-mod sections;
-mod shared_lot;
 pub mod table;
-mod told;
 
-pub use lot_base::bucket::{Bucket, BucketPlace, place};
-pub use lot_base::laws::{
-    abort_changes_nothing, filter_covers_unparks, requeue_to_itself_changes_nothing,
-    spreading_keeps_order, steps_keep_park_tokens,
-};
-pub use lot_base::queue::{Node, Queue};
-pub use lot_base::spinwait::SpinWait;
-pub use lot_base::thread_parker::{
-    ParkerKey, ParkerT, Payload, Slot, UnparkHandle, UnparkHandleT, WordHandle, YieldHandle,
-    thread_yield,
-};
-pub use lot_base::token::{
-    DEFAULT_PARK_TOKEN, DEFAULT_UNPARK_TOKEN, FilterOp, LotError, Misfit, NoMemory, ParkResult,
-    ParkToken, RequeueOp, StepError, UnparkResult, UnparkToken,
-};
-pub use lot_base::word_lock::{
-    Claim, Fits, Held, WORD_SLOTS, WordLock, plays, view, word_locks_keep_their_invariant,
-};
-pub use lot_exclusive::{laws, lot, schedule};
-pub use lot_history::history::{History, Witness};
-pub use lot_interleaved::interleaved;
-pub use member::Member;
-pub use parker::{Letter, ThreadParker, ThreadParkerT, WordParker, YieldParker};
-pub use parking_lot::{
-    ParkingLot, ThreadData, park, unpark_all, unpark_chosen, unpark_filter, unpark_one,
-    unpark_requeue,
+pub use lot_simulator::{interleaved, laws, lot, schedule};
+pub use lot_threads::{
+    Bucket, BucketPlace, Claim, DEFAULT_PARK_TOKEN, DEFAULT_UNPARK_TOKEN, FilterOp, Fits, Held,
+    History, Letter, LotError, Member, Misfit, NoMemory, Node, ParkResult, ParkToken, ParkerKey,
+    ParkerT, ParkingLot, Payload, Queue, RequeueOp, Slot, SpinWait, StepError, ThreadData,
+    ThreadParker, ThreadParkerT, UnparkHandle, UnparkHandleT, UnparkResult, UnparkToken,
+    WORD_SLOTS, Witness, WordHandle, WordLock, WordParker, YieldHandle, YieldParker,
+    abort_changes_nothing, deadlock, filter_covers_unparks, history_laws, member, park, parker,
+    parking_lot, place, plays, requeue_to_itself_changes_nothing, spreading_keeps_order,
+    steps_keep_park_tokens, thread_yield, unpark_all, unpark_chosen, unpark_filter, unpark_one,
+    unpark_requeue, view, word_locks_keep_their_invariant,
 };

@@ -1,3 +1,3 @@
 //! The hash table of the lots without threads, and for how many threads a lot can be made.
 
-pub use lot_exclusive::table::{MAX_THREADS, Table, Use};
+pub use lot_simulator::table::{MAX_THREADS, Table, Use};

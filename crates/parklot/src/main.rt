@@ -3,6 +3,8 @@
 #![tactic(auto)]
 
 mod program;
+mod session;
+mod threads;
 
 use std::process::ExitCode;
 

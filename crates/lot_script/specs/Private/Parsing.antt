@@ -2,8 +2,8 @@
 use Rattle.std.specs.Prelude.{◌≡◌, ℕ, ◌==◌, List, [], ◌∷◌, map, codes, Option, Some, None}
 use Rattle.std.specs.List.{slice_split, AllByRecursion}
 use denote.Ref.{Bor}
-use Rattle.lot_exclusive.specs.declared.schedule.Op.TheVariants as op
-use Rattle.lot_exclusive.specs.declared.schedule.Step.TheVariants as step
+use Rattle.lot_machine.specs.declared.step.Op.TheVariants as op
+use Rattle.lot_machine.specs.declared.step.Step.TheVariants as step
 use Rattle.lot_script.specs.declared.script.command.Command.{Command}
 use Rattle.lot_script.specs.declared.script.command.Command.TheVariants as command
 use Rattle.lot_script.specs.declared.script.keyword.Keyword.{Keyword}

@@ -8,7 +8,7 @@ ghost use Rattle.lot_script.specs.Command.{command_words};
 use super::fault::Cause;
 use super::input::MAX_LINE;
 use super::parse::parse_command;
-use lot_exclusive::schedule::Step;
+use lot_simulator::schedule::Step;
 use std::alloc::Global;
 
 /// What a line of a script but the first asks for.

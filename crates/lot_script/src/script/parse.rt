@@ -14,7 +14,7 @@ use super::input::MAX_LINE;
 use super::keyword::Keyword;
 use super::words::{last_number, last_numbers, next_choice, next_number, next_word, split_word};
 use lot_base::token::{FilterOp, ParkToken, RequeueOp, UnparkToken};
-use lot_exclusive::schedule::{Op, Step};
+use lot_simulator::schedule::{Op, Step};
 use std::alloc::Global;
 
 // For how many threads the first line makes the lot.

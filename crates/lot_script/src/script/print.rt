@@ -11,7 +11,7 @@ use super::fault::Cause;
 use super::output::{NotWritten, put, put_number};
 use super::reply::Reply;
 use lot_base::token::UnparkResult;
-use lot_exclusive::schedule::Answer;
+use lot_simulator::schedule::Answer;
 use std::io::Write;
 
 /// Writes what a script answers where a step of the lot answers this, without a line feed.

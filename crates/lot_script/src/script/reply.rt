@@ -3,8 +3,8 @@
 ghost use Rattle.lot_script.specs.Reply.{state_of, IsReply};
 
 use super::command::Command;
-use lot_exclusive::lot::Lot;
-use lot_exclusive::schedule::Answer;
+use lot_simulator::lot::Lot;
+use lot_simulator::schedule::Answer;
 
 #[derive(Drop)]
 pub(super) enum Reply {

@@ -14,8 +14,8 @@ use super::parse::{parse_command, parse_lot};
 use super::print::print_reply;
 use super::reply::reply_to;
 use lot_base::token::LotError;
-use lot_exclusive::lot::Lot;
-use lot_exclusive::table::MAX_THREADS;
+use lot_simulator::lot::Lot;
+use lot_simulator::table::MAX_THREADS;
 use std::alloc::Global;
 use std::io::Write;
 use std::marker::Model;
@@ -32,7 +32,7 @@ pub struct ScriptedLot {
 
 impl Model for ScriptedLot {
     ghost use Rattle.std.specs.Prelude.{Option};
-    ghost use Rattle.lot_exclusive.specs.LotState.{LotState};
+    ghost use Rattle.lot_simulator.specs.LotState.{LotState};
 
     ghost Value = { Option LotState };
 

@@ -1,10 +1,10 @@
 //! Steps on records for very many threads, whose room is known without a look at each thread.
 
 use super::{KEY, THREADS};
-use lot_memory::fault::Fault;
-use lot_tools::record::Record;
-use parking_lot_core::DEFAULT_PARK_TOKEN;
-use parking_lot_core::schedule::Step;
+use crate::fault::Fault;
+use lot_simulator::record::Record;
+use lot_simulator::schedule::Step;
+use lot_threads::DEFAULT_PARK_TOKEN;
 use std::alloc::Global;
 
 const RECORDS: usize = 8;

@@ -1,10 +1,10 @@
 //! Requeues of all threads of an interleaved lot, which look at each waiter once.
 
 use super::{KEY, THREADS};
-use lot_memory::fault::Fault;
-use parking_lot_core::interleaved::{FineAnswer, FineLot, FineStep, run_fine};
-use parking_lot_core::schedule::{Answer, Op};
-use parking_lot_core::{DEFAULT_PARK_TOKEN, DEFAULT_UNPARK_TOKEN, RequeueOp};
+use crate::fault::Fault;
+use lot_simulator::interleaved::{FineAnswer, FineLot, FineStep, run_fine};
+use lot_simulator::schedule::{Answer, Op};
+use lot_threads::{DEFAULT_PARK_TOKEN, DEFAULT_UNPARK_TOKEN, RequeueOp};
 use std::alloc::Global;
 
 const OTHER_KEY: usize = 13;
@@ -14,12 +14,21 @@ const ROUNDS: usize = 8;
 
 /// Lets all threads wait on one key, and requeues them to another and back, again and again.
 pub(super) fn requeue_all(alloc: Global) -> Result<(), Fault> {
+    let steps = all_steps(alloc)?;
+    let mut lot = FineLot::new(alloc, THREADS, 1)?;
+    requeue_in(alloc, &mut lot, steps.as_slice())
+}
+
+fn all_steps(alloc: Global) -> Result<Vec<FineStep>, Fault> {
     let mut steps = Vec::new(alloc);
     add_entries(&mut steps)?;
     add_requeues(&mut steps)?;
-    let mut lot = FineLot::new(alloc, THREADS, 1)?;
+    Ok(steps)
+}
+
+fn requeue_in(alloc: Global, lot: &mut FineLot, steps: &[FineStep]) -> Result<(), Fault> {
     let (mut answers, mut sequential) = (Vec::new(alloc), Vec::new(alloc));
-    run_fine(&mut lot, steps.as_slice(), &mut answers, &mut sequential)?;
+    run_fine(lot, steps, &mut answers, &mut sequential)?;
     if requeues_of_all(answers.as_slice()) == 2 * ROUNDS {
         Ok(())
     } else {

@@ -1,7 +1,7 @@
 //! What is counted in a race.
 
-use crate::draws::mixed;
-use parking_lot_core::UnparkToken;
+use crate::draws::Draws;
+use lot_threads::{ParkResult, UnparkToken};
 use std::fmt;
 use std::time::Duration;
 
@@ -16,7 +16,7 @@ impl Tokens {
     /// The token, for so many threads.
     pub(super) fn add(&mut self, token: UnparkToken, threads: usize) {
         self.count = self.count.wrapping_add(threads as u64);
-        let mixed = mixed(token.0 as u64);
+        let mixed = Draws::new(token.0 as u64).next();
         self.sum = self.sum.wrapping_add(mixed.wrapping_mul(threads as u64));
     }
 
@@ -28,14 +28,14 @@ impl Tokens {
 
 /// What threads have done, and the tokens that they handed out or were told.
 #[derive(Copy, Clone, Default)]
-pub(super) struct Figures {
-    pub(super) parks: u64,
-    pub(super) timeouts: u64,
+pub struct Figures {
+    parks: u64,
+    timeouts: u64,
     pub(super) requeues: u64,
     pub(super) registrations: u64,
-    pub(super) longest: Duration,
+    longest: Duration,
     pub(super) handed: Tokens,
-    pub(super) told: Tokens,
+    told: Tokens,
 }
 
 impl Figures {
@@ -47,6 +47,22 @@ impl Figures {
         self.longest = self.longest.max(other.longest);
         self.handed.merge(other.handed);
         self.told.merge(other.told);
+    }
+
+    /// Notes a park that ended so after so long.
+    pub(super) fn note_park(&mut self, ended: ParkResult, wait: Duration) {
+        match ended {
+            ParkResult::Unparked(token) => {
+                self.parks = self.parks.wrapping_add(1);
+                self.told.add(token, 1);
+                self.longest = self.longest.max(wait);
+            }
+            ParkResult::TimedOut => {
+                self.parks = self.parks.wrapping_add(1);
+                self.timeouts = self.timeouts.wrapping_add(1);
+            }
+            ParkResult::Invalid => (),
+        }
     }
 
     /// Whether each token that was handed out was told, and no other.

@@ -1,11 +1,10 @@
 //! A round of a race: threads on one lot, and whether all that they were handed was told.
 
-mod roles;
-
 use super::figures::Figures;
+use super::roles::{self, Role};
 use crate::draws::Draws;
-use lot_memory::fault::Fault;
-use parking_lot_core::{ParkingLot, ThreadParkerT, UnparkToken, unpark_all};
+use crate::fault::Fault;
+use lot_threads::{ParkingLot, ThreadParkerT, UnparkToken, unpark_all};
 use std::alloc::Global;
 use std::sync::atomic::{AtomicBool, AtomicUsize, Ordering};
 use std::sync::{Arc, Wait};
@@ -13,9 +12,9 @@ use std::thread;
 use std::thread::{JoinHandle, Threads};
 use std::time::{Clock, Duration, Instant};
 
-// Keys of which the first two have one bucket in each table of a round, and the next two another;
-// the fifth has the first's while the table is of 16 buckets, the last while it is of 64 at most.
-const KEYS: [usize; 6] = [0, 233, 7, 384, 13, 34];
+/// Keys of which the first two have one bucket in each table of a round, and the next two another;
+/// the fifth has the first's while the table is of 16 buckets, the last while it is of 64 at most.
+pub(super) const KEYS: [usize; 6] = [0, 233, 7, 384, 13, 34];
 
 // How many numbers the lot has.
 const MOST: usize = 64;
@@ -27,15 +26,6 @@ const ROUND_MILLISECONDS: u64 = 50;
 
 // How long those who park have to end once they are all woken.
 const PATIENCE_SECONDS: u64 = 20;
-
-// What a thread does.
-#[derive(Copy, Clone)]
-enum Role {
-    Park,
-    Unpark,
-    Requeue,
-    Register,
-}
 
 const ROLES: [Role; 13] = [
     Role::Park,
@@ -53,24 +43,40 @@ const ROLES: [Role; 13] = [
     Role::Register,
 ];
 
-// What the threads of a round share.
+type Thread = JoinHandle<Option<Figures>>;
+
+/// What the threads of a round share.
 #[derive(Drop)]
-struct Round<P: ThreadParkerT> {
-    lot: ParkingLot<P>,
+pub(super) struct Round<P: ThreadParkerT> {
+    pub(super) lot: ParkingLot<P>,
     is_over: AtomicBool,
-    parking: AtomicUsize,
+    pub(super) parking: AtomicUsize,
 }
 
 /// Runs a round, and answers what its threads have done. A thread that is not woken is not joined.
-pub(super) fn run<P, R>(rt: &R, alloc: Global, seed: u64) -> Result<Figures, Fault>
+pub fn run_round<P, R>(rt: &R, alloc: Global, seed: u64) -> Result<Figures, Fault>
 where
     P: ThreadParkerT + Send + Sync + 'static,
     P::UnparkHandle: 'static,
     R: Threads + Wait + Clock + Copy + Send + 'static,
 {
     let round = Arc::new(alloc, Round::<P>::new(alloc)?)?;
+    play(rt, alloc, &round, seed)
+}
+
+fn play<P, R>(
+    rt: &R,
+    alloc: Global,
+    round: &Arc<Round<P>, Global>,
+    seed: u64,
+) -> Result<Figures, Fault>
+where
+    P: ThreadParkerT + Send + Sync + 'static,
+    P::UnparkHandle: 'static,
+    R: Threads + Wait + Clock + Copy + Send + 'static,
+{
     let mut draws = Draws::new(seed);
-    let threads = start_all(rt, alloc, &round, &mut draws)?;
+    let threads = start_all(rt, alloc, round, &mut draws)?;
     thread::sleep(rt, Duration::from_millis(ROUND_MILLISECONDS));
     let figures = round.end(rt, &mut draws)?;
     round.finish(rt, alloc, figures, threads)
@@ -81,7 +87,7 @@ fn start_all<P, R>(
     alloc: Global,
     round: &Arc<Round<P>, Global>,
     draws: &mut Draws,
-) -> Result<Vec<JoinHandle<Option<Figures>>>, Fault>
+) -> Result<Vec<Thread>, Fault>
 where
     P: ThreadParkerT + Send + Sync + 'static,
     P::UnparkHandle: 'static,
@@ -89,35 +95,18 @@ where
 {
     let mut threads = Vec::with_capacity(alloc, ROLES.len())?;
     for role in ROLES {
-        threads.push(start_one(rt, alloc, round, role, draws.split())?)?;
+        let round = Arc::try_clone(round)?;
+        let (runtime, draws) = (*rt, draws.split());
+        let act = move || round.act(&runtime, alloc, role, draws);
+        match thread::spawn(rt, act) {
+            Ok(thread) => threads.push(thread)?,
+            Err(_) => return Err(Fault::NotMade),
+        }
     }
     Ok(threads)
 }
 
-fn start_one<P, R>(
-    rt: &R,
-    alloc: Global,
-    round: &Arc<Round<P>, Global>,
-    role: Role,
-    draws: Draws,
-) -> Result<JoinHandle<Option<Figures>>, Fault>
-where
-    P: ThreadParkerT + Send + Sync + 'static,
-    P::UnparkHandle: 'static,
-    R: Threads + Wait + Clock + Copy + Send + 'static,
-{
-    let round = Arc::try_clone(round)?;
-    let runtime = *rt;
-    match thread::spawn(rt, move || round.act(&runtime, alloc, role, draws)) {
-        Ok(thread) => Ok(thread),
-        Err(_) => Err(Fault::NotMade),
-    }
-}
-
-fn join_all<R: Threads>(
-    rt: &R,
-    threads: Vec<JoinHandle<Option<Figures>>>,
-) -> Result<Figures, Fault> {
+fn join_all<R: Threads>(rt: &R, threads: Vec<Thread>) -> Result<Figures, Fault> {
     let mut total = Figures::default();
     let mut have_ended = true;
     for thread in threads {
@@ -148,7 +137,7 @@ impl<P: ThreadParkerT> Round<P> {
         rt: &R,
         alloc: Global,
         mut figures: Figures,
-        threads: Vec<JoinHandle<Option<Figures>>>,
+        threads: Vec<Thread>,
     ) -> Result<Figures, Fault> {
         figures.add(join_all(rt, threads)?);
         if !figures.are_even() {
@@ -158,22 +147,25 @@ impl<P: ThreadParkerT> Round<P> {
         Ok(figures)
     }
 
+    // What the thread has done, or nothing if a call was refused.
     fn act<R: Wait + Clock>(
         &self,
         rt: &R,
         alloc: Global,
         role: Role,
-        draws: Draws,
+        mut draws: Draws,
     ) -> Option<Figures> {
-        match role {
-            Role::Park => roles::park_often(rt, alloc, self, draws),
-            Role::Unpark => roles::unpark_often(rt, self, draws, &roles::UNPARKS),
-            Role::Requeue => roles::unpark_often(rt, self, draws, &roles::REQUEUES),
-            Role::Register => roles::register_often(rt, alloc, self, draws),
-        }
+        let (draws, mut figures) = (&mut draws, Figures::default());
+        let is_done = match role {
+            Role::Park => roles::park_often(rt, alloc, self, draws, &mut figures),
+            Role::Unpark => roles::unpark_often(rt, self, draws, false, &mut figures),
+            Role::Requeue => roles::unpark_often(rt, self, draws, true, &mut figures),
+            Role::Register => roles::register_often(rt, alloc, self, draws, &mut figures),
+        };
+        is_done.then_some(figures)
     }
 
-    fn is_over(&self) -> bool {
+    pub(super) fn is_over(&self) -> bool {
         self.is_over.load(Ordering::SeqCst)
     }
 

@@ -3,10 +3,9 @@
 ghost use Rattle.std.specs.Prelude.{◌≡◌, IfOk};
 ghost use Rattle.lot_base.specs.Node.{fields};
 
+use crate::turns::comes_to;
 use lot_base::thread_parker::{ParkerKey, ThreadParkerT, UnparkHandleT};
-use lot_memory::fault::Fault;
-use lot_memory::turns::comes_to;
-use parking_lot_core::{NoMemory, Node};
+use lot_threads::{NoMemory, Node};
 use std::alloc::Global;
 use std::sync::Wait;
 use std::sync::atomic::{AtomicUsize, Ordering};
@@ -36,7 +35,7 @@ fn owners_parker<P: ThreadParkerT>(alloc: Global) -> Result<P, NoMemory>
 
 /// Two threads wait so long each, without a deadline and with this one, and have not prepared to
 /// park since their last wait. Tells whether both have a node.
-pub(super) fn rest_after_mark<P: ThreadParkerT + Sync, R: Threads + Wait + Clock + Sync>(
+pub(super) fn rest_after_deadline<P: ThreadParkerT + Sync, R: Threads + Wait + Clock + Sync>(
     rt: &R,
     alloc: Global,
     rest: Duration,
@@ -45,7 +44,7 @@ pub(super) fn rest_after_mark<P: ThreadParkerT + Sync, R: Threads + Wait + Clock
     let woken = AtomicUsize::new(0);
     let play = |index: usize| {
         let timeout = if index == 0 { None } else { far };
-        if matches!(wait_again::<P, R>(rt, alloc, rest, timeout), Ok(true)) {
+        if wait_again::<P, R>(rt, alloc, rest, timeout) {
             woken.fetch_add(1, Ordering::SeqCst);
         }
     };
@@ -59,31 +58,32 @@ fn wait_again<P: ThreadParkerT + Sync, R: Threads + Wait + Clock + Sync>(
     alloc: Global,
     rest: Duration,
     timeout: Option<Instant>,
-) -> Result<bool, Fault> {
-    let parker = owners_parker::<P>(alloc)?;
-    let node = Node::new(alloc, OWNER)?;
-    let soon = Instant::now(rt)?.checked_add(Duration::from_millis(MOMENT));
-    Ok(wait_twice(rt, &parker, node, soon, timeout, rest))
+) -> bool {
+    match owners_parker::<P>(alloc) {
+        Ok(parker) => wait_twice(rt, alloc, &parker, timeout, rest),
+        Err(NoMemory) => false,
+    }
 }
 
 fn wait_twice<P: ThreadParkerT + Sync, R: Threads + Wait + Clock + Sync>(
     rt: &R,
+    alloc: Global,
     parker: &P,
-    node: Box<Node>,
-    soon: Option<Instant>,
     timeout: Option<Instant>,
     rest: Duration,
 ) -> bool
-    requires { (fields node.value).number ≡ P.owner parker.now }
+    requires { P.owner parker.now ≡ OWNER }
 {
     let waits = AtomicUsize::new(0);
     let (is_woken, ()) = thread::join(
         rt,
-        || take(rt, parker, soon, timeout, &waits),
+        || take(rt, parker, timeout, &waits),
         ||
-            requires { (fields node.value).number ≡ P.owner parker.now }
+            requires { P.owner parker.now ≡ OWNER }
         {
-            put(rt, parker, node, &waits, rest);
+            comes_to(&waits, 1);
+            thread::sleep(rt, rest);
+            put(rt, alloc, parker);
         },
     );
     is_woken
@@ -93,11 +93,10 @@ fn wait_twice<P: ThreadParkerT + Sync, R: Threads + Wait + Clock + Sync>(
 fn take<P: ThreadParkerT, R: Wait + Clock>(
     rt: &R,
     parker: &P,
-    soon: Option<Instant>,
     timeout: Option<Instant>,
     waits: &AtomicUsize,
 ) -> bool {
-    let is_late = soon.is_some_and(|soon| parker.park_until(rt, soon).is_none());
+    let is_late = is_late(rt, parker);
     waits.store(1, Ordering::SeqCst);
     let node = match timeout {
         Some(timeout) => parker.park_until(rt, timeout),
@@ -106,19 +105,25 @@ fn take<P: ThreadParkerT, R: Wait + Clock>(
     is_late && node.is_some()
 }
 
-// What the other thread does, once the owner waits again and so long after that.
-fn put<P: ThreadParkerT, R: Wait + Clock>(
-    rt: &R,
-    parker: &P,
-    node: Box<Node>,
-    waits: &AtomicUsize,
-    rest: Duration,
-)
-    requires { (fields node.value).number ≡ P.owner parker.now }
+fn is_late<P: ThreadParkerT, R: Wait + Clock>(rt: &R, parker: &P) -> bool {
+    match later(rt, MOMENT) {
+        Some(soon) => parker.park_until(rt, soon).is_none(),
+        None => false,
+    }
+}
+
+fn later<R: Clock>(rt: &R, milliseconds: u64) -> Option<Instant> {
+    let now = Instant::now(rt).ok()?;
+    now.checked_add(Duration::from_millis(milliseconds))
+}
+
+// Puts a node, and wakes the owner for it. Without memory for it, the owner waits for ever.
+fn put<P: ThreadParkerT, R: Wait>(rt: &R, alloc: Global, parker: &P)
+    requires { P.owner parker.now ≡ OWNER }
 {
-    comes_to(waits, 1);
-    thread::sleep(rt, rest);
-    parker.unpark_lock(rt, node, ()).unpark(parker);
+    if let Ok(node) = Node::new(alloc, OWNER) {
+        parker.unpark_lock(rt, node, ()).unpark(parker);
+    }
 }
 
 /// A thread waits so long for its second node, after a wake that was for its first. Tells whether
@@ -127,74 +132,64 @@ pub(super) fn rest_after_late_wake<P: ThreadParkerT + Sync, R: Threads + Wait + 
     rt: &R,
     alloc: Global,
     rest: Duration,
-) -> Result<bool, Fault> {
-    let parker = owners_parker::<P>(alloc)?;
-    let first = Node::new(alloc, OWNER)?;
-    let second = Node::new(alloc, OWNER)?;
-    let Some(deadline) = Instant::now(rt)?.checked_add(Duration::from_millis(LONGER)) else {
-        return Ok(false);
-    };
-    Ok(two_come(rt, &parker, first, second, deadline, rest))
+) -> bool {
+    match owners_parker::<P>(alloc) {
+        Ok(parker) => two_come(rt, alloc, &parker, rest),
+        Err(NoMemory) => false,
+    }
 }
 
 // Tells whether the owner has both nodes in the end.
 fn two_come<P: ThreadParkerT + Sync, R: Threads + Wait + Clock + Sync>(
     rt: &R,
+    alloc: Global,
     parker: &P,
-    first: Box<Node>,
-    second: Box<Node>,
-    deadline: Instant,
     rest: Duration,
 ) -> bool
-    requires first { (fields first.value).number ≡ P.owner parker.now }
-    requires second { (fields second.value).number ≡ P.owner parker.now }
+    requires { P.owner parker.now ≡ OWNER }
 {
     let taken = AtomicUsize::new(0);
     thread::join(
         rt,
-        || take_two(rt, parker, deadline, &taken),
+        || take_two(rt, parker, &taken),
         ||
-            requires first { (fields first.value).number ≡ P.owner parker.now }
-            requires second { (fields second.value).number ≡ P.owner parker.now }
+            requires { P.owner parker.now ≡ OWNER }
         {
-            wake_late(rt, parker, first, second, &taken, rest);
+            wake_late(rt, alloc, parker, &taken);
+            thread::sleep(rt, rest);
+            put(rt, alloc, parker);
         },
     );
     taken.load(Ordering::SeqCst) == 2
 }
 
 // What the owner does. It finds its first node at the deadline.
-fn take_two<P: ThreadParkerT, R: Wait + Clock>(
-    rt: &R,
-    parker: &P,
-    deadline: Instant,
-    taken: &AtomicUsize,
-) {
-    let first = parker.park_until(rt, deadline);
-    drop(first.unwrap_or_else(|| parker.park(rt)));
+fn take_two<P: ThreadParkerT, R: Wait + Clock>(rt: &R, parker: &P, taken: &AtomicUsize) {
+    if let Some(deadline) = later(rt, LONGER)
+        && parker.park_until(rt, deadline).is_none()
+    {
+        drop(parker.park(rt));
+    }
     taken.fetch_add(1, Ordering::SeqCst);
     drop(parker.park(rt));
     taken.fetch_add(1, Ordering::SeqCst);
 }
 
-// What the other thread does: it puts the first node while the owner sleeps, and wakes it for that
-// once it sleeps for the second.
+// Puts the first node while the owner sleeps, and wakes it for that once it sleeps for the second.
 fn wake_late<P: ThreadParkerT, R: Wait + Clock>(
     rt: &R,
+    alloc: Global,
     parker: &P,
-    first: Box<Node>,
-    second: Box<Node>,
     taken: &AtomicUsize,
-    rest: Duration,
 )
-    requires first { (fields first.value).number ≡ P.owner parker.now }
-    requires second { (fields second.value).number ≡ P.owner parker.now }
+    requires { P.owner parker.now ≡ OWNER }
 {
+    let Ok(node) = Node::new(alloc, OWNER) else {
+        return;
+    };
     thread::sleep(rt, Duration::from_millis(MOMENT));
-    let late = parker.unpark_lock(rt, first, ());
+    let late = parker.unpark_lock(rt, node, ());
     comes_to(taken, 1);
     thread::sleep(rt, Duration::from_millis(MOMENT));
     late.unpark(parker);
-    thread::sleep(rt, rest);
-    parker.unpark_lock(rt, second, ()).unpark(parker);
 }

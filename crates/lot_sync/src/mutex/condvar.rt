@@ -6,7 +6,7 @@ use crate::fits::Fits;
 use lot_base::token::{
     DEFAULT_PARK_TOKEN, DEFAULT_UNPARK_TOKEN, ParkResult, RequeueOp, UnparkResult,
 };
-use parking_lot_core::{Member, ParkingLot, ThreadParkerT, unpark_requeue};
+use lot_threads::{Member, ParkingLot, ThreadParkerT, unpark_requeue};
 use std::sync::Wait;
 use std::sync::atomic::{AtomicBool, Ordering};
 use std::time::{Clock, Instant};

@@ -3,7 +3,7 @@
 use super::Once;
 use crate::fits::Fits;
 use lot_base::token::NoMemory;
-use parking_lot_core::{Member, ThreadParkerT};
+use lot_threads::{Member, ThreadParkerT};
 use std::alloc::Global;
 use std::sync::{OnceLock, Wait};
 use std::time::Clock;

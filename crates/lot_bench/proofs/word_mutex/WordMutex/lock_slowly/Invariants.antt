@@ -1,4 +1,4 @@
-use Rattle.parking_lot_core.specs.Members.{IsDataOf}
+use Rattle.lot_threads.specs.Members.{IsDataOf}
 use Rattle.lot_bench.proofs.word_mutex.WordMutex.lock_slowly.Given as goal
 
 abbrev pub invariant-loop : goal.invariant-loop

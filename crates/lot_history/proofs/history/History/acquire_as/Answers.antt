@@ -1,7 +1,7 @@
 use Rattle.std.proofs.Common.{◌∷◌, [], List}
-use Rattle.lot_exclusive.specs.declared.lot.Status.TheVariants as status
-use Rattle.lot_exclusive.specs.declared.schedule.Answer.TheVariants as answer
-use Rattle.lot_exclusive.specs.declared.schedule.Step.TheVariants as step
+use Rattle.lot_machine.specs.declared.status.Status.TheVariants as status
+use Rattle.lot_machine.specs.declared.step.Answer.TheVariants as answer
+use Rattle.lot_machine.specs.declared.step.Step.TheVariants as step
 use Rattle.lot_history.specs.declared.view.Piece.{Piece}
 use Rattle.lot_history.specs.declared.view.Piece.TheVariants.{Records, Thread}
 use Rattle.lot_history.specs.Views.{rest_of}

@@ -1,5 +1,5 @@
-use Rattle.lot_exclusive.specs.declared.schedule.Answer.TheVariants as answer
-use Rattle.lot_exclusive.specs.declared.schedule.Step.TheVariants as step
+use Rattle.lot_machine.specs.declared.step.Answer.TheVariants as answer
+use Rattle.lot_machine.specs.declared.step.Step.TheVariants as step
 use Rattle.lot_history.proofs.ThreadLemmas.{Is}
 use Rattle.lot_history.proofs.history.History.trim.Given as goal
 

@@ -1,0 +1,15 @@
+//! The callers that the documents of the other crates show, as they stand there.
+
+pub mod answer_text;
+pub mod count_by_four;
+pub mod hand_back;
+pub mod let_expire;
+pub mod mutex_accounts;
+pub mod open;
+pub mod pass_on;
+pub mod register_and_park;
+pub mod resumed;
+pub mod tell_of_a_trim;
+pub mod unpark_alike;
+pub mod wait;
+pub mod word_lock_accounts;

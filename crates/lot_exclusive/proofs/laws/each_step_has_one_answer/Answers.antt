@@ -1,5 +1,0 @@
-use Rattle.lot_exclusive.proofs.AnswerLemmas.{HasAnswer-step, IsStep-same_answer, memory-open}
-use Rattle.lot_exclusive.proofs.laws.each_step_has_one_answer.Goals as goal
-
-pub returns : goal.returns
-returns c = record { some = HasAnswer-step; one = IsStep-same_answer; memory = memory-open }

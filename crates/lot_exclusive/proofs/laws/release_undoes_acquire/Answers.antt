@@ -1,5 +1,0 @@
-use Rattle.lot_exclusive.proofs.LawLemmas.{IsStep-undone}
-use Rattle.lot_exclusive.proofs.laws.release_undoes_acquire.Goals as goal
-
-pub returns : goal.returns
-returns c = IsStep-undone

@@ -1,5 +1,0 @@
-use Rattle.lot_exclusive.proofs.TotalLemmas.{IsRun-balances}
-use Rattle.lot_exclusive.proofs.laws.unparked_threads_come_back.Goals as goal
-
-pub returns : goal.returns
-returns c = IsRun-balances

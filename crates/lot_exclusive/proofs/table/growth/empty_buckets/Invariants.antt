@@ -1,6 +1,0 @@
-use Rattle.std.proofs.Common.{◌≡◌, length}
-use Rattle.lot_exclusive.specs.Table.{AreEmpty}
-use Rattle.lot_exclusive.proofs.table.growth.empty_buckets.Given as goal
-
-abbrev pub invariant-loop-place : goal.invariant-loop-place
-invariant-loop-place l = record { count : length l.row.items ≡ l.place; empty : AreEmpty l.size l.row.items }

@@ -1,7 +1,0 @@
-use Rattle.lot_exclusive.specs.Represents.{nodes_in}
-use Rattle.lot_exclusive.proofs.LotLemmas.{numbers-waiters}
-use Rattle.lot_interleaved.proofs.interleaved.FineLot.list.Goals as goal
-
-pub returns-clause-numbers : goal.returns-clause-numbers
-returns-clause-numbers c =
-    rw (← c.self.view_is, numbers-waiters (nodes_in c.self.inside.table.cells c.args.key)) c.list.ensures.told

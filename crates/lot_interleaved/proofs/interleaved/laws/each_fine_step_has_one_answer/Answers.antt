@@ -1,5 +1,0 @@
-use Rattle.lot_interleaved.proofs.StepAnswerLemmas.{HasFineAnswer-step, IsFineStep-same_answer, fine_memory-open}
-use Rattle.lot_interleaved.proofs.interleaved.laws.each_fine_step_has_one_answer.Goals as goal
-
-pub returns : goal.returns
-returns c = record { some = HasFineAnswer-step; one = IsFineStep-same_answer; memory = fine_memory-open }

@@ -1,5 +1,0 @@
-use Rattle.lot_interleaved.proofs.InterleavingLemmas.{node-in_one_place, node-in_no_other_list}
-use Rattle.lot_interleaved.proofs.interleaved.laws.each_node_is_in_one_place.Goals as goal
-
-pub returns : goal.returns
-returns c = record { one = node-in_one_place; no_other = node-in_no_other_list }

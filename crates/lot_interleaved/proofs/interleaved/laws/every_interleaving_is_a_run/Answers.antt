@@ -1,5 +1,0 @@
-use Rattle.lot_interleaved.proofs.InterleavingLemmas.{IsRun-sequential}
-use Rattle.lot_interleaved.proofs.interleaved.laws.every_interleaving_is_a_run.Goals as goal
-
-pub returns : goal.returns
-returns c = IsRun-sequential

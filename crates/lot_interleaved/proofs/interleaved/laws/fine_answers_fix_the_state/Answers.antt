@@ -1,5 +1,0 @@
-use Rattle.lot_interleaved.proofs.InterleavedLemmas.{IsFineStep-fixes}
-use Rattle.lot_interleaved.proofs.interleaved.laws.fine_answers_fix_the_state.Goals as goal
-
-pub returns : goal.returns
-returns c = IsFineStep-fixes

@@ -1,5 +1,0 @@
-use Rattle.lot_interleaved.proofs.InterleavedOutcomeLemmas.{outcomes-interleaved}
-use Rattle.lot_interleaved.proofs.interleaved.laws.interleaved_outcomes_alternate.Goals as goal
-
-pub returns : goal.returns
-returns c = outcomes-interleaved

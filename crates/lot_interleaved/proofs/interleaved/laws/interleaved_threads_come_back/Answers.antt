@@ -1,5 +1,0 @@
-use Rattle.lot_interleaved.proofs.InterleavedOutcomeLemmas.{totals-interleaved}
-use Rattle.lot_interleaved.proofs.interleaved.laws.interleaved_threads_come_back.Goals as goal
-
-pub returns : goal.returns
-returns c = totals-interleaved

@@ -1,7 +1,0 @@
-use Rattle.std.proofs.Common.{take}
-use Rattle.lot_interleaved.specs.Private.FineCopies.{AreCopiesIn}
-use Rattle.lot_interleaved.proofs.interleaved.told.copied_ops.Given as goal
-
--- the steps so far are copied
-abbrev pub invariant-loop-step : goal.invariant-loop-step
-invariant-loop-step l = AreCopiesIn (take l.step-index l.steps) l.copies.items

@@ -1,5 +1,0 @@
-pub mod FineCaller
-pub mod FineSection
-pub mod FineThread
-pub mod FineCopies
-pub mod FineAnswers

@@ -1,5 +1,0 @@
-use Rattle.lot_locks.proofs.FairMachineLemmas.{IsFairConsistent-new, IsFairConsistent-step}
-use Rattle.lot_locks.proofs.fair.laws.fair_steps_keep_consistency.Goals as goal
-
-pub returns : goal.returns
-returns c = record { new = IsFairConsistent-new; consistent = IsFairConsistent-step }

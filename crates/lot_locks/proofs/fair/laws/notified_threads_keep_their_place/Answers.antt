@@ -1,5 +1,0 @@
-use Rattle.lot_locks.proofs.FairLawLemmas.{notified_threads_keep_their_place}
-use Rattle.lot_locks.proofs.fair.laws.notified_threads_keep_their_place.Goals as goal
-
-pub returns : goal.returns
-returns c = notified_threads_keep_their_place

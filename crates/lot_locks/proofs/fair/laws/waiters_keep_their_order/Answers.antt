@@ -1,5 +1,0 @@
-use Rattle.lot_locks.proofs.FairLawLemmas.{waiters_keep_their_order}
-use Rattle.lot_locks.proofs.fair.laws.waiters_keep_their_order.Goals as goal
-
-pub returns : goal.returns
-returns c = waiters_keep_their_order

@@ -1,8 +1,0 @@
--- A core as contracts see it.
-use Rattle.lot_exclusive.specs.LotState.{LotState}
-use Rattle.lot_locks.specs.declared.fair.fair_core.Holder.{Holder}
-
--- its lot, and who holds the mutex
-pub record FairCoreState : Type 0 where
-  pub lot : LotState
-  pub holder : Holder

@@ -1,0 +1,13 @@
+pub mod RecordLemmas
+pub mod CountLemmas
+pub mod WaiterLemmas
+pub mod SplitLemmas
+pub mod StandingLemmas
+pub mod MachineLemmas
+pub mod NumberLemmas
+pub mod RunLemmas
+pub mod StepLemmas
+pub mod LawLemmas
+pub mod ThreadCountLemmas
+pub mod AnswerLemmas
+pub mod TotalLemmas

@@ -1,0 +1,67 @@
+//! What a worker of a recording lot was told, added up.
+
+ghost use Rattle.std.specs.Prelude.{◌≡◌, ◌+◌};
+ghost use Rattle.lot_simulator.specs.TicketState.{TicketState, new_ticket};
+
+use super::tally::Tally;
+use std::marker::Model;
+use std::sync::ledger::{Ledger, Share};
+
+/// A worker's right to take steps on a recording lot, and the totals of what it was told of them.
+///
+/// Each worker has one, and it cannot be copied. `RecordingLot::close` takes all of them; one that
+/// is dropped before leaves a lot that cannot be closed.
+#[derive(Drop)]
+pub struct Ticket<C: Ledger, W: Ledger, U: Ledger> {
+    pub(super) count: Tally<C>,
+    pub(super) woken: Tally<W>,
+    pub(super) unparked: Tally<U>,
+}
+
+impl<C: Ledger, W: Ledger, U: Ledger> Model for Ticket<C, W, U> {
+    ghost use Rattle.lot_simulator.specs.TicketState.{TicketState};
+
+    ghost Value = { TicketState };
+
+    ghost view = { λ ticket. record {
+      count = ticket.count.total;
+      woken = ticket.woken.total;
+      unparked = ticket.unparked.total;
+    } };
+}
+
+impl<C: Ledger, W: Ledger, U: Ledger> Ticket<C, W, U> {
+    pub(super) fn new(count: Share<C>, woken: Share<W>, unparked: Share<U>) -> Ticket<C, W, U>
+        requires count { (count.parts ≡ 1) × (count.amount ≡ 0) }
+        requires woken { (woken.parts ≡ 1) × (woken.amount ≡ 0) }
+        requires unparked { (unparked.parts ≡ 1) × (unparked.amount ≡ 0) }
+        ensures { result ≡ new_ticket }
+    {
+        Ticket {
+            count: Tally::new(count),
+            woken: Tally::new(woken),
+            unparked: Tally::new(unparked),
+        }
+    }
+
+    /// How many of its steps were journalled.
+    pub fn count(&self) -> usize
+        ensures { result ≡ self.now.count }
+    {
+        self.count.total()
+    }
+
+    /// How many of its steps were answered by `Unparked`.
+    pub fn woken(&self) -> usize
+        ensures { result ≡ self.now.woken }
+    {
+        self.woken.total()
+    }
+
+    /// How many threads its unparks unparked.
+    pub fn unparked(&self) -> usize
+        ensures { result ≡ self.now.unparked }
+    {
+        self.unparked.total()
+    }
+}

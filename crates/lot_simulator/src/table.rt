@@ -1,0 +1,224 @@
+//! The hash table of an exclusive lot: the numbers that threads register under, and the buckets. It
+//! grows with the threads that are registered, and a trim makes it smaller again.
+
+ghost use Rattle.std.specs.Prelude.{◌≡◌, ◌≢◌, ◌↔◌, ◌+◌, ◌*◌, ◌<◌, ◌≤◌, [], Some, IsTrue, IsErrOf, IfOk, OnOk, OnErr, length, nat_lt, replicate, slice_set, slice_get};
+ghost use Rattle.lot_base.specs.Place.{IsTableSize, place_of};
+ghost use Rattle.lot_simulator.specs.Represents.{bucket_at};
+ghost use Rattle.lot_machine.specs.Size.{IsSizeFor, IsTrimmedSize, IsTooLarge};
+ghost use Rattle.lot_machine.specs.Numbers.{count_registered, IsLeastUnregistered};
+ghost use Rattle.lot_simulator.specs.Table.{AreEmpty, KeepsLists};
+
+mod growth;
+mod steps;
+
+use growth::{empty_buckets, resize};
+use lot_base::bucket::{Bucket, place};
+use lot_base::token::{LotError, NoMemory};
+use lot_machine::numbers::Numbers;
+pub use lot_machine::numbers::{MAX_THREADS, Use};
+use lot_machine::size::{BUCKETS_PER_THREAD, INITIAL_BUCKETS, size_for, trimmed_size};
+use std::alloc::Global;
+use std::marker::Model;
+use std::mem;
+
+/// The numbers that threads register under, and a row of buckets. The place of a key in that row is
+/// that of `place`.
+///
+/// There are always a power of two of buckets, at least 16 and at least 3 for each registered
+/// thread. Each has its own place and the table's size.
+///
+/// Upstream calls the buckets `HashTable` and counts the threads in `NUM_THREADS`. Both are
+/// statics, and there are no numbers: a thread stands in a queue by the address of its data.
+#[derive(Drop)]
+pub struct Table {
+    cells: Vec<Bucket>,
+    numbers: Numbers,
+}
+
+impl Model for Table {
+    ghost use Rattle.lot_simulator.specs.TableState.{TableState};
+
+    ghost Value = { TableState };
+
+    ghost use Rattle.lot_simulator.specs.Table.{IsTable};
+
+    ghost view = { λ table. record { cells = table.cells.items; numbers = table.numbers } };
+
+    ghost invariant = { λ table. IsTable (record {
+      cells = table.cells.items;
+      numbers = table.numbers;
+    }) };
+}
+
+impl Table {
+    /// Makes a table of 16 empty buckets, for at most `max` threads. No number is registered.
+    ///
+    /// It allocates the room for all numbers and for the buckets.
+    ///
+    /// # Errors
+    ///
+    /// `TooManyThreads` exactly if `max` is above `MAX_THREADS`, and `NoMemory` if memory cannot be
+    /// had. Nothing was made.
+    ///
+    /// Upstream's first table has 16 buckets too, and its number of threads has no limit.
+    pub fn new(alloc: Global, max: usize) -> Result<Table, LotError>
+        ensures too_many { IsErrOf result LotError.TooManyThreads ↔ (MAX_THREADS < max) }
+        ensures not_full { result ≢ Err LotError.Full }
+        ensures numbers { IfOk result (λ table. table.numbers ≡ replicate max Use.Free) }
+        ensures size { IfOk result (λ table. length table.cells ≡ 16) }
+        ensures empty { IfOk result (λ table. AreEmpty 16 table.cells) }
+    {
+        let numbers = Numbers::new(alloc, max)?;
+        let cells = empty_buckets(alloc, INITIAL_BUCKETS)?;
+        Ok(Table { cells, numbers })
+    }
+
+    /// How many numbers are registered.
+    pub fn registered(&self) -> usize
+        ensures { result ≡ count_registered self.now.numbers }
+    {
+        self.numbers.registered()
+    }
+
+    /// How many buckets there are.
+    pub fn size(&self) -> usize
+        ensures value { result ≡ length self.now.cells }
+        ensures table { IsTableSize result }
+        ensures room { 3 * count_registered self.now.numbers ≤ result }
+    {
+        self.cells.len()
+    }
+
+    /// Whether one registration more makes it grow.
+    pub fn is_too_small_for_one_more(&self) -> bool
+        ensures { result
+            ≡ nat_lt (length self.now.cells) (3 * (count_registered self.now.numbers + 1)) }
+    {
+        self.cells.len() < BUCKETS_PER_THREAD * (self.numbers.registered() + 1)
+    }
+
+    /// Whether a trim makes it smaller.
+    pub fn is_too_large(&self) -> bool
+        ensures { IsTrue result
+            ↔ IsTooLarge (count_registered self.now.numbers) (length self.now.cells) }
+    {
+        trimmed_size(self.numbers.registered(), self.cells.len()) < self.cells.len()
+    }
+
+    /// The bucket at the key's place.
+    pub fn bucket(&self, key: usize) -> &Bucket
+        ensures bucket { slice_get self.now.cells (place_of key (length self.now.cells))
+            ≡ Some result.now }
+        ensures place { result.now.place ≡ place_of key (length self.now.cells) }
+        ensures size { result.now.size ≡ length self.now.cells }
+    {
+        &self.cells[place(key, self.cells.len())]
+    }
+
+    /// Registers the least free number and answers it. A table that would have less than 3 buckets
+    /// for each thread grows to the next power of two of 3 buckets for each; the list of every key
+    /// stays as it was.
+    ///
+    /// It passes over the numbers that may be free, up to the one that it answers
+    /// (`Numbers::least_free`), and allocates nothing unless the table grows. Growth allocates the
+    /// buckets of the new table before it changes anything, and then takes each waiting node once
+    /// from its bucket and puts it last, by one `push_back`, into that of its key.
+    ///
+    /// # Errors
+    ///
+    /// `Full` exactly if the greatest number of threads is registered, which is tested first, and
+    /// `NoMemory` if memory for a larger table cannot be had. Nothing changed.
+    ///
+    /// Upstream counts the thread first, and its `grow_hashtable` locks all buckets and keeps them
+    /// locked until the new table is published.
+    pub fn register(&mut self) -> Result<usize, LotError>
+        ensures full { IsErrOf result LotError.Full
+            ↔ (count_registered self.old.numbers ≡ length self.old.numbers) }
+        ensures not_too_many { result ≢ Err LotError.TooManyThreads }
+        ensures number { IfOk result (λ number. IsLeastUnregistered self.old.numbers number
+            × (self.new.numbers ≡ slice_set self.old.numbers number Use.Registered)) }
+        ensures threads { OnOk result (count_registered self.new.numbers
+            ≡ count_registered self.old.numbers + 1) }
+        ensures size { OnOk result (IsSizeFor (count_registered self.new.numbers)
+            (length self.old.cells) (length self.new.cells)) }
+        ensures lists { KeepsLists self.old.cells self.new.cells }
+        ensures err { OnErr result (self.new ≡ self.old) }
+    {
+        let Some(number) = self.numbers.least_free() else {
+            return Err(LotError::Full);
+        };
+        let threads = self.numbers.registered() + 1;
+        let size = size_for(threads, self.cells.len());
+        resize(&mut self.cells, size)?;
+        self.numbers.register(number);
+        Ok(number)
+    }
+
+    /// Makes the table smaller, if it has more buckets than it needs: than the next power of two of
+    /// 3 for each registered thread, counted as 3 threads where there are fewer. Then it has that
+    /// many; the list of every key stays as it was.
+    ///
+    /// One that is not too large is left, at no cost. Else it allocates the smaller row of buckets
+    /// before it changes anything, visits each bucket of the larger one, takes each waiting node
+    /// once from there and puts it last, by one `push_back`, into the bucket of its key, and then
+    /// gives all the memory of the larger row back.
+    ///
+    /// # Errors
+    ///
+    /// `NoMemory` if memory for the smaller row cannot be had, and never where the table is not too
+    /// large. Nothing changed.
+    ///
+    /// Upstream's table never becomes smaller.
+    pub fn trim(&mut self) -> Result<(), NoMemory>
+        ensures numbers { self.new.numbers ≡ self.old.numbers }
+        ensures size { OnOk result (IsTrimmedSize (count_registered self.old.numbers)
+            (length self.old.cells) (length self.new.cells)) }
+        ensures lists { KeepsLists self.old.cells self.new.cells }
+        ensures refused { OnErr result (IsTooLarge (count_registered self.old.numbers)
+            (length self.old.cells)) }
+        ensures err { OnErr result (self.new ≡ self.old) }
+    {
+        let size = trimmed_size(self.numbers.registered(), self.cells.len());
+        resize(&mut self.cells, size)
+    }
+
+    /// Frees the number. One that is not registered changes nothing. The table keeps its size.
+    ///
+    /// It allocates nothing and passes over nothing. Upstream only counts one thread less.
+    pub fn release(&mut self, number: usize)
+        ensures cells { self.new.cells ≡ self.old.cells }
+        ensures not_registered { slice_get self.old.numbers number ≢ Some Use.Registered → self.new
+            ≡ self.old }
+        ensures numbers { self.new.numbers ≡ slice_set self.old.numbers number Use.Free }
+    {
+        self.numbers.release(number);
+    }
+
+    /// Takes the bucket at the key's place and leaves an empty one there. It allocates nothing.
+    pub fn take(&mut self, key: usize) -> Bucket
+        ensures taken { result ≡ bucket_at self.old.cells (place_of key (length self.old.cells)) }
+        ensures place { result.place ≡ place_of key (length self.old.cells) }
+        ensures size { result.size ≡ length self.old.cells }
+        ensures table { IsTableSize result.size }
+        ensures left { self.new ≡ record self.old {
+          cells = slice_set self.old.cells result.place
+              (record result { nodes = [] });
+        } }
+    {
+        let size = self.cells.len();
+        let place = place(key, size);
+        mem::replace(&mut self.cells[place], Bucket::new(place, size))
+    }
+
+    /// Puts a bucket of the table's size to its own place, in the place of the bucket there, which
+    /// is dropped with its nodes. It allocates nothing.
+    pub fn put(&mut self, bucket: Bucket)
+        requires { bucket.size ≡ length self.old.cells }
+        ensures { self.new
+            ≡ record self.old { cells = slice_set self.old.cells bucket.place bucket } }
+    {
+        if let Some(cell) = self.cells.get_mut(bucket.place()) {
+            *cell = bucket;
+        }
+    }
+}

@@ -1,0 +1,20 @@
+use Rattle.std.proofs.Common.{◌≡◌, List, ◌∷◌, ◌++◌, ap, ◌∙◌, sym, subst}
+use Rattle.lot_history.specs.Moves.{Moves}
+use Rattle.lot_history.specs.Witness.{max_threads_of, pieces_in, pieces_of}
+use Rattle.lot_history.specs.declared.view.Piece.{Piece}
+use Rattle.lot_threads.specs.Cells.{lists_in, threads_in}
+use Rattle.lot_threads.proofs.told.add_requeue.Goals as goal
+
+pub add_requeued-requires-clause-moves : goal.add_requeued-requires-clause-moves
+add_requeued-requires-clause-moves g c =
+    let bound = max_threads_of c.args.history.now in
+    let source = c.args.source.now in
+    let target = c.args.target.now in
+    let first : pieces_of c.take.new.me ≡ pieces_in source.part =
+    c.take.ensures.pieces ∙ (ap (λ (ps : List Piece). ps ++ pieces_in c.replace-part.result) c.requires.none
+    ∙ ap (λ part. pieces_in part) c.replace-part.ensures.value) in
+    let before : pieces_of c.take-2.new.me ≡ pieces_in source.part ++ pieces_in target.part =
+    c.take-2.ensures.pieces ∙ (ap (λ (ps : List Piece). ps ++ pieces_in c.replace-other.result) first
+    ∙ ap (λ part. pieces_in source.part ++ pieces_in part) c.replace-other.ensures.value) in
+    subst (λ (pieces : List Piece). Moves bound (λ s t. g.E.Told.said s t × (t ≡ c.args.answer)) pieces
+    (lists_in source.bucket ∷ lists_in target.bucket ∷ threads_in c.args.taken.now)) (sym before) c.requires.moves

@@ -1,0 +1,59 @@
+-- Unparks by a filter: how they call their closures, and what they add to the history.
+use Rattle.std.specs.Prelude.{◌≡◌, ℕ, List, Vec, map}
+use Rattle.std.specs.Fn.{Once, Mut}
+use Rattle.std.specs.declared.alloc.Global.{Global}
+use Rattle.lot_base.specs.Filter.{IsFilterCallable, IsFiltered, park_tokens}
+use Rattle.lot_base.specs.NodeFields.{NodeFields}
+use Rattle.lot_base.specs.NodeLists.{with_saturated_counts}
+use Rattle.lot_base.specs.Waiting.{split_filter, result_of}
+use Rattle.lot_base.specs.declared.token.FilterOp.{FilterOp}
+use Rattle.lot_base.specs.declared.token.ParkToken.{ParkToken}
+use Rattle.lot_base.specs.declared.token.UnparkResult.{UnparkResult}
+use Rattle.lot_base.specs.declared.token.UnparkToken.{UnparkToken}
+use Rattle.lot_machine.specs.declared.step.Answer.{Answer}
+use Rattle.lot_machine.specs.declared.step.Answer.TheVariants as answer
+use Rattle.lot_machine.specs.declared.step.Op.TheVariants.{Filter}
+use Rattle.lot_machine.specs.declared.step.Step.{Step}
+use Rattle.lot_machine.specs.declared.step.Step.TheVariants.{Unpark}
+use Rattle.lot_machine.specs.Machine.{Machine}
+use Rattle.lot_history.specs.declared.history.History.{History}
+use Rattle.lot_history.specs.declared.history.Witness.{Witness}
+use Rattle.lot_history.specs.Witness.{Extends, Found}
+
+-- the park tokens of the threads that stand in the list of the key, in order
+abbrev pub tokens_in : Machine → ℕ → List ParkToken
+tokens_in m key = map (λ waiter. waiter.park_token) (m.lists key)
+
+module _ {F C : Type 0} (f : Mut F (ParkToken × Unit {0}) FilterOp) (c : Once C (UnparkResult × Unit {0}) UnparkToken)
+  where
+    -- the filter may be called with any park tokens, and after that the callback with the result of what it decided
+    pub record AreCallable (filter : F) (callback : C) : Type 0 where
+      pub may_filter : (tokens : List ParkToken) → IsFilterCallable f filter tokens
+      pub may_call_back : (waiters : List NodeFields) (decisions : List FilterOp)
+          → IsFiltered f filter (park_tokens waiters) decisions
+          → c.pre callback (with_saturated_counts (result_of (split_filter decisions waiters)), tt)
+
+    -- with these park tokens the filter decided so, and then the callback was handed the result, and answered the token
+    pub record AreCalled (filter : F) (callback : C) (tokens : List ParkToken) (decisions : List FilterOp)
+        (result : UnparkResult) (token : UnparkToken) : Type 0 where
+      pub decided : IsFiltered f filter tokens decisions
+      pub called : c.post callback (result, tt) token
+
+    -- the step is the unpark by the decisions on these park tokens, with this token, and answers this result
+    pub record IsUnpark (filter : F) (callback : C) (key : ℕ) (tokens : List ParkToken) (result : UnparkResult) (s : Step)
+        (a : Answer) : Type 0 where
+      pub decisions : Vec FilterOp Global
+      pub token : UnparkToken
+      pub calls : AreCalled filter callback tokens decisions.items result token
+      pub step : s ≡ Unpark (Filter key decisions token)
+      pub answer : a ≡ answer.Unpark result
+
+    -- the step was added, and the filter decided on the park tokens of the threads that stand in the list of the key, in
+    -- order, in the machine that it found
+    pub record Unparks (filter : F) (callback : C) (key : ℕ) (history : History) (old : Witness) (result : UnparkResult)
+        (new : Witness) : Type 0 where
+      pub decisions : Vec FilterOp Global
+      pub token : UnparkToken
+      pub extends : Extends history old (Unpark (Filter key decisions token)) (answer.Unpark result) new
+      pub found : Found history old new
+      pub calls : AreCalled filter callback (tokens_in found.machine key) decisions.items result token

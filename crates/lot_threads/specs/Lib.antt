@@ -1,0 +1,21 @@
+-- In the order of reading, after the types of src/. First lists of which each item has a number, and the pieces of a
+-- new machine.
+pub mod Rows
+-- Then the invariants of what lies behind the locks of a lot, and beside the node of a thread that was unparked.
+pub mod Cells
+-- Then buckets that a section leaves behind their locks.
+pub mod Sections
+-- Then the two places of a place in a table of twice the size.
+pub mod Halves
+-- Then pieces where a deadline has passed.
+pub mod Late
+-- Then members, and what their calls add to the history.
+pub mod Members
+-- Then unparks by a filter.
+pub mod Filters
+-- Then requeues.
+pub mod Requeues
+-- Then the handles of threads that are to be woken.
+pub mod Handles
+-- Last what follows by the laws of every history.
+pub mod Laws

@@ -1,0 +1,339 @@
+//! The buckets of a lot, each with its part of the history, behind a lock.
+
+ghost use Rattle.std.specs.Prelude.{◌≡◌, ◌∷◌, ◌+◌, ◌<◌, ◌≤◌, ◌^◌, [], length, IfOk, IfSome, None, Some};
+ghost use Rattle.lot_base.specs.Place.{IsTableSize};
+ghost use Rattle.lot_history.specs.Views.{rest_of};
+ghost use Rattle.lot_history.specs.Witness.{IsPartOf, IsStill, IsWitnessOf, id_of, max_threads_of, pieces_of};
+ghost use Rattle.lot_history.specs.declared.view.Piece.TheVariants.{Lists};
+ghost use Rattle.lot_word_lock.specs.WordLock.{IsHeldOf, key_of};
+ghost use Rattle.lot_threads.specs.Rows.{EachAt, empty_lists, free_numbers};
+ghost use Rattle.lot_threads.specs.Cells.{AreRows, FitsCell, IsCellLock, IsLockAt, IsRow, home_of};
+
+use boxcar::slot::{OnceSlot, SlotRule};
+use boxcar::tag::{Names, Tag};
+use lot_base::bucket::Bucket;
+use lot_base::token::NoMemory;
+use lot_base::word_lock::{Fits, Held, WordLock};
+use lot_history::history::{History, Part, Witness};
+use lot_machine::size::INITIAL_BUCKETS;
+use std::alloc::Global;
+use std::sync::Wait;
+use std::thread;
+
+// A bucket, and beside it its piece of the machine: the lists of all keys of its place.
+#[derive(Drop)]
+pub(crate) struct Cell {
+    pub(crate) bucket: Bucket,
+    pub(crate) part: Part,
+}
+
+// The place of a bucket in a row. The bucket is there while the row is in use, but for the moment
+// of a requeue.
+#[derive(Drop)]
+pub(crate) struct Slot {
+    pub(crate) cell: Option<Cell>,
+}
+
+// Which bucket a lock is around, in a row of how many, and of which lot: `home` is a part of the
+// lot's history, without a piece.
+#[derive(Drop)]
+pub(crate) struct CellKey {
+    pub(crate) place: usize,
+    pub(crate) size: usize,
+    pub(crate) max_threads: usize,
+    pub(crate) home: Part,
+}
+
+impl Fits for Slot {
+    type Key = CellKey;
+
+    ghost use Rattle.lot_threads.specs.Cells.{FitsSlot};
+
+    ghost fits = { λ key slot. FitsSlot key slot };
+}
+
+// The bucket of a requeue or of growth, which was taken out of its lock, that is locked, and the
+// place of the bucket that a requeue had locked before, if there is one. It has no `Drop`: it ends
+// in `close` or in `leave`.
+pub(crate) struct Locked<'b> {
+    pub(crate) lock: &'b WordLock<Slot>,
+    behind: Option<usize>,
+    held: Held<Slot>,
+    pub(crate) cell: Cell,
+}
+
+impl<'b> Locked<'b> {
+    // Locks the bucket of this lock and takes it out, or answers `None` where it has none, since
+    // the row is not in use there.
+    #[inline(always)]
+    pub(crate) fn of<R: Wait>(rt: &R, lock: &'b WordLock<Slot>) -> Option<Locked<'b>>
+        ensures lock { IfSome result (λ locked. locked.lock.now ≡ lock.now) }
+        ensures held { IfSome result (λ locked. IsHeldOf locked.lock.now locked.held) }
+        ensures empty { IfSome result (λ locked. locked.held.value.cell ≡ None) }
+        ensures fits { IfSome result (λ locked. FitsCell (key_of locked.lock.now) locked.cell) }
+        ensures first { IfSome result (λ locked. locked.behind ≡ None) }
+    {
+        let mut held = lock.lock(rt);
+        let Some(cell) = held.value.cell.take() else {
+            lock.unlock(held);
+            return None;
+        };
+        Some(Locked {
+            lock,
+            behind: None,
+            held,
+            cell,
+        })
+    }
+
+    // Does what `of` does, for a section that has the bucket of a lower place.
+    #[inline(always)]
+    pub(crate) fn behind<R: Wait>(
+        rt: &R,
+        first: &Locked<'_>,
+        lock: &'b WordLock<Slot>,
+    ) -> Option<Locked<'b>>
+        requires fits { FitsCell (key_of first.now.lock.now) first.now.cell }
+        requires order { (key_of first.now.lock.now).place < (key_of lock.now).place }
+        ensures lock { IfSome result (λ locked. locked.lock.now ≡ lock.now) }
+        ensures held { IfSome result (λ locked. IsHeldOf locked.lock.now locked.held) }
+        ensures fits { IfSome result (λ locked. FitsCell (key_of locked.lock.now) locked.cell) }
+        ensures behind { IfSome result (λ locked.
+            locked.behind ≡ Some (key_of first.now.lock.now).place) }
+    {
+        let mut locked = Locked::of(rt, lock)?;
+        locked.behind = Some(first.cell.bucket.place());
+        Some(locked)
+    }
+
+    // Puts the bucket back and lets it go.
+    #[inline]
+    pub(crate) fn close(self)
+        requires held { IsHeldOf self.lock.now self.held }
+        requires fits { FitsCell (key_of self.lock.now) self.cell }
+    {
+        let Locked {
+            lock,
+            behind: _,
+            mut held,
+            cell,
+        } = self;
+        held.value.cell = Some(cell);
+        lock.unlock(held);
+    }
+
+    // Keeps the bucket, whose place has none from then on.
+    fn leave(self) -> Cell
+        requires held { IsHeldOf self.lock.now self.held }
+        requires empty { self.held.value.cell ≡ None }
+        ensures { result ≡ self.entry.cell }
+    {
+        let Locked {
+            lock,
+            behind: _,
+            held,
+            cell,
+        } = self;
+        lock.unlock(held);
+        cell
+    }
+}
+
+// Takes the bucket of a row in use away from its place. Whoever has the registry locked alone does
+// that, so it is there once no section has it, but no contract tells so.
+pub(crate) fn take_away<R: Wait>(rt: &R, lock: &WordLock<Slot>) -> Cell
+    ensures { FitsCell (key_of lock.now) result }
+{
+    for _ in rt.forever() {
+        if let Some(locked) = Locked::of(rt, lock) {
+            return locked.leave();
+        }
+        thread::yield_now();
+    }
+    unreachable!()
+}
+
+// Puts a bucket to its place, in a row that is not in use there.
+pub(crate) fn put<R: Wait>(rt: &R, lock: &WordLock<Slot>, cell: Cell)
+    requires { FitsCell (key_of lock.now) cell }
+{
+    let mut held = lock_empty(rt, lock);
+    held.value.cell = Some(cell);
+    lock.unlock(held);
+}
+
+// Locks a place that has no bucket. None that is there is lost: it would wait instead.
+fn lock_empty<R: Wait>(rt: &R, lock: &WordLock<Slot>) -> Held<Slot>
+    ensures held { IsHeldOf lock.now result }
+    ensures empty { result.value.cell ≡ None }
+{
+    for _ in rt.forever() {
+        let held = lock.lock(rt);
+        if held.value.cell.is_none() {
+            return held;
+        }
+        lock.unlock(held);
+        thread::yield_now();
+    }
+    unreachable!()
+}
+
+// The lock at this place of a row.
+pub(crate) fn lock_at(row: &[WordLock<Slot>], place: usize) -> &WordLock<Slot>
+    requires { place < length row.now }
+    ensures { IsLockAt place row.now result.now }
+{
+    &row[place]
+}
+
+// How many rows there may be: of 16 to 65,536 buckets.
+pub(crate) const MOST_ROWS: usize = 13;
+
+// What the slot of a row keeps: the row is of the lot and of the size that its tag tells.
+pub(crate) struct OfTag;
+
+impl SlotRule<Vec<WordLock<Slot>>> for OfTag {
+    ghost use Rattle.lot_threads.specs.Cells.{FitsTag};
+
+    ghost holds = { λ tag row. FitsTag tag row.items };
+}
+
+// The tag of a row, as the keys of its locks tell it.
+struct RowTag;
+
+impl Names<CellKey> for RowTag {
+    ghost use Rattle.lot_threads.specs.Cells.{home_of, row_tag};
+
+    ghost numbers = { λ key. row_tag (home_of key.home) key.max_threads key.size };
+}
+
+// The place of a row, which is made where it is first needed, and kept to the lot's end.
+pub(crate) type RowSlot = OnceSlot<Vec<WordLock<Slot>>, OfTag>;
+
+// The places of a new lot's rows, of 16 buckets and of each larger size. The first is made and in
+// use: each of its buckets has its piece, which the witness gives away. `other` is one that has no
+// piece.
+pub(crate) fn new_rows(
+    alloc: Global,
+    history: &History,
+    me: &mut Witness,
+    other: &mut Witness,
+    max_threads: usize,
+) -> Result<Vec<RowSlot>, NoMemory>
+    requires witness { IsWitnessOf history.now me.old }
+    requires other { IsWitnessOf history.now other.old }
+    requires max_threads { max_threads ≡ max_threads_of history.now }
+    requires pieces { pieces_of me.old ≡ empty_lists 16 0 16 (free_numbers max_threads ∷ []) }
+    ensures still { IsStill history.now me.old me.new }
+    ensures other { IsStill history.now other.old other.new }
+    ensures pieces { IfOk result (λ _. pieces_of me.new ≡ free_numbers max_threads ∷ []) }
+    ensures rows { IfOk result (λ rows. AreRows (id_of history.now) max_threads rows.items) }
+{
+    let home = history.give(other);
+    let first = new_cells(alloc, history, me, INITIAL_BUCKETS, max_threads, home)?;
+    let home = history.give(other);
+    let rows = new_slots(alloc, max_threads, home)?;
+    if let Some(slot) = rows.first() {
+        let _ = slot.set(first);
+    }
+    Ok(rows)
+}
+
+// The places of rows of all sizes, of which none is made.
+fn new_slots(alloc: Global, max_threads: usize, home: Part) -> Result<Vec<RowSlot>, NoMemory>
+    ensures { IfOk result (λ rows. AreRows (home_of home) max_threads rows.items) }
+{
+    let mut key = CellKey {
+        place: 0,
+        size: INITIAL_BUCKETS,
+        max_threads,
+        home,
+    };
+    let mut rows = Vec::with_capacity(alloc, MOST_ROWS)?;
+    for _index in 0..MOST_ROWS {
+        rows.push(OnceSlot::new(&Tag::of::<CellKey, RowTag>(&key)))?;
+        key.size *= 2;
+    }
+    Ok(rows)
+}
+
+// A row that is not in use, of which no place has its bucket.
+pub(crate) fn new_row(
+    alloc: Global,
+    size: usize,
+    max_threads: usize,
+    home: Part,
+) -> Result<Vec<WordLock<Slot>>, NoMemory>
+    requires { IsTableSize size }
+    ensures { IfOk result (λ row. IsRow (home_of home) max_threads size row.items) }
+{
+    let mut key = CellKey {
+        place: 0,
+        size,
+        max_threads,
+        home,
+    };
+    let mut row = Vec::with_capacity(alloc, size)?;
+    for place in 0..size {
+        key.place = place;
+        row.push(WordLock::new(alloc, Slot { cell: None }, &key)?)?;
+    }
+    Ok(row)
+}
+
+// The row of 16 buckets of a new lot, each with its piece, which the witness gives away.
+fn new_cells(
+    alloc: Global,
+    history: &History,
+    me: &mut Witness,
+    size: usize,
+    max_threads: usize,
+    home: Part,
+) -> Result<Vec<WordLock<Slot>>, NoMemory>
+    requires witness { IsWitnessOf history.now me.old }
+    requires size { IsTableSize size }
+    requires max_threads { max_threads ≡ max_threads_of history.now }
+    requires home { IsPartOf (id_of history.now) home }
+    requires pieces { pieces_of me.old ≡ empty_lists size 0 size (free_numbers max_threads ∷ []) }
+    ensures still { IsStill history.now me.old me.new }
+    ensures pieces { IfOk result (λ _. pieces_of me.new ≡ free_numbers max_threads ∷ []) }
+    ensures count { IfOk result (λ cells. length cells.items ≡ size) }
+    ensures cells { IfOk result (λ cells.
+        EachAt (IsCellLock (id_of history.now) max_threads size) 0 cells.items) }
+{
+    let mut key = CellKey {
+        place: 0,
+        size,
+        max_threads,
+        home,
+    };
+    let mut cells = Vec::with_capacity(alloc, size)?;
+    for place in 0..size {
+        key.place = place;
+        cells.push(new_cell(alloc, history, me, &key)?)?;
+    }
+    Ok(cells)
+}
+
+// An empty bucket with its piece, the witness's first, behind a lock of this key.
+fn new_cell(
+    alloc: Global,
+    history: &History,
+    me: &mut Witness,
+    key: &CellKey,
+) -> Result<WordLock<Slot>, NoMemory>
+    requires witness { IsWitnessOf history.now me.old }
+    requires size { IsTableSize key.now.size }
+    requires place { key.now.place < key.now.size }
+    requires home { IsPartOf (id_of history.now) key.now.home }
+    requires piece { pieces_of me.old
+        ≡ Lists key.now.size key.now.place [] ∷ rest_of (pieces_of me.old) }
+    ensures still { IsStill history.now me.old me.new }
+    ensures pieces { pieces_of me.new ≡ rest_of (pieces_of me.old) }
+    ensures key { IfOk result (λ lock. key_of lock ≡ key.now) }
+{
+    let bucket = Bucket::new(key.place, key.size);
+    let part = history.give(me);
+    let cell = Some(Cell { bucket, part });
+    WordLock::new(alloc, Slot { cell }, key)
+}

@@ -1,0 +1,45 @@
+//! A parking lot: queues of waiting threads by key, for building mutexes, condition variables and
+//! schedulers. Whatever its threads call is proved to be one history: a run, from a new one, of the
+//! machine with one list of waiters for each key.
+#![tactic(auto)]
+
+mod cell;
+mod claimed;
+pub mod deadlock;
+mod halves;
+pub mod history_laws;
+pub mod member;
+mod numbered_nodes;
+pub mod parker;
+pub mod parking_lot;
+mod registry;
+mod sections;
+mod shared_lot;
+mod told;
+
+pub use lot_base::bucket::{Bucket, BucketPlace, place};
+pub use lot_base::laws::{
+    abort_changes_nothing, filter_covers_unparks, requeue_to_itself_changes_nothing,
+    spreading_keeps_order, steps_keep_park_tokens,
+};
+pub use lot_base::queue::{Node, Queue};
+pub use lot_base::spinwait::SpinWait;
+pub use lot_base::thread_parker::{
+    ParkerKey, ParkerT, Payload, Slot, UnparkHandle, UnparkHandleT, WordHandle, YieldHandle,
+    thread_yield,
+};
+pub use lot_base::token::{
+    DEFAULT_PARK_TOKEN, DEFAULT_UNPARK_TOKEN, FilterOp, LotError, Misfit, NoMemory, ParkResult,
+    ParkToken, RequeueOp, StepError, UnparkResult, UnparkToken,
+};
+pub use lot_base::word_lock::{
+    Claim, Fits, Held, WORD_SLOTS, WordLock, plays, view, word_locks_keep_their_invariant,
+};
+pub use lot_history::history::{History, Witness};
+pub use lot_machine::numbers::MAX_THREADS;
+pub use member::Member;
+pub use parker::{Letter, ThreadParker, ThreadParkerT, WordParker, YieldParker};
+pub use parking_lot::{
+    ParkingLot, ThreadData, park, unpark_all, unpark_chosen, unpark_filter, unpark_one,
+    unpark_requeue,
+};

@@ -1,0 +1,347 @@
+//! The calls of a lot as upstream has them: a thread parks by its data, and whoever has the lot may
+//! unpark it.
+
+ghost use Rattle.std.specs.Prelude.{◌≡◌, ◌≢◌, List, [], true, Err, IfOk, None};
+ghost use Rattle.std.specs.Option.{is_some};
+ghost use Rattle.lot_base.specs.NodeFields.{NodeFields};
+ghost use Rattle.lot_base.specs.Waiting.{result_of, split_first};
+ghost use Rattle.lot_machine.specs.Records.{times_recorded};
+ghost use Rattle.lot_history.specs.Witness.{Extends, IsStill};
+ghost use Rattle.lot_history.specs.declared.history.Witness.{Witness};
+ghost use Rattle.lot_threads.specs.Filters.{AreCallable, Unparks};
+ghost use Rattle.lot_threads.specs.Members.{Begins, IsDataOf, IsListed, IsParked, Stays, member_of};
+ghost use Rattle.lot_threads.specs.Requeues.{MayRequeue, Requeues};
+
+use crate::parker::ThreadParkerT;
+pub use crate::shared_lot::ParkingLot;
+use lot_base::queue::Node;
+use lot_base::thread_parker::ParkerT;
+use lot_base::token::{
+    FilterOp, LotError, NoMemory, ParkResult, ParkToken, RequeueOp, UnparkResult, UnparkToken,
+};
+use lot_history::history::{Part, Witness};
+use lot_machine::records::Records;
+use lot_machine::step::{Answer, Op, Step};
+use std::alloc::Global;
+use std::marker::Model;
+use std::mem;
+use std::sync::Wait;
+use std::time::{Clock, Instant};
+
+/// A registered thread: its number, its node while it does not wait, the records of what it holds,
+/// and a witness of the history, in which its parks are. It belongs to the lot that gave it, which
+/// a contract asks where the two are handed in together; `Member` has both.
+///
+/// Data that is only dropped leaves its number registered; `ParkingLot::retire` frees it.
+///
+/// Upstream has it under this name, in a thread local, and its end deregisters the thread.
+#[derive(Drop)]
+pub struct ThreadData {
+    pub(crate) number: usize,
+    node: Option<Box<Node>>,
+    pub(crate) keys: Records,
+    pub(crate) thread: Part,
+    pub(crate) records: Part,
+    pub(crate) witness: Witness,
+}
+
+impl Model for ThreadData {
+    ghost use Rattle.lot_threads.specs.Members.{IsThreadData, ThreadDataState};
+
+    ghost Value = { ThreadDataState };
+
+    ghost view = { λ thread. record {
+      number = thread.number;
+      records = thread.keys;
+      witness = thread.witness;
+    } };
+
+    ghost invariant = { λ own. IsThreadData own.number own.node own.keys own.thread own.records
+        own.witness };
+}
+
+impl ThreadData {
+    /// The number of the thread.
+    ///
+    /// Upstream has no numbers.
+    pub fn number(&self) -> usize
+        ensures { result ≡ self.now.number }
+    {
+        self.number
+    }
+
+    /// How often the thread has recorded the key. It visits the records.
+    ///
+    /// Upstream keeps them to itself.
+    pub fn records(&self, key: usize) -> usize
+        ensures { result ≡ times_recorded self.now.records key }
+    {
+        self.keys.times(key)
+    }
+}
+
+impl<P: ThreadParkerT> ParkingLot<P> {
+    /// Registers a thread under the least free number. Its witness begins with that step.
+    ///
+    /// It takes the lock of the numbers. It begins behind the number that was registered last, or
+    /// at the least one that was released since, and passes over numbers up to the one that it
+    /// takes. The thread's node was made with the lot. Where the table would have less than three
+    /// buckets for each thread, it puts the row of twice the size in use first, which adds
+    /// nothing to the history: it asks for the memory of that row if it was not needed before,
+    /// then visits every bucket and every waiting thread, and other calls wait for it. A section
+    /// must not call it.
+    ///
+    /// Upstream registers a thread with its first use, by `ThreadData::new`, which grows the table.
+    ///
+    /// # Errors
+    ///
+    /// `Full` if the greatest number of threads is registered, which is tested first, and else
+    /// `NoMemory` if memory cannot be had. No number was given then.
+    pub fn thread_data<R: Wait>(&self, rt: &R, alloc: Global) -> Result<ThreadData, LotError>
+        ensures not_too_many { result ≢ Err LotError.TooManyThreads }
+        ensures own { IfOk result (IsDataOf self.now) }
+        ensures records { IfOk result (λ thread. thread.records ≡ []) }
+        ensures registered { IfOk result (λ thread.
+            Begins self.now Step.Register (Answer.Registered thread.number) thread.witness) }
+    {
+        let (mut witness, node) = self.register(rt, alloc)?;
+        let Some(node) = node else {
+            return Err(LotError::Full);
+        };
+        let thread = self.history().give(&mut witness);
+        let records = self.history().give(&mut witness);
+        Ok(ThreadData {
+            number: node.number,
+            node: Some(node),
+            keys: Records::new(alloc),
+            thread,
+            records,
+            witness,
+        })
+    }
+
+    /// Ends the registration of the thread, whose number may be given to another thread then, and
+    /// gives back its witness, whose last event that is. Others hear it by `Member::hear_witness`.
+    ///
+    /// It takes the lock of the numbers and asks for no memory. The lot keeps the thread's node for
+    /// whoever has the number next. A section must not call it.
+    ///
+    /// Upstream does this as the thread's local data is dropped.
+    pub fn retire<R: Wait>(&self, rt: &R, thread_data: ThreadData) -> Witness
+        requires own { IsDataOf self.now thread_data }
+        ensures still { IsStill self.now thread_data.witness result }
+        ensures retired { Extends self.now thread_data.witness
+            (Step.Retire thread_data.number) Answer.Retired result }
+    {
+        let ThreadData {
+            number: _,
+            node,
+            keys: _keys,
+            thread,
+            records,
+            mut witness,
+        } = thread_data;
+        // The data of a thread that does not wait has its node: its type keeps that.
+        self.release(rt, &mut witness, node.unwrap(), thread, records);
+        witness
+    }
+
+    /// The numbers of the threads that stand in the list of the key, in order, in the machine to
+    /// which the history leads that a new witness sees in the section of the key's bucket.
+    ///
+    /// It asks for memory with the bucket locked, again whenever the list has to grow. A section
+    /// must not call it. Upstream has no such call.
+    ///
+    /// # Errors
+    ///
+    /// `NoMemory` if memory for the list cannot be had. The empty list needs none.
+    pub fn list<R: Wait>(&self, rt: &R, alloc: Global, key: usize) -> Result<Vec<usize>, NoMemory>
+        ensures { (old new : Witness) × IsListed self.now key old new result }
+    {
+        let mut me = self.history().witness();
+        self.list_in_section(rt, alloc, &mut me, key)
+    }
+
+    /// Makes the table smaller, as `Member::trim` does.
+    ///
+    /// Upstream's table never becomes smaller.
+    pub fn trim<R: Wait>(&self, rt: &R)
+        ensures { (old new : Witness) × Extends self.now old Step.Trim Answer.Trimmed new }
+    {
+        let mut me = self.history().witness();
+        self.trim_and_tell(rt, &mut me);
+    }
+}
+
+/// Parks the thread of this data in the list of the key, until another thread unparks it. The data
+/// is that of a thread of this lot.
+///
+/// `validate` is called once, in the section of the key's bucket. If it answers false, the answer
+/// is `Invalid` and nothing else is called. If it answers true, the thread stands last in the list,
+/// the section ends, `before_sleep` is called once with no lock held, and the thread sleeps until
+/// its unpark was committed. The answer is `Unparked` with the token that the other thread gave.
+///
+/// With a timeout the thread waits no longer than until that instant; a clock that cannot be read
+/// counts as past it. Then, in a section of its list's bucket, the thread leaves the list in which
+/// it stands and `timed_out` is called once, with the key of that list, which is another where the
+/// thread was requeued, and with whether no other thread waits on it; the answer is `TimedOut`. If
+/// an unpark took the thread before that section, `timed_out` is not called, and the answer is
+/// `Unparked`.
+///
+/// The park token is what a filter sees of the thread. `validate` and `timed_out` must not call the
+/// lot, nor wait for a thread that does. `before_sleep` may make any call of the lot, `park` with
+/// other data. It allocates nothing.
+///
+/// What the other thread did before its unpark is seen once this answers `Unparked`, and what a
+/// section did by the next section of that bucket: every step on a shared word is `SeqCst`.
+///
+/// Upstream has it under this name. There the lot and the thread's data are found, not handed in,
+/// and any number that the caller has no right to is unsafe as a key; here it is only unwise.
+pub fn park<
+    P: ThreadParkerT,
+    R: Wait + Clock,
+    V: FnOnce() -> bool,
+    B: FnOnce(),
+    T: FnOnce(usize, bool),
+>(
+    rt: &R,
+    lot: &ParkingLot<P>,
+    thread_data: &mut ThreadData,
+    key: usize,
+    validate: V,
+    before_sleep: B,
+    timed_out: T,
+    park_token: ParkToken,
+    timeout: Option<Instant>,
+) -> ParkResult
+    requires own { IsDataOf lot.now thread_data.old }
+    requires validate { V.pre validate }
+    requires before_sleep { V.post validate true → B.pre before_sleep }
+    requires timed_out { V.post validate true → timeout ≢ None
+        → (key last : _) → T.pre timed_out key last }
+
+    ensures stays { Stays (member_of lot.now thread_data.old) (member_of lot.now thread_data.new) }
+    ensures parked { IsParked (λ valid. V.post validate valid) (B.post before_sleep tt)
+        (λ left last. T.post timed_out left last tt) (member_of lot.now thread_data.old) key
+        park_token (is_some timeout) result (member_of lot.now thread_data.new) }
+{
+    let number = thread_data.number;
+    // The data of a thread that does not wait has its node: its type keeps that.
+    let mut node = thread_data.node.take().unwrap();
+    node.prepare(key, park_token, timeout.is_some());
+    let thread = mem::replace(&mut thread_data.thread, Part::none());
+    let me = &mut thread_data.witness;
+
+    // Queue: validate and enter in one section.
+    lot.parker(number).prepare_park();
+    if let Err((thread, node)) = lot.enter(rt, me, thread, node, validate) {
+        thread_data.thread = thread;
+        thread_data.node = Some(node);
+        return ParkResult::Invalid;
+    }
+
+    // Sleep, and a second look after the deadline.
+    before_sleep();
+    let (result, thread, node) = lot.wait(rt, me, number, timed_out, timeout);
+    thread_data.thread = thread;
+    thread_data.node = Some(node);
+    result
+}
+
+/// Unparks the first thread in the list of the key, as `Member::unpark_one` does, by a new witness:
+/// the answer is one that a history of the lot gives.
+///
+/// Upstream has it under this name.
+pub fn unpark_one<P: ThreadParkerT, R: Wait, C: FnOnce(UnparkResult) -> UnparkToken>(
+    rt: &R,
+    lot: &ParkingLot<P>,
+    key: usize,
+    callback: C,
+) -> UnparkResult
+    requires callable { (waiters : List NodeFields)
+        → C.pre callback (result_of (split_first waiters)) }
+    ensures { (old new : Witness) × (token : UnparkToken) × C.post callback result token
+        × Extends lot.now old (Step.Unpark (Op.One key token)) (Answer.Unpark result) new }
+{
+    let mut me = lot.history().witness();
+    lot.unpark_one(rt, &mut me, key, callback)
+}
+
+/// Unparks all threads in the list of the key, as `Member::unpark_all` does, by a new witness.
+///
+/// Upstream has it under this name, and keeps the handles of more than eight threads in memory that
+/// it asks for.
+pub fn unpark_all<P: ThreadParkerT, R: Wait>(
+    rt: &R,
+    lot: &ParkingLot<P>,
+    key: usize,
+    unpark_token: UnparkToken,
+) -> usize
+    ensures { (old new : Witness) × Extends lot.now old
+        (Step.Unpark (Op.All key unpark_token)) (Answer.Count result) new }
+{
+    let mut me = lot.history().witness();
+    lot.unpark_all(rt, &mut me, key, unpark_token)
+}
+
+/// Unparks those threads in the list of the key that the filter unparks, as `Member::unpark_filter`
+/// does, by a new witness.
+///
+/// Upstream has it under this name, and keeps the handles of more than eight threads in memory that
+/// it asks for.
+pub fn unpark_filter<
+    P: ThreadParkerT,
+    R: Wait,
+    F: FnMut(ParkToken) -> FilterOp,
+    C: FnOnce(UnparkResult) -> UnparkToken,
+>(rt: &R, lot: &ParkingLot<P>, key: usize, filter: F, callback: C) -> UnparkResult
+    requires callable { AreCallable F.FnMut C.FnOnce filter callback }
+    ensures { (old new : Witness)
+        × Unparks F.FnMut C.FnOnce filter callback key lot.now old result new }
+{
+    let mut me = lot.history().witness();
+    lot.unpark_filter(rt, &mut me, key, filter, callback)
+}
+
+/// Does what `unpark_filter` does, for closures that may be called at any time, as those without
+/// conditions of their own: its caller proves nothing of lists of waiters.
+///
+/// Upstream has one function for both.
+pub fn unpark_chosen<
+    P: ThreadParkerT,
+    R: Wait,
+    F: FnMut(ParkToken) -> FilterOp,
+    C: FnOnce(UnparkResult) -> UnparkToken,
+>(rt: &R, lot: &ParkingLot<P>, key: usize, filter: F, callback: C) -> UnparkResult
+    requires filter { (state : F) (park_token : _) → F.pre state park_token }
+    requires callback { (answer : _) → C.pre callback answer }
+    ensures { (old new : Witness)
+        × Unparks F.FnMut C.FnOnce filter callback key lot.now old result new }
+{
+    unpark_filter(rt, lot, key, filter, callback)
+}
+
+/// Unparks or requeues threads in the list of the key `key_from` onto that of `key_to`, as
+/// `Member::unpark_requeue` does, by a new witness.
+///
+/// Upstream has it under this name.
+pub fn unpark_requeue<
+    P: ThreadParkerT,
+    R: Wait,
+    V: FnOnce() -> RequeueOp,
+    C: FnOnce(RequeueOp, UnparkResult) -> UnparkToken,
+>(
+    rt: &R,
+    lot: &ParkingLot<P>,
+    key_from: usize,
+    key_to: usize,
+    validate: V,
+    callback: C,
+) -> UnparkResult
+    requires callable { MayRequeue V.FnOnce C.FnOnce validate callback }
+    ensures { (old new : Witness) × Requeues V.FnOnce C.FnOnce validate callback key_from key_to
+        lot.now old result new }
+{
+    let mut me = lot.history().witness();
+    lot.unpark_requeue(rt, &mut me, key_from, key_to, validate, callback)
+}

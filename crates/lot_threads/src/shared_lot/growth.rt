@@ -1,0 +1,209 @@
+//! How the table grows with the threads that are registered, and how it is trimmed.
+
+ghost use Rattle.std.specs.Prelude.{◌≡◌, ◌+◌, ◌*◌, ◌<◌, ◌≤◌, ◌^◌, [], length, IfOk, OnErr, OnOk};
+ghost use Rattle.lot_machine.specs.Size.{IsSizeFor, IsTrimmedSize};
+ghost use Rattle.lot_machine.specs.Numbers.{count_registered};
+ghost use Rattle.lot_machine.specs.declared.step.Answer.{Answer};
+ghost use Rattle.lot_machine.specs.declared.step.Step.{Step};
+ghost use Rattle.lot_history.specs.Witness.{Extends, IsStill, IsWitnessOf, id_of, max_threads_of, pieces_of};
+ghost use Rattle.lot_threads.specs.Cells.{IsIdle, IsRegistry, IsRow, size_in};
+ghost use Rattle.lot_threads.specs.Halves.{IsHalfSize};
+
+use super::ParkingLot;
+use crate::cell::{Slot, lock_at, new_row, put, take_away};
+use crate::halves::{join, split};
+use crate::parker::ThreadParkerT;
+use crate::registry::Registry;
+use lot_base::token::NoMemory;
+use lot_base::word_lock::WordLock;
+use lot_history::history::Witness;
+use lot_machine::size::trimmed_size;
+use lot_machine::step::{Answer, Step};
+use std::alloc::Global;
+use std::sync::Wait;
+use std::sync::atomic::Ordering;
+
+const BUCKETS_PER_THREAD: usize = 3;
+
+impl<P: ThreadParkerT> ParkingLot<P> {
+    // Puts the row of twice the size in use where the present one has less than three buckets for
+    // each registered thread and one more. The registry is locked. It asks for memory only where
+    // that row was never needed before.
+    pub(super) fn make_room<R: Wait>(
+        &self,
+        rt: &R,
+        alloc: Global,
+        registry: &mut Registry,
+    ) -> Result<(), NoMemory>
+        requires { IsRegistry (id_of self.now) (max_threads_of self.now) registry.old }
+        ensures registry { IsRegistry (id_of self.now) (max_threads_of self.now) registry.new }
+        ensures numbers { registry.new.numbers ≡ registry.old.numbers }
+        ensures size { OnOk result (IsSizeFor (count_registered registry.old.numbers + 1)
+            (size_in registry.old) (size_in registry.new)) }
+        ensures room { OnOk result
+            (3 * (count_registered registry.old.numbers + 1) ≤ size_in registry.new) }
+        ensures err { OnErr result (registry.new.row ≡ registry.old.row) }
+    {
+        let row = self.made_row(rt, registry.row);
+        if row.len() >= BUCKETS_PER_THREAD * (registry.threads() + 1) {
+            return Ok(());
+        }
+        self.grow(rt, alloc, registry, row)
+    }
+
+    // Puts the row of twice the size in use in the place of this one.
+    fn grow<R: Wait>(
+        &self,
+        rt: &R,
+        alloc: Global,
+        registry: &mut Registry,
+        row: &Vec<WordLock<Slot>>,
+    ) -> Result<(), NoMemory>
+        requires registry { IsRegistry (id_of self.now) (max_threads_of self.now) registry.old }
+        requires below { registry.old.row + 1 < 13 }
+        requires row { IsRow (id_of self.now) (max_threads_of self.now) (size_in registry.old)
+            row.now.items }
+        ensures registry { IsRegistry (id_of self.now) (max_threads_of self.now) registry.new }
+        ensures numbers { registry.new.numbers ≡ registry.old.numbers }
+        ensures row { OnOk result (registry.new.row ≡ registry.old.row + 1) }
+        ensures err { OnErr result (registry.new.row ≡ registry.old.row) }
+    {
+        let index = registry.row + 1;
+        let larger = self.row_or_new(rt, alloc, &mut registry.witness, index, 2 * row.len())?;
+        self.double(rt, &mut registry.witness, row, larger);
+        registry.row = index;
+        self.current.store(index, Ordering::SeqCst);
+        Ok(())
+    }
+
+    // The row of this index, which has this size, and is made if it was not needed before.
+    fn row_or_new<R: Wait>(
+        &self,
+        rt: &R,
+        alloc: Global,
+        me: &mut Witness,
+        index: usize,
+        size: usize,
+    ) -> Result<&Vec<WordLock<Slot>>, NoMemory>
+        requires idle { IsIdle (id_of self.now) me.old }
+        requires below { index < 13 }
+        requires size { size ≡ 2 ^ (index + 4) }
+        ensures idle { IsIdle (id_of self.now) me.new }
+        ensures row { IfOk result (λ row. IsRow (id_of self.now) (max_threads_of self.now)
+            size row.now.items) }
+    {
+        if let Some(row) = self.row(index) {
+            return Ok(row);
+        }
+        let home = self.history.give(me);
+        let row = new_row(alloc, size, self.threads.len(), home)?;
+        let _ = self.row_slot(index).set(row);
+        Ok(self.made_row(rt, index))
+    }
+
+    // Makes the table as small as the registered threads allow, and tells the history.
+    pub(crate) fn trim_and_tell<R: Wait>(&self, rt: &R, me: &mut Witness)
+        requires witness { IsWitnessOf self.now me.old }
+        requires none { pieces_of me.old ≡ [] }
+        ensures still { IsStill self.now me.old me.new }
+        ensures extends { Extends self.now me.old Step.Trim Answer.Trimmed me.new }
+        ensures none { pieces_of me.new ≡ [] }
+    {
+        let mut held = self.registry.lock(rt);
+        self.give_up_room(rt, &mut held.value);
+        self.history.trim(me);
+        self.registry.unlock(held);
+    }
+
+    // Puts smaller rows in use, each of half the size of the one before, down to the size that the
+    // registered threads need. The registry is locked.
+    fn give_up_room<R: Wait>(&self, rt: &R, registry: &mut Registry)
+        requires { IsRegistry (id_of self.now) (max_threads_of self.now) registry.old }
+        ensures registry { IsRegistry (id_of self.now) (max_threads_of self.now) registry.new }
+        ensures numbers { registry.new.numbers ≡ registry.old.numbers }
+        ensures size { IsTrimmedSize (count_registered registry.old.numbers)
+            (size_in registry.old) (size_in registry.new) }
+    {
+        let mut row = self.made_row(rt, registry.row);
+        let size = trimmed_size(registry.threads(), row.len());
+        while size < row.len() {
+            row = self.shrink(rt, registry, row);
+        }
+    }
+
+    // Puts the row of half the size in use in the place of this one, and answers it.
+    fn shrink<R: Wait>(
+        &self,
+        rt: &R,
+        registry: &mut Registry,
+        larger: &Vec<WordLock<Slot>>,
+    ) -> &Vec<WordLock<Slot>>
+        requires registry { IsRegistry (id_of self.now) (max_threads_of self.now) registry.old }
+        requires above { 0 < registry.old.row }
+        requires room { 2 * (3 * count_registered registry.old.numbers) ≤ size_in registry.old }
+        requires larger { IsRow (id_of self.now) (max_threads_of self.now) (size_in registry.old)
+            larger.now.items }
+        ensures registry { IsRegistry (id_of self.now) (max_threads_of self.now) registry.new }
+        ensures numbers { registry.new.numbers ≡ registry.old.numbers }
+        ensures index { registry.new.row + 1 ≡ registry.old.row }
+        ensures row { IsRow (id_of self.now) (max_threads_of self.now) (size_in registry.new)
+            result.now.items }
+    {
+        let index = registry.row - 1;
+        let row = self.made_row(rt, index);
+        self.halve(rt, &mut registry.witness, row, larger);
+        registry.row = index;
+        self.current.store(index, Ordering::SeqCst);
+        row
+    }
+
+    // Takes the buckets of a row away, one after another, and puts what each has into the two of
+    // its place in the row of twice the size.
+    fn double<R: Wait>(
+        &self,
+        rt: &R,
+        me: &mut Witness,
+        row: &Vec<WordLock<Slot>>,
+        larger: &Vec<WordLock<Slot>>,
+    )
+        requires idle { IsIdle (id_of self.now) me.old }
+        requires half { IsHalfSize (length row.now.items) }
+        requires row { IsRow (id_of self.now) (max_threads_of self.now)
+            (length row.now.items) row.now.items }
+        requires larger { IsRow (id_of self.now) (max_threads_of self.now)
+            (2 * length row.now.items) larger.now.items }
+        ensures { IsIdle (id_of self.now) me.new }
+    {
+        for place in 0..row.len() {
+            let cell = take_away(rt, lock_at(row, place));
+            let (low, high) = split(&self.history, me, cell);
+            put(rt, lock_at(larger, 2 * place), low);
+            put(rt, lock_at(larger, 2 * place + 1), high);
+        }
+    }
+
+    // Takes the buckets of the larger row away, two by two, and puts what they have into the one of
+    // their place in the row of half the size.
+    fn halve<R: Wait>(
+        &self,
+        rt: &R,
+        me: &mut Witness,
+        row: &Vec<WordLock<Slot>>,
+        larger: &Vec<WordLock<Slot>>,
+    )
+        requires idle { IsIdle (id_of self.now) me.old }
+        requires half { IsHalfSize (length row.now.items) }
+        requires row { IsRow (id_of self.now) (max_threads_of self.now)
+            (length row.now.items) row.now.items }
+        requires larger { IsRow (id_of self.now) (max_threads_of self.now)
+            (2 * length row.now.items) larger.now.items }
+        ensures { IsIdle (id_of self.now) me.new }
+    {
+        for place in 0..row.len() {
+            let low = take_away(rt, lock_at(larger, 2 * place));
+            let high = take_away(rt, lock_at(larger, 2 * place + 1));
+            let cell = join(&self.history, me, place, row.len(), low, high);
+            put(rt, lock_at(row, place), cell);
+        }
+    }
+}

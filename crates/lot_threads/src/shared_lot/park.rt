@@ -1,0 +1,204 @@
+//! How a thread comes to park: it enters the list of a key, waits, and comes back, or leaves the
+//! list in which it stands then.
+
+ghost use Rattle.std.specs.Prelude.{◌≡◌, ◌≢◌, ◌∷◌, ◌<◌, ℕ, [], true, false, Bool, IfErr, IfNone, IfSome, None, OnOk, is_ok};
+ghost use Rattle.std.specs.Option.{is_some};
+ghost use Rattle.lot_base.specs.Node.{fields};
+ghost use Rattle.lot_machine.specs.declared.step.Answer.{Answer};
+ghost use Rattle.lot_history.specs.Witness.{Extends, IsStill, IsWitnessOf, events_of, id_of, max_threads_of, pieces_of, seen_by};
+ghost use Rattle.lot_history.specs.declared.view.Piece.TheVariants.{Thread};
+ghost use Rattle.lot_threads.specs.Cells.{Has, IsBelow, IsLockFor};
+ghost use Rattle.lot_threads.specs.Members.{EndsWait, Leaves, entry_of, entry_step};
+ghost use Rattle.lot_threads.specs.Sections.{Finds, IsClaimed, Keeps};
+
+use super::ParkingLot;
+use crate::cell::Cell;
+use crate::claimed::Claimed;
+use crate::parker::ThreadParkerT;
+use crate::sections::{enter_in, leave_in};
+use lot_base::queue::Node;
+use lot_base::token::ParkResult;
+use lot_history::history::{Part, Witness};
+use lot_machine::status::Status;
+use lot_machine::step::Answer;
+use std::sync::Wait;
+use std::time::{Clock, Instant};
+
+impl<P: ThreadParkerT> ParkingLot<P> {
+    // The section in which a thread comes to park: puts it last in the list of its node's key, or
+    // gives its piece and its node back if `validate` answers false.
+    pub(crate) fn enter<R: Wait, V: FnOnce() -> bool>(
+        &self,
+        rt: &R,
+        me: &mut Witness,
+        thread: Part,
+        node: Box<Node>,
+        validate: V,
+    ) -> Result<(), (Part, Box<Node>)>
+        requires witness { IsWitnessOf self.now me.old }
+        requires none { pieces_of me.old ≡ [] }
+        requires below { IsBelow (max_threads_of self.now) (fields node.value) }
+        requires thread { Has (id_of self.now)
+            (Thread (fields node.value).number Status.Running ∷ []) thread }
+        requires callable { V.pre validate }
+
+        ensures still { IsStill self.now me.old me.new }
+        ensures none { pieces_of me.new ≡ [] }
+        ensures asked { V.post validate (is_ok result) }
+        ensures entered { OnOk result (Extends self.now me.old
+            (entry_step (entry_of (fields node.value)) true) Answer.Entered me.new) }
+        ensures refused { IfErr result (λ back. Extends self.now me.old
+            (entry_step (entry_of (fields node.value)) false) Answer.Invalid me.new) }
+        ensures returned { IfErr result (λ back. (back.1.value ≡ node.value)
+            × Has (id_of self.now)
+            (Thread (fields node.value).number Status.Running ∷ []) back.0) }
+    {
+        let Node {
+            number,
+            key,
+            timed,
+            ..
+        } = *node;
+        let history = &self.history;
+        let mut claimed = self.claim(rt, key);
+        let (entered, _me) = claimed.with(
+            rt,
+            move |cell: &mut Cell|
+                requires finds { Finds history.now me.now (fields node.value).key cell.old }
+                requires below { IsBelow (max_threads_of history.now) (fields node.value) }
+                requires thread { Has (id_of history.now)
+                    (Thread (fields node.value).number Status.Running ∷ []) thread }
+                requires callable { V.pre validate }
+
+                ensures same { result.1.ghost_name ≡ me.entry.ghost_name }
+                ensures keeps { Keeps history.entry.now me.entry.now result.1.now cell.old
+                    cell.new }
+                ensures none { pieces_of result.1.now ≡ [] }
+                ensures asked { V.post validate (is_ok result.0) }
+                ensures entered { OnOk result.0 (Extends history.entry.now me.entry.now
+                    (entry_step (entry_of (fields node.value)) true) Answer.Entered result.1.now) }
+                ensures refused { IfErr result.0 (λ back. Extends history.entry.now me.entry.now
+                    (entry_step (entry_of (fields node.value)) false) Answer.Invalid result.1.now) }
+                ensures returned { IfErr result.0 (λ back. (back.1.value ≡ node.value)
+                    × Has (id_of history.entry.now)
+                    (Thread (fields node.value).number Status.Running ∷ []) back.0) }
+            {
+                let entered = enter_in(history, me, cell, thread, node, validate);
+                (entered, me)
+            },
+        );
+        if entered.is_ok() {
+            self.note_key(number, timed, key);
+        }
+        claimed.close();
+        entered
+    }
+
+    // The wait of a thread that entered a list: sleeps until an unpark of it was committed, or
+    // until the deadline, and then leaves the list in which it stands, unless an unpark took it
+    // meanwhile.
+    pub(crate) fn wait<R: Wait + Clock, T: FnOnce(usize, bool)>(
+        &self,
+        rt: &R,
+        me: &mut Witness,
+        number: usize,
+        timed_out: T,
+        timeout: Option<Instant>,
+    ) -> (ParkResult, Part, Box<Node>)
+        requires witness { IsWitnessOf self.now me.old }
+        requires none { pieces_of me.old ≡ [] }
+        requires below { number < max_threads_of self.now }
+        requires callable { timeout ≢ None → (key last : _) → T.pre timed_out key last }
+        ensures still { IsStill self.now me.old me.new }
+        ensures none { pieces_of me.new ≡ [] }
+        ensures ends { EndsWait self.now number (is_some timeout)
+            (λ key last. T.post timed_out key last tt) result.0 me.old me.new }
+        ensures thread { Has (id_of self.now) (Thread number Status.Running ∷ []) result.1 }
+        ensures number { (fields result.2.value).number ≡ number }
+    {
+        let parker = self.parker(number);
+        let Some(timeout) = timeout else {
+            let (node, letter) = parker.park(rt);
+            let thread = self.come_back(rt, me, &node, letter);
+            return (ParkResult::Unparked(node.unpark_token), thread, node);
+        };
+        if let Some((node, letter)) = parker.park_until(rt, timeout) {
+            let thread = self.come_back(rt, me, &node, letter);
+            return (ParkResult::Unparked(node.unpark_token), thread, node);
+        }
+        if let Some((thread, node)) = self.leave(rt, me, number, timed_out) {
+            return (ParkResult::TimedOut, thread, node);
+        }
+        let (node, letter) = parker.park(rt);
+        let thread = self.come_back(rt, me, &node, letter);
+        (ParkResult::Unparked(node.unpark_token), thread, node)
+    }
+
+    // The section in which a thread whose deadline has passed leaves the list in which it stands,
+    // or answers `None` if an unpark took it.
+    fn leave<R: Wait, T: FnOnce(usize, bool)>(
+        &self,
+        rt: &R,
+        me: &mut Witness,
+        number: usize,
+        timed_out: T,
+    ) -> Option<(Part, Box<Node>)>
+        requires witness { IsWitnessOf self.now me.old }
+        requires none { pieces_of me.old ≡ [] }
+        requires below { number < max_threads_of self.now }
+        requires callable { (key last : _) → T.pre timed_out key last }
+        ensures still { IsStill self.now me.old me.new }
+        ensures none { pieces_of me.new ≡ [] }
+        ensures left { IfSome result (λ back. (key : ℕ) × (last : Bool)
+            × T.post timed_out key last tt × Leaves self.now number key last me.old me.new) }
+        ensures returned { IfSome result (λ back. ((fields back.1.value).number ≡ number)
+            × Has (id_of self.now) (Thread number Status.Running ∷ []) back.0) }
+        ensures unchanged { IfNone result ((seen_by me.new ≡ seen_by me.old)
+            × (events_of me.new ≡ events_of me.old)) }
+    {
+        let (key, mut claimed) = self.claim_own(rt, number);
+        let history = &self.history;
+        let (left, _me) = claimed.with(
+            rt,
+            move |cell: &mut Cell|
+                requires finds { Finds history.now me.now key cell.old }
+                requires callable { (last : _) → T.pre timed_out key last }
+
+                ensures same { result.1.ghost_name ≡ me.entry.ghost_name }
+                ensures keeps { Keeps history.entry.now me.entry.now result.1.now cell.old
+                    cell.new }
+                ensures none { pieces_of result.1.now ≡ [] }
+                ensures left { IfSome result.0 (λ back. (last : Bool) × T.post timed_out key last tt
+                    × Leaves history.entry.now number key last me.entry.now result.1.now) }
+                ensures returned { IfSome result.0 (λ back.
+                    ((fields back.1.value).number ≡ number)
+                    × Has (id_of history.entry.now) (Thread number Status.Running ∷ []) back.0) }
+                ensures unchanged { IfNone result.0 ((seen_by result.1.now ≡ seen_by me.entry.now)
+                    × (events_of result.1.now ≡ events_of me.entry.now)) }
+            {
+                let left = leave_in(rt, history, me, cell, number, key, timed_out);
+                (left, me)
+            },
+        );
+        claimed.close();
+        left
+    }
+
+    // Locks the bucket of the key on which a thread waits that has a timeout. A requeue moves the
+    // thread with both buckets locked, so while this one is, it stands here or was taken.
+    fn claim_own<R: Wait>(&self, rt: &R, number: usize) -> (usize, Claimed<'_>)
+        requires { number < max_threads_of self.now }
+        ensures lock { IsLockFor self.now result.0 result.1.lock.now }
+        ensures claim { IsClaimed result.1 }
+    {
+        for _ in rt.forever() {
+            let key = self.key(number);
+            let claimed = self.claim(rt, key);
+            if self.key(number) == key {
+                return (key, claimed);
+            }
+            claimed.close();
+        }
+        unreachable!()
+    }
+}

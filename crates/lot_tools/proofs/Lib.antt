@@ -1,4 +1,0 @@
-pub mod JournalLemmas
-pub mod RecordLemmas
-pub mod RoomLemmas
-pub mod JournalTotalLemmas

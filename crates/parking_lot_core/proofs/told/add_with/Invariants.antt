@@ -1,4 +1,0 @@
-use Rattle.parking_lot_core.proofs.told.add_with.Given as goal
-
-abbrev pub ghost-add : goal.ghost-add
-ghost-add g a = g.after

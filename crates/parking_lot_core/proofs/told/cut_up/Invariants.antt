@@ -1,6 +1,0 @@
-use Rattle.std.proofs.Common.{[], ◌∷◌}
-use Rattle.parking_lot_core.specs.Rows.{empty_lists, free_numbers}
-use Rattle.parking_lot_core.proofs.told.cut_up.Given as goal
-
-abbrev pub ghost-regroup_with : goal.ghost-regroup_with
-ghost-regroup_with a = empty_lists a._values.now.1 0 a._values.now.1 (free_numbers a._values.now.0 ∷ [])

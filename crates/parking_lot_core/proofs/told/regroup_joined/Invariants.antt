@@ -1,6 +1,0 @@
-use Rattle.std.proofs.Common.{[], ◌∷◌}
-use Rattle.parking_lot_core.specs.Cells.{lists_in}
-use Rattle.parking_lot_core.proofs.told.regroup_joined.Given as goal
-
-abbrev pub ghost-regroup_with : goal.ghost-regroup_with
-ghost-regroup_with a = lists_in a._values.now.now ∷ []

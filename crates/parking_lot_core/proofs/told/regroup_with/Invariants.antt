@@ -1,4 +1,0 @@
-use Rattle.parking_lot_core.proofs.told.regroup_with.Given as goal
-
-abbrev pub ghost-regroup : goal.ghost-regroup
-ghost-regroup g a = g.after

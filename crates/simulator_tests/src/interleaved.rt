@@ -1,0 +1,5 @@
+//! The interleaved lot beside the plain interleaved machine.
+
+mod both;
+mod lists;
+mod rows;

@@ -1,0 +1,167 @@
+//! Lots, members, and calls of them. The functions have no clauses, so that a test's proof carries
+//! none of what it does not need.
+
+use lot_threads::{
+    FilterOp, LotError, Member, NoMemory, ParkResult, ParkToken, ParkingLot, RequeueOp,
+    ThreadParkerT, UnparkResult, UnparkToken, unpark_all, unpark_chosen, unpark_one,
+    unpark_requeue,
+};
+use std::alloc::Global;
+use std::sync::Wait;
+use std::time::{Clock, Instant};
+
+/// The key of a test that needs one alone.
+pub const KEY: usize = 7;
+
+/// The token of unparks. It is not the default.
+pub const TOKEN: UnparkToken = UnparkToken(42);
+
+/// A way to unpark the thread that waits first on a key.
+#[derive(Copy, Clone, Debug, Eq, PartialEq)]
+pub enum Way {
+    One,
+    All,
+    Filter,
+    Requeue,
+}
+
+/// Every way to unpark.
+pub const WAYS: [Way; 4] = [Way::One, Way::All, Way::Filter, Way::Requeue];
+
+/// How a park ended, and the key and whether it was the last, as a thread that was late was told.
+pub type Left = (ParkResult, Option<(usize, bool)>);
+
+/// How a park ends that was unparked with the token of tests.
+pub const UNPARKED: Left = (ParkResult::Unparked(TOKEN), None);
+
+/// How a late thread leaves a key on which nobody else waits.
+pub fn late_on(key: usize) -> Left {
+    (ParkResult::TimedOut, Some((key, true)))
+}
+
+/// A lot for so many threads.
+pub fn new_lot<P: ThreadParkerT>(alloc: Global, threads: usize) -> Result<ParkingLot<P>, LotError> {
+    ParkingLot::new(alloc, threads)
+}
+
+/// Registers the calling thread.
+pub fn register<'a, P: ThreadParkerT, R: Wait>(
+    rt: &R,
+    alloc: Global,
+    lot: &'a ParkingLot<P>,
+) -> Result<Member<'a, P>, LotError> {
+    Member::register(rt, alloc, lot)
+}
+
+/// Registers so many threads.
+pub fn register_all<'a, P: ThreadParkerT, R: Wait>(
+    rt: &R,
+    alloc: Global,
+    lot: &'a ParkingLot<P>,
+    threads: usize,
+) -> Result<Vec<Member<'a, P>>, LotError> {
+    let mut members = Vec::new(alloc);
+    for _ in 0..threads {
+        members.push(Member::register(rt, alloc, lot)?)?;
+    }
+    Ok(members)
+}
+
+/// The numbers of those who wait on the key.
+pub fn waiting<P: ThreadParkerT, R: Wait>(
+    rt: &R,
+    alloc: Global,
+    lot: &ParkingLot<P>,
+    key: usize,
+) -> Result<Vec<usize>, NoMemory> {
+    lot.list(rt, alloc, key)
+}
+
+/// The token for filters of whoever parks on the key. It is not the default.
+pub fn token_of(key: usize) -> ParkToken {
+    ParkToken(!key)
+}
+
+/// Parks on the key, with its token for filters, and does this before it sleeps.
+pub fn park_and<P: ThreadParkerT, R: Wait + Clock, B: FnOnce()>(
+    rt: &R,
+    member: &mut Member<'_, P>,
+    key: usize,
+    before_sleep: B,
+    deadline: Option<Instant>,
+) -> Left
+    requires { B.pre before_sleep }
+{
+    let mut told = None;
+    let result = member.park(
+        rt,
+        key,
+        || true,
+        before_sleep,
+        |key, last| told = Some((key, last)),
+        token_of(key),
+        deadline,
+    );
+    (result, told)
+}
+
+/// Parks on the key until another thread unparks this one, or until the deadline.
+pub fn wait<P: ThreadParkerT, R: Wait + Clock>(
+    rt: &R,
+    member: &mut Member<'_, P>,
+    key: usize,
+    deadline: Option<Instant>,
+) -> ParkResult {
+    park_and(rt, member, key, || (), deadline).0
+}
+
+// Unparks all waiters of the key, by a filter.
+fn unpark_by_filter<P: ThreadParkerT, R: Wait>(
+    rt: &R,
+    lot: &ParkingLot<P>,
+    key: usize,
+    token: UnparkToken,
+) -> usize {
+    unpark_chosen(rt, lot, key, |_| FilterOp::Unpark, |_| token).unparked_threads
+}
+
+/// Requeues by this operation.
+pub fn requeue<P: ThreadParkerT, R: Wait>(
+    rt: &R,
+    lot: &ParkingLot<P>,
+    from: usize,
+    to: usize,
+    op: RequeueOp,
+    token: UnparkToken,
+) -> UnparkResult {
+    unpark_requeue(rt, lot, from, to, || op, |_, _| token)
+}
+
+/// Moves all waiters to the other key, and tells how many there were.
+pub fn move_all<P: ThreadParkerT, R: Wait>(
+    rt: &R,
+    lot: &ParkingLot<P>,
+    from: usize,
+    to: usize,
+) -> usize {
+    requeue(rt, lot, from, to, RequeueOp::RequeueAll, TOKEN).requeued_threads
+}
+
+/// Unparks the thread that waits first on the key, this way, and tells how many were unparked.
+pub fn unpark<P: ThreadParkerT, R: Wait>(
+    rt: &R,
+    lot: &ParkingLot<P>,
+    way: Way,
+    key: usize,
+    token: UnparkToken,
+) -> usize {
+    match way {
+        Way::One => unpark_one(rt, lot, key, |_| token).unparked_threads,
+        Way::All => unpark_all(rt, lot, key, token),
+        Way::Filter => unpark_by_filter(rt, lot, key, token),
+        Way::Requeue => {
+            let op = RequeueOp::UnparkOneRequeueRest;
+            requeue(rt, lot, key, KEY, op, token).unparked_threads
+        }
+    }
+}

@@ -1,0 +1,157 @@
+//! A parker whose thread is held up as it comes to park, or is followed as it is woken.
+
+use lot_threads::{
+    Letter, NoMemory, Node, ParkerKey, ParkerT, Payload, UnparkHandleT, YieldHandle, YieldParker,
+};
+use std::alloc::Global;
+use std::sync::Wait;
+use std::sync::atomic::{AtomicBool, AtomicUsize, Ordering};
+use std::time::{Clock, Instant};
+use std::{hint, thread};
+
+/// A thread that is unparked from this key is held up as it next comes to park.
+pub const GATE: usize = 1;
+
+// Some tens of milliseconds of a processor, and some times in which others go on.
+const SPINS: usize = 1_000_000;
+
+const SPINS_AT_ONCE: usize = 50_000;
+
+// So often whoever wakes a thread yields before it goes on.
+const TURNS: usize = 1_000_000;
+
+/// A `YieldParker`. Whoever unparks a thread from the gate goes on once that prepares to park
+/// again, which takes the thread long: so the other can act between what the thread does before a
+/// park and the park. And whoever first unparks thread 0 from another key goes on once that has
+/// parked again: so other threads can act between an unpark's section and what follows it.
+#[derive(Drop)]
+pub struct FollowedParker {
+    parker: YieldParker,
+    is_followed: AtomicBool,
+    is_held_up: AtomicBool,
+    prepared: AtomicUsize,
+    parked: AtomicUsize,
+}
+
+// What whoever wakes a thread waits for.
+#[derive(Copy, Clone, Eq, PartialEq, Debug)]
+enum Until {
+    // For nothing.
+    Now,
+
+    // Until the thread has prepared to park more than so often.
+    Prepared(usize),
+
+    // Until the thread has parked more than so often.
+    Parked(usize),
+}
+
+impl FollowedParker {
+    // For what to wait, if the thread is unparked from this key.
+    fn until(&self, key: usize) -> Until {
+        if key == GATE {
+            self.is_held_up.store(true, Ordering::SeqCst);
+            return Until::Prepared(self.prepared.load(Ordering::SeqCst));
+        }
+        if self.is_followed.swap(false, Ordering::SeqCst) {
+            return Until::Parked(self.parked.load(Ordering::SeqCst));
+        }
+        Until::Now
+    }
+
+    fn has_come(&self, until: Until) -> bool {
+        match until {
+            Until::Now => true,
+            Until::Prepared(times) => self.prepared.load(Ordering::SeqCst) > times,
+            Until::Parked(times) => self.parked.load(Ordering::SeqCst) > times,
+        }
+    }
+}
+
+impl ParkerT for FollowedParker {
+    type Payload = Letter;
+
+    type UnparkHandle = FollowedHandle;
+
+    const IS_CHEAP_TO_CONSTRUCT: bool = true;
+
+    ghost owner = { λ followed. ⟦<YieldParker as ParkerT>⟧.owner followed.parker };
+
+    ghost home = { λ followed. ⟦<YieldParker as ParkerT>⟧.home followed.parker };
+
+    fn new(
+        alloc: Global,
+        key: &ParkerKey<<Letter as Payload>::Home>,
+    ) -> Result<FollowedParker, NoMemory> {
+        Ok(FollowedParker {
+            parker: YieldParker::new(alloc, key)?,
+            is_followed: AtomicBool::new(key.number == 0),
+            is_held_up: AtomicBool::new(false),
+            prepared: AtomicUsize::new(0),
+            parked: AtomicUsize::new(0),
+        })
+    }
+
+    fn prepare_park(&self) {
+        self.prepared.fetch_add(1, Ordering::SeqCst);
+        if !self.is_held_up.swap(false, Ordering::SeqCst) {
+            return;
+        }
+        for spin in 0..SPINS {
+            hint::spin_loop();
+            if spin % SPINS_AT_ONCE == 0 {
+                thread::yield_now();
+            }
+        }
+    }
+
+    fn timed_out<R: Wait>(&self, rt: &R) -> bool {
+        self.parker.timed_out(rt)
+    }
+
+    fn park<R: Wait>(&self, rt: &R) -> (Box<Node>, Option<Letter>) {
+        self.parked.fetch_add(1, Ordering::SeqCst);
+        self.parker.park(rt)
+    }
+
+    fn park_until<R: Wait + Clock>(
+        &self,
+        rt: &R,
+        timeout: Instant,
+    ) -> Option<(Box<Node>, Option<Letter>)> {
+        self.parked.fetch_add(1, Ordering::SeqCst);
+        self.parker.park_until(rt, timeout)
+    }
+
+    fn unpark_lock<R: Wait>(&self, rt: &R, node: Box<Node>, payload: Letter) -> FollowedHandle {
+        let until = self.until(node.key);
+        let handle = self.parker.unpark_lock(rt, node, payload);
+        FollowedHandle { handle, until }
+    }
+}
+
+/// What is left to do after an unpark.
+#[derive(Drop)]
+pub struct FollowedHandle {
+    handle: YieldHandle,
+    until: Until,
+}
+
+impl UnparkHandleT<FollowedParker> for FollowedHandle {
+    ghost number = { λ followed.
+        ⟦<YieldHandle as UnparkHandleT<YieldParker>>⟧.number followed.handle };
+
+    fn number(&self) -> usize {
+        UnparkHandleT::<YieldParker>::number(&self.handle)
+    }
+
+    fn unpark(self, parker: &FollowedParker) {
+        self.handle.unpark(&parker.parker);
+        for _ in 0..TURNS {
+            if parker.has_come(self.until) {
+                return;
+            }
+            thread::yield_now();
+        }
+    }
+}

@@ -1,0 +1,50 @@
+//! Waits for what other threads do, each of which gives up after very many turns.
+
+use crate::calls::waiting;
+use lot_threads::{ParkingLot, ThreadParkerT};
+use std::alloc::Global;
+use std::sync::Wait;
+use std::sync::atomic::{AtomicBool, AtomicUsize, Ordering};
+use std::thread;
+
+/// So often a thread yields before it gives up.
+pub const TURNS: usize = 10_000_000;
+
+/// Waits until the flag is raised, and tells whether it was.
+pub fn raised_by_turns(flag: &AtomicBool) -> bool {
+    for _ in 0..TURNS {
+        if flag.load(Ordering::SeqCst) {
+            return true;
+        }
+        thread::yield_now();
+    }
+    false
+}
+
+/// Waits until there are so many, and tells whether there were.
+pub fn comes_to(count: &AtomicUsize, least: usize) -> bool {
+    for _ in 0..TURNS {
+        if count.load(Ordering::SeqCst) >= least {
+            return true;
+        }
+        thread::yield_now();
+    }
+    false
+}
+
+/// Waits until so many threads wait on the key, and tells whether they did.
+pub fn come_by_turns<P: ThreadParkerT, R: Wait>(
+    rt: &R,
+    alloc: Global,
+    lot: &ParkingLot<P>,
+    key: usize,
+    threads: usize,
+) -> bool {
+    for _ in 0..TURNS {
+        if waiting(rt, alloc, lot, key).is_ok_and(|numbers| numbers.len() == threads) {
+            return true;
+        }
+        thread::yield_now();
+    }
+    false
+}
