@@ -8,5 +8,7 @@ pub mod clock;
 pub mod faults;
 pub mod followed_parker;
 pub mod ordered_parker;
+pub mod scene;
 pub mod slow_parker;
 pub mod waits;
+pub mod words;

@@ -108,13 +108,7 @@ fn requeue<P: ThreadParkerT, R: Wait>(
 
 // What an unpark by a filter answered, how often it asked the filter, which park token it showed
 // last, and what its callback was told.
-#[derive(Copy, Clone, Debug, PartialEq, Eq)]
-struct Filtered {
-    result: UnparkResult,
-    asked: usize,
-    shown: Option<ParkToken>,
-    told: Option<UnparkResult>,
-}
+type Filtered = (UnparkResult, usize, Option<ParkToken>, Option<UnparkResult>);
 
 // Unparks all waiters of the key by a filter.
 fn unpark_each<P: ThreadParkerT, R: Wait>(rt: &R, lot: &ParkingLot<P>, key: usize) -> Filtered {
@@ -128,12 +122,7 @@ fn unpark_each<P: ThreadParkerT, R: Wait>(rt: &R, lot: &ParkingLot<P>, key: usiz
         told = Some(answer);
         TOKEN
     });
-    Filtered {
-        result,
-        asked,
-        shown,
-        told,
-    }
+    (result, asked, shown, told)
 }
 
 // Unparks those waiters of the key that the filter chooses.
@@ -156,13 +145,8 @@ fn call_back_for_nobody<P: ThreadParkerT, R: Wait + Abort>(
     key: usize,
 ) {
     expect_equal(rt, unpark_first(rt, lot, key), (NOBODY, Some(NOBODY)));
-    let filtered = Filtered {
-        result: NOBODY,
-        asked: 0,
-        shown: None,
-        told: Some(NOBODY),
-    };
-    expect_equal(rt, unpark_each(rt, lot, key), filtered);
+    let filtered = unpark_each(rt, lot, key);
+    expect_equal(rt, filtered, (NOBODY, 0, None, Some(NOBODY)));
 }
 
 // Aborts a requeue of the one waiter, and then unparks it by a filter, which is shown the greatest
@@ -171,13 +155,12 @@ fn call_back_for_one<P: ThreadParkerT, R: Wait + Abort>(rt: &R, lot: &ParkingLot
     let aborted = requeue(rt, lot, RequeueOp::Abort);
     expect_equal(rt, aborted, (NOBODY, true, None));
     call_back_for_nobody(rt, lot, OTHER_KEY);
-    let filtered = Filtered {
-        result: ONE,
-        asked: 1,
-        shown: Some(ParkToken(usize::MAX)),
-        told: Some(ONE),
-    };
-    expect_equal(rt, unpark_each(rt, lot, 0), filtered);
+    let filtered = unpark_each(rt, lot, 0);
+    expect_equal(
+        rt,
+        filtered,
+        (ONE, 1, Some(ParkToken(usize::MAX)), Some(ONE)),
+    );
 }
 
 // A filter sees of the key 0 the greatest token.

@@ -1,100 +1,122 @@
-//! Parks with a deadline: when `timed_out` is called, and with which key.
+//! Threads whose deadline has passed, or passes, and which others move or unpark meanwhile.
 
-use crate::expect_equal;
-use crate::lots::{from_now, lot_for, passed, registered};
-use lot_threads::{Member, ThreadParker, ThreadParkerT, WordParker, YieldParker};
-use std::alloc::Global;
-use std::process::Abort;
-use std::sync::Wait;
-use std::time::{Clock, Instant};
-use test_support::calls::{TOKEN, UNPARKED, Way, late_on, move_all, park_and, unpark};
-use test_support::clock::{FAR, SOON, is_past};
-
-const GREATEST: usize = usize::MAX;
+use crate::played::goes_well;
 
 // Of 16 buckets the keys 0 and 13 have one.
-const KEYS: [usize; 6] = [1, 13, 7, 0, GREATEST, GREATEST - 1];
+const KEYS: [usize; 6] = [1, 13, 7, 0, usize::MAX, usize::MAX - 1];
 
-// Parks on each key, and is unparked before it sleeps.
-fn is_unparked_in_time<P: ThreadParkerT, R: Wait + Clock + Abort>(
-    rt: &R,
-    member: &mut Member<'_, P>,
-    deadline: Instant,
-) {
-    let lot = member.lot();
-    for key in KEYS {
-        let before_sleep = || expect_equal(rt, unpark(rt, lot, Way::One, key, TOKEN), 1);
-        let left = park_and(rt, member, key, before_sleep, Some(deadline));
-        expect_equal(rt, left, UNPARKED);
+// Keys 1 and 2 have buckets of their own, 0 and 13 have one. It refuses a late thread that goes on
+// with a key which it read before it had the bucket.
+#[test]
+fn a_late_thread_that_is_moved_meanwhile_reads_its_key_again(rt: HostRuntime) {
+    let scene = "
+        thread
+        before_sleep: raise entered; await inside; raise late
+        park $0 past -> timed_out $1 last
+        caller
+        await entered
+        validate: raise inside; await late; sleep 5000
+        requeue $0 $1 requeue_all 42 -> 0 1
+    ";
+    for keys in [[1, 2], [2, 1], [0, 13]] {
+        goes_well(&rt, scene, &keys);
     }
 }
 
-// Parks on one key after the other until a deadline that has passed.
-fn is_late_on_each<P: ThreadParkerT, R: Wait + Clock + Abort>(
-    rt: &R,
-    member: &mut Member<'_, P>,
-    deadline: Instant,
-) {
-    for key in [7, 0, 0, 13, 7] {
-        let left = park_and(rt, member, key, || (), Some(deadline));
-        expect_equal(rt, left, late_on(key));
-    }
+// It refuses a requeue that notes the new key of one of those that it moved alone: the others look
+// for themselves in their old queue for ever.
+#[test]
+fn each_late_thread_that_was_moved_leaves_its_new_key(rt: HostRuntime) {
+    let scene = "
+        thread 4
+        before_sleep: await moved
+        park 1 past -> timed_out 2 any
+        caller
+        waiting 1 4
+        requeue 1 2 requeue_all 42 -> 0 4
+        raise moved
+    ";
+    goes_well(&rt, scene, &[]);
 }
 
-// Parks on each key until the deadline, after it was moved to each.
-fn is_late_where_it_was_moved<P: ThreadParkerT, R: Wait + Clock + Abort>(
-    rt: &R,
-    member: &mut Member<'_, P>,
-    deadline: Instant,
-) {
-    let lot = member.lot();
+// It refuses a park that does not note its key, or less than all of it, where the thread noted
+// another before, and a requeue that does not note each key to which it moves a thread, as 0: the
+// thread then looks for itself in another queue for ever.
+#[test]
+fn a_late_thread_finds_itself_on_each_key(rt: HostRuntime) {
+    let scene = "
+        thread
+        park $0 past -> timed_out $0 last
+        before_sleep: move $0 $1 -> 1
+        park $0 past -> timed_out $1 last
+        park $0 past -> timed_out $0 last
+        before_sleep: move $1 $0 -> 1
+        park $1 past -> timed_out $0 last
+        park $1 past -> timed_out $1 last
+    ";
     for from in KEYS {
         for to in KEYS {
-            let before_sleep = || expect_equal(rt, move_all(rt, lot, from, to), 1);
-            let left = park_and(rt, member, from, before_sleep, Some(deadline));
-            expect_equal(rt, (from, left), (from, late_on(to)));
+            goes_well(&rt, scene, &[from, to]);
         }
     }
 }
 
-// Waits until a deadline that is still to come, after it was moved to another bucket.
-fn sleeps_until_the_deadline<P: ThreadParkerT, R: Wait + Clock + Abort>(
-    rt: &R,
-    member: &mut Member<'_, P>,
-) {
-    let lot = member.lot();
-    let soon = from_now(rt, SOON);
-    let before_sleep = || expect_equal(rt, move_all(rt, lot, 1, 2), 1);
-    let left = park_and(rt, member, 1, before_sleep, Some(soon));
-    expect_equal(rt, (left, is_past(rt, soon)), (late_on(2), true));
-}
-
-fn keeps_its_deadlines<P: ThreadParkerT, R: Wait + Clock + Abort>(rt: &R, alloc: Global) {
-    let lot = lot_for::<P, _>(rt, alloc, 1);
-    let mut member = registered(rt, alloc, &lot);
-    let deadline = passed(rt);
-    is_unparked_in_time(rt, &mut member, from_now(rt, FAR));
-    is_unparked_in_time(rt, &mut member, deadline);
-    is_late_on_each(rt, &mut member, deadline);
-    is_late_where_it_was_moved(rt, &mut member, deadline);
-    sleeps_until_the_deadline(rt, &mut member);
-}
-
-// Each of these refuses a park that calls `timed_out` although the thread was unparked, or ends
-// before its deadline; one that does not note its key, or less than all of it, where the thread
-// noted another before; and a requeue that does not note each key to which it moves a thread. The
-// thread then looks for itself in its old queue for ever.
+// It refuses a park that calls `timed_out` although the thread was unparked.
 #[test]
-fn a_word_parkers_thread_is_late_where_it_stands_unless_it_was_unparked(rt: HostRuntime) {
-    keeps_its_deadlines::<WordParker, _>(&rt, rt.alloc());
+fn timed_out_is_not_called_where_the_thread_was_unparked(rt: HostRuntime) {
+    let scene = "
+        thread
+        before_sleep: unpark one $0 42 -> 1
+        park $0 past -> unparked 42
+        before_sleep: unpark one $0 42 -> 1
+        park $0 far -> unparked 42
+        before_sleep: unpark one $0 42 -> 1
+        park $0 forever -> unparked 42
+    ";
+    for key in KEYS {
+        goes_well(&rt, scene, &[key]);
+    }
 }
 
+// The thread leaves while a requeue that moved it calls back, and a third thread has its first
+// bucket. It refuses a requeue that notes where a timed thread went only after it called back: the
+// thread, which looks meanwhile, then waits for its first bucket.
 #[test]
-fn a_thread_parkers_thread_is_late_where_it_stands_unless_it_was_unparked(rt: HostRuntime) {
-    keeps_its_deadlines::<ThreadParker, _>(&rt, rt.alloc());
+fn a_requeue_calls_back_once_the_thread_is_moved(rt: HostRuntime) {
+    let scene = "
+        thread
+        before_sleep: raise entered; await moved; raise late
+        park 7 past -> timed_out 8 last
+        raise gone
+        caller
+        await entered
+        validate: raise inside; await behind; sleep 5000
+        callback: raise moved; await late; sleep 5000
+        requeue 7 8 requeue_all 42 -> 0 1
+        caller
+        await inside
+        raise behind
+        callback: await gone
+        unpark_one 7 42 -> 0 0
+    ";
+    for _ in 0..4 {
+        goes_well(&rt, scene, &[]);
+    }
 }
 
+// It refuses a park that ends before its deadline, or leaves the key on which it is no more.
 #[test]
-fn a_yield_parkers_thread_is_late_where_it_stands_unless_it_was_unparked(rt: HostRuntime) {
-    keeps_its_deadlines::<YieldParker, _>(&rt, rt.alloc());
+fn a_park_lasts_until_its_deadline(rt: HostRuntime) {
+    let scene = "
+        thread
+        raise begun
+        before_sleep: move 1 2 -> 1
+        park 1 50 -> timed_out 2 last
+        raise ended
+        caller
+        await begun
+        sleep 20000
+        is ended 0
+    ";
+    goes_well(&rt, scene, &[]);
 }

@@ -1,21 +1,33 @@
-//! Tests of what the calls of the threaded lot do and answer, step by step, by its public calls
-//! alone. What threads do to one another that race is shown elsewhere.
+//! Tests of the threaded lot by its public calls alone: what they do and answer, step by step, and
+//! what threads do to one another that meet in an order which no clause of a contract sees. Most are
+//! scenes, texts that `test_support::scene` plays. The comment of a test tells which wrong bodies it
+//! refuses, which every contract lets through.
 #![tactic(auto)]
 
 #[cfg(test)]
 mod calls;
 #[cfg(test)]
-mod keys;
+mod crowds;
+#[cfg(test)]
+mod growths;
 #[cfg(test)]
 mod late;
 #[cfg(test)]
 mod lots;
 #[cfg(test)]
+mod noted;
+#[cfg(test)]
 mod numbers;
 #[cfg(test)]
-mod parker_calls;
+mod played;
 #[cfg(test)]
 mod records;
+#[cfg(test)]
+mod returning_parker;
+#[cfg(test)]
+mod returns;
+#[cfg(test)]
+mod sections;
 #[cfg(test)]
 mod sizes;
 #[cfg(test)]

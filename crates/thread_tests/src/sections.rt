@@ -1,0 +1,106 @@
+//! What is done in a section, while no other call on the key comes through.
+
+use crate::played::goes_well;
+
+// It refuses an unpark that calls its `callback` without the lock of the bucket.
+#[test]
+fn an_unpark_of_one_calls_back_in_its_section(rt: HostRuntime) {
+    let scene = "
+        thread
+        before_sleep: raise parked; await done
+        park 7 forever -> unparked 42
+        caller
+        await parked
+        callback: raise inside; await coming; never heard
+        unpark_one 7 42 -> 1 0
+        raise done
+        caller
+        await inside
+        raise coming
+        list 7
+        raise heard
+    ";
+    goes_well(&rt, scene, &[]);
+}
+
+// It refuses an unpark that calls its `filter` or its `callback` without the lock of the bucket.
+#[test]
+fn an_unpark_by_a_filter_calls_its_closures_in_its_section(rt: HostRuntime) {
+    let scene = "
+        thread
+        before_sleep: raise parked; await done
+        park 7 forever -> unparked 42
+        caller
+        await parked
+        filter: raise inside; await coming; never heard
+        callback: never heard
+        unpark_chosen 7 u 42 -> 1 0
+        raise done
+        caller
+        await inside
+        raise coming
+        list 7
+        raise heard
+    ";
+    goes_well(&rt, scene, &[]);
+}
+
+// It refuses a requeue that calls its `validate` or its `callback` without the locks of the buckets.
+#[test]
+fn a_requeue_calls_its_closures_in_its_section(rt: HostRuntime) {
+    let scene = "
+        thread
+        before_sleep: raise parked; await done
+        park 7 forever -> unparked 42
+        caller
+        await parked
+        validate: raise inside; await coming; never heard
+        callback: never heard
+        requeue 7 8 unpark_one_requeue_rest 42 -> 1 0
+        raise done
+        caller
+        await inside
+        raise coming
+        list $0
+        raise heard
+    ";
+    for key in [7, 8] {
+        goes_well(&rt, scene, &[key]);
+    }
+}
+
+// It refuses a `park` that calls `validate` without the lock of the bucket.
+#[test]
+fn a_park_validates_in_its_section(rt: HostRuntime) {
+    let scene = "
+        thread
+        validate: raise inside; await coming; never heard
+        before_sleep: raise wrong
+        timed_out: raise wrong
+        park_in_vain 7 past -> invalid
+        is wrong 0
+        list 7 ->
+        caller
+        await inside
+        raise coming
+        list 7
+        raise heard
+    ";
+    goes_well(&rt, scene, &[]);
+}
+
+// It refuses a `park` that calls `timed_out` without the lock of the bucket.
+#[test]
+fn a_park_times_out_in_its_section(rt: HostRuntime) {
+    let scene = "
+        thread
+        timed_out: raise inside; await coming; never heard
+        park 7 past -> timed_out 7 last
+        caller
+        await inside
+        raise coming
+        list 7
+        raise heard
+    ";
+    goes_well(&rt, scene, &[]);
+}
