@@ -10,36 +10,28 @@ use std::time::Clock;
 
 const USAGE_STATUS: u8 = 2;
 
-enum Command {
-    Run,
-    Threads,
-}
-
 /// Runs the command that the arguments name. Any other words, none or too many are answered by the
 /// usage line on the error output and the status 2.
 pub fn run<
     R: Env + Input + Print + Eprint + AllocGlobal + Threads + Wait + Clock + Copy + Send + 'static,
 >(rt: &R) -> ExitCode {
-    match chosen_command(rt) {
-        Some(Command::Run) => session::run(rt),
-        Some(Command::Threads) => threads::run(rt),
-        None => {
+    let word = only_word(rt);
+    match word.as_ref().map_or("", |word| word.as_str()) {
+        "run" => session::run(rt),
+        "threads" => threads::run(rt),
+        _ => {
             let _ = eprintln!(rt; "usage: parklot run | parklot threads");
             ExitCode::from(USAGE_STATUS)
         }
     }
 }
 
-// The command that the arguments name. Arguments that cannot be read name none.
-fn chosen_command<R: Env + AllocGlobal>(rt: &R) -> Option<Command> {
+// The argument, if there is one alone. Arguments that cannot be read are none.
+fn only_word<R: Env + AllocGlobal>(rt: &R) -> Option<String> {
     let mut words = env::args(rt).ok()?.skip(1);
     let word = words.next()?;
-    if words.next().is_some() {
-        return None;
-    }
-    match word.as_str() {
-        "run" => Some(Command::Run),
-        "threads" => Some(Command::Threads),
-        _ => None,
+    match words.next() {
+        None => Some(word),
+        Some(_) => None,
     }
 }
