@@ -1,132 +1,117 @@
 //! Records: worked rows, and records beside the plain machine.
 
-ghost use Rattle.std.specs.Prelude.{◌≤◌};
-ghost use Rattle.lot_simulator.specs.declared.record.TheConstants.{MAX_JOURNAL};
-
-use crate::bare::BareLot;
-use crate::expect_equal;
-use crate::lot::new_lot;
-use crate::plain::arbitrary::Arbitrary;
-use crate::plain::ops::one;
+use crate::plain::arbitrary::write_step;
 use crate::plain::record::PlainRecord;
-use crate::plain::steps::{enter, unpark};
-use lot_machine::step::{Answer, Step};
+use crate::words::{expect_text, parts, step};
+use lot_machine::step::Answer;
+use lot_script::script::write_answer;
+use lot_simulator::lot::Lot;
 use lot_simulator::record::{MAX_JOURNAL, Record, RecordError};
 use std::alloc::Global;
+use std::fmt::Write;
 use std::process::Abort;
-
-const THREADS: usize = 3;
 
 // How many steps each of the arbitrary lists has.
 const STEPS: usize = 150;
 
-// The greatest room of the journals of arbitrary steps.
-const ROOM: usize = 40;
-
-fn new_record(rt: &impl Abort, alloc: Global, max_threads: usize, capacity: usize) -> Record
-    requires { capacity ≤ MAX_JOURNAL }
-{
-    Record::new(alloc, max_threads, capacity).expect(rt, "memory")
-}
-
-// The call of a record, which promises nothing here.
-fn step_on(record: &mut Record, step: Step) -> Result<Answer, RecordError> {
-    record.step(step)
-}
-
-#[test]
-fn each_refusal_of_a_record_has_its_text(rt: HostRuntime) {
-    for (refused, text) in [
-        (RecordError::JournalFull, "journal is full"),
-        (RecordError::NoMemory, "no memory"),
-    ] {
-        let written = refused.to_string(rt.alloc()).expect(&rt, "memory");
-        expect_equal(&rt, written.as_str(), text);
+/// What a record answers, as text.
+pub fn text_of(rt: &impl Abort, alloc: Global, given: Result<Answer, RecordError>) -> String {
+    let mut text = String::new(alloc);
+    match given {
+        Ok(answer) => {
+            let mut written = Vec::new(alloc);
+            assert!(rt; write_answer(&mut written, answer).is_ok());
+            let given = str::from_utf8(written.as_slice()).unwrap_or("no text");
+            text.push_str(given).expect(rt, "memory");
+        }
+        Err(refused) => write!(text, "{refused}").expect(rt, "memory"),
     }
+    text
+}
+
+// Does the line's step on both, compares what they answer, and answers that.
+fn play(
+    rt: &impl Abort,
+    alloc: Global,
+    (record, plain): (&mut Record, &mut PlainRecord),
+    line: &str,
+) -> String {
+    let given = record.step(step(rt, alloc, line));
+    let found = text_of(rt, alloc, given);
+    let mut expected = String::new(alloc);
+    plain.answer(line, &mut expected).expect(rt, "memory");
+    expect_text(rt, line, found.as_str(), expected.as_str());
+    found
+}
+
+// Does the rows on a record for so many threads with so much room, and compares the answers.
+fn expect_rows(rt: &impl Abort, alloc: Global, (threads, room): (usize, usize), rows: &str) {
+    assert!(rt; room <= 4);
+    let mut record = Record::new(alloc, threads, room).expect(rt, "memory");
+    let mut plain = PlainRecord::new(alloc, threads, room).expect(rt, "memory");
+    for row in rows.lines() {
+        let (asked, expected) = parts(rt, row);
+        let found = play(rt, alloc, (&mut record, &mut plain), asked);
+        expect_text(rt, row, found.as_str(), expected);
+    }
+    assert!(rt; record.journal().len() == room && record.max_threads() == threads);
 }
 
 // The entries of a timed park are set aside for it, and no other step gets them. It refuses a
 // record that tells another kind, number, key or answer than the machine does.
 #[test]
 fn a_full_journal_has_room_for_the_end_of_a_park(rt: HostRuntime) {
-    let timed_out = Answer::TimedOut { key: 1, last: true };
-    let full = RecordError::JournalFull;
-    let rows = [
-        (Step::Register, Ok(Answer::Registered(0))),
-        (enter(0, 1, true), Ok(Answer::Entered)),
-        (unpark(one(1, 42)), Err(full)),
-        (Step::Deadline { thread: 0 }, Ok(Answer::Late)),
-        (Step::Resolve { thread: 0 }, Ok(timed_out)),
-        (Step::Register, Err(full)),
-        (Step::Resolve { thread: 0 }, Ok(Answer::Misfit)),
-    ];
-    let mut record = new_record(&rt, rt.alloc(), 1, 4);
-    for (step, expected) in rows {
-        expect_equal(&rt, step_on(&mut record, step), expected);
-    }
-    expect_equal(&rt, record.journal().len(), 4);
-    expect_equal(&rt, record.max_threads(), 1);
-    expect_equal(&rt, record.lot().registered(), 1);
+    let rows = "\
+        register = number 0\n enter 0 1 yes 0 timed = entered\n one 1 42 = journal is full\n\
+        deadline 0 = late\n resolve 0 = timed out 1 true\n register = journal is full\n\
+        resolve 0 = misfit";
+    expect_rows(&rt, rt.alloc(), (1, 4), rows);
 }
 
 // Registrations that are refused and trims that do nothing have entries too.
 #[test]
 fn a_journal_has_the_room_that_it_was_made_with(rt: HostRuntime) {
-    let full = Err(RecordError::JournalFull);
-    for (step, answer) in [
-        (Step::Register, Answer::Full),
-        (Step::Trim, Answer::Trimmed),
-    ] {
-        let mut record = new_record(&rt, rt.alloc(), 0, 1);
-        expect_equal(&rt, step_on(&mut record, step), Ok(answer));
-        for refused in [Step::Register, Step::Trim] {
-            expect_equal(&rt, step_on(&mut record, refused), full);
-        }
-    }
-    let mut greatest = new_record(&rt, rt.alloc(), 0, MAX_JOURNAL);
-    expect_equal(&rt, step_on(&mut greatest, Step::Trim), Ok(Answer::Trimmed));
+    let full = "register = full\n register = journal is full\n trim = journal is full";
+    expect_rows(&rt, rt.alloc(), (0, 1), full);
+    let trimmed = "trim = trimmed\n register = journal is full\n trim = journal is full";
+    expect_rows(&rt, rt.alloc(), (0, 1), trimmed);
+    assert!(rt; Record::new(rt.alloc(), 0, MAX_JOURNAL).is_ok());
+    let text = RecordError::NoMemory.to_string(rt.alloc());
+    assert!(rt; text.expect(&rt, "memory").as_str() == "no memory");
 }
 
 /// Does the journal's steps on a new lot for so many threads, and compares the answers.
 pub fn expect_replay(rt: &impl Abort, alloc: Global, record: &Record, threads: usize) {
-    let mut lot = new_lot(rt, alloc, threads);
-    replay(rt, &mut lot, record);
-}
-
-fn replay(rt: &impl Abort, lot: &mut BareLot, record: &Record) {
+    let mut lot = Lot::new(alloc, threads).expect(rt, "memory");
     for (step, answer) in record.journal() {
-        expect_equal(rt, lot.apply(step), *answer);
+        assert!(rt; lot.apply(step) == *answer);
     }
+    assert!(rt; lot.registered() == record.lot().registered());
 }
 
-// Does so many arbitrary steps on a record with so much room, and on a plain one.
+// Does arbitrary steps on a record with so much room, and on a plain one. One number more than the
+// lot has comes up, so that some steps are of nobody.
 fn compare_steps(
     rt: &impl Abort,
     alloc: Global,
-    record: &mut Record,
-    plain: &mut PlainRecord,
-    capacity: usize,
+    (record, plain): (&mut Record, &mut PlainRecord),
+    room: usize,
 ) {
-    // One number more than the lot has, so that some steps are of nobody.
-    let mut arbitrary = Arbitrary::new(capacity);
-    for number in 0..STEPS {
-        let step = arbitrary.step(rt, alloc, THREADS + 1);
-        let expected = plain.step(rt, &step);
-        expect_equal(
-            rt,
-            (number, capacity, step_on(record, step)),
-            (number, capacity, expected),
-        );
+    let mut state = room;
+    for _ in 0..STEPS {
+        let mut line = String::new(alloc);
+        write_step(&mut state, 4, &mut line).expect(rt, "memory");
+        play(rt, alloc, (&mut *record, &mut *plain), line.as_str());
     }
-    expect_equal(rt, record.journal().len(), plain.entries());
+    assert!(rt; record.journal().len() == plain.entries());
 }
 
 #[test]
 fn records_of_every_small_room_do_as_the_plain_machine(rt: HostRuntime) {
-    for capacity in 0..ROOM {
-        let mut record = new_record(&rt, rt.alloc(), THREADS, capacity);
-        let mut plain = PlainRecord::new(&rt, rt.alloc(), THREADS, capacity);
-        compare_steps(&rt, rt.alloc(), &mut record, &mut plain, capacity);
-        expect_replay(&rt, rt.alloc(), &record, THREADS);
+    for room in 0..40 {
+        let mut record = Record::new(rt.alloc(), 3, room).expect(&rt, "memory");
+        let mut plain = PlainRecord::new(rt.alloc(), 3, room).expect(&rt, "memory");
+        compare_steps(&rt, rt.alloc(), (&mut record, &mut plain), room);
+        expect_replay(&rt, rt.alloc(), &record, 3);
     }
 }

@@ -2,13 +2,10 @@
 
 ghost use Rattle.std.specs.Prelude.{◌≡◌};
 
-use crate::expect_equal;
-use crate::plain::ops::{all, filter, one};
-use crate::plain::steps::{enter, unpark, unparked};
-use crate::record::expect_replay;
-use lot_base::token::{FilterOp, UnparkToken};
-use lot_machine::step::{Answer, Step};
-use lot_simulator::record::RecordError;
+use crate::record::{expect_replay, text_of};
+use crate::words::{expect_text, number, parts, step};
+use lot_base::token::{DEFAULT_PARK_TOKEN, UnparkToken};
+use lot_machine::step::{Op, Step};
 use lot_simulator::recording_lot::{RecordingLot, Ticket};
 use std::alloc::Global;
 use std::marker::Brand;
@@ -18,27 +15,20 @@ use std::sync::ledger::{Blank, Ledger};
 use std::thread;
 use std::thread::Threads;
 
-const THREADS: usize = 6;
-
-const WORKERS: usize = 4;
-
-// How many steps each of the workers takes.
-const CALLS: usize = 1_000;
-
-// The number of a ticket, a step with it, and its answer.
-type Told = (usize, Step, Result<Answer, RecordError>);
-
-// Does the steps, each with the ticket of its number, and compares the answers.
-fn expect_answers<C: Ledger, W: Ledger, U: Ledger, R: Wait + Abort>(
+// Does each row's step with the ticket of the row's first number, and compares the answer.
+fn expect_rows<C: Ledger, W: Ledger, U: Ledger, R: Wait + Abort>(
     rt: &R,
+    alloc: Global,
     lot: &RecordingLot<C, W, U>,
     tickets: &mut [Ticket<C, W, U>],
-    steps: Vec<Told>,
+    rows: &str,
 ) {
-    for (number, step, answer) in steps {
-        if let Some(ticket) = tickets.get_mut(number) {
-            expect_equal(rt, lot.step(rt, ticket, step), answer);
-        }
+    for row in rows.lines() {
+        let (asked, expected) = parts(rt, row);
+        let (_, line) = asked.split_once(' ').unwrap_or(("", ""));
+        let ticket = tickets.get_mut(number(asked, 0)).expect(rt, "a ticket");
+        let given = lot.step(rt, ticket, step(rt, alloc, line));
+        expect_text(rt, row, text_of(rt, alloc, given).as_str(), expected);
     }
 }
 
@@ -48,32 +38,20 @@ fn expect_totals<C: Ledger, W: Ledger, U: Ledger, R: Abort>(
     tickets: &[Ticket<C, W, U>],
     expected: &[(usize, usize, usize)],
 ) {
-    expect_equal(rt, tickets.len(), expected.len());
+    assert!(rt; tickets.len() == expected.len());
     for (ticket, totals) in tickets.iter().zip(expected) {
         let found = (ticket.count(), ticket.woken(), ticket.unparked());
-        expect_equal(rt, found, *totals);
+        assert!(rt; found == *totals);
     }
 }
 
 // Of the six entries that the journal has room for, one is set aside for the end of the park.
-fn steps_of_two(rt: &impl Abort, alloc: Global) -> Vec<Told> {
-    let last = UnparkToken(usize::MAX);
-    let full = RecordError::JournalFull;
-    let stop = filter(rt, alloc, 1, &[FilterOp::Stop], 5);
-    let (s, t) = (0, 1);
-    let steps = [
-        (s, Step::Register, Ok(Answer::Registered(0))),
-        (t, Step::Register, Ok(Answer::Registered(1))),
-        (s, enter(0, 1, false), Ok(Answer::Entered)),
-        (t, unpark(one(1, usize::MAX)), Ok(unparked(1, 0, false))),
-        (t, unpark(stop), Ok(unparked(0, 0, false))),
-        (t, Step::Trim, Err(full)),
-        (s, Step::Return { thread: 0 }, Ok(Answer::Unparked(last))),
-        (s, Step::Return { thread: 0 }, Ok(Answer::Misfit)),
-        (t, Step::Register, Err(full)),
-    ];
-    Vec::from_array(alloc, steps).expect(rt, "memory")
-}
+const ROWS: &str = "0 register = number 0\n 1 register = number 1\n\
+    0 enter 0 1 yes 0 untimed = entered\n\
+    1 one 1 18446744073709551615 = unparked 1 requeued 0 more false\n\
+    1 filter 1 X 5 = unparked 0 requeued 0 more false\n 1 trim = journal is full\n\
+    0 return 0 = unparked 18446744073709551615\n 0 return 0 = misfit\n\
+    1 register = journal is full";
 
 // Two tickets in turn. It refuses a lot that tells one ticket what another was told, counts a step
 // that does not fit or has no room, or journals another answer than it tells.
@@ -92,11 +70,10 @@ fn use_two_tickets<C: Ledger, W: Ledger, U: Ledger, R: Wait + Abort>(
     let (lot, mut tickets) = RecordingLot::<C, W, U>::new(
         alloc, 2, 6, 2, count, woken, unparks,
     ).expect(rt, "memory");
-    let steps = steps_of_two(rt, alloc);
-    expect_answers(rt, &lot, tickets.as_mut_slice(), steps);
+    expect_rows(rt, alloc, &lot, tickets.as_mut_slice(), ROWS);
     expect_totals(rt, tickets.as_slice(), &[(3, 1, 0), (3, 0, 1)]);
     let recorded = lot.close(tickets);
-    expect_equal(rt, recorded.journal().len(), 6);
+    assert!(rt; recorded.journal().len() == 6);
     expect_replay(rt, alloc, &recorded, 2);
 }
 
@@ -106,17 +83,28 @@ fn a_ticket_counts_what_its_worker_was_told(rt: HostRuntime) {
     use_two_tickets::<Brand, Brand, Brand, HostRuntime>(&rt, rt.alloc(), blanks);
 }
 
-// A step for the number of the call: parks and unparks of each thread on two keys.
+// How many steps each of the workers takes.
+const CALLS: usize = 1_000;
+
+// A step of one of six threads: they park on two keys, and unpark each other.
 fn step_of(call: usize) -> Step {
-    let thread = call % THREADS;
+    let thread = call % 6;
     let key = call / 7 % 2;
     match call % 11 {
         0 => Step::Register,
-        1..=3 => enter(thread, key, call % 2 == 0),
+        1..=3 => Step::Enter {
+            thread,
+            key,
+            valid: true,
+            park_token: DEFAULT_PARK_TOKEN,
+            timed: call.is_multiple_of(2),
+        },
         4 => Step::Deadline { thread },
         5 => Step::Resolve { thread },
-        6 => unpark(one(key, call)),
-        7 => unpark(all(key, call)),
+        6..=7 => Step::Unpark(Op::One {
+            key,
+            token: UnparkToken(call),
+        }),
         _ => Step::Return { thread },
     }
 }
@@ -144,7 +132,7 @@ where
     thread::for_each_mut(
         rt,
         tickets,
-        WORKERS,
+        4,
         &|number, ticket| call_often(rt, lot, ticket, number.wrapping_mul(3)),
     );
 }
@@ -162,26 +150,25 @@ where
         × (blanks.2.parts ≡ U.parts) }
     requires workers { (C.parts ≡ 4) × (W.parts ≡ 4) × (U.parts ≡ 4) }
 {
-    let (count, woken, unparks) = blanks;
+    let (count, woken, unparked) = blanks;
     let (lot, mut tickets) = RecordingLot::<C, W, U>::new(
         alloc,
-        THREADS,
-        WORKERS * CALLS,
-        WORKERS,
+        6,
+        4 * CALLS,
+        4,
         count,
         woken,
-        unparks,
-    )
-    .expect(rt, "memory");
+        unparked,
+    ).expect(rt, "memory");
     call_from_each(rt, &lot, tickets.as_mut_slice());
     let mut counted: usize = 0;
     for ticket in &tickets {
         counted = counted.wrapping_add(ticket.count());
     }
     let recorded = lot.close(tickets);
-    expect_equal(rt, counted > CALLS, true);
-    expect_equal(rt, recorded.journal().len(), counted);
-    expect_replay(rt, alloc, &recorded, THREADS);
+    assert!(rt; counted > CALLS);
+    assert!(rt; recorded.journal().len() == counted);
+    expect_replay(rt, alloc, &recorded, 6);
 }
 
 #[test]

@@ -1,155 +1,161 @@
-//! Arbitrary steps, the same in each run.
+//! Arbitrary steps as lines, the same in each run.
 
-use super::fine_steps::{self, begin};
-use super::ops::{all, filter, one, requeue};
-use super::steps::{acquire, enter, enter_invalid, release, unpark};
-use lot_base::token::{FilterOp, RequeueOp};
-use lot_machine::step::{Op, Step};
-use lot_simulator::interleaved::FineStep;
-use std::alloc::Global;
-use std::process::Abort;
+use lot_base::token::NoMemory;
+use std::fmt::Write;
 
 /// The keys of arbitrary steps. 0 and 13 have place 0 of 16.
 pub const KEYS: [usize; 5] = [0, 13, 1, 2, 7];
 
-/// Arbitrary numbers and steps: those of a linear congruential generator.
-#[derive(Drop)]
-pub struct Arbitrary {
-    state: usize,
+/// A number below the bound, by a linear congruential generator with this state.
+pub fn below(state: &mut usize, bound: usize) -> usize {
+    *state = state
+        .wrapping_mul(6_364_136_223_846_793_005)
+        .wrapping_add(1_442_695_040_888_963_407);
+    (*state >> 33).checked_rem(bound).unwrap_or(0)
 }
 
-impl Arbitrary {
-    /// Another seed gives other numbers.
-    pub fn new(seed: usize) -> Arbitrary {
-        Arbitrary { state: seed }
-    }
+// One of the keys.
+fn key(state: &mut usize) -> usize {
+    KEYS.get(below(state, 5)).copied().unwrap_or(0)
+}
 
-    /// A number below the bound.
-    pub fn below(&mut self, bound: usize) -> usize {
-        self.state = self
-            .state
-            .wrapping_mul(6_364_136_223_846_793_005)
-            .wrapping_add(1_442_695_040_888_963_407);
-        (self.state >> 33).checked_rem(bound).unwrap_or(0)
+// Up to seven decisions of a filter.
+fn write_decisions(state: &mut usize, text: &mut String) -> Result<(), NoMemory> {
+    let count = below(state, 8);
+    if count == 0 {
+        text.push_str("-")?;
     }
-
-    /// One of the keys.
-    pub fn key(&mut self) -> usize {
-        KEYS.get(self.below(5)).copied().unwrap_or(0)
+    for _ in 0..count {
+        text.push_str(match below(state, 8) {
+            0 => "X",
+            1..=4 => "S",
+            _ => "U",
+        })?;
     }
+    Ok(())
+}
 
-    fn requeue_op(&mut self) -> RequeueOp {
-        match self.below(5) {
-            0 => RequeueOp::Abort,
-            1 => RequeueOp::UnparkOneRequeueRest,
-            2 => RequeueOp::RequeueAll,
-            3 => RequeueOp::UnparkOne,
-            _ => RequeueOp::RequeueOne,
+fn requeue_word(state: &mut usize) -> &'static str {
+    match below(state, 5) {
+        0 => "abort",
+        1 => "one-rest",
+        2 => "all",
+        3 => "one",
+        _ => "requeue-one",
+    }
+}
+
+// An unpark.
+fn write_op(state: &mut usize, text: &mut String) -> Result<(), NoMemory> {
+    let (from, to, token) = (key(state), key(state), below(state, 1_000));
+    match below(state, 16) {
+        0..=3 => write!(text, "one {from} {token}")?,
+        4 => write!(text, "all {from} {token}")?,
+        5..=7 => {
+            write!(text, "filter {from} ")?;
+            write_decisions(state, text)?;
+            write!(text, " {token}")?;
         }
+        _ => write!(text, "requeue {from} {to} {} {token}", requeue_word(state))?,
     }
+    Ok(())
+}
 
-    fn decision(&mut self) -> FilterOp {
-        match self.below(8) {
-            0 => FilterOp::Stop,
-            1..=4 => FilterOp::Skip,
-            _ => FilterOp::Unpark,
+/// A step of one of so many threads. Three of 80 are registrations, one is a retirement, and one a
+/// trim.
+pub fn write_step(state: &mut usize, threads: usize, text: &mut String) -> Result<(), NoMemory> {
+    let (thread, key) = (below(state, threads), key(state));
+    match below(state, 80) {
+        0..=2 => write!(text, "register")?,
+        3 => write!(text, "retire {thread}")?,
+        4 => write!(text, "enter {thread} {key} no 0 untimed")?,
+        5..=12 => write!(text, "enter {thread} {key} yes 0 untimed")?,
+        13..=23 => write!(text, "enter {thread} {key} yes 5 timed")?,
+        24..=39 => write_op(state, text)?,
+        40..=49 => write!(text, "deadline {thread}")?,
+        50..=59 => write!(text, "resolve {thread}")?,
+        60..=66 => write!(text, "acquire {thread} {key}")?,
+        67..=72 => write!(text, "release {thread} {key}")?,
+        73 => write!(text, "trim")?,
+        _ => write!(text, "return {thread}")?,
+    }
+    Ok(())
+}
+
+/// A line of a script: a step, or one of three questions.
+pub fn write_line(state: &mut usize, threads: usize, text: &mut String) -> Result<(), NoMemory> {
+    let (thread, key) = (below(state, threads), key(state));
+    match below(state, 12) {
+        0 => write!(text, "list {key}")?,
+        1 => write!(text, "records {thread} {key}")?,
+        2 => write!(text, "size")?,
+        _ => write_step(state, threads, text)?,
+    }
+    Ok(())
+}
+
+/// An interleaved step of one of so many threads, or of one of so many callers. One of 69 is a
+/// trim.
+pub fn write_fine_step(
+    state: &mut usize,
+    (threads, callers): (usize, usize),
+    text: &mut String,
+) -> Result<(), NoMemory> {
+    let (thread, caller) = (below(state, threads), below(state, callers));
+    let key = key(state);
+    match below(state, 69) {
+        0..=1 => write!(text, "register")?,
+        2 => write!(text, "retire {thread}")?,
+        3 => write!(text, "enter {thread} {key} no 0 untimed")?,
+        4..=7 => write!(text, "enter {thread} {key} yes 0 untimed")?,
+        8..=15 => write!(text, "enter {thread} {key} yes 5 timed")?,
+        16..=22 => {
+            write!(text, "begin {caller} ")?;
+            write_op(state, text)?;
         }
+        23..=28 => write!(text, "commit {caller}")?,
+        29..=35 => write!(text, "end {caller}")?,
+        36..=41 => write!(text, "wake {caller}")?,
+        42..=46 => write!(text, "deadline {thread}")?,
+        47..=51 => write!(text, "read {thread}")?,
+        52..=56 => write!(text, "look {thread}")?,
+        57..=63 => write!(text, "return {thread}")?,
+        64..=65 => write!(text, "acquire {thread} {key}")?,
+        66 => write!(text, "trim")?,
+        _ => write!(text, "release {thread} {key}")?,
     }
+    Ok(())
+}
 
-    // A filter with up to seven decisions.
-    fn filter(&mut self, rt: &impl Abort, alloc: Global) -> Op {
-        let mut decisions = Vec::new(alloc);
-        for _ in 0..self.below(8) {
-            decisions.push(self.decision()).expect(rt, "memory");
-        }
-        filter(
-            rt,
-            alloc,
-            self.key(),
-            decisions.as_slice(),
-            self.below(1_000),
-        )
+/// A step of the fair mutex by one of six threads.
+pub fn write_fair_step(state: &mut usize, text: &mut String) -> Result<(), NoMemory> {
+    let thread = below(state, 6);
+    match below(state, 40) {
+        0..=1 => write!(text, "register")?,
+        2 => write!(text, "retire {thread}")?,
+        3..=4 => write!(text, "notify-all")?,
+        5..=9 => write!(text, "notify-one")?,
+        10..=15 => write!(text, "lock {thread}")?,
+        16..=21 => write!(text, "unlock {thread}")?,
+        22..=27 => write!(text, "return {thread}")?,
+        28..=33 => write!(text, "wait {thread}")?,
+        _ => write!(text, "leave {thread}")?,
     }
+    Ok(())
+}
 
-    fn requeue(&mut self) -> Op {
-        let keys = (self.key(), self.key());
-        requeue(keys, self.requeue_op(), self.below(1_000))
+/// Writes the list of so many of these steps whose kinds are the digits of the code.
+pub fn write_list(
+    text: &mut String,
+    steps: &[&str],
+    (length, code): (usize, usize),
+) -> Result<(), NoMemory> {
+    let mut rest = code;
+    for _ in 0..length {
+        let kind = rest.checked_rem(steps.len()).unwrap_or(0);
+        text.push_str(steps.get(kind).copied().unwrap_or(""))?;
+        text.push_str("\n")?;
+        rest = rest.checked_div(steps.len()).unwrap_or(0);
     }
-
-    fn op(&mut self, rt: &impl Abort, alloc: Global) -> Op {
-        match self.below(16) {
-            0..=3 => one(self.key(), self.below(1_000)),
-            4 => all(self.key(), self.below(1_000)),
-            5..=7 => self.filter(rt, alloc),
-            _ => self.requeue(),
-        }
-    }
-
-    /// A step of one of so many threads. Three of 80 are registrations, one is a retirement, and
-    /// one a trim.
-    pub fn step(&mut self, rt: &impl Abort, alloc: Global, threads: usize) -> Step {
-        let thread = self.below(threads);
-        match self.below(80) {
-            0..=2 => Step::Register,
-            3 => Step::Retire { thread },
-            4 => enter_invalid(thread, self.key()),
-            5..=12 => enter(thread, self.key(), false),
-            13..=23 => enter(thread, self.key(), true),
-            24..=39 => unpark(self.op(rt, alloc)),
-            40..=49 => Step::Deadline { thread },
-            50..=59 => Step::Resolve { thread },
-            60..=66 => acquire(thread, self.key()),
-            67..=72 => release(thread, self.key()),
-            73 => Step::Trim,
-            _ => Step::Return { thread },
-        }
-    }
-
-    /// An interleaved step of one of so many threads, or of one of so many callers. One of 69 is a
-    /// trim.
-    pub fn fine_step(
-        &mut self,
-        rt: &impl Abort,
-        alloc: Global,
-        (threads, callers): (usize, usize),
-    ) -> FineStep {
-        let thread = self.below(threads);
-        let caller = self.below(callers);
-        let key = self.key();
-        match self.below(69) {
-            0..=1 => FineStep::Register,
-            2 => FineStep::Retire { thread },
-            3 => fine_steps::enter_invalid(thread, key),
-            4..=7 => fine_steps::enter(thread, key, false),
-            8..=15 => fine_steps::enter(thread, key, true),
-            16..=22 => begin(caller, self.op(rt, alloc)),
-            23..=28 => FineStep::Commit { caller },
-            29..=35 => FineStep::End { caller },
-            36..=41 => FineStep::Wake { caller },
-            42..=46 => FineStep::Deadline { thread },
-            47..=51 => FineStep::ReadKey { thread },
-            52..=56 => FineStep::Look { thread },
-            57..=63 => FineStep::Return { thread },
-            64..=65 => FineStep::Acquire { thread, key },
-            66 => FineStep::Trim,
-            _ => FineStep::Release { thread, key },
-        }
-    }
-
-    /// So many steps of so many threads.
-    pub fn steps(
-        &mut self,
-        rt: &impl Abort,
-        alloc: Global,
-        threads: usize,
-        count: usize,
-    ) -> Vec<Step> {
-        let mut steps = Vec::new(alloc);
-        for _ in 0..count {
-            steps
-                .push(self.step(rt, alloc, threads))
-                .expect(rt, "memory");
-        }
-        steps
-    }
+    Ok(())
 }

@@ -4,45 +4,25 @@
 //!
 //! It knows no bucket, no node and no place, and no lot, and of a table only its size.
 
-use super::split::{Split, split_all, split_by, split_filter, split_first};
-use lot_base::token::{RequeueOp, UnparkResult, UnparkToken};
+use crate::words::{number, word};
+use lot_base::token::{NoMemory, UnparkToken};
 use lot_machine::status::Status;
-use lot_machine::step::{Answer, Op, Step};
 use std::alloc::Global;
-use std::process::Abort;
-
-// The numbers of the threads that wait on a key, in order.
-#[derive(Drop)]
-struct List {
-    key: usize,
-    waiters: Vec<usize>,
-}
-
-// A thread has recorded a key.
-#[derive(Copy, Clone, Eq, PartialEq)]
-struct Record {
-    thread: usize,
-    key: usize,
-}
-
-// The numbers without this one.
-fn without(rt: &impl Abort, alloc: Global, waiters: &[usize], number: usize) -> Vec<usize> {
-    let mut others = Vec::new(alloc);
-    for waiter in waiters {
-        if *waiter != number {
-            others.push(*waiter).expect(rt, "memory");
-        }
-    }
-    others
-}
+use std::fmt::Write;
 
 /// The plain machine.
 #[derive(Drop)]
 pub struct Plain {
     alloc: Global,
-    lists: Vec<List>,
+
+    // The keys, each with the numbers of the threads that wait on it, in order.
+    lists: Vec<(usize, Vec<usize>)>,
+
     statuses: Vec<Status>,
-    records: Vec<Record>,
+
+    // Threads, each with a key that it has recorded.
+    records: Vec<(usize, usize)>,
+
     size: usize,
 }
 
@@ -57,27 +37,62 @@ fn least_size(threads: usize) -> usize {
     size
 }
 
+// Where the waiter at this place of a list goes. It is taken, moved or left.
+fn place_after(line: &str, index: usize) -> &'static str {
+    match (word(line, 0), index) {
+        ("one", 0) | ("all", _) => "taken",
+        ("filter", _) if is_unparked(word(line, 2), index) => "taken",
+        ("requeue", _) => place_after_requeue(word(line, 3), index),
+        _ => "left",
+    }
+}
+
+// The decisions go with the waiters in order, up to the first stop. One without a decision is left.
+fn is_unparked(decisions: &str, index: usize) -> bool {
+    let before = decisions.bytes().take(index);
+    let is_stopped = before.filter(|decision| *decision == b'X').count() != 0;
+    decisions.as_bytes().get(index) == Some(&b'U') && !is_stopped
+}
+
+fn place_after_requeue(op: &str, index: usize) -> &'static str {
+    match (op, index) {
+        ("one-rest" | "one", 0) => "taken",
+        ("one-rest" | "all", _) | ("requeue-one", 0) => "moved",
+        _ => "left",
+    }
+}
+
+/// Those keys that an unpark is of, which may be one twice, and its token.
+pub fn keys_and_token(line: &str) -> (usize, usize, usize) {
+    let from = number(line, 1);
+    match word(line, 0) {
+        "requeue" => (from, number(line, 2), number(line, 4)),
+        "filter" => (from, from, number(line, 3)),
+        _ => (from, from, number(line, 2)),
+    }
+}
+
 impl Plain {
     /// A machine for this many threads, with no registered thread and no waiter.
-    pub fn new(rt: &impl Abort, alloc: Global, max_threads: usize) -> Plain {
+    pub fn new(alloc: Global, max_threads: usize) -> Result<Plain, NoMemory> {
         let mut statuses = Vec::new(alloc);
         for _ in 0..max_threads {
-            statuses.push(Status::Free).expect(rt, "memory");
+            statuses.push(Status::Free)?;
         }
-        Plain {
+        Ok(Plain {
             alloc,
             lists: Vec::new(alloc),
             statuses,
             records: Vec::new(alloc),
             size: 16,
-        }
+        })
     }
 
     /// The numbers of the threads that wait on the key, in order.
     pub fn list(&self, key: usize) -> &[usize] {
-        for list in &self.lists {
-            if list.key == key {
-                return list.waiters.as_slice();
+        for (of, waiters) in &self.lists {
+            if *of == key {
+                return waiters.as_slice();
             }
         }
         &[]
@@ -92,7 +107,7 @@ impl Plain {
     pub fn records(&self, thread: usize, key: usize) -> usize {
         let mut times: usize = 0;
         for record in &self.records {
-            if *record == (Record { thread, key }) {
+            if *record == (thread, key) {
                 times = times.wrapping_add(1);
             }
         }
@@ -115,28 +130,6 @@ impl Plain {
         least_size(self.registered()) < self.size
     }
 
-    /// Does the step by its rule.
-    pub fn step(&mut self, rt: &impl Abort, step: &Step) -> Answer {
-        match step {
-            Step::Register => self.register(),
-            Step::Retire { thread } => self.retire(rt, *thread),
-            Step::Enter {
-                thread,
-                key,
-                valid,
-                park_token: _,
-                timed,
-            } => self.enter(rt, *thread, *key, *valid, *timed),
-            Step::Unpark(op) => self.unpark(rt, op),
-            Step::Deadline { thread } => self.deadline(*thread),
-            Step::Resolve { thread } => self.resolve(rt, *thread),
-            Step::Return { thread } => self.give_back(*thread),
-            Step::Acquire { thread, key } => self.acquire(rt, *thread, *key),
-            Step::Release { thread, key } => self.release(*thread, *key),
-            Step::Trim => self.trim(),
-        }
-    }
-
     /// Gives the number another status.
     pub fn set_status(&mut self, number: usize, status: Status) {
         if let Some(old) = self.statuses.get_mut(number) {
@@ -144,195 +137,183 @@ impl Plain {
         }
     }
 
-    fn set_list(&mut self, rt: &impl Abort, key: usize, waiters: Vec<usize>) {
-        for list in &mut self.lists {
-            if list.key == key {
-                list.waiters = waiters;
-                return;
-            }
+    /// Does what the line says by its rule, and writes the answer.
+    pub fn answer(&mut self, line: &str, text: &mut String) -> Result<(), NoMemory> {
+        let thread = number(line, 1);
+        match word(line, 0) {
+            "register" => self.register(text)?,
+            "enter" => self.enter(line, text)?,
+            "one" | "all" | "filter" | "requeue" => self.unpark(line, text)?,
+            "deadline" => self.deadline(thread, text)?,
+            "resolve" => self.resolve(thread, text)?,
+            "return" => self.give_back(thread, text)?,
+            "retire" | "acquire" | "release" => self.do_running(line, text)?,
+            "trim" => self.trim(text)?,
+            "list" => self.write_list(thread, text)?,
+            "records" => write!(text, "records {}", self.records(thread, number(line, 2)))?,
+            "size" => write!(text, "buckets {} threads {}", self.size, self.registered())?,
+            _ => text.push_str("no such word")?,
         }
-        self.lists.push(List { key, waiters }).expect(rt, "memory");
+        Ok(())
+    }
+
+    fn write_list(&self, key: usize, text: &mut String) -> Result<(), NoMemory> {
+        text.push_str("waiters")?;
+        for waiter in self.list(key) {
+            write!(text, " {waiter}")?;
+        }
+        Ok(())
     }
 
     // Puts the numbers behind the list of the key.
-    fn append(&mut self, rt: &impl Abort, key: usize, numbers: &[usize]) {
-        let mut all = Vec::new(self.alloc);
-        for number in self.list(key) {
-            all.push(*number).expect(rt, "memory");
+    fn append(&mut self, key: usize, numbers: &[usize]) -> Result<(), NoMemory> {
+        for (of, waiters) in &mut self.lists {
+            if *of == key {
+                waiters.extend_from_slice(numbers)?;
+                return Ok(());
+            }
         }
-        for number in numbers {
-            all.push(*number).expect(rt, "memory");
-        }
-        self.set_list(rt, key, all);
+        let waiters = Vec::from_slice(self.alloc, numbers)?;
+        self.lists.push((key, waiters))?;
+        Ok(())
     }
 
-    fn register(&mut self) -> Answer {
-        let Some(number) = self
-            .statuses
-            .iter()
-            .position(|status| *status == Status::Free)
-        else {
-            return Answer::Full;
+    // Gives a key that is noted another list.
+    fn set_list(&mut self, key: usize, numbers: Vec<usize>) {
+        for (of, waiters) in &mut self.lists {
+            if *of == key {
+                *waiters = numbers;
+                return;
+            }
+        }
+    }
+
+    fn register(&mut self, text: &mut String) -> Result<(), NoMemory> {
+        let mut statuses = self.statuses.iter();
+        let Some(number) = statuses.position(|status| *status == Status::Free) else {
+            return Ok(text.push_str("full")?);
         };
         self.set_status(number, Status::Running);
         self.size = self.size.max(least_size(self.registered()));
-        Answer::Registered(number)
+        Ok(write!(text, "number {number}")?)
     }
 
-    fn trim(&mut self) -> Answer {
+    fn trim(&mut self, text: &mut String) -> Result<(), NoMemory> {
         self.size = self.size.min(least_size(self.registered()));
-        Answer::Trimmed
+        Ok(text.push_str("trimmed")?)
     }
 
-    fn retire(&mut self, rt: &impl Abort, number: usize) -> Answer {
-        if self.status(number) != Status::Running {
-            return Answer::Misfit;
+    // A step of a thread that runs and goes on to run, or retires.
+    fn do_running(&mut self, line: &str, text: &mut String) -> Result<(), NoMemory> {
+        let (thread, key) = (number(line, 1), number(line, 2));
+        if self.status(thread) != Status::Running {
+            return Ok(text.push_str("misfit")?);
         }
-        self.set_status(number, Status::Free);
+        match word(line, 0) {
+            "acquire" => {
+                self.records.push((thread, key))?;
+                text.push_str("recorded")?;
+            }
+            "release" => {
+                self.release(thread, key);
+                text.push_str("released")?;
+            }
+            _ => {
+                self.set_status(thread, Status::Free);
+                self.forget_records(thread)?;
+                text.push_str("retired")?;
+            }
+        }
+        Ok(())
+    }
+
+    fn forget_records(&mut self, thread: usize) -> Result<(), NoMemory> {
         let mut others = Vec::new(self.alloc);
         for record in &self.records {
-            if record.thread != number {
-                others.push(*record).expect(rt, "memory");
+            if record.0 != thread {
+                others.push(*record)?;
             }
         }
         self.records = others;
-        Answer::Retired
-    }
-
-    fn acquire(&mut self, rt: &impl Abort, thread: usize, key: usize) -> Answer {
-        if self.status(thread) != Status::Running {
-            return Answer::Misfit;
-        }
-        self.records
-            .push(Record { thread, key })
-            .expect(rt, "memory");
-        Answer::Recorded
+        Ok(())
     }
 
     // Only the first record of the thread and the key goes.
-    fn release(&mut self, thread: usize, key: usize) -> Answer {
-        if self.status(thread) != Status::Running {
-            return Answer::Misfit;
-        }
-        let released = Record { thread, key };
-        if let Some(index) = self.records.iter().position(|record| *record == released) {
+    fn release(&mut self, thread: usize, key: usize) {
+        let mut records = self.records.iter();
+        if let Some(index) = records.position(|record| *record == (thread, key)) {
             self.records.remove(index);
         }
-        Answer::Released
     }
 
-    fn enter(
-        &mut self,
-        rt: &impl Abort,
-        number: usize,
-        key: usize,
-        valid: bool,
-        timed: bool,
-    ) -> Answer {
-        if self.status(number) != Status::Running {
-            return Answer::Misfit;
+    fn enter(&mut self, line: &str, text: &mut String) -> Result<(), NoMemory> {
+        let (thread, key) = (number(line, 1), number(line, 2));
+        if self.status(thread) != Status::Running {
+            return Ok(text.push_str("misfit")?);
         }
-        if !valid {
-            return Answer::Invalid;
+        if word(line, 3) != "yes" {
+            return Ok(text.push_str("invalid")?);
         }
-        self.append(rt, key, [number].as_slice());
-        self.set_status(number, Status::Waiting { timed });
-        Answer::Entered
+        self.append(key, [thread].as_slice())?;
+        let timed = word(line, 5) == "timed";
+        self.set_status(thread, Status::Waiting { timed });
+        Ok(text.push_str("entered")?)
     }
 
-    fn deadline(&mut self, number: usize) -> Answer {
-        if self.status(number) != (Status::Waiting { timed: true }) {
-            return Answer::Misfit;
+    fn deadline(&mut self, thread: usize, text: &mut String) -> Result<(), NoMemory> {
+        if self.status(thread) != (Status::Waiting { timed: true }) {
+            return Ok(text.push_str("misfit")?);
         }
-        self.set_status(number, Status::Late);
-        Answer::Late
+        self.set_status(thread, Status::Late);
+        Ok(text.push_str("late")?)
     }
 
-    fn resolve(&mut self, rt: &impl Abort, number: usize) -> Answer {
-        if self.status(number) != Status::Late {
-            return self.give_back(number);
+    /// Ends the park of a thread that is late, or was unparked.
+    pub fn resolve(&mut self, thread: usize, text: &mut String) -> Result<(), NoMemory> {
+        if self.status(thread) != Status::Late {
+            return self.give_back(thread, text);
         }
-        self.set_status(number, Status::Running);
-        for list in &mut self.lists {
-            if list.waiters.as_slice().contains(&number) {
-                list.waiters = without(rt, self.alloc, list.waiters.as_slice(), number);
-                return Answer::TimedOut {
-                    key: list.key,
-                    last: list.waiters.is_empty(),
-                };
+        self.set_status(thread, Status::Running);
+        for (key, waiters) in &mut self.lists {
+            if let Some(index) = waiters.iter().position(|waiter| *waiter == thread) {
+                waiters.remove(index);
+                write!(text, "timed out {key} {}", waiters.is_empty())?;
             }
         }
-        Answer::Misfit
+        Ok(())
     }
 
-    fn give_back(&mut self, number: usize) -> Answer {
-        let Status::Taken(token) = self.status(number) else {
-            return Answer::Misfit;
+    fn give_back(&mut self, thread: usize, text: &mut String) -> Result<(), NoMemory> {
+        let Status::Taken(token) = self.status(thread) else {
+            return Ok(text.push_str("misfit")?);
         };
-        self.set_status(number, Status::Running);
-        Answer::Unparked(token)
+        self.set_status(thread, Status::Running);
+        Ok(write!(text, "unparked {}", token.0)?)
     }
 
-    fn unpark(&mut self, rt: &impl Abort, op: &Op) -> Answer {
-        match op {
-            Op::One { key, token } => {
-                let split = split_first(rt, self.alloc, self.list(*key));
-                self.take(rt, *key, split, *token)
+    // An unpark. Those who are taken get the token, and those who are moved come behind the others.
+    fn unpark(&mut self, line: &str, text: &mut String) -> Result<(), NoMemory> {
+        let (from, to, token) = keys_and_token(line);
+        let waiters = Vec::from_slice(self.alloc, self.list(from))?;
+        let (mut moved, mut left) = (Vec::new(self.alloc), Vec::new(self.alloc));
+        for (index, waiter) in waiters.iter().enumerate() {
+            match place_after(line, index) {
+                "taken" => self.set_status(*waiter, Status::Taken(UnparkToken(token))),
+                "moved" => moved.push(*waiter)?,
+                _ => left.push(*waiter)?,
             }
-            Op::All { key, token } => {
-                let split = split_all(rt, self.alloc, self.list(*key));
-                let count = split.taken.len();
-                self.take(rt, *key, split, *token);
-                Answer::Count(count)
-            }
-            Op::Filter {
-                key,
-                decisions,
-                token,
-            } => {
-                let split = split_filter(rt, self.alloc, decisions.as_slice(), self.list(*key));
-                self.take(rt, *key, split, *token)
-            }
-            Op::Requeue {
-                from,
-                to,
-                op,
-                token,
-            } => self.requeue(rt, *from, *to, *op, *token),
         }
-    }
-
-    fn requeue(
-        &mut self,
-        rt: &impl Abort,
-        from: usize,
-        to: usize,
-        op: RequeueOp,
-        token: UnparkToken,
-    ) -> Answer {
-        if op == RequeueOp::Abort {
-            return Answer::Unpark(UnparkResult::default());
+        let more = !left.is_empty() && word(line, 3) != "abort";
+        let taken = waiters
+            .len()
+            .wrapping_sub(moved.len())
+            .wrapping_sub(left.len());
+        self.set_list(from, left);
+        self.append(to, moved.as_slice())?;
+        if word(line, 0) == "all" {
+            return Ok(write!(text, "count {taken}")?);
         }
-        let split = split_by(rt, self.alloc, op, self.list(from));
-        let answer = split.answer();
-        self.hand(split.taken.as_slice(), token);
-        self.set_list(rt, from, split.left);
-        self.append(rt, to, split.moved.as_slice());
-        answer
-    }
-
-    // The threads that are taken get the token.
-    fn hand(&mut self, taken: &[usize], token: UnparkToken) {
-        for number in taken {
-            self.set_status(*number, Status::Taken(token));
-        }
-    }
-
-    // Hands the token to those that are taken, and leaves the others on the key.
-    fn take(&mut self, rt: &impl Abort, key: usize, split: Split, token: UnparkToken) -> Answer {
-        let answer = split.answer();
-        self.hand(split.taken.as_slice(), token);
-        self.set_list(rt, key, split.left);
-        answer
+        let moved = moved.len();
+        Ok(write!(text, "unparked {taken} requeued {moved} more {more}")?)
     }
 }

@@ -1,31 +1,32 @@
 //! The machine of a fair mutex and its condition variable, as plain as docs/MODEL.md tells it. It
 //! knows no lot, and moves threads one by one.
 
-use lot_base::token::UnparkResult;
-use lot_simulator::fair::{FairAnswer, FairStatus, FairStep};
+use crate::words::{number, word};
+use lot_base::token::NoMemory;
+use lot_simulator::fair::FairStatus;
 use std::alloc::Global;
-use std::process::Abort;
+use std::fmt::Write;
 
 /// The plain machine.
 #[derive(Drop)]
-pub struct Plain {
+pub struct PlainFair {
     waiters: Vec<usize>,
     sleepers: Vec<usize>,
     statuses: Vec<FairStatus>,
 }
 
-impl Plain {
+impl PlainFair {
     /// A machine for this many threads, none of which is registered.
-    pub fn new(rt: &impl Abort, alloc: Global, max_threads: usize) -> Plain {
+    pub fn new(alloc: Global, max_threads: usize) -> Result<PlainFair, NoMemory> {
         let mut statuses = Vec::new(alloc);
         for _ in 0..max_threads {
-            statuses.push(FairStatus::Free).expect(rt, "memory");
+            statuses.push(FairStatus::Free)?;
         }
-        Plain {
+        Ok(PlainFair {
             waiters: Vec::new(alloc),
             sleepers: Vec::new(alloc),
             statuses,
-        }
+        })
     }
 
     /// Those who wait for the mutex, in order.
@@ -40,10 +41,8 @@ impl Plain {
 
     /// What the number is doing.
     pub fn status(&self, number: usize) -> FairStatus {
-        self.statuses
-            .get(number)
-            .copied()
-            .unwrap_or(FairStatus::Free)
+        let status = self.statuses.get(number).copied();
+        status.unwrap_or(FairStatus::Free)
     }
 
     /// Whether a thread holds the mutex.
@@ -62,106 +61,87 @@ impl Plain {
         }
     }
 
-    /// Does the step by its rule.
-    pub fn step(&mut self, rt: &impl Abort, step: FairStep) -> FairAnswer {
-        match step {
-            FairStep::Register => self.register(),
-            FairStep::NotifyOne => self.notify(rt, 1),
-            FairStep::NotifyAll => {
-                let count = self.sleepers().len();
-                self.notify(rt, count)
+    /// Does the step by its rule, and writes the answer.
+    pub fn answer(&mut self, line: &str, text: &mut String) -> Result<(), NoMemory> {
+        let thread = number(line, 1);
+        let sleepers = self.sleepers.len();
+        match (word(line, 0), self.status(thread)) {
+            ("register", _) => self.register(text)?,
+            ("notify-one", _) => self.notify(1, text)?,
+            ("notify-all", _) => self.notify(sleepers, text)?,
+            ("retire", FairStatus::Idle) => {
+                self.set_status(thread, FairStatus::Free);
+                text.push_str("retired")?;
             }
-            FairStep::Retire { thread } => self.retire(thread),
-            FairStep::Lock { thread } => self.lock(rt, thread),
-            FairStep::Unlock { thread } => {
-                self.let_go(thread, FairStatus::Holding, FairStatus::Idle)
+            ("lock", FairStatus::Idle) => text.push_str(self.lock(thread)?)?,
+            ("unlock", FairStatus::Holding) => self.let_go(thread, FairStatus::Idle, text)?,
+            ("leave", FairStatus::Leaving) => self.let_go(thread, FairStatus::Queued, text)?,
+            ("return", FairStatus::Handed) => {
+                self.set_status(thread, FairStatus::Holding);
+                text.push_str("locked")?;
             }
-            FairStep::Leave { thread } => {
-                self.let_go(thread, FairStatus::Leaving, FairStatus::Queued)
+            ("wait", FairStatus::Holding) => {
+                self.set_status(thread, FairStatus::Leaving);
+                self.sleepers.push(thread)?;
+                text.push_str("waiting")?;
             }
-            FairStep::Return { thread } => self.give_back(thread),
-            FairStep::Wait { thread } => self.wait(rt, thread),
+            _ => text.push_str("misfit")?,
         }
+        Ok(())
     }
 
-    fn register(&mut self) -> FairAnswer {
+    fn register(&mut self, text: &mut String) -> Result<(), NoMemory> {
         let mut statuses = self.statuses.iter();
         let Some(number) = statuses.position(|status| *status == FairStatus::Free) else {
-            return FairAnswer::Full;
+            return Ok(text.push_str("full")?);
         };
         self.set_status(number, FairStatus::Idle);
-        FairAnswer::Registered(number)
+        Ok(write!(text, "number {number}")?)
     }
 
-    fn retire(&mut self, thread: usize) -> FairAnswer {
-        if self.status(thread) != FairStatus::Idle {
-            return FairAnswer::Misfit;
-        }
-        self.set_status(thread, FairStatus::Free);
-        FairAnswer::Retired
-    }
-
-    fn lock(&mut self, rt: &impl Abort, thread: usize) -> FairAnswer {
-        if self.status(thread) != FairStatus::Idle {
-            return FairAnswer::Misfit;
-        }
-        if !self.is_locked() {
-            self.set_status(thread, FairStatus::Holding);
-            return FairAnswer::Locked;
-        }
-        self.set_status(thread, FairStatus::Queued);
-        self.waiters.push(thread).expect(rt, "memory");
-        FairAnswer::Queued
-    }
-
-    fn wait(&mut self, rt: &impl Abort, thread: usize) -> FairAnswer {
-        if self.status(thread) != FairStatus::Holding {
-            return FairAnswer::Misfit;
-        }
-        self.set_status(thread, FairStatus::Leaving);
-        self.sleepers.push(thread).expect(rt, "memory");
-        FairAnswer::Waiting
-    }
-
-    fn give_back(&mut self, thread: usize) -> FairAnswer {
-        if self.status(thread) != FairStatus::Handed {
-            return FairAnswer::Misfit;
+    fn lock(&mut self, thread: usize) -> Result<&'static str, NoMemory> {
+        if self.is_locked() {
+            self.set_status(thread, FairStatus::Queued);
+            self.waiters.push(thread)?;
+            return Ok("queued");
         }
         self.set_status(thread, FairStatus::Holding);
-        FairAnswer::Locked
+        Ok("locked")
     }
 
-    // A thread of the one status lets the mutex go, and has the other.
-    fn let_go(&mut self, thread: usize, before: FairStatus, after: FairStatus) -> FairAnswer {
-        if self.status(thread) != before {
-            return FairAnswer::Misfit;
-        }
+    // A thread lets the mutex go, which goes to the first who waits for it, and has the status.
+    fn let_go(
+        &mut self,
+        thread: usize,
+        after: FairStatus,
+        text: &mut String,
+    ) -> Result<(), NoMemory> {
         self.set_status(thread, after);
         if self.waiters.is_empty() {
-            return FairAnswer::Unlocked { handed: false };
+            return Ok(text.push_str("freed")?);
         }
         let first = self.waiters.remove(0);
         self.set_status(first, FairStatus::Handed);
-        FairAnswer::Unlocked { handed: true }
+        Ok(text.push_str("handed")?)
     }
 
     // Moves so many threads off the condition variable, if there are so many.
-    fn notify(&mut self, rt: &impl Abort, count: usize) -> FairAnswer {
-        let mut result = UnparkResult::default();
+    fn notify(&mut self, count: usize, text: &mut String) -> Result<(), NoMemory> {
+        let (mut unparked, mut requeued) = (0_usize, 0_usize);
         for _ in 0..count {
             if self.sleepers.is_empty() {
                 break;
             }
             let thread = self.sleepers.remove(0);
             if self.is_locked() {
-                self.waiters.push(thread).expect(rt, "memory");
-                result.requeued_threads = result.requeued_threads.wrapping_add(1);
+                self.waiters.push(thread)?;
+                requeued = requeued.wrapping_add(1);
             } else {
                 self.set_status(thread, FairStatus::Handed);
-                result.unparked_threads = result.unparked_threads.wrapping_add(1);
+                unparked = unparked.wrapping_add(1);
             }
         }
-        result.have_more_threads = !self.sleepers.is_empty();
-        FairAnswer::Notified(result)
+        let more = !self.sleepers.is_empty();
+        Ok(write!(text, "notified {unparked} requeued {requeued} more {more}")?)
     }
 }

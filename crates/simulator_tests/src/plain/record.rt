@@ -1,19 +1,10 @@
 //! The plain machine, with a journal's count of entries and of those that are set aside.
 
 use super::exclusive::Plain;
+use crate::words::{number, word};
+use lot_base::token::NoMemory;
 use lot_machine::status::Status;
-use lot_machine::step::{Answer, Step};
-use lot_simulator::record::RecordError;
 use std::alloc::Global;
-use std::process::Abort;
-
-// What may still come of a thread's park: its end, and with a timeout first its deadline.
-#[derive(Copy, Clone)]
-enum Park {
-    None,
-    End,
-    DeadlineAndEnd,
-}
 
 /// A plain machine, and how many entries its journal has, room for how many, and which are still to
 /// come.
@@ -22,21 +13,28 @@ pub struct PlainRecord {
     plain: Plain,
     capacity: usize,
     entries: usize,
-    parks: Vec<Park>,
+
+    // For each thread, how many entries are set aside: one for the end of its park, and with a
+    // timeout first one for its deadline.
+    aside: Vec<usize>,
 }
 
 impl PlainRecord {
-    pub fn new(rt: &impl Abort, alloc: Global, max_threads: usize, capacity: usize) -> PlainRecord {
-        let mut parks = Vec::new(alloc);
+    pub fn new(
+        alloc: Global,
+        max_threads: usize,
+        capacity: usize,
+    ) -> Result<PlainRecord, NoMemory> {
+        let mut aside = Vec::new(alloc);
         for _ in 0..max_threads {
-            parks.push(Park::None).expect(rt, "memory");
+            aside.push(0)?;
         }
-        PlainRecord {
-            plain: Plain::new(rt, alloc, max_threads),
+        Ok(PlainRecord {
+            plain: Plain::new(alloc, max_threads)?,
             capacity,
             entries: 0,
-            parks,
-        }
+            aside,
+        })
     }
 
     /// How many entries the journal has.
@@ -44,81 +42,49 @@ impl PlainRecord {
         self.entries
     }
 
-    /// Does the step by its rule, unless the journal has no room for it.
-    pub fn step(&mut self, rt: &impl Abort, step: &Step) -> Result<Answer, RecordError> {
-        if self.fits(step) && self.is_full_for(step) {
-            return Err(RecordError::JournalFull);
+    /// Does the step by its rule, unless the journal has no room for it, and writes the answer.
+    pub fn answer(&mut self, line: &str, text: &mut String) -> Result<(), NoMemory> {
+        if self.is_full_for(line) {
+            return Ok(text.push_str("journal is full")?);
         }
-        let answer = self.plain.step(rt, step);
-        if answer != Answer::Misfit {
+        let before = text.len();
+        self.plain.answer(line, text)?;
+        let given = text.as_str().get(before..).unwrap_or("");
+        if given != "misfit" {
             self.entries = self.entries.wrapping_add(1);
-            self.note_park(step, answer);
+            self.note_park(line, given == "entered");
         }
-        Ok(answer)
+        Ok(())
     }
 
-    fn fits(&self, step: &Step) -> bool {
-        match step {
-            Step::Register | Step::Unpark(_) | Step::Trim => true,
-            Step::Retire { thread }
-            | Step::Enter { thread, .. }
-            | Step::Acquire { thread, .. }
-            | Step::Release { thread, .. } => self.plain.status(*thread) == Status::Running,
-            Step::Deadline { .. } | Step::Resolve { .. } | Step::Return { .. } => false,
-        }
-    }
-
-    // Whether the step needs more than there is. Those that end a park, or tell of its deadline,
-    // have their entries set aside.
-    fn is_full_for(&self, step: &Step) -> bool {
-        let needed: usize = match step {
-            Step::Enter {
-                valid: true,
-                timed: true,
-                ..
-            } => 3,
-            Step::Enter { valid: true, .. } => 2,
+    // Whether the step fits and needs more than there is. Those that end a park, or tell of its
+    // deadline, have their entries set aside.
+    fn is_full_for(&self, line: &str) -> bool {
+        let is_running = self.plain.status(number(line, 1)) == Status::Running;
+        let needed: usize = match (word(line, 0), word(line, 3), word(line, 5)) {
+            ("deadline" | "resolve" | "return", _, _) => return false,
+            ("retire" | "enter" | "acquire" | "release", _, _) if !is_running => return false,
+            ("enter", "yes", "timed") => 3,
+            ("enter", "yes", _) => 2,
             _ => 1,
         };
-        self.entries.wrapping_add(self.aside()).wrapping_add(needed) > self.capacity
+        let aside = self
+            .aside
+            .iter()
+            .fold(0_usize, |sum, aside| sum.wrapping_add(*aside));
+        self.entries.wrapping_add(aside).wrapping_add(needed) > self.capacity
     }
 
-    // How many entries are set aside.
-    fn aside(&self) -> usize {
-        let mut aside: usize = 0;
-        for park in &self.parks {
-            aside = aside.wrapping_add(match park {
-                Park::None => 0,
-                Park::End => 1,
-                Park::DeadlineAndEnd => 2,
-            });
-        }
-        aside
-    }
-
-    fn note_park(&mut self, step: &Step, answer: Answer) {
-        match (step, answer) {
-            (
-                Step::Enter {
-                    thread,
-                    timed: true,
-                    ..
-                },
-                Answer::Entered,
-            ) => self.set_park(*thread, Park::DeadlineAndEnd),
-            (Step::Enter { thread, .. }, Answer::Entered) | (Step::Deadline { thread }, _) => {
-                self.set_park(*thread, Park::End)
-            }
-            (Step::Resolve { thread } | Step::Return { thread }, _) => {
-                self.set_park(*thread, Park::None)
-            }
-            _ => (),
-        }
-    }
-
-    fn set_park(&mut self, thread: usize, park: Park) {
-        if let Some(old) = self.parks.get_mut(thread) {
-            *old = park;
+    fn note_park(&mut self, line: &str, has_entered: bool) {
+        let aside = match (word(line, 0), word(line, 5)) {
+            ("enter", "timed") if has_entered => 2,
+            ("enter", _) if has_entered => 1,
+            ("deadline", _) => 1,
+            ("resolve" | "return", _) => 0,
+            _ => return,
+        };
+        if let Some(old) = self.aside.get_mut(number(line, 1)) {
+            *old = aside;
         }
     }
 }

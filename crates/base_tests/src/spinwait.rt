@@ -1,0 +1,35 @@
+//! Tests of `SpinWait`, by the answers of `spin`.
+
+use lot_base::spinwait::SpinWait;
+
+// How often it spins, of so many calls.
+fn spins(wait: &mut SpinWait, calls: usize) -> usize {
+    let mut spins = 0_usize;
+    for _ in 0..calls {
+        if wait.spin() {
+            spins = spins.wrapping_add(1);
+        }
+    }
+    spins
+}
+
+// So many calls of the other kind.
+fn spin_no_yield(wait: &mut SpinWait, calls: usize) {
+    for _ in 0..calls {
+        wait.spin_no_yield();
+    }
+}
+
+// Once it is used up, a call of `spin_no_yield` is as short as before.
+#[test]
+fn one_spins_ten_times_until_it_is_reset(rt: HostRuntime) {
+    let (mut wait, mut other) = (SpinWait::new(), SpinWait::default());
+    assert!(rt; spins(&mut wait, 12) == 10 && spins(&mut other, 12) == 10);
+    wait.reset();
+    assert!(rt; spins(&mut wait, 12) == 10);
+    wait.reset();
+    spin_no_yield(&mut wait, 10);
+    assert!(rt; spins(&mut wait, 1) == 0);
+    spin_no_yield(&mut wait, 100);
+    assert!(rt; spins(&mut wait, 100) == 0);
+}
