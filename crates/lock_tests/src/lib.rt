@@ -1,16 +1,15 @@
-//! Tests of the locks of a parking lot, by their public calls alone.
+//! Tests of the locks of a parking lot, by their public calls alone. Each is a script: what threads
+//! do with one set of locks, line by line, and how each call has to end. `actor` tells the words.
 #![tactic(auto)]
 
 #[cfg(test)]
-mod calls;
+mod actor;
 #[cfg(test)]
 mod counting;
 #[cfg(test)]
-mod crowd;
+mod each_call;
 #[cfg(test)]
 mod fair;
-#[cfg(test)]
-mod fair_races;
 #[cfg(test)]
 mod given_up;
 #[cfg(test)]
@@ -18,25 +17,16 @@ mod handed;
 #[cfg(test)]
 mod notified;
 #[cfg(test)]
-mod pair;
+mod perform;
 #[cfg(test)]
 mod released;
-#[cfg(test)]
-mod roles;
 #[cfg(test)]
 mod slow;
 #[cfg(test)]
 mod stage;
 #[cfg(test)]
-mod ways;
-
+mod surroundings;
 #[cfg(test)]
-use std::fmt::Debug;
+mod taken;
 #[cfg(test)]
-use std::process::Abort;
-
-// Compares what was found with what is expected. For any type it is proved once.
-#[cfg(test)]
-fn expect_equal<T: PartialEq + Debug + Drop>(rt: &impl Abort, found: T, expected: T) {
-    assert_eq!(rt; found, expected);
-}
+mod words;
