@@ -1,12 +1,12 @@
 //! `lot_stress cost`: calls that are told to look at few of the threads or records there are, done
 //! so often that one which looks at all takes seconds. The processor time is measured from outside.
 
-mod journals;
-mod requeues;
-
 use crate::fault::Fault;
+use lot_simulator::interleaved::{FineAnswer, FineLot, FineStep, run_fine};
 use lot_simulator::lot::Lot;
-use lot_threads::{DEFAULT_PARK_TOKEN, DEFAULT_UNPARK_TOKEN, LotError};
+use lot_simulator::record::Record;
+use lot_simulator::schedule::{Answer, Op, Step};
+use lot_threads::{DEFAULT_PARK_TOKEN, DEFAULT_UNPARK_TOKEN, RequeueOp};
 use std::alloc::Global;
 
 // As many as a lot can be made for.
@@ -22,48 +22,60 @@ const RECORDS: usize = 150_000;
 
 const KEY: usize = 7;
 
-/// Registers as many threads as there can be; retires and registers one of them; unparks all one by
-/// one from one key; records many keys, which it releases from the last to the first; requeues all
-/// threads of an interleaved lot; and fills journals of records for as many threads.
-pub fn run<R: Print>(rt: &R, alloc: Global) -> Result<(), Fault> {
-    for _ in 0..LOTS {
-        full_lot(alloc)?;
+const OTHER_KEY: usize = 13;
+
+// How often all threads are requeued.
+const REQUEUES: usize = 16;
+
+const JOURNALS: usize = 8;
+
+// How often a thread of each journal parks, which is three steps.
+const PARKS: usize = 33_333;
+
+// The registration, and the steps of all parks.
+const ENTRIES: usize = 1 + 3 * PARKS;
+
+/// Registers as many threads as there can be, again and again; and works in a lot, in an
+/// interleaved one and in journals of so many.
+pub fn run(alloc: Global) -> Result<(), Fault> {
+    for _ in 1..LOTS {
+        let mut lot = Lot::new(alloc, THREADS)?;
+        register_all(&mut lot)?;
     }
-    work_in_full_lot(alloc)?;
-    requeues::requeue_all(alloc)?;
-    journals::fill_journals(alloc)?;
-    println!(rt; "done")?;
+    let mut lot = Lot::new(alloc, THREADS)?;
+    work_in(&mut lot)?;
+    let mut lot = FineLot::new(alloc, THREADS, 1)?;
+    requeue_all(alloc, &mut lot)?;
+    for _ in 0..JOURNALS {
+        let mut recorded = Record::new(alloc, THREADS, ENTRIES)?;
+        fill_journal(&mut recorded)?;
+    }
     Ok(())
 }
 
-fn work_in_full_lot(alloc: Global) -> Result<(), Fault> {
-    let mut lot = full_lot(alloc)?;
-    work_in(&mut lot)
-}
-
-fn work_in(lot: &mut Lot) -> Result<(), Fault> {
-    register_again(lot)?;
-    for _ in 0..ROUNDS {
-        park_and_unpark_all(lot)?;
-    }
-    record_and_release(lot)
-}
-
-// A lot where all threads run.
-fn full_lot(alloc: Global) -> Result<Lot, LotError> {
-    let mut lot = Lot::new(alloc, THREADS)?;
+fn register_all(lot: &mut Lot) -> Result<(), Fault> {
     for _ in 0..THREADS {
         lot.register()?;
     }
-    Ok(lot)
+    Ok(())
 }
 
-fn register_again(lot: &mut Lot) -> Result<(), Fault> {
+// Retires and registers one of all threads; unparks all one by one from one key; and records many
+// keys, which it releases from the last to the first.
+fn work_in(lot: &mut Lot) -> Result<(), Fault> {
+    register_all(lot)?;
     for _ in 0..RETIREMENTS {
         lot.retire(THREADS - 1)?;
-        if lot.register()? != THREADS - 1 {
-            return Err(Fault::Unlike("which number is free"));
-        }
+        lot.register()?;
+    }
+    for _ in 0..ROUNDS {
+        park_and_unpark_all(lot)?;
+    }
+    for key in 0..RECORDS {
+        lot.acquire(0, key)?;
+    }
+    for key in (0..RECORDS).rev() {
+        lot.release(0, key)?;
     }
     Ok(())
 }
@@ -79,12 +91,76 @@ fn park_and_unpark_all(lot: &mut Lot) -> Result<(), Fault> {
     Ok(())
 }
 
-fn record_and_release(lot: &mut Lot) -> Result<(), Fault> {
-    for key in 0..RECORDS {
-        lot.acquire(0, key)?;
+// Lets all threads wait on one key, and requeues them to another and back, again and again. Each
+// waiter is looked at once.
+fn requeue_all(alloc: Global, lot: &mut FineLot) -> Result<(), Fault> {
+    let (mut answers, mut sequential) = (Vec::new(alloc), Vec::new(alloc));
+    for thread in 0..THREADS {
+        let steps = [FineStep::Register, enter(thread)];
+        run_fine(lot, &steps, &mut answers, &mut sequential)?;
     }
-    for key in (0..RECORDS).rev() {
-        lot.release(0, key)?;
+    for turn in 0..REQUEUES {
+        let (from, to) = if turn % 2 == 0 {
+            (KEY, OTHER_KEY)
+        } else {
+            (OTHER_KEY, KEY)
+        };
+        let steps = [begin(from, to), FineStep::End { caller: 0 }];
+        answers.clear();
+        run_fine(lot, &steps, &mut answers, &mut sequential)?;
+        if !are_all_requeued(answers.as_slice()) {
+            return Err(Fault("how many threads were requeued"));
+        }
     }
     Ok(())
+}
+
+fn are_all_requeued(answers: &[FineAnswer]) -> bool {
+    match answers.first() {
+        Some(FineAnswer::Answer(Answer::Unpark(result))) => result.requeued_threads == THREADS,
+        _ => false,
+    }
+}
+
+fn enter(thread: usize) -> FineStep {
+    FineStep::Enter {
+        thread,
+        key: KEY,
+        valid: true,
+        park_token: DEFAULT_PARK_TOKEN,
+        timed: false,
+    }
+}
+
+fn begin(from: usize, to: usize) -> FineStep {
+    let op = Op::Requeue {
+        from,
+        to,
+        op: RequeueOp::RequeueAll,
+        token: DEFAULT_UNPARK_TOKEN,
+    };
+    FineStep::Begin { caller: 0, op }
+}
+
+// One thread of very many parks again and again, each time until its deadline. Each of its steps
+// changes how many entries are set aside, whose number is known without a look at each thread.
+fn fill_journal(recorded: &mut Record) -> Result<(), Fault> {
+    let thread = 0;
+    let _ = recorded.step(Step::Register);
+    for _ in 0..PARKS {
+        let _ = recorded.step(Step::Enter {
+            thread,
+            key: KEY,
+            valid: true,
+            park_token: DEFAULT_PARK_TOKEN,
+            timed: true,
+        });
+        let _ = recorded.step(Step::Deadline { thread });
+        let _ = recorded.step(Step::Resolve { thread });
+    }
+    if recorded.journal().len() == ENTRIES {
+        Ok(())
+    } else {
+        Err(Fault("how many steps were journalled"))
+    }
 }

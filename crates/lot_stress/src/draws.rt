@@ -4,13 +4,9 @@ use lot_threads::RequeueOp;
 
 /// A sequence of such numbers.
 #[derive(Copy, Clone)]
-pub struct Draws(u64);
+pub struct Draws(pub u64);
 
 impl Draws {
-    pub fn new(seed: u64) -> Draws {
-        Draws(seed)
-    }
-
     /// The next number, with all its bits mixed.
     pub fn next(&mut self) -> u64 {
         self.0 = self.0.wrapping_add(0x9E37_79B9_7F4A_7C15);
@@ -18,11 +14,6 @@ impl Draws {
         let number = (number ^ (number >> 30)).wrapping_mul(0xBF58_476D_1CE4_E5B9);
         let number = (number ^ (number >> 27)).wrapping_mul(0x94D0_49BB_1331_11EB);
         number ^ (number >> 31)
-    }
-
-    /// A sequence of its own.
-    pub fn split(&mut self) -> Draws {
-        Draws(self.next())
     }
 
     /// A number below the bound, or 0 where there is none.
@@ -33,15 +24,6 @@ impl Draws {
 
     pub fn is_one_in(&mut self, count: usize) -> bool {
         self.below(count) == 0
-    }
-
-    /// One of the numbers, or 0 where there are none.
-    pub fn one_of(&mut self, numbers: &[usize]) -> usize {
-        let index = (self.next() as usize).checked_rem(numbers.len());
-        match numbers.get(index.unwrap_or(0)) {
-            Some(number) => *number,
-            None => 0,
-        }
     }
 
     pub fn requeue_op(&mut self) -> RequeueOp {

@@ -5,13 +5,16 @@ ghost use Rattle.std.specs.Prelude.{◌≡◌};
 
 use crate::draws::Draws;
 use crate::fault::Fault;
-use crate::task::{Seen, Task, parker_of, perform};
+use crate::marks;
+use crate::threads::are_all_right;
 use lot_sync::fits::Fits;
-use lot_sync::mutex::{Condvar, Held, Mutex};
-use lot_sync::rw_lock::{ReadHeld, RwLock, WriteHeld};
+use lot_sync::mutex::{Condvar, Mutex};
+use lot_sync::once::{Once, OnceValue};
+use lot_sync::rw_lock::RwLock;
 use lot_threads::{Member, ParkingLot, ThreadParkerT};
 use std::alloc::Global;
 use std::sync::Wait;
+use std::sync::atomic::{AtomicUsize, Ordering};
 use std::thread;
 use std::thread::Threads;
 use std::time::{Clock, Duration, Instant};
@@ -21,113 +24,40 @@ const THREADS: usize = 6;
 // How many operations each thread does in a round.
 const OPERATIONS: usize = 2_000;
 
-const KEYS: [usize; 3] = [0, 13, 7];
+// How many kinds of operations there are.
+const KINDS: u64 = 12;
+
+const KEYS: [usize; 5] = [0, 13, 7, 34, 89];
 
 // In microseconds, so short that many deadlines pass.
 const MOMENT: u64 = 50;
 
 /// Two numbers, which are equal while nobody holds the lock.
 #[derive(Drop)]
-struct Pair {
-    first: u64,
-    second: u64,
+pub struct Pair {
+    first: usize,
+    second: usize,
 }
 
 impl Fits for Pair {
     ghost fits = { λ pair. pair.first ≡ pair.second };
 }
 
-/// What threads did: how often they added under the mutex and under the other lock, and whether
-/// none was refused and both numbers were equal whenever one was read.
-#[derive(Copy, Clone)]
-pub struct Done {
-    locked: u64,
-    written: u64,
-    is_right: bool,
-}
-
+// A lock of each kind, and how often threads added under the mutex and under the other lock.
 #[derive(Drop)]
 struct Shared<P: ThreadParkerT> {
     lot: ParkingLot<P>,
     mutex: Mutex<Pair>,
     condvar: Condvar,
     lock: RwLock<Pair>,
-}
-
-/// Lets threads use the locks for so long, in rounds, each on a lot of its own, with each parker by
-/// turns. How often they added in all is told on the output. A round that fails is told with the
-/// seed with which it is the first.
-pub fn run<R: Print + Eprint + Threads + Wait + Clock + Copy + Send + Sync + 'static>(
-    rt: &R,
-    alloc: Global,
-    seconds: u64,
-    seed: u64,
-) -> Result<(), Fault> {
-    let start = Instant::now(rt)?;
-    let whole = Duration::from_secs(seconds);
-    let mut total = Done::nothing();
-    for number in 0..u64::MAX {
-        if start.elapsed(rt)? >= whole {
-            break;
-        }
-        total.add(run_and_tell(rt, alloc, seed.wrapping_add(number))?);
-    }
-    println!(rt; "locked {} written {}", total.locked, total.written)?;
-    Ok(())
-}
-
-fn run_and_tell<R: Print + Eprint + Threads + Wait + Clock + Copy + Send + Sync + 'static>(
-    rt: &R,
-    alloc: Global,
-    seed: u64,
-) -> Result<Done, Fault> {
-    match perform(rt, alloc, parker_of(seed), Task::Locks(seed)) {
-        Ok(Seen::Locks(done)) => Ok(done),
-        Ok(_) => Ok(Done::nothing()),
-        Err(fault) => {
-            eprintln!(rt; "a round failed: lot_stress locks 1 {seed}")?;
-            Err(fault)
-        }
-    }
-}
-
-/// Runs a round, and answers what its threads did.
-pub fn run_round<P, R>(rt: &R, alloc: Global, seed: u64) -> Result<Done, Fault>
-where
-    P: ThreadParkerT + Send + Sync,
-    R: Threads + Wait + Clock + Sync,
-{
-    let shared = Shared::<P>::new(rt, alloc)?;
-    shared.play(rt, alloc, seed)
-}
-
-impl Done {
-    fn nothing() -> Done {
-        Done {
-            locked: 0,
-            written: 0,
-            is_right: true,
-        }
-    }
-
-    // What a thread did that was refused.
-    fn refused() -> Done {
-        Done {
-            locked: 0,
-            written: 0,
-            is_right: false,
-        }
-    }
-
-    fn add(&mut self, other: Done) {
-        self.locked = self.locked.wrapping_add(other.locked);
-        self.written = self.written.wrapping_add(other.written);
-        self.is_right = self.is_right && other.is_right;
-    }
+    once: Once,
+    value: OnceValue<Pair>,
+    locked: AtomicUsize,
+    written: AtomicUsize,
 }
 
 impl Pair {
-    fn zero() -> Pair
+    pub fn zero() -> Pair
         ensures { result.first ≡ result.second }
     {
         Pair {
@@ -147,6 +77,34 @@ impl Pair {
     }
 }
 
+/// Runs a round: threads use new locks, each in an order that is drawn.
+pub fn run_round<P, R>(rt: &R, alloc: Global, seed: u64) -> Result<(), Fault>
+where
+    P: ThreadParkerT + Send + Sync,
+    R: Threads + Wait + Clock + Sync,
+{
+    let shared = Shared::<P>::new(rt, alloc)?;
+    let act = |index: usize| shared.acts(rt, alloc, seed.wrapping_add(index as u64));
+    if are_all_right(rt, alloc, THREADS, &act) && shared.has_all(rt, alloc) {
+        Ok(())
+    } else {
+        Err(Fault("what the locks are around"))
+    }
+}
+
+/// One thread does each operation on new locks, between marks, with a deadline that has passed.
+/// Answers how many did what they should.
+pub fn use_alone<P: ThreadParkerT, R: Wait + Clock>(rt: &R, alloc: Global) -> Result<usize, Fault> {
+    let past = Instant::now(rt)?;
+    let shared = Shared::<P>::new(rt, alloc)?;
+    let right = shared.does_each(rt, alloc, past)?;
+    if shared.has_all(rt, alloc) {
+        Ok(right)
+    } else {
+        Err(Fault("what the locks are around"))
+    }
+}
+
 impl<P: ThreadParkerT> Shared<P> {
     fn new<R: Wait>(rt: &R, alloc: Global) -> Result<Shared<P>, Fault> {
         Ok(Shared {
@@ -154,190 +112,167 @@ impl<P: ThreadParkerT> Shared<P> {
             lot: ParkingLot::new(alloc, THREADS)?,
             condvar: Condvar::new(KEYS[1]),
             lock: RwLock::new(rt, KEYS[2], Pair::zero()),
+            once: Once::new(alloc, KEYS[3])?,
+            value: OnceValue::new(alloc, KEYS[4])?,
+            locked: AtomicUsize::new(0),
+            written: AtomicUsize::new(0),
         })
     }
 
-    fn play<R>(&self, rt: &R, alloc: Global, seed: u64) -> Result<Done, Fault>
-    where
-        P: Send + Sync,
-        R: Threads + Wait + Clock + Sync,
-    {
-        let act = |index: usize| self.act(rt, alloc, seed.wrapping_add(index as u64));
-        let all = thread::map_indices(rt, alloc, THREADS, &act)?;
-        let mut sum = Done::nothing();
-        for done in all {
-            sum.add(done);
-        }
-        if sum.is_right && self.has(rt, alloc, sum) {
-            Ok(sum)
-        } else {
-            Err(Fault::Unlike("what the locks are around"))
-        }
-    }
-
-    // Registers, does what is drawn, and retires.
-    fn act<R: Wait + Clock>(&self, rt: &R, alloc: Global, seed: u64) -> Done {
-        let Ok(mut member) = Member::register(rt, alloc, &self.lot) else {
-            return Done::refused();
-        };
-        let done = self.act_often(rt, &mut member, seed);
-        member.retire(rt);
-        done
-    }
-
-    fn act_often<R: Wait + Clock>(&self, rt: &R, member: &mut Member<'_, P>, seed: u64) -> Done {
-        let mut draws = Draws::new(seed);
-        let mut done = Done::nothing();
-        for _ in 0..OPERATIONS {
-            match moment_from_now(rt) {
-                Some(soon) => done.add(self.act_once(rt, member, draws.next(), soon)),
-                None => done.add(Done::refused()),
-            }
-        }
-        done
-    }
-
-    fn act_once<R: Wait + Clock>(
-        &self,
-        rt: &R,
-        member: &mut Member<'_, P>,
-        draw: u64,
-        soon: Instant,
-    ) -> Done {
-        let mut done = Done::nothing();
-        match draw % 8 {
-            0 => done.locked = self.lock_once(rt, member),
-            1 => done.locked = self.lock_for_a_moment(rt, member, soon),
-            2 => done.locked = self.sleep(rt, member, soon),
-            3 => self.notify(rt, member, draw),
-            4 => done.written = self.write_once(rt, member),
-            5 => done.written = self.write_for_a_moment(rt, member, soon),
-            6 => done.is_right = self.read_once(rt, member),
-            _ => done.is_right = self.downgrade(rt, member),
-        }
-        done
-    }
-
-    fn lock_once<R: Wait + Clock>(&self, rt: &R, member: &mut Member<'_, P>) -> u64 {
-        let held = self.mutex.lock(rt, member);
-        add_under(rt, member, held)
-    }
-
-    fn write_once<R: Wait + Clock>(&self, rt: &R, member: &mut Member<'_, P>) -> u64 {
-        let held = self.lock.write(rt, member);
-        write_under(rt, member, held)
-    }
-
-    fn read_once<R: Wait + Clock>(&self, rt: &R, member: &mut Member<'_, P>) -> bool {
-        let held = self.lock.read(rt, member);
-        is_read_even(rt, member, held)
-    }
-
-    // Waits a moment for the mutex, and hands it over.
-    fn lock_for_a_moment<R: Wait + Clock>(
-        &self,
-        rt: &R,
-        member: &mut Member<'_, P>,
-        soon: Instant,
-    ) -> u64 {
-        let Some(mut held) = self.mutex.lock_until(rt, member, soon) else {
-            return 0;
-        };
-        held.value.add_one();
-        held.unlock_fair(rt, member);
-        1
-    }
-
-    fn sleep<R: Wait + Clock>(&self, rt: &R, member: &mut Member<'_, P>, soon: Instant) -> u64 {
-        let held = self.mutex.lock(rt, member);
-        let (held, _) = self.condvar.wait_until(rt, member, held, soon);
-        add_under(rt, member, held)
-    }
-
-    fn notify<R: Wait + Clock>(&self, rt: &R, member: &Member<'_, P>, draw: u64) {
-        if draw & 8 == 0 {
-            self.condvar.notify_one(rt, member, &self.mutex);
-        } else {
-            self.condvar.notify_all(rt, member, &self.mutex);
-        }
-    }
-
-    fn write_for_a_moment<R: Wait + Clock>(
-        &self,
-        rt: &R,
-        member: &mut Member<'_, P>,
-        soon: Instant,
-    ) -> u64 {
-        match self.lock.write_until(rt, member, soon) {
-            Some(held) => write_under(rt, member, held),
-            None => 0,
-        }
-    }
-
-    fn downgrade<R: Wait + Clock>(&self, rt: &R, member: &mut Member<'_, P>) -> bool {
-        let held = self.lock.write(rt, member).downgrade(rt, member);
-        is_read_even(rt, member, held)
-    }
-
-    // Whether the locks are around as much as was added.
-    fn has<R: Wait + Clock>(&self, rt: &R, alloc: Global, sum: Done) -> bool {
+    // Registers, does what is drawn, and retires. False says that something was not right.
+    fn acts<R: Wait + Clock>(&self, rt: &R, alloc: Global, seed: u64) -> bool {
         let Ok(mut member) = Member::register(rt, alloc, &self.lot) else {
             return false;
         };
-        let (locked, written) = self.numbers(rt, &mut member);
+        let is_right = self.acts_often(rt, &mut member, seed);
         member.retire(rt);
-        locked == sum.locked && written == sum.written
+        is_right
     }
 
-    fn numbers<R: Wait + Clock>(&self, rt: &R, member: &mut Member<'_, P>) -> (u64, u64) {
+    fn acts_often<R: Wait + Clock>(&self, rt: &R, member: &mut Member<'_, P>, seed: u64) -> bool {
+        let mut draws = Draws(seed);
+        for _ in 0..OPERATIONS {
+            let Ok(now) = Instant::now(rt) else {
+                return false;
+            };
+            let soon = now
+                .checked_add(Duration::from_micros(MOMENT))
+                .unwrap_or(now);
+            if !self.act(rt, member, draws.next() % KINDS, soon) {
+                return false;
+            }
+        }
+        true
+    }
+
+    fn does_each<R: Wait + Clock>(
+        &self,
+        rt: &R,
+        alloc: Global,
+        past: Instant,
+    ) -> Result<usize, Fault> {
+        let mut member = Member::register(rt, alloc, &self.lot)?;
+        let mut right = 0usize;
+        marks::begin(alloc);
+        for kind in 0..KINDS {
+            let is_right = self.act(rt, &mut member, kind, past);
+            right = right.wrapping_add(usize::from(is_right));
+        }
+        marks::end(alloc);
+        member.retire(rt);
+        Ok(right)
+    }
+
+    // Does an operation of this kind.
+    fn act<R: Wait + Clock>(
+        &self,
+        rt: &R,
+        member: &mut Member<'_, P>,
+        kind: u64,
+        soon: Instant,
+    ) -> bool {
+        match kind {
+            0..=2 => self.locks(rt, member, kind, soon),
+            3 => self.sleeps(rt, member, soon),
+            4 => {
+                self.condvar.notify_one(rt, member, &self.mutex);
+            }
+            5 => {
+                self.condvar.notify_all(rt, member, &self.mutex);
+            }
+            6..=8 => self.writes(rt, member, kind, soon),
+            9 => {
+                self.once.call_once(rt, member, || ());
+            }
+            10 => {
+                self.value.get_or_fill(rt, member, Pair::zero);
+            }
+            _ => return self.reads(rt, member, soon),
+        }
+        true
+    }
+
+    // Adds one under the mutex, which it locks at once or in a moment, or not.
+    fn locks<R: Wait + Clock>(&self, rt: &R, member: &mut Member<'_, P>, kind: u64, soon: Instant) {
+        let held = match kind {
+            0 => Some(self.mutex.lock(rt, member)),
+            1 => self.mutex.lock_until(rt, member, soon),
+            _ => self.mutex.try_lock(),
+        };
+        if let Some(mut held) = held {
+            held.value.add_one();
+            self.locked.fetch_add(1, Ordering::SeqCst);
+            if kind == 0 {
+                held.unlock(rt, member);
+            } else {
+                held.unlock_fair(rt, member);
+            }
+        }
+    }
+
+    // Adds one under the mutex after a sleep on its condition variable.
+    fn sleeps<R: Wait + Clock>(&self, rt: &R, member: &mut Member<'_, P>, soon: Instant) {
         let held = self.mutex.lock(rt, member);
-        let locked = held.value.first;
+        let (mut held, _) = self.condvar.wait_until(rt, member, held, soon);
+        held.value.add_one();
+        self.locked.fetch_add(1, Ordering::SeqCst);
         held.unlock(rt, member);
-        let read = self.lock.read(rt, member);
-        let written = read.value().first;
-        read.unlock(rt, member);
-        (locked, written)
     }
-}
 
-fn moment_from_now<R: Clock>(rt: &R) -> Option<Instant> {
-    let now = Instant::now(rt).ok()?;
-    now.checked_add(Duration::from_micros(MOMENT))
-}
+    // Adds one under the lock, which it writes at once or in a moment, or not.
+    fn writes<R: Wait + Clock>(
+        &self,
+        rt: &R,
+        member: &mut Member<'_, P>,
+        kind: u64,
+        soon: Instant,
+    ) {
+        let held = match kind {
+            6 => Some(self.lock.write(rt, member)),
+            7 => self.lock.write_until(rt, member, soon),
+            _ => self.lock.try_write(),
+        };
+        if let Some(mut held) = held {
+            held.value.add_one();
+            self.written.fetch_add(1, Ordering::SeqCst);
+            held.unlock(rt, member);
+        }
+    }
 
-fn add_under<P: ThreadParkerT, R: Wait>(
-    rt: &R,
-    member: &Member<'_, P>,
-    mut held: Held<'_, Pair>,
-) -> u64
-    requires { held.value.first ≡ held.value.second }
-{
-    held.value.add_one();
-    held.unlock(rt, member);
-    1
-}
+    // Reads in each way. False says that both numbers were not equal, with other threads between
+    // the looks.
+    fn reads<R: Wait + Clock>(&self, rt: &R, member: &mut Member<'_, P>, soon: Instant) -> bool {
+        let mut is_even = true;
+        for way in 0..4 {
+            let held = match way {
+                0 => Some(self.lock.read(rt, member)),
+                1 => self.lock.read_until(rt, member, soon),
+                2 => self.lock.try_read(),
+                _ => Some(self.lock.write(rt, member).downgrade(rt, member)),
+            };
+            if let Some(held) = held {
+                let first = held.value().first;
+                thread::yield_now();
+                is_even = is_even && first == held.value().second;
+                held.unlock(rt, member);
+            }
+        }
+        is_even
+    }
 
-fn write_under<P: ThreadParkerT, R: Wait>(
-    rt: &R,
-    member: &Member<'_, P>,
-    mut held: WriteHeld<'_, Pair>,
-) -> u64
-    requires { held.value.first ≡ held.value.second }
-{
-    held.value.add_one();
-    held.unlock(rt, member);
-    1
-}
-
-// Whether both numbers are equal, with other threads between the looks.
-fn is_read_even<P: ThreadParkerT, R: Wait>(
-    rt: &R,
-    member: &Member<'_, P>,
-    held: ReadHeld<'_, Pair>,
-) -> bool {
-    let first = held.value().first;
-    thread::yield_now();
-    let second = held.value().second;
-    held.unlock(rt, member);
-    first == second
+    // Whether the locks are around as much as was added.
+    fn has_all<R: Wait + Clock>(&self, rt: &R, alloc: Global) -> bool {
+        let Ok(mut member) = Member::register(rt, alloc, &self.lot) else {
+            return false;
+        };
+        let held = self.mutex.lock(rt, &mut member);
+        let locked = held.value.first;
+        held.unlock(rt, &member);
+        let held = self.lock.read(rt, &mut member);
+        let written = held.value().first;
+        held.unlock(rt, &member);
+        member.retire(rt);
+        locked == self.locked.load(Ordering::SeqCst)
+            && written == self.written.load(Ordering::SeqCst)
+    }
 }

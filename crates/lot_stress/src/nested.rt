@@ -5,48 +5,31 @@
 //! each answer is that of the exclusive lot, which has a proof. What threads do at the same time is
 //! not seen here.
 
+ghost use Rattle.std.specs.Prelude.{◌<◌};
+
 mod calls;
-mod keys;
-mod nest;
-mod sieve;
 mod walk;
 
 use crate::fault::Fault;
-use lot_threads::{ParkingLot, WordParker};
-use nest::nest;
+use lot_threads::{Member, ParkingLot, WordParker};
 use std::alloc::Global;
 use std::sync::Wait;
 use std::time::{Clock, Instant};
 use walk::{Shape, Walk};
 
-const FEW: Shape = Shape {
-    max_threads: 12,
-    keys: 3,
-    parks: 1_000,
-    quiet: 1,
-};
+const FEW: Shape = (12, 3, 1_000, 1);
 
-const SOME: Shape = Shape {
-    max_threads: 60,
-    keys: 6,
-    parks: 2_000,
-    quiet: 1,
-};
+const SOME: Shape = (60, 6, 2_000, 1);
 
-const MANY: Shape = Shape {
-    max_threads: 700,
-    keys: 40,
-    parks: 3_000,
-    quiet: 30,
-};
+const MANY: Shape = (700, 40, 3_000, 30);
 
 // As many threads as there can be.
-const ALL: Shape = Shape {
-    max_threads: 16_384,
-    keys: 9,
-    parks: 40_000,
-    quiet: 2_000,
-};
+const ALL: Shape = (16_384, 9, 40_000, 2_000);
+
+const MOST_PARKS: usize = 2;
+
+// One thread in so many parks more than once.
+const SELDOM: usize = 6;
 
 /// Walks twice, with few threads or with many. Since nobody sleeps, one parker does, and functions
 /// that call themselves are stated for it alone.
@@ -59,7 +42,7 @@ pub fn run<R: Print + Wait + Clock>(
     let shapes = if is_deep { [MANY, ALL] } else { [FEW, SOME] };
     for shape in shapes {
         compare(rt, alloc, shape, seed)?;
-        println!(rt; "{} threads: as in the exclusive lot", shape.max_threads)?;
+        println!(rt; "{} threads: as in the exclusive lot", shape.0)?;
     }
     Ok(())
 }
@@ -67,7 +50,7 @@ pub fn run<R: Print + Wait + Clock>(
 // Walks, and fails unless both lots answered the same.
 fn compare<R: Wait + Clock>(rt: &R, alloc: Global, shape: Shape, seed: u64) -> Result<(), Fault> {
     let past = Instant::now(rt)?;
-    let lot = ParkingLot::<WordParker>::new(alloc, shape.max_threads)?;
+    let lot = ParkingLot::<WordParker>::new(alloc, shape.0)?;
     compare_on(rt, alloc, &lot, shape, seed, past)
 }
 
@@ -80,14 +63,59 @@ fn compare_on<R: Wait + Clock>(
     past: Instant,
 ) -> Result<(), Fault> {
     let mut walk = Walk::new(rt, alloc, lot, shape, seed, past)?;
-    walk_through(rt, alloc, &mut walk);
+    for _ in 0..shape.2 {
+        if walk.parks_left > 0 {
+            nest(rt, alloc, &mut walk, shape.0);
+        }
+    }
     walk.judge()
 }
 
-fn walk_through<R: Wait + Clock>(rt: &R, alloc: Global, walk: &mut Walk<'_, WordParker>) {
-    for _ in 0..walk.shape.parks {
+// Makes some calls, and lets a thread park a few times. While it waits, other threads do the same,
+// as deep as this.
+#[cycle(nest)]
+fn nest<R: Wait + Clock>(rt: &R, alloc: Global, walk: &mut Walk<'_, WordParker>, depth: usize) {
+    if depth == 0 || walk.parks_left == 0 {
+        walk.last_calls(rt, alloc);
+        return;
+    }
+    let Some(mut thread) = walk.take_thread(rt, alloc) else {
+        walk.last_calls(rt, alloc);
+        return;
+    };
+    for _ in 0..MOST_PARKS {
         if walk.parks_left > 0 {
-            nest(rt, alloc, walk, walk.shape.max_threads);
+            walk.parks_left -= 1;
+            park_beside(rt, alloc, walk, &mut thread, depth);
+            walk.calls(rt, alloc);
+        }
+        if !walk.draws.is_one_in(SELDOM) {
+            break;
         }
     }
+    walk.give_thread(rt, thread);
+}
+
+// One that has no timeout is unparked before it sleeps, if it was not yet.
+#[cycle(nest)]
+fn park_beside<R: Wait + Clock>(
+    rt: &R,
+    alloc: Global,
+    walk: &mut Walk<'_, WordParker>,
+    thread: &mut Member<'_, WordParker>,
+    depth: usize,
+)
+    requires { 0 < depth }
+{
+    let number = thread.number();
+    let entry = walk.entry();
+    walk.enter(number, entry);
+    let left = depth - 1;
+    let ended = entry.park(rt, thread, || {
+        nest(rt, alloc, walk, left);
+        if entry.timeout.is_none() {
+            walk.free(rt, number, entry);
+        }
+    });
+    walk.end(number, ended);
 }

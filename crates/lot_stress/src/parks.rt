@@ -1,117 +1,93 @@
 //! `lot_stress parks`: one thread that parks so often that memory which its parks would keep shows
 //! in the size of the process.
 
-use crate::entry::Entry;
+use crate::calls::{Ended, Entry, requeue, unpark_by_filter, unpark_first};
 use crate::fault::Fault;
-use crate::task::{PARKERS, Seen, Task, perform};
-use crate::unparks::unpark_first;
-use lot_threads::{Member, ParkResult, ParkingLot, ThreadParkerT, UnparkToken};
+use lot_threads::{
+    DEFAULT_PARK_TOKEN, Member, ParkResult, ParkingLot, RequeueOp, ThreadParkerT, UnparkToken,
+    unpark_all,
+};
 use std::alloc::Global;
 use std::sync::Wait;
-use std::thread::Threads;
 use std::time::{Clock, Instant};
 
-/// How many parks ended in which way.
-#[derive(Copy, Clone, Default)]
-pub struct Figures {
-    unparked: usize,
-    timed_out: usize,
-}
-
-impl Figures {
-    fn add(&mut self, other: Figures) {
-        self.unparked = self.unparked.wrapping_add(other.unparked);
-        self.timed_out = self.timed_out.wrapping_add(other.timed_out);
-    }
-}
-
-/// Parks so often over each parker, and tells how the parks ended.
-pub fn run<R: Print + Threads + Wait + Clock + Copy + Send + Sync + 'static>(
+/// Parks so often on a lot of its own.
+pub fn run<P: ThreadParkerT, R: Wait + Clock>(
     rt: &R,
     alloc: Global,
     count: usize,
 ) -> Result<(), Fault> {
-    let mut total = Figures::default();
-    for parker in PARKERS {
-        if let Seen::Parks(figures) = perform(rt, alloc, parker, Task::Parks(count))? {
-            total.add(figures);
-        }
-    }
-    println!(rt; "unparked {} timed out {}", total.unparked, total.timed_out)?;
-    Ok(())
-}
-
-/// Parks on one key after another. Of each four parks one ends by a deadline that has passed, and
-/// three by an unpark, one of these with that deadline.
-pub fn park_often<P: ThreadParkerT, R: Wait + Clock>(
-    rt: &R,
-    alloc: Global,
-    count: usize,
-) -> Result<Figures, Fault> {
     let past = Instant::now(rt)?;
     let lot = ParkingLot::<P>::new(alloc, 1)?;
-    park_on_lot(rt, alloc, &lot, count, past)
+    run_on(rt, alloc, &lot, count, past)
 }
 
-fn park_on_lot<P: ThreadParkerT, R: Wait + Clock>(
+fn run_on<P: ThreadParkerT, R: Wait + Clock>(
     rt: &R,
     alloc: Global,
     lot: &ParkingLot<P>,
     count: usize,
     past: Instant,
-) -> Result<Figures, Fault> {
+) -> Result<(), Fault> {
     let mut member = Member::register(rt, alloc, lot)?;
-    let figures = park_on_each_key(rt, &mut member, count, past);
-    member.retire(rt);
-    figures
+    if park_often(rt, &mut member, count, past) == count {
+        Ok(())
+    } else {
+        Err(Fault("the end of a park"))
+    }
 }
 
-fn park_on_each_key<P: ThreadParkerT, R: Wait + Clock>(
+/// Parks on so many keys one after another, each time in the next of eight ways, and answers how
+/// many parks ended as they should. On even keys the thread has a deadline that has passed.
+pub fn park_often<P: ThreadParkerT, R: Wait + Clock>(
     rt: &R,
     member: &mut Member<'_, P>,
     count: usize,
     past: Instant,
-) -> Result<Figures, Fault> {
-    let mut figures = Figures::default();
+) -> usize {
+    let mut right = 0usize;
     for key in 0..count {
-        let ends = if key % 4 == 0 {
-            figures.timed_out = figures.timed_out.wrapping_add(1);
-            times_out(rt, member, key, past)
-        } else {
-            figures.unparked = figures.unparked.wrapping_add(1);
-            is_unparked(rt, member, key, (key % 4 == 1).then_some(past))
+        let lot = member.lot();
+        let entry = Entry {
+            key,
+            valid: key % 8 != 5,
+            park_token: DEFAULT_PARK_TOKEN,
+            timeout: if key % 2 == 0 { Some(past) } else { None },
         };
-        if !ends {
-            return Err(Fault::Unlike("the end of a park"));
-        }
+        let ended = entry.park(rt, member, || unpark(rt, lot, key));
+        right = right.wrapping_add(usize::from(ended == expected(key)));
     }
-    Ok(figures)
+    right
 }
 
-// Parks on the key with a deadline that has passed. Answers whether the deadline ended it, and told
-// that nobody else waits there.
-fn times_out<P: ThreadParkerT, R: Wait + Clock>(
-    rt: &R,
-    member: &mut Member<'_, P>,
-    key: usize,
-    past: Instant,
-) -> bool {
-    let ended = Entry::at(key, Some(past)).park(rt, member, || ());
-    ended == (ParkResult::TimedOut, Some((key, true)))
+// Unparks the thread, which waits alone on the key, in the way of the key, or does not.
+fn unpark<P: ThreadParkerT, R: Wait>(rt: &R, lot: &ParkingLot<P>, key: usize) {
+    let token = UnparkToken(key);
+    match key % 8 {
+        1 | 6 => {
+            unpark_first(rt, lot, key, token);
+        }
+        2 => {
+            unpark_all(rt, lot, key, token);
+        }
+        3 => {
+            unpark_by_filter(rt, lot, key, token);
+        }
+        // To other keys and back, and then out of the lot.
+        4 | 7 => {
+            let (next, last) = (key.wrapping_add(13), key.wrapping_add(7));
+            requeue(rt, lot, key, next, RequeueOp::RequeueAll, token);
+            requeue(rt, lot, next, last, RequeueOp::RequeueOne, token);
+            requeue(rt, lot, last, key, RequeueOp::UnparkOne, token);
+        }
+        _ => (),
+    }
 }
 
-// Parks on the key, where the thread unparks itself before it sleeps. Answers whether that ended
-// the park, with the token that it gave.
-fn is_unparked<P: ThreadParkerT, R: Wait + Clock>(
-    rt: &R,
-    member: &mut Member<'_, P>,
-    key: usize,
-    deadline: Option<Instant>,
-) -> bool {
-    let (lot, token) = (member.lot(), UnparkToken(key));
-    let mut unparked = 0;
-    let ended = Entry::at(key, deadline).park(rt, member, || {
-        unparked = unpark_first(rt, lot, key, token);
-    });
-    unparked == 1 && ended == (ParkResult::Unparked(token), None)
+fn expected(key: usize) -> Ended {
+    match key % 8 {
+        0 => (ParkResult::TimedOut, Some((key, true))),
+        5 => (ParkResult::Invalid, None),
+        _ => (ParkResult::Unparked(UnparkToken(key)), None),
+    }
 }

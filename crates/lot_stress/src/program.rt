@@ -1,154 +1,140 @@
 //! The commands of the program.
 
 use crate::fault::Fault;
-use crate::memory::{ROWS, Scenario};
-use crate::task::{Parker, Task, perform};
-use crate::{cost, locks, memory, nested, parks, race, rest};
+use crate::figures::Figures;
+use crate::memory::SCENARIOS;
+use crate::parkers::{numbered, perform};
+use crate::{cost, nested};
 use std::alloc::Global;
+use std::env;
 use std::process::ExitCode;
 use std::rt::Env;
 use std::sync::Wait;
 use std::thread::Threads;
-use std::time::Clock;
-use std::{env, io};
+use std::time::{Clock, Duration, Instant};
 
-const USAGE_STATUS: u8 = 2;
+const USAGE: &str = "usage: lot_stress memory [SCENARIO word|thread|yield]
+       lot_stress cost
+       lot_stress parks COUNT
+       lot_stress rest MILLISECONDS
+       lot_stress race SECONDS SEED
+       lot_stress locks SECONDS SEED
+       lot_stress nested SEED
+       lot_stress deep SEED";
 
-const USAGE: &[&str] = &[
-    "usage: lot_stress memory [SCENARIO word|thread|yield]",
-    "       lot_stress cost",
-    "       lot_stress parks COUNT",
-    "       lot_stress rest MILLISECONDS",
-    "       lot_stress race SECONDS SEED",
-    "       lot_stress locks SECONDS SEED",
-    "       lot_stress nested [deep] SEED",
-];
-
-#[derive(Copy, Clone)]
-enum Command {
-    List,
-    Memory(Scenario, Parker),
-    Cost,
-    Parks { count: usize },
-    Rest { milliseconds: u64 },
-    Race { seconds: u64, seed: u64 },
-    Locks { seconds: u64, seed: u64 },
-    Nested { is_deep: bool, seed: u64 },
-}
-
-/// Runs the command that the arguments name. Any other words are answered by the usage lines on the
-/// error output and the status 2, and a failure is told there, with the status 1.
+/// Runs the command that the arguments name. A failure is told on the error output, with the status
+/// 1; it is the usage lines where the words are any others.
 pub fn run<
     R: Env + Print + Eprint + AllocGlobal + Threads + Wait + Clock + Copy + Send + Sync + 'static,
 >(rt: &R) -> ExitCode {
-    let Some(command) = chosen_command(rt) else {
-        for line in USAGE {
-            let _ = eprintln!(rt; "{line}");
-        }
-        return ExitCode::from(USAGE_STATUS);
-    };
-    match follow(rt, rt.alloc(), command) {
+    match follow_words(rt) {
         Ok(()) => ExitCode::SUCCESS,
-        Err(fault) => {
-            let _ = eprintln!(rt; "{fault}");
+        Err(Fault(what)) => {
+            let _ = eprintln!(rt; "{what}");
             ExitCode::FAILURE
         }
     }
 }
 
-// The command that the arguments name. Arguments that cannot be read name none.
-fn chosen_command<R: Env + AllocGlobal>(rt: &R) -> Option<Command> {
-    let mut words = env::args(rt).ok()?.skip(1);
-    let command = words.next()?;
+fn follow_words<
+    R: Env + Print + Eprint + AllocGlobal + Threads + Wait + Clock + Copy + Send + Sync + 'static,
+>(rt: &R) -> Result<(), Fault> {
+    let Ok(words) = env::args(rt) else {
+        return Err(Fault(USAGE));
+    };
+    let mut words = words.skip(1);
+    let Some(command) = words.next() else {
+        return Err(Fault(USAGE));
+    };
     let Some(first) = words.next() else {
-        return command_alone(command.as_str());
+        return follow(rt, rt.alloc(), command.as_str(), "", "");
     };
     let Some(second) = words.next() else {
-        return command_with_one(command.as_str(), first.as_str());
+        return follow(rt, rt.alloc(), command.as_str(), first.as_str(), "");
     };
-    if words.next().is_some() {
-        return None;
-    }
-    command_with_two(command.as_str(), first.as_str(), second.as_str())
-}
-
-fn command_alone(command: &str) -> Option<Command> {
-    match command {
-        "memory" => Some(Command::List),
-        "cost" => Some(Command::Cost),
-        _ => None,
-    }
-}
-
-fn command_with_one(command: &str, word: &str) -> Option<Command> {
-    match command {
-        "parks" => Some(Command::Parks {
-            count: word.parse().ok()?,
-        }),
-        "rest" => Some(Command::Rest {
-            milliseconds: word.parse().ok()?,
-        }),
-        "nested" => Some(Command::Nested {
-            is_deep: false,
-            seed: word.parse().ok()?,
-        }),
-        _ => None,
-    }
-}
-
-fn command_with_two(command: &str, first: &str, second: &str) -> Option<Command> {
-    match command {
-        "memory" => Some(Command::Memory(memory::named(first)?, parker_named(second)?)),
-        "race" => Some(Command::Race {
-            seconds: first.parse().ok()?,
-            seed: second.parse().ok()?,
-        }),
-        "locks" => Some(Command::Locks {
-            seconds: first.parse().ok()?,
-            seed: second.parse().ok()?,
-        }),
-        "nested" if first == "deep" => Some(Command::Nested {
-            is_deep: true,
-            seed: second.parse().ok()?,
-        }),
-        _ => None,
-    }
-}
-
-fn parker_named(name: &str) -> Option<Parker> {
-    match name {
-        "word" => Some(Parker::OfOneWord),
-        "thread" => Some(Parker::Sleeping),
-        "yield" => Some(Parker::Yielding),
-        _ => None,
-    }
+    follow(
+        rt,
+        rt.alloc(),
+        command.as_str(),
+        first.as_str(),
+        second.as_str(),
+    )
 }
 
 fn follow<R: Print + Eprint + Threads + Wait + Clock + Copy + Send + Sync + 'static>(
     rt: &R,
     alloc: Global,
-    command: Command,
+    command: &str,
+    first: &str,
+    second: &str,
 ) -> Result<(), Fault> {
     match command {
-        Command::List => print_names(rt)?,
-        Command::Memory(scenario, parker) => {
-            perform(rt, alloc, parker, Task::Memory(scenario))?;
+        "memory" if first.is_empty() => print!(rt; "{SCENARIOS}")?,
+        "memory" => {
+            perform(rt, alloc, numbered(second), first, 0)?;
         }
-        Command::Cost => cost::run(rt, alloc)?,
-        Command::Parks { count } => parks::run(rt, alloc, count)?,
-        Command::Rest { milliseconds } => rest::run(rt, alloc, milliseconds)?,
-        Command::Race { seconds, seed } => race::run(rt, alloc, seconds, seed)?,
-        Command::Locks { seconds, seed } => locks::run(rt, alloc, seconds, seed)?,
-        Command::Nested { is_deep, seed } => nested::run(rt, alloc, is_deep, seed)?,
+        "cost" => cost::run(alloc)?,
+        "parks" => perform_each(rt, alloc, 3, command, number(first)?)?,
+        // A parker that yields does not sleep.
+        "rest" => perform_each(rt, alloc, 2, command, number(first)?)?,
+        "race" => run_rounds(rt, alloc, command, number(first)?, number(second)?)?.print(rt)?,
+        "locks" => {
+            run_rounds(rt, alloc, command, number(first)?, number(second)?)?;
+        }
+        "nested" => nested::run(rt, alloc, false, number(first)?)?,
+        "deep" => nested::run(rt, alloc, true, number(first)?)?,
+        _ => return Err(Fault(USAGE)),
     }
     Ok(())
 }
 
-// The scenarios by their names, each with how many of its requests are to be refused, and with
-// which parkers it is to be run.
-fn print_names<R: Print>(rt: &R) -> io::Result<()> {
-    for (_, kind, name, parkers) in ROWS {
-        println!(rt; "{kind} {name} {parkers}")?;
+fn number(word: &str) -> Result<u64, Fault> {
+    match word.parse() {
+        Ok(number) => Ok(number),
+        Err(_) => Err(Fault(USAGE)),
     }
+}
+
+// Does the task with each of so many parkers.
+fn perform_each<R: Print + Eprint + Threads + Wait + Clock + Copy + Send + Sync + 'static>(
+    rt: &R,
+    alloc: Global,
+    parkers: u64,
+    task: &str,
+    number: u64,
+) -> Result<(), Fault> {
+    for parker in 0..parkers {
+        perform(rt, alloc, parker, task, number)?;
+    }
+    println!(rt; "{task} {number}: as it should be with {parkers} parkers")?;
     Ok(())
+}
+
+// Plays rounds of the task for so long, each on a lot of its own, with each parker by turns, tells
+// how many they were, and answers the sum of all. The seed of a round is that of the one before and
+// one more, so a round that failed is the first of those with its seed.
+fn run_rounds<R: Print + Eprint + Threads + Wait + Clock + Copy + Send + Sync + 'static>(
+    rt: &R,
+    alloc: Global,
+    task: &str,
+    seconds: u64,
+    seed: u64,
+) -> Result<Figures, Fault> {
+    let start = Instant::now(rt)?;
+    let mut total = Figures::default();
+    for number in 0..u64::MAX {
+        if start.elapsed(rt)? >= Duration::from_secs(seconds) {
+            println!(rt; "{task}: {number} rounds as they should be")?;
+            break;
+        }
+        let seed = seed.wrapping_add(number);
+        match perform(rt, alloc, seed, task, seed) {
+            Ok(figures) => total.add(figures),
+            Err(fault) => {
+                eprintln!(rt; "a round failed: lot_stress {task} 1 {seed}")?;
+                return Err(fault);
+            }
+        }
+    }
+    Ok(total)
 }

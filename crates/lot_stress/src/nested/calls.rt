@@ -1,11 +1,16 @@
 //! Calls that do not wait, each of both lots.
 
-use super::keys::key_at;
-use super::sieve::Sieve;
-use super::walk::{Call, Walk};
-use lot_threads::{ParkToken, ThreadParkerT, UnparkToken};
+use super::walk::{Call, Walk, key_at};
+use crate::calls::Entry;
+use lot_simulator::lot::Status;
+use lot_threads::{FilterOp, ParkToken, ThreadParkerT, UnparkToken};
 use std::alloc::Global;
 use std::sync::Wait;
+
+// Which waiting threads a filter unparks: the one of this token alone; or, without one, those whose
+// token and the first number have a bit in common, and it stops at those that have all bits of the
+// second.
+type Sieve = (Option<ParkToken>, usize, usize);
 
 const MOST_CALLS: usize = 4;
 
@@ -17,7 +22,7 @@ const LAST_CALLS: usize = 24;
 impl<'a, P: ThreadParkerT> Walk<'a, P> {
     /// Makes a few calls, or none.
     pub(super) fn calls<R: Wait>(&mut self, rt: &R, alloc: Global) {
-        if !self.draws.is_one_in(self.shape.quiet) {
+        if !self.draws.is_one_in(self.shape.3) {
             return;
         }
         for _ in 0..self.draws.below(MOST_CALLS) {
@@ -33,61 +38,51 @@ impl<'a, P: ThreadParkerT> Walk<'a, P> {
     }
 
     fn call<R: Wait>(&mut self, rt: &R, alloc: Global) {
-        let key = self.key();
+        let (key, token) = (self.key(), UnparkToken(self.draws.next() as usize));
         match self.draws.below(16) {
-            0 => self.unpark_all(rt, key),
-            1..=4 => self.unpark_one(rt, key),
+            0 => {
+                let count = self.me.unpark_all(rt, key, token);
+                let expected = self.machine.unpark_all(key, token);
+                self.expect(count == expected, Call::UnparkAll);
+            }
+            1..=4 => {
+                let result = self.me.unpark_one(rt, key, |_| token);
+                let expected = self.machine.unpark_one(key, |_| token);
+                self.expect(result == expected, Call::UnparkOne);
+            }
             5..=7 => {
                 // Some of the first waiters.
                 let unparks = (self.draws.next() & self.draws.next()) as usize;
                 let stops = (self.draws.next() & self.draws.next() & 0xFFF) as usize;
-                self.unpark_filter(rt, key, Sieve::Bits { unparks, stops });
+                self.unpark_chosen(rt, key, token, (None, unparks, stops));
             }
-            8..=10 => self.requeue(rt, key),
+            8..=10 => self.requeue(rt, key, token),
             11 => self.trim(rt),
             12 => self.come(rt, alloc),
             13 => {
                 self.go(rt);
                 self.trim(rt);
             }
-            _ => self.list(rt, alloc, key),
+            _ => {
+                let listed = self.me.list(rt, alloc, key);
+                let expected = self.machine.list(key);
+                self.expect(listed == expected, Call::List);
+            }
         }
     }
 
-    fn token(&mut self) -> UnparkToken {
-        UnparkToken(self.draws.next() as usize)
-    }
-
-    fn unpark_one<R: Wait>(&mut self, rt: &R, key: usize) {
-        let token = self.token();
-        let result = self.me.unpark_one(rt, key, |_| token);
-        let expected = self.machine.unpark_one(key, |_| token);
-        self.expect(result == expected, Call::UnparkOne);
-    }
-
-    /// Unparks all waiters of the key.
-    pub(super) fn unpark_all<R: Wait>(&mut self, rt: &R, key: usize) {
-        let token = self.token();
-        let count = self.me.unpark_all(rt, key, token);
-        let expected = self.machine.unpark_all(key, token);
-        self.expect(count == expected, Call::UnparkAll);
-    }
-
-    fn unpark_filter<R: Wait>(&mut self, rt: &R, key: usize, sieve: Sieve) {
-        let token = self.token();
+    fn unpark_chosen<R: Wait>(&mut self, rt: &R, key: usize, token: UnparkToken, sieve: Sieve) {
         let result = self
             .me
-            .unpark_chosen(rt, key, |park_token| sieve.decide(park_token), |_| token);
+            .unpark_chosen(rt, key, |waiting| decide(waiting, sieve), |_| token);
         let expected = self
             .machine
-            .unpark_chosen(key, |park_token| sieve.decide(park_token), |_| token);
+            .unpark_chosen(key, |waiting| decide(waiting, sieve), |_| token);
         self.expect(result == expected, Call::UnparkFilter);
     }
 
-    fn requeue<R: Wait>(&mut self, rt: &R, from: usize) {
-        let to = self.key();
-        let op = self.draws.requeue_op();
-        let token = self.token();
+    fn requeue<R: Wait>(&mut self, rt: &R, from: usize, token: UnparkToken) {
+        let (to, op) = (self.key(), self.draws.requeue_op());
         let result = self.me.unpark_requeue(rt, from, to, || op, |_, _| token);
         let expected = self.machine.unpark_requeue(from, to, || op, |_, _| token);
         self.expect(result == expected, Call::UnparkRequeue);
@@ -117,30 +112,36 @@ impl<'a, P: ThreadParkerT> Walk<'a, P> {
         }
     }
 
-    /// Compares who waits on the key.
-    pub(super) fn list<R: Wait>(&mut self, rt: &R, alloc: Global, key: usize) {
-        let listed = self.me.list(rt, alloc, key);
-        let expected = self.machine.list(key);
-        self.expect(listed == expected, Call::List);
-    }
-
-    /// Unparks this thread, which waits on this key or was requeued.
-    pub(super) fn free<R: Wait>(
-        &mut self,
-        rt: &R,
-        number: usize,
-        key: usize,
-        park_token: ParkToken,
-    ) {
-        let sieve = Sieve::Only(park_token);
+    /// Unparks this thread alone, which waits on this key or was requeued, by its token.
+    pub(super) fn free<R: Wait>(&mut self, rt: &R, number: usize, entry: Entry) {
+        let token = UnparkToken(self.draws.next() as usize);
+        let sieve = (Some(entry.park_token), 0, 0);
         if self.is_waiting(number) {
-            self.unpark_filter(rt, key, sieve);
+            self.unpark_chosen(rt, entry.key, token, sieve);
         }
-        for index in 0..self.shape.keys {
+        for index in 0..self.shape.1 {
             if !self.is_waiting(number) {
                 return;
             }
-            self.unpark_filter(rt, key_at(index), sieve);
+            self.unpark_chosen(rt, key_at(index), token, sieve);
         }
+    }
+
+    // Whether the thread waits, as the exclusive lot has it.
+    fn is_waiting(&self, number: usize) -> bool {
+        matches!(self.machine.status(number), Status::Waiting { .. })
+    }
+}
+
+// What a filter answers to a park token.
+fn decide(park_token: ParkToken, sieve: Sieve) -> FilterOp {
+    let (only, unparks, stops) = sieve;
+    let is_stop = only.is_none() && park_token.0 & stops == stops;
+    if is_stop {
+        FilterOp::Stop
+    } else if only == Some(park_token) || park_token.0 & unparks != 0 {
+        FilterOp::Unpark
+    } else {
+        FilterOp::Skip
     }
 }

@@ -1,27 +1,20 @@
 //! A walk: a lot that threads share and the exclusive one, side by side, and what was compared.
 
-use super::keys::key_at;
+use crate::calls::{Ended, Entry};
 use crate::draws::Draws;
-use crate::entry::{Ended, Entry};
 use crate::fault::Fault;
 use lot_simulator::lot::{Lot, Status};
-use lot_threads::{LotError, Member, ParkResult, ParkToken, ParkingLot, ThreadParkerT};
+use lot_threads::{Member, ParkResult, ParkToken, ParkingLot, ThreadParkerT};
 use std::alloc::Global;
 use std::sync::Wait;
 use std::time::Instant;
 
-/// How large a walk is.
-#[derive(Copy, Clone)]
-pub struct Shape {
-    pub max_threads: usize,
-    pub keys: usize,
+/// How large a walk is: how many threads there can be, how many keys there are, how many parks
+/// there are at most, and that calls are made beside one in so many of the waiting threads.
+pub type Shape = (usize, usize, usize, usize);
 
-    /// How many parks there are at most.
-    pub parks: usize,
-
-    /// Calls are made beside one in so many of the waiting threads.
-    pub quiet: usize,
-}
+// Added to a key it gives one that has the same place in nearly every table.
+const NEIGHBOR: usize = 75_025;
 
 /// A call whose answers are compared.
 #[derive(Copy, Clone)]
@@ -38,38 +31,6 @@ pub(super) enum Call {
     List,
 }
 
-impl Call {
-    fn name(self) -> &'static str {
-        match self {
-            Call::Register => "a registration",
-            Call::Retire => "a retirement",
-            Call::Enter => "the entry of a park",
-            Call::Park => "the end of a park",
-            Call::UnparkOne => "unpark_one",
-            Call::UnparkAll => "unpark_all",
-            Call::UnparkFilter => "unpark_filter",
-            Call::UnparkRequeue => "unpark_requeue",
-            Call::Trim => "trim",
-            Call::List => "list",
-        }
-    }
-}
-
-// How many parks ended in which way.
-#[derive(Copy, Clone, Default)]
-struct Figures {
-    refused: usize,
-    unparked: usize,
-    timed_out: usize,
-}
-
-impl Figures {
-    // Whether parks ended in each way.
-    fn are_all_seen(&self) -> bool {
-        self.refused > 0 && self.unparked > 0 && self.timed_out > 0
-    }
-}
-
 /// The thread that unparks the others of its lot, and what the lot is compared with.
 #[derive(Drop)]
 pub(super) struct Walk<'a, P: ThreadParkerT> {
@@ -78,10 +39,45 @@ pub(super) struct Walk<'a, P: ThreadParkerT> {
     pub(super) idle: Vec<Member<'a, P>>,
     pub(super) draws: Draws,
     pub(super) shape: Shape,
-    figures: Figures,
     pub(super) parks_left: usize,
     past: Instant,
+    // How many parks were refused, unparked and late.
+    ends: (usize, usize, usize),
+    // The first call that was answered differently.
     unlike: Option<Call>,
+}
+
+fn name_of(call: Call) -> &'static str {
+    match call {
+        Call::Register => "a registration",
+        Call::Retire => "a retirement",
+        Call::Enter => "the entry of a park",
+        Call::Park => "the end of a park",
+        Call::UnparkOne => "unpark_one",
+        Call::UnparkAll => "unpark_all",
+        Call::UnparkFilter => "unpark_filter",
+        Call::UnparkRequeue => "unpark_requeue",
+        Call::Trim => "trim",
+        Call::List => "list",
+    }
+}
+
+/// The key of this index. The first three have one place in a table of 16 buckets, and the first
+/// two in every table; then come the greatest and some that differ in one bit, and then others that
+/// look random, three by three with one place.
+pub(super) fn key_at(index: usize) -> usize {
+    match index {
+        0 => 0,
+        1 => NEIGHBOR,
+        2 => 13,
+        3 => usize::MAX,
+        4 => 1 << 32,
+        5 => 1 << 63,
+        _ => {
+            let first = Draws((index / 3) as u64).next() as usize;
+            first.wrapping_add((index % 3).wrapping_mul(NEIGHBOR))
+        }
+    }
 }
 
 impl<'a, P: ThreadParkerT> Walk<'a, P> {
@@ -94,30 +90,28 @@ impl<'a, P: ThreadParkerT> Walk<'a, P> {
         seed: u64,
         past: Instant,
     ) -> Result<Walk<'a, P>, Fault> {
-        let machine = lot_of_one(alloc, shape.max_threads)?;
-        let idle = Vec::with_capacity(alloc, shape.max_threads);
-        let (Ok(idle), Ok(me)) = (idle, Member::register(rt, alloc, lot)) else {
-            return Err(Fault::NotMade);
-        };
-        Ok(Walk {
-            me,
-            machine,
-            idle,
-            draws: Draws::new(seed),
+        let mut walk = Walk {
+            me: Member::register(rt, alloc, lot)?,
+            machine: Lot::new(alloc, shape.0)?,
+            idle: Vec::with_capacity(alloc, shape.0)?,
+            draws: Draws(seed),
             shape,
-            figures: Figures::default(),
-            parks_left: shape.parks,
+            parks_left: shape.2,
             past,
+            ends: (0, 0, 0),
             unlike: None,
-        })
+        };
+        walk.machine.register()?;
+        Ok(walk)
     }
 
     /// Fails if the two lots answered a call differently, or no park ended in one of the ways.
     pub(super) fn judge(&self) -> Result<(), Fault> {
+        let (refused, unparked, late) = self.ends;
         match self.unlike {
-            Some(call) => Err(Fault::Unlike(call.name())),
-            None if self.figures.are_all_seen() => Ok(()),
-            None => Err(Fault::Unlike("how parks ended")),
+            Some(call) => Err(Fault(name_of(call))),
+            None if refused > 0 && unparked > 0 && late > 0 => Ok(()),
+            None => Err(Fault("how parks ended")),
         }
     }
 
@@ -128,12 +122,9 @@ impl<'a, P: ThreadParkerT> Walk<'a, P> {
         }
     }
 
+    /// One of the keys of the walk.
     pub(super) fn key(&mut self) -> usize {
-        key_at(
-            (self.draws.next() as usize)
-                .checked_rem(self.shape.keys)
-                .unwrap_or(0),
-        )
+        key_at(self.draws.below(self.shape.1))
     }
 
     pub(super) fn entry(&mut self) -> Entry {
@@ -203,11 +194,6 @@ impl<'a, P: ThreadParkerT> Walk<'a, P> {
         }
     }
 
-    /// Whether the thread waits, as the exclusive lot has it.
-    pub(super) fn is_waiting(&self, number: usize) -> bool {
-        matches!(self.machine.status(number), Status::Waiting { .. })
-    }
-
     /// Enters the exclusive lot.
     pub(super) fn enter(&mut self, number: usize, entry: Entry) {
         let entered = self.machine.enter(
@@ -225,49 +211,27 @@ impl<'a, P: ThreadParkerT> Walk<'a, P> {
         let expected = self.expected_end(number);
         self.expect(ended == expected, Call::Park);
         match expected.0 {
-            ParkResult::Invalid => self.figures.refused = self.figures.refused.wrapping_add(1),
-            ParkResult::Unparked(_) => {
-                self.figures.unparked = self.figures.unparked.wrapping_add(1);
-            }
-            ParkResult::TimedOut => {
-                self.figures.timed_out = self.figures.timed_out.wrapping_add(1);
-            }
+            ParkResult::Invalid => self.ends.0 = self.ends.0.wrapping_add(1),
+            ParkResult::Unparked(_) => self.ends.1 = self.ends.1.wrapping_add(1),
+            ParkResult::TimedOut => self.ends.2 = self.ends.2.wrapping_add(1),
         }
     }
 
+    // A thread that was not taken is late, and one that does not wait was refused.
     fn expected_end(&mut self, number: usize) -> Ended {
-        match self.machine.status(number) {
-            Status::Taken(_) => (self.expected_token(number), None),
-            Status::Waiting { .. } => self.expected_timeout(number),
-            Status::Free | Status::Running | Status::Late => (ParkResult::Invalid, None),
-        }
-    }
-
-    fn expected_token(&mut self, number: usize) -> ParkResult {
-        match self.machine.give_back(number) {
-            Ok(token) => ParkResult::Unparked(token),
-            Err(_) => ParkResult::Invalid,
-        }
-    }
-
-    fn expected_timeout(&mut self, number: usize) -> Ended {
-        let mut told = None;
-        if self.machine.deadline(number).is_err() {
-            return (ParkResult::Invalid, None);
-        }
-        match self
-            .machine
-            .resolve(number, |key, last| told = Some((key, last)))
+        if let Status::Taken(_) = self.machine.status(number)
+            && let Ok(token) = self.machine.give_back(number)
         {
-            Ok(result) => (result, told),
-            Err(_) => (ParkResult::Invalid, None),
+            return (ParkResult::Unparked(token), None);
         }
+        let mut told = None;
+        if self.machine.deadline(number).is_ok()
+            && let Ok(result) = self
+                .machine
+                .resolve(number, |key, last| told = Some((key, last)))
+        {
+            return (result, told);
+        }
+        (ParkResult::Invalid, None)
     }
-}
-
-// The exclusive lot with one thread.
-fn lot_of_one(alloc: Global, max_threads: usize) -> Result<Lot, LotError> {
-    let mut lot = Lot::new(alloc, max_threads)?;
-    lot.register()?;
-    Ok(lot)
 }

@@ -1,5 +1,5 @@
 use Rattle.std.proofs.Common.{◌+◌, ◌*◌}
-use Rattle.lot_stress.proofs.nested.nest.+nest.Given as goal
+use Rattle.lot_stress.proofs.nested.+nest.Given as goal
 
 abbrev pub decreases-nest : goal.decreases-nest
 decreases-nest g l = 3 * l.depth + 2

@@ -1,0 +1,291 @@
+//! Scenarios on the lot of threads, and on what is made, with one thread.
+
+use super::tell;
+use crate::calls::Entry;
+use crate::fault::Fault;
+use crate::locks::Pair;
+use crate::marks;
+use crate::parks::park_often;
+use crate::word_lock::Count;
+use lot_base::word_lock::WordLock;
+use lot_sync::mutex::Mutex;
+use lot_sync::once::{Once, OnceValue};
+use lot_threads::{
+    MAX_THREADS, Member, ParkResult, ParkingLot, SpinWait, ThreadParkerT, UnparkToken,
+    thread_yield, unpark_all,
+};
+use std::alloc::Global;
+use std::sync::Wait;
+use std::time::{Clock, Instant};
+
+// Keys of which the first two have one bucket of 16.
+const KEYS: [usize; 3] = [0, 13, 7];
+
+// How many numbers the lot has.
+const MOST: usize = 1_024;
+
+// A lot for so many is made with few enough requests to refuse each in turn.
+const SOME: usize = 40;
+
+// As many threads as have three buckets each of 16.
+const FEW: usize = 5;
+
+const RECORDINGS: usize = 130;
+
+const PARKS: usize = 16;
+
+/// Does the scenario's calls on a new lot.
+pub(super) fn play<P: ThreadParkerT, R: Print + Wait + Clock>(
+    rt: &R,
+    alloc: Global,
+    name: &str,
+) -> Result<(), Fault> {
+    let most = if name == "all_registered_twice" {
+        MAX_THREADS
+    } else {
+        MOST
+    };
+    let past = Instant::now(rt)?;
+    let lot = ParkingLot::<P>::new(alloc, most)?;
+    play_on(rt, alloc, &lot, name, past)
+}
+
+fn play_on<P: ThreadParkerT, R: Print + Wait + Clock>(
+    rt: &R,
+    alloc: Global,
+    lot: &ParkingLot<P>,
+    name: &str,
+    past: Instant,
+) -> Result<(), Fault> {
+    let mut members = Vec::with_capacity(alloc, lot.max_threads())?;
+    play_with(rt, alloc, lot, &mut members, name, past)
+}
+
+fn play_with<'a, P: ThreadParkerT, R: Print + Wait + Clock>(
+    rt: &R,
+    alloc: Global,
+    lot: &'a ParkingLot<P>,
+    members: &mut Vec<Member<'a, P>>,
+    name: &str,
+    past: Instant,
+) -> Result<(), Fault> {
+    prepare(rt, alloc, lot, members, name)?;
+    show(rt, "before", members)?;
+    marks::begin(alloc);
+    let answer = call(rt, alloc, lot, members, name, past);
+    marks::end(alloc);
+    tell(rt, answer)?;
+    show(rt, "after", members)?;
+    register_and_wait(rt, alloc, lot, members)
+}
+
+// Registers those who are there before.
+fn prepare<'a, P: ThreadParkerT, R: Wait>(
+    rt: &R,
+    alloc: Global,
+    lot: &'a ParkingLot<P>,
+    members: &mut Vec<Member<'a, P>>,
+    name: &str,
+) -> Result<(), Fault> {
+    match name {
+        "registrations" => (),
+        "all_registered_twice" => register_often(rt, alloc, lot, members, 1)?,
+        "parking_lot_trim_far" => {
+            register_often(rt, alloc, lot, members, MOST)?;
+            retire_all_but(rt, members, FEW);
+        }
+        _ => register_often(rt, alloc, lot, members, FEW)?,
+    }
+    if let Some(member) = members.first_mut() {
+        member.acquire_resource(KEYS[0])?;
+    }
+    Ok(())
+}
+
+// Does the calls that are counted, and answers how many were not refused, or how much they did.
+fn call<'a, P: ThreadParkerT, R: Wait + Clock>(
+    rt: &R,
+    alloc: Global,
+    lot: &'a ParkingLot<P>,
+    members: &mut Vec<Member<'a, P>>,
+    name: &str,
+    past: Instant,
+) -> Result<usize, Fault> {
+    match name {
+        "thread_data" => register_often(rt, alloc, lot, members, 1)?,
+        "registrations" => {
+            for _ in 0..MOST {
+                let _ = register_often(rt, alloc, lot, members, 1);
+            }
+        }
+        "all_registered_twice" => {
+            register_often(rt, alloc, lot, members, MAX_THREADS - 1)?;
+            retire_all_but(rt, members, 1);
+            lot.trim(rt);
+            register_often(rt, alloc, lot, members, MAX_THREADS - 1)?;
+        }
+        // The rows that the first registrations made are found again.
+        "parking_lot_trim_far" => {
+            lot.trim(rt);
+            register_often(rt, alloc, lot, members, MOST - FEW)?;
+        }
+        _ => {
+            return match members.first_mut() {
+                Some(member) => call_of_one(rt, alloc, member, name, past),
+                None => Err(Fault("nobody who is registered")),
+            };
+        }
+    }
+    Ok(members.len())
+}
+
+fn call_of_one<P: ThreadParkerT, R: Wait + Clock>(
+    rt: &R,
+    alloc: Global,
+    member: &mut Member<'_, P>,
+    name: &str,
+    past: Instant,
+) -> Result<usize, Fault> {
+    match name {
+        "parking_lot_list" => list_in_a_park(rt, alloc, member, KEYS[0]),
+        "acquire_resource" => Ok(record_often(member)),
+        "park" => {
+            let right = park_often(rt, member, PARKS, past);
+            member.release_resource(KEYS[0]);
+            member.release_resource(KEYS[0]);
+            // Nobody waits, and such a list needs no memory.
+            let listed = member.list(rt, alloc, KEYS[0])?;
+            Ok(right.wrapping_add(listed.len()))
+        }
+        "spin_wait" => Ok(spin_each_way()),
+        _ => make::<P>(alloc, name),
+    }
+}
+
+// Makes what the name says, and drops it.
+fn make<P: ThreadParkerT>(alloc: Global, name: &str) -> Result<usize, Fault> {
+    match name {
+        "parking_lot_new" => drop(ParkingLot::<P>::new(alloc, SOME)?),
+        "word_lock_new" => drop(WordLock::new(alloc, Count(0), &())?),
+        "mutex_new" => drop(Mutex::new(alloc, KEYS[0], Pair::zero())?),
+        "once_new" => drop(Once::new(alloc, KEYS[0])?),
+        "once_value_new" => drop(OnceValue::<Pair>::new(alloc, KEYS[0])?),
+        _ => return Err(Fault("no scenario of this name")),
+    }
+    Ok(1)
+}
+
+// Registers so many more threads.
+fn register_often<'a, P: ThreadParkerT, R: Wait>(
+    rt: &R,
+    alloc: Global,
+    lot: &'a ParkingLot<P>,
+    members: &mut Vec<Member<'a, P>>,
+    calls: usize,
+) -> Result<(), Fault> {
+    for _ in 0..calls {
+        members.push(Member::register(rt, alloc, lot)?)?;
+    }
+    Ok(())
+}
+
+fn retire_all_but<P: ThreadParkerT, R: Wait>(
+    rt: &R,
+    members: &mut Vec<Member<'_, P>>,
+    left: usize,
+) {
+    for _ in left..members.len() {
+        if let Some(member) = members.pop() {
+            member.retire(rt);
+        }
+    }
+}
+
+// Records resources for the thread, and answers how often it did. A refusal leaves the others.
+fn record_often<P: ThreadParkerT>(member: &mut Member<'_, P>) -> usize {
+    let mut recorded = 0usize;
+    for call in 0..RECORDINGS {
+        let is_recorded = member.acquire_resource(KEYS[call % 3]).is_ok();
+        recorded = recorded.wrapping_add(usize::from(is_recorded));
+    }
+    recorded
+}
+
+// The thread parks on the key, is listed alone, and is unparked.
+fn list_in_a_park<P: ThreadParkerT, R: Wait + Clock>(
+    rt: &R,
+    alloc: Global,
+    member: &mut Member<'_, P>,
+    key: usize,
+) -> Result<usize, Fault> {
+    let (lot, number, token) = (member.lot(), member.number(), UnparkToken(key));
+    let mut listed = None;
+    let (result, _) = Entry::at(key, None).park(rt, member, || {
+        listed = Some(lot.list(rt, alloc, key));
+        unpark_all(rt, lot, key, token);
+    });
+    let Some(waiting) = listed else {
+        return Err(Fault("a park that did not wait"));
+    };
+    if waiting?.as_slice() == [number].as_slice() && result == ParkResult::Unparked(token) {
+        Ok(1)
+    } else {
+        Err(Fault("a list of one who waits, or its token"))
+    }
+}
+
+// All of `SpinWait`, and `thread_yield`. Answers how many of twelve spins asked for more.
+fn spin_each_way() -> usize {
+    let mut wait = SpinWait::new();
+    let mut again = 0usize;
+    for _ in 0..12 {
+        again = again.wrapping_add(usize::from(wait.spin()));
+    }
+    wait.reset();
+    for _ in 0..12 {
+        wait.spin_no_yield();
+    }
+    for _ in 0..3 {
+        thread_yield();
+    }
+    again
+}
+
+// Shows how many are registered, and what the first of them has recorded.
+fn show<P: ThreadParkerT, R: Print>(
+    rt: &R,
+    moment: &str,
+    members: &[Member<'_, P>],
+) -> Result<(), Fault> {
+    let mut records = 0;
+    if let Some(member) = members.first() {
+        records = member.records(KEYS[0]);
+    }
+    let registered = members.len();
+    println!(rt; "{moment} registered {registered} records {records}")?;
+    Ok(())
+}
+
+// Registrations that were refused have no number: the next gives the least. The first thread can
+// wait on each key.
+fn register_and_wait<'a, P: ThreadParkerT, R: Wait + Clock>(
+    rt: &R,
+    alloc: Global,
+    lot: &'a ParkingLot<P>,
+    members: &mut Vec<Member<'a, P>>,
+) -> Result<(), Fault> {
+    if members.len() < lot.max_threads() {
+        register_often(rt, alloc, lot, members, 1)?;
+    }
+    if let Some(member) = members.last()
+        && member.number().wrapping_add(1) != members.len()
+    {
+        return Err(Fault("the number after a registration"));
+    }
+    if let Some(member) = members.first_mut() {
+        for key in KEYS {
+            list_in_a_park(rt, alloc, member, key)?;
+        }
+    }
+    Ok(())
+}
