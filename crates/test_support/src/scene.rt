@@ -156,8 +156,8 @@ fn all_begun(text: &str, values: &[usize]) -> usize {
     threads
 }
 
-// What the thread at this place is: its block, and its number, if it registers. The place 0 has what
-// goes before all threads.
+// What the thread at this place is: its block, and its number, if it registers. The place 0 has
+// what goes before all threads.
 fn part_of(text: &str, values: &[usize], place: usize) -> (usize, Option<usize>) {
     let (mut block, mut before, mut number) = (0_usize, 1_usize, 0_usize);
     for line in text.lines() {

@@ -53,9 +53,9 @@ fn a_late_thread_that_was_moved_after_a_change_of_rows_leaves_its_new_key(rt: Ho
     }
 }
 
-// A thread lists a bucket while a section of its key lets another thread come to it and the table
-// then changes its row. It refuses an unpark and a requeue that look in the old row for ever where
-// the bucket is away.
+// A section of the key stays until an unpark has come to its bucket, and lets the table grow before
+// that has gone on. It refuses an unpark and a requeue that look in the old row for ever where the
+// bucket is away.
 #[test]
 fn an_unpark_that_a_growth_overtakes_finds_who_waits(rt: HostRuntime) {
     let scene = "

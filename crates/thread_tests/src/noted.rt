@@ -5,9 +5,9 @@ use crate::played::goes_well;
 // The one that moves the thread comes a little later in each round.
 const ROUNDS: usize = 32;
 
-// It refuses a park that notes its key once it has let the bucket go, and woken whoever slept there.
-// In some rounds a requeue that comes meanwhile notes the new key first then, and the thread looks
-// for itself in its old queue for ever.
+// It refuses a park that notes its key once it has let the bucket go, and woken whoever slept
+// there. In some rounds a requeue that comes meanwhile notes the new key first then, and the thread
+// looks for itself in its old queue for ever.
 #[test]
 fn a_park_notes_its_key_before_it_lets_its_bucket_go(rt: HostRuntime) {
     let scene = "

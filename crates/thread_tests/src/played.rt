@@ -1,4 +1,5 @@
-//! Scenes that are to go well. One function names the parkers, since a proof pays for each that does.
+//! Scenes that are to go well. One function names the parkers, since a proof pays for each that
+//! does.
 
 use crate::expect_equal;
 use lot_threads::{ThreadParker, ThreadParkerT, WordParker, YieldParker};

@@ -45,7 +45,8 @@ fn an_unpark_by_a_filter_calls_its_closures_in_its_section(rt: HostRuntime) {
     goes_well(&rt, scene, &[]);
 }
 
-// It refuses a requeue that calls its `validate` or its `callback` without the locks of the buckets.
+// It refuses a requeue that calls its `validate` or its `callback` without the locks of its two
+// buckets.
 #[test]
 fn a_requeue_calls_its_closures_in_its_section(rt: HostRuntime) {
     let scene = "
