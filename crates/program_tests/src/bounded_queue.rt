@@ -143,8 +143,8 @@ where
     expect_sum(rt, alloc, &lot, &queue);
 }
 
-// It refuses a `put` that sleeps while a place is free, or overwrites, a `take` in another order, or
-// that takes a number twice, and where there is one place, which is full or empty at each look,
+// It refuses a `put` that sleeps while a place is free, or overwrites, a `take` in another order,
+// or that takes a number twice, and where there is one place, which is full or empty at each look,
 // changes that are told to one sleeper alone.
 #[test]
 fn consumers_take_what_producers_put_in_its_order(rt: HostRuntime) {

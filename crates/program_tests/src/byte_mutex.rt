@@ -211,8 +211,8 @@ where
     expect_equal(rt, is_locked_once(rt, &shared), true);
 }
 
-// It refuses a `lock` that does not wait, an `unlock` that wakes nobody, forgets the waiters who are
-// left, or hands the mutex over and unlocks it too, and a mutex that is not free in the end.
+// It refuses a `lock` that does not wait, an `unlock` that wakes nobody, forgets the waiters who
+// are left, or hands the mutex over and unlocks it too, and a mutex that is not free in the end.
 #[test]
 fn waiters_are_handed_the_mutex_in_turn(rt: HostRuntime) {
     all_count::<WordParker, _>(&rt, rt.alloc());
@@ -312,9 +312,9 @@ where
     come_while_another_is_woken::<P, _>(rt, alloc);
 }
 
-// It refuses a `lock` that sleeps while the byte tells that nobody waits, since whoever unlocks then
-// looks for no waiter, and an `unlock` that changes the byte behind its section, since it would not
-// know of a thread that came to wait meanwhile.
+// It refuses a `lock` that sleeps while the byte tells that nobody waits, since whoever unlocks
+// then looks for no waiter, and an `unlock` that changes the byte behind its section, since it
+// would not know of a thread that came to wait meanwhile.
 #[test]
 fn who_comes_to_wait_beside_an_unlock_is_woken(rt: HostRuntime) {
     come_at_a_bad_time::<SlowParker, _>(&rt, rt.alloc());

@@ -159,8 +159,8 @@ where
     told.last().copied().flatten()
 }
 
-// It refuses a `release` that does not tell that a thread waited, and a second one that wakes nobody
-// while the first permit is free still.
+// It refuses a `release` that does not tell that a thread waited, and a second one that wakes
+// nobody while the first permit is free still.
 #[test]
 fn each_release_wakes_a_thread_that_waits(rt: HostRuntime) {
     for waiters in [1, 2, 3] {
