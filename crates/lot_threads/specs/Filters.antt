@@ -39,6 +39,13 @@ module _ {F C : Type 0} (f : Mut F (ParkToken × Unit {0}) FilterOp) (c : Once C
       pub decided : IsFiltered f filter tokens decisions
       pub called : c.post callback (result, tt) token
 
+    -- on some park tokens the filter decided, and then the callback was handed this result
+    pub record WereCalled (filter : F) (callback : C) (result : UnparkResult) : Type 0 where
+      pub tokens : List ParkToken
+      pub decisions : List FilterOp
+      pub token : UnparkToken
+      pub calls : AreCalled filter callback tokens decisions result token
+
     -- the step is the unpark by the decisions on these park tokens, with this token, and answers this result
     pub record IsUnpark (filter : F) (callback : C) (key : ℕ) (tokens : List ParkToken) (result : UnparkResult) (s : Step)
         (a : Answer) : Type 0 where

@@ -11,6 +11,8 @@ pub mod Halves
 pub mod Late
 -- Then members, and what their calls add to the history.
 pub mod Members
+-- Then visitors, which need no thread.
+pub mod Visitors
 -- Then unparks by a filter.
 pub mod Filters
 -- Then requeues.

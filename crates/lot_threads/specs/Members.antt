@@ -70,10 +70,12 @@ abbrev pub member_of : History → ThreadDataState → MemberState
 member_of history thread =
     record { history = history; number = thread.number; records = thread.records; witness = thread.witness }
 
--- a witness whose first event is this
+-- a witness of the history, whose first event is this
 pub record Begins (history : History) (step : Step) (answer : Answer) (witness : Witness) : Type 0 where
   pub from : Witness
+  pub of_history : IsWitnessOf history from
   pub nothing_added : events_of from ≡ []
+  pub still : IsStill history from witness
   pub extends : Extends history from step answer witness
 
 -- the number of the node that a registration gave, if it did

@@ -32,6 +32,12 @@ module _ {V C : Type 0} (v : Once V (Unit {0}) RequeueOp)
     pub chosen : v.post validate tt op
     pub called : op ≢ Abort → c.post callback (op, (result, tt)) token
 
+  -- it chose something, and the callback was handed that and this result, but not at an abort
+  pub record ChoseRequeue (validate : V) (callback : C) (result : UnparkResult) : Type 0 where
+    pub op : RequeueOp
+    pub token : UnparkToken
+    pub calls : Chooses validate callback op result token
+
   -- the step is the requeue that was chosen, with this token, and answers this result
   pub record IsRequeue (validate : V) (callback : C) (from to : ℕ) (result : UnparkResult) (s : Step) (a : Answer)
       : Type 0 where

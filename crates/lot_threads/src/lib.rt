@@ -16,6 +16,7 @@ mod registry;
 mod sections;
 mod shared_lot;
 mod told;
+pub mod visitor;
 
 pub use lot_base::bucket::{Bucket, BucketPlace, place};
 pub use lot_base::laws::{
@@ -43,3 +44,4 @@ pub use parking_lot::{
     ParkingLot, ThreadData, park, unpark_all, unpark_chosen, unpark_filter, unpark_one,
     unpark_requeue,
 };
+pub use visitor::Visitor;

@@ -6,7 +6,7 @@ ghost use mathlib.Core.List.{IsPrefix};
 ghost use Rattle.lot_base.specs.NodeFields.{NodeFields};
 ghost use Rattle.lot_base.specs.Waiting.{result_of, split_first};
 ghost use Rattle.lot_machine.specs.Records.{one_less, one_more, times_recorded};
-ghost use Rattle.lot_history.specs.Witness.{Extends, IsStill, IsWitnessOf, Looks, id_of, seen_by, view_of};
+ghost use Rattle.lot_history.specs.Witness.{Extends, IsStill, IsWitnessOf, Looks, events_of, id_of, pieces_of, seen_by, view_of};
 ghost use Rattle.lot_threads.specs.Filters.{AreCallable, Unparks};
 ghost use Rattle.lot_threads.specs.Members.{Begins, IsDataOf, IsListed, IsParked, IsSame, Makes, Stays, member_of};
 ghost use Rattle.lot_threads.specs.Requeues.{MayRequeue, Requeues};
@@ -115,8 +115,21 @@ impl<'a, P: ThreadParkerT> Member<'a, P> {
             .hear(&mut self.thread.witness, &mut other.thread.witness);
     }
 
-    /// Sees the history as it is, which begins with all that this witness of a retired member has
-    /// seen, too.
+    /// Another witness, which has seen as much as the member, and has added nothing. Whoever hears
+    /// it by `hear_witness` has seen at least that much then. It costs a load.
+    pub fn tell(&mut self) -> Witness
+        ensures stays { Stays self.old self.new }
+        ensures unchanged { view_of self.new.witness ≡ view_of self.old.witness }
+        ensures witness { IsWitnessOf self.old.history result }
+        ensures seen { seen_by result ≡ seen_by self.old.witness }
+        ensures nothing_added { events_of result ≡ [] }
+        ensures no_pieces { pieces_of result ≡ [] }
+    {
+        self.lot.history().tell(&mut self.thread.witness)
+    }
+
+    /// Sees the history as it is, which begins with all that the other witness has seen, too, as
+    /// one that `tell` gave, or `retire`. It costs three loads.
     pub fn hear_witness(&mut self, other: &mut Witness)
         requires { IsWitnessOf self.old.history other.old }
         ensures stays { Stays self.old self.new }

@@ -6,14 +6,14 @@ ghost use Rattle.std.specs.Option.{is_some};
 ghost use Rattle.lot_base.specs.NodeFields.{NodeFields};
 ghost use Rattle.lot_base.specs.Waiting.{result_of, split_first};
 ghost use Rattle.lot_machine.specs.Records.{times_recorded};
-ghost use Rattle.lot_history.specs.Witness.{Extends, IsStill};
-ghost use Rattle.lot_history.specs.declared.history.Witness.{Witness};
-ghost use Rattle.lot_threads.specs.Filters.{AreCallable, Unparks};
-ghost use Rattle.lot_threads.specs.Members.{Begins, IsDataOf, IsListed, IsParked, Stays, member_of};
-ghost use Rattle.lot_threads.specs.Requeues.{MayRequeue, Requeues};
+ghost use Rattle.lot_history.specs.Witness.{Extends, IsStill, events_of, seen_by};
+ghost use Rattle.lot_threads.specs.Filters.{AreCallable, WereCalled};
+ghost use Rattle.lot_threads.specs.Members.{Begins, IsDataOf, IsParked, Stays, member_of};
+ghost use Rattle.lot_threads.specs.Requeues.{ChoseRequeue, MayRequeue};
 
 use crate::parker::ThreadParkerT;
 pub use crate::shared_lot::ParkingLot;
+use crate::visitor::Visitor;
 use lot_base::queue::Node;
 use lot_base::thread_parker::ParkerT;
 use lot_base::token::{
@@ -21,7 +21,7 @@ use lot_base::token::{
 };
 use lot_history::history::{Part, Witness};
 use lot_machine::records::Records;
-use lot_machine::step::{Answer, Op, Step};
+use lot_machine::step::{Answer, Step};
 use std::alloc::Global;
 use std::marker::Model;
 use std::mem;
@@ -121,7 +121,7 @@ impl<P: ThreadParkerT> ParkingLot<P> {
     }
 
     /// Ends the registration of the thread, whose number may be given to another thread then, and
-    /// gives back its witness, whose last event that is. Others hear it by `Member::hear_witness`.
+    /// gives back its witness, whose last event that is. Others hear it by `hear_witness`.
     ///
     /// It takes the lock of the numbers and asks for no memory. The lot keeps the thread's node for
     /// whoever has the number next. A section must not call it.
@@ -146,8 +146,22 @@ impl<P: ThreadParkerT> ParkingLot<P> {
         witness
     }
 
-    /// The numbers of the threads that stand in the list of the key, in order, in the machine to
-    /// which the history leads that a new witness sees in the section of the key's bucket.
+    /// A visitor of the lot: a caller with a witness of its own, which has seen nothing and added
+    /// nothing. It costs a load.
+    ///
+    /// Upstream has no such call.
+    #[inline]
+    pub fn visitor(&self) -> Visitor<'_, P>
+        ensures lot { result.history ≡ self.now }
+        ensures nothing_seen { seen_by result.witness ≡ [] }
+        ensures nothing_added { events_of result.witness ≡ [] }
+    {
+        Visitor::of(self, self.history().witness())
+    }
+
+    /// The numbers of the threads that stand in the list of the key, in order, as `Visitor::list`
+    /// tells them to a new visitor. No clause says so here, since that visitor is gone: call
+    /// `Visitor::list` or `Member::list` where a proof is to know it.
     ///
     /// It asks for memory with the bucket locked, again whenever the list has to grow. A section
     /// must not call it. Upstream has no such call.
@@ -155,21 +169,16 @@ impl<P: ThreadParkerT> ParkingLot<P> {
     /// # Errors
     ///
     /// `NoMemory` if memory for the list cannot be had. The empty list needs none.
-    pub fn list<R: Wait>(&self, rt: &R, alloc: Global, key: usize) -> Result<Vec<usize>, NoMemory>
-        ensures { (old new : Witness) × IsListed self.now key old new result }
-    {
-        let mut me = self.history().witness();
-        self.list_in_section(rt, alloc, &mut me, key)
+    pub fn list<R: Wait>(&self, rt: &R, alloc: Global, key: usize) -> Result<Vec<usize>, NoMemory> {
+        self.visitor().list(rt, alloc, key)
     }
 
-    /// Makes the table smaller, as `Member::trim` does.
+    /// Makes the table smaller, as `Visitor::trim` does by a new visitor. No clause says so here:
+    /// call `Visitor::trim` or `Member::trim` where a proof is to know it.
     ///
     /// Upstream's table never becomes smaller.
-    pub fn trim<R: Wait>(&self, rt: &R)
-        ensures { (old new : Witness) × Extends self.now old Step.Trim Answer.Trimmed new }
-    {
-        let mut me = self.history().witness();
-        self.trim_and_tell(rt, &mut me);
+    pub fn trim<R: Wait>(&self, rt: &R) {
+        self.visitor().trim(rt);
     }
 }
 
@@ -248,8 +257,10 @@ pub fn park<
     result
 }
 
-/// Unparks the first thread in the list of the key, as `Member::unpark_one` does, by a new witness:
-/// the answer is one that a history of the lot gives.
+/// Unparks the first thread in the list of the key, as `Visitor::unpark_one` does by a new visitor.
+///
+/// Its clause says what the callback was called with and answered, and no more: the visitor that
+/// knows which step was added is gone. Where a proof is to know it, call the visitor or a member.
 ///
 /// Upstream has it under this name.
 pub fn unpark_one<P: ThreadParkerT, R: Wait, C: FnOnce(UnparkResult) -> UnparkToken>(
@@ -260,14 +271,14 @@ pub fn unpark_one<P: ThreadParkerT, R: Wait, C: FnOnce(UnparkResult) -> UnparkTo
 ) -> UnparkResult
     requires callable { (waiters : List NodeFields)
         → C.pre callback (result_of (split_first waiters)) }
-    ensures { (old new : Witness) × (token : UnparkToken) × C.post callback result token
-        × Extends lot.now old (Step.Unpark (Op.One key token)) (Answer.Unpark result) new }
+    ensures called { (token : UnparkToken) × C.post callback result token }
 {
-    let mut me = lot.history().witness();
-    lot.unpark_one(rt, &mut me, key, callback)
+    lot.visitor().unpark_one(rt, key, callback)
 }
 
-/// Unparks all threads in the list of the key, as `Member::unpark_all` does, by a new witness.
+/// Unparks all threads in the list of the key, as `Visitor::unpark_all` does by a new visitor, and
+/// answers how many there were. No clause says so here: where a proof is to know it, call the
+/// visitor or a member.
 ///
 /// Upstream has it under this name, and keeps the handles of more than eight threads in memory that
 /// it asks for.
@@ -276,16 +287,15 @@ pub fn unpark_all<P: ThreadParkerT, R: Wait>(
     lot: &ParkingLot<P>,
     key: usize,
     unpark_token: UnparkToken,
-) -> usize
-    ensures { (old new : Witness) × Extends lot.now old
-        (Step.Unpark (Op.All key unpark_token)) (Answer.Count result) new }
-{
-    let mut me = lot.history().witness();
-    lot.unpark_all(rt, &mut me, key, unpark_token)
+) -> usize {
+    lot.visitor().unpark_all(rt, key, unpark_token)
 }
 
-/// Unparks those threads in the list of the key that the filter unparks, as `Member::unpark_filter`
-/// does, by a new witness.
+/// Unparks those threads in the list of the key that the filter unparks, as
+/// `Visitor::unpark_filter` does by a new visitor.
+///
+/// Its clause says what the closures were called with and answered, on whatever park tokens, and no
+/// more. Where a proof is to know which step was added, call the visitor or a member.
 ///
 /// Upstream has it under this name, and keeps the handles of more than eight threads in memory that
 /// it asks for.
@@ -296,11 +306,9 @@ pub fn unpark_filter<
     C: FnOnce(UnparkResult) -> UnparkToken,
 >(rt: &R, lot: &ParkingLot<P>, key: usize, filter: F, callback: C) -> UnparkResult
     requires callable { AreCallable F.FnMut C.FnOnce filter callback }
-    ensures { (old new : Witness)
-        × Unparks F.FnMut C.FnOnce filter callback key lot.now old result new }
+    ensures called { WereCalled F.FnMut C.FnOnce filter callback result }
 {
-    let mut me = lot.history().witness();
-    lot.unpark_filter(rt, &mut me, key, filter, callback)
+    lot.visitor().unpark_filter(rt, key, filter, callback)
 }
 
 /// Does what `unpark_filter` does, for closures that may be called at any time, as those without
@@ -315,14 +323,16 @@ pub fn unpark_chosen<
 >(rt: &R, lot: &ParkingLot<P>, key: usize, filter: F, callback: C) -> UnparkResult
     requires filter { (state : F) (park_token : _) → F.pre state park_token }
     requires callback { (answer : _) → C.pre callback answer }
-    ensures { (old new : Witness)
-        × Unparks F.FnMut C.FnOnce filter callback key lot.now old result new }
+    ensures called { WereCalled F.FnMut C.FnOnce filter callback result }
 {
-    unpark_filter(rt, lot, key, filter, callback)
+    lot.visitor().unpark_chosen(rt, key, filter, callback)
 }
 
 /// Unparks or requeues threads in the list of the key `key_from` onto that of `key_to`, as
-/// `Member::unpark_requeue` does, by a new witness.
+/// `Visitor::unpark_requeue` does by a new visitor.
+///
+/// Its clause says what the closures were called with and answered, and no more. Where a proof is
+/// to know which step was added, call the visitor or a member.
 ///
 /// Upstream has it under this name.
 pub fn unpark_requeue<
@@ -339,9 +349,8 @@ pub fn unpark_requeue<
     callback: C,
 ) -> UnparkResult
     requires callable { MayRequeue V.FnOnce C.FnOnce validate callback }
-    ensures { (old new : Witness) × Requeues V.FnOnce C.FnOnce validate callback key_from key_to
-        lot.now old result new }
+    ensures called { ChoseRequeue V.FnOnce C.FnOnce validate callback result }
 {
-    let mut me = lot.history().witness();
-    lot.unpark_requeue(rt, &mut me, key_from, key_to, validate, callback)
+    lot.visitor()
+        .unpark_requeue(rt, key_from, key_to, validate, callback)
 }

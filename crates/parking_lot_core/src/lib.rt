@@ -11,10 +11,10 @@ pub use lot_threads::{
     Bucket, BucketPlace, Claim, DEFAULT_PARK_TOKEN, DEFAULT_UNPARK_TOKEN, FilterOp, Fits, Held,
     History, Letter, LotError, Member, Misfit, NoMemory, Node, ParkResult, ParkToken, ParkerKey,
     ParkerT, ParkingLot, Payload, Queue, RequeueOp, Slot, SpinWait, StepError, ThreadData,
-    ThreadParker, ThreadParkerT, UnparkHandle, UnparkHandleT, UnparkResult, UnparkToken,
+    ThreadParker, ThreadParkerT, UnparkHandle, UnparkHandleT, UnparkResult, UnparkToken, Visitor,
     WORD_SLOTS, Witness, WordHandle, WordLock, WordParker, YieldHandle, YieldParker,
     abort_changes_nothing, deadlock, filter_covers_unparks, history_laws, member, park, parker,
     parking_lot, place, plays, requeue_to_itself_changes_nothing, spreading_keeps_order,
     steps_keep_park_tokens, thread_yield, unpark_all, unpark_chosen, unpark_filter, unpark_one,
-    unpark_requeue, view, word_locks_keep_their_invariant,
+    unpark_requeue, view, visitor, word_locks_keep_their_invariant,
 };

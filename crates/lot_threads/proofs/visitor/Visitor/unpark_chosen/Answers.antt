@@ -1,5 +1,5 @@
 use Rattle.lot_base.proofs.FilterLemmas.{IsFilterCallable-always}
-use Rattle.lot_threads.proofs.parking_lot.unpark_chosen.Goals as goal
+use Rattle.lot_threads.proofs.visitor.Visitor.unpark_chosen.Goals as goal
 
 pub unpark_filter-requires-clause-callable : goal.unpark_filter-requires-clause-callable
 unpark_filter-requires-clause-callable g c κs within = record {
