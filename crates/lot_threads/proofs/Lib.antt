@@ -11,5 +11,4 @@ pub mod RequeueLemmas
 pub mod LockLemmas
 pub mod HalfLemmas
 pub mod SizeLemmas
-pub mod SectionLemmas
 pub mod ParkLemmas

@@ -21,7 +21,6 @@ use Rattle.lot_history.specs.Pieces.{standing_in}
 use Rattle.lot_history.specs.Witness.{IsPartOf, events_of, id_of, max_threads_of, pieces_in, pieces_of}
 use Rattle.lot_threads.specs.declared.cell.Cell.{Cell}
 use Rattle.lot_threads.specs.declared.cell.CellKey.{CellKey}
-use Rattle.lot_threads.specs.declared.cell.Locked.{Locked}
 use Rattle.lot_threads.specs.declared.cell.Slot.{Slot}
 use Rattle.lot_threads.specs.declared.parker.Letter.{Letter}
 use Rattle.lot_threads.specs.declared.registry.Registry.{Registry}
@@ -161,13 +160,6 @@ pub record IsRegistryLock (home : TableId) (max_threads : ℕ) (lock : WordLock 
 pub record AreApart (lock other : WordLock Slot CellKey) : Type 0 where
   pub size : (key_of other).size ≡ (key_of lock).size
   pub places : (key_of other).place ≢ (key_of lock).place
-
--- of two buckets that a section has locked, the one at the higher place was locked behind the other
-pub record AreLockedInOrder (source target : Locked) : Type 0 where
-  pub target_behind : (key_of source.lock.now).place < (key_of target.lock.now).place
-      → target.behind ≡ Some (key_of source.lock.now).place
-  pub source_behind : (key_of target.lock.now).place < (key_of source.lock.now).place
-      → source.behind ≡ Some (key_of target.lock.now).place
 
 -- the lock is that of the key's bucket in a lot
 pub record IsLockFor (history : History) (key : ℕ) (lock : WordLock Slot CellKey) : Type 0 where

@@ -1,28 +1,35 @@
--- The buckets that sections have locked, and leave behind their locks.
-use Rattle.std.specs.Prelude.{◌≡◌, ℕ, []}
-use Rattle.lot_base.specs.BucketState.{KeepsPlace}
-use Rattle.lot_base.specs.Place.{place_of}
+-- Sections: what a call does while it has the bucket of a key locked.
+use Rattle.std.specs.Prelude.{◌≡◌, ℕ, ◌<◌, ◌∷◌, [], Option, None, Some, IsSomeAnd}
 use Rattle.lot_history.specs.declared.history.History.{History}
-use Rattle.lot_history.specs.declared.history.Witness.{Witness}
-use Rattle.lot_history.specs.Witness.{IsStill, IsWitnessOf, id_of, max_threads_of, pieces_of}
-use Rattle.lot_word_lock.specs.WordLock.{IsClaimOn, key_of}
-use Rattle.lot_threads.specs.Cells.{FitsSlot, IsCell}
+use Rattle.lot_word_lock.specs.Lent.{value_in}
+use Rattle.lot_word_lock.specs.WordLock.{IsCallerOf, key_of, seat_of}
+use Rattle.lot_word_lock.specs.declared.word_lock.Claim.{Claim}
+use Rattle.lot_word_lock.specs.declared.word_lock.WordLock.{WordLock}
+use Rattle.lot_word_lock.specs.declared.word_lock.view.View.TheVariants.{Holding}
+use Rattle.lot_threads.specs.Cells.{FitsCell, IsLockFor}
 use Rattle.lot_threads.specs.declared.cell.Cell.{Cell}
-use Rattle.lot_threads.specs.declared.claimed.Claimed.{Claimed}
+use Rattle.lot_threads.specs.declared.cell.CellKey.{CellKey}
+use Rattle.lot_threads.specs.declared.cell.Slot.{Slot}
+use Rattle.lot_threads.specs.declared.shared_lot.requeue.KeyedLock.{KeyedLock}
 
--- the section has the lock, and a bucket of its place behind it
-abbrev pub IsClaimed : Claimed → Type 0
-IsClaimed claimed = IsClaimOn (FitsSlot (key_of claimed.lock.now)) claimed.lock.now claimed.claim
+-- the bucket of a place, if it is there
+abbrev pub cell_of : Option Slot → Option Cell
+cell_of None = None
+cell_of (Some slot) = slot.cell
 
--- a section finds the bucket of this key, with its part, and its witness has no piece
-pub record Finds (history : History) (me : Witness) (key : ℕ) (found : Cell) : Type 0 where
-  pub witness : IsWitnessOf history me
-  pub none : pieces_of me ≡ []
-  pub cell : IsCell (id_of history) (max_threads_of history) found
-  pub place : place_of key found.bucket.size ≡ found.bucket.place
+-- the lock is claimed, and its bucket is there
+pub record HasBucket (lock : WordLock Slot CellKey) (claim : Claim Slot CellKey) : Type 0 where
+  pub of_lock : IsCallerOf lock claim.caller
+  pub holds : (seat_of claim.caller).0 ≡ Holding [] []
+  pub home : (seat_of claim.caller).1 ≡ (0, value_in claim) ∷ []
+  pub bucket : IsSomeAnd (cell_of (value_in claim)) (FitsCell (key_of lock))
 
--- it leaves the bucket where it was, with its part, and its witness is still the same
-pub record Keeps (history : History) (before after : Witness) (old new : Cell) : Type 0 where
-  pub still : IsStill history before after
-  pub cell : IsCell (id_of history) (max_threads_of history) new
-  pub place : KeepsPlace old.bucket new.bucket
+-- the lock is that of its key's bucket in the lot, at this place of its row
+pub record IsKeyedLock (history : History) (keyed : KeyedLock) : Type 0 where
+  pub lock : IsLockFor history keyed.key keyed.lock.now
+  pub place : keyed.place ≡ (key_of keyed.lock.now).place
+
+-- of two buckets that a requeue has locked, the one at the higher place was locked behind the other
+pub record AreLockedInOrder (source target : WordLock Slot CellKey) (source_behind target_behind : Option ℕ) : Type 0 where
+  pub target_later : (key_of source).place < (key_of target).place → target_behind ≡ Some (key_of source).place
+  pub source_later : (key_of target).place < (key_of source).place → source_behind ≡ Some (key_of target).place

@@ -27,8 +27,7 @@ pub(crate) struct Cell {
     pub(crate) part: Part,
 }
 
-// The place of a bucket in a row. The bucket is there while the row is in use, but for the moment
-// of a requeue.
+// The place of a bucket in a row. The bucket is there while the row is in use.
 #[derive(Drop)]
 pub(crate) struct Slot {
     pub(crate) cell: Option<Cell>,
@@ -52,105 +51,28 @@ impl Fits for Slot {
     ghost fits = { λ key slot. FitsSlot key slot };
 }
 
-// The bucket of a requeue or of growth, which was taken out of its lock, that is locked, and the
-// place of the bucket that a requeue had locked before, if there is one. It has no `Drop`: it ends
-// in `close` or in `leave`.
-pub(crate) struct Locked<'b> {
-    pub(crate) lock: &'b WordLock<Slot>,
-    behind: Option<usize>,
-    held: Held<Slot>,
-    pub(crate) cell: Cell,
-}
-
-impl<'b> Locked<'b> {
-    // Locks the bucket of this lock and takes it out, or answers `None` where it has none, since
-    // the row is not in use there.
-    #[inline(always)]
-    pub(crate) fn of<R: Wait>(rt: &R, lock: &'b WordLock<Slot>) -> Option<Locked<'b>>
-        ensures lock { IfSome result (λ locked. locked.lock.now ≡ lock.now) }
-        ensures held { IfSome result (λ locked. IsHeldOf locked.lock.now locked.held) }
-        ensures empty { IfSome result (λ locked. locked.held.value.cell ≡ None) }
-        ensures fits { IfSome result (λ locked. FitsCell (key_of locked.lock.now) locked.cell) }
-        ensures first { IfSome result (λ locked. locked.behind ≡ None) }
-    {
-        let mut held = lock.lock(rt);
-        let Some(cell) = held.value.cell.take() else {
-            lock.unlock(held);
-            return None;
-        };
-        Some(Locked {
-            lock,
-            behind: None,
-            held,
-            cell,
-        })
-    }
-
-    // Does what `of` does, for a section that has the bucket of a lower place.
-    #[inline(always)]
-    pub(crate) fn behind<R: Wait>(
-        rt: &R,
-        first: &Locked<'_>,
-        lock: &'b WordLock<Slot>,
-    ) -> Option<Locked<'b>>
-        requires fits { FitsCell (key_of first.now.lock.now) first.now.cell }
-        requires order { (key_of first.now.lock.now).place < (key_of lock.now).place }
-        ensures lock { IfSome result (λ locked. locked.lock.now ≡ lock.now) }
-        ensures held { IfSome result (λ locked. IsHeldOf locked.lock.now locked.held) }
-        ensures fits { IfSome result (λ locked. FitsCell (key_of locked.lock.now) locked.cell) }
-        ensures behind { IfSome result (λ locked.
-            locked.behind ≡ Some (key_of first.now.lock.now).place) }
-    {
-        let mut locked = Locked::of(rt, lock)?;
-        locked.behind = Some(first.cell.bucket.place());
-        Some(locked)
-    }
-
-    // Puts the bucket back and lets it go.
-    #[inline]
-    pub(crate) fn close(self)
-        requires held { IsHeldOf self.lock.now self.held }
-        requires fits { FitsCell (key_of self.lock.now) self.cell }
-    {
-        let Locked {
-            lock,
-            behind: _,
-            mut held,
-            cell,
-        } = self;
-        held.value.cell = Some(cell);
-        lock.unlock(held);
-    }
-
-    // Keeps the bucket, whose place has none from then on.
-    fn leave(self) -> Cell
-        requires held { IsHeldOf self.lock.now self.held }
-        requires empty { self.held.value.cell ≡ None }
-        ensures { result ≡ self.entry.cell }
-    {
-        let Locked {
-            lock,
-            behind: _,
-            held,
-            cell,
-        } = self;
-        lock.unlock(held);
-        cell
-    }
-}
-
 // Takes the bucket of a row in use away from its place. Whoever has the registry locked alone does
 // that, so it is there once no section has it, but no contract tells so.
 pub(crate) fn take_away<R: Wait>(rt: &R, lock: &WordLock<Slot>) -> Cell
     ensures { FitsCell (key_of lock.now) result }
 {
     for _ in rt.forever() {
-        if let Some(locked) = Locked::of(rt, lock) {
-            return locked.leave();
+        if let Some(cell) = taken_from(rt, lock) {
+            return cell;
         }
         thread::yield_now();
     }
     unreachable!()
+}
+
+// The bucket of this place, which is away then, or `None` where it was away.
+fn taken_from<R: Wait>(rt: &R, lock: &WordLock<Slot>) -> Option<Cell>
+    ensures { IfSome result (FitsCell (key_of lock.now)) }
+{
+    let mut held = lock.lock(rt);
+    let cell = held.value.cell.take();
+    lock.unlock(held);
+    cell
 }
 
 // Puts a bucket to its place, in a row that is not in use there.

@@ -4,7 +4,7 @@
 #![tactic(auto)]
 
 mod cell;
-mod claimed;
+mod cell_steps;
 pub mod deadlock;
 mod halves;
 pub mod history_laws;
@@ -13,7 +13,7 @@ mod numbered_nodes;
 pub mod parker;
 pub mod parking_lot;
 mod registry;
-mod sections;
+mod section;
 mod shared_lot;
 mod told;
 pub mod visitor;

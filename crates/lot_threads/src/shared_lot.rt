@@ -14,25 +14,22 @@ ghost use Rattle.lot_machine.specs.declared.step.Step.{Step};
 ghost use Rattle.lot_history.specs.Witness.{Adds, Extends, IsPartOf, IsStill, IsWitnessOf, events_of, id_of, max_threads_of, pieces_of, seen_by};
 ghost use Rattle.lot_history.specs.declared.view.Piece.TheVariants.{Thread};
 ghost use Rattle.lot_threads.specs.Cells.{Has, HasRecords, IsBelow, IsCell, IsLockFor, IsRegistry, home_of, threads_in};
-ghost use Rattle.lot_threads.specs.Sections.{IsClaimed};
 ghost use Rattle.lot_threads.specs.Filters.{AreCallable, Unparks};
 ghost use Rattle.lot_threads.specs.Members.{EndsWait, IsListed, IsRegistered, Leaves, entry_of, entry_step, number_in};
 ghost use Rattle.lot_threads.specs.Rows.{EachAt};
 
 mod growth;
 mod hand_over;
-mod handles;
+pub(crate) mod handles;
 mod park;
 mod requeue;
 mod rows;
 mod unpark;
 
 use crate::cell::{Cell, RowSlot, new_rows};
-use crate::claimed::Claimed;
 use crate::numbered_nodes::NumberedNodes;
 use crate::parker::ThreadParkerT;
 use crate::registry::{Registry, new_registry};
-use crate::sections::{enter_in, leave_in, list_in, take_all_of, take_filter_of, take_one_of};
 use crate::told::cut_up;
 use lot_base::queue::Node;
 use lot_base::thread_parker::ParkerKey;
@@ -169,7 +166,8 @@ impl<P: ThreadParkerT> ParkingLot<P> {
 
     // The history of the lot's calls.
     pub(crate) fn history(&self) -> &History
-        ensures { result.now ≡ self.now }
+        ensures history { result.now ≡ self.now }
+        ensures few { max_threads_of self.now < 2 ^ 63 }
     {
         &self.history
     }

@@ -6,6 +6,7 @@ pub mod WordView
 pub mod WordKey
 pub mod WordLockInvariant
 pub mod WordLock
+pub mod Lent
 -- Then a rule from which that follows, as the lock's table keeps it, and what each step tells its caller.
 pub mod WordRule
 pub mod WordSteps

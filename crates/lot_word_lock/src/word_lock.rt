@@ -35,6 +35,7 @@ ghost use Rattle.lot_word_lock.specs.WordLockInvariant.{WordLockInvariant, IsAwa
 ghost use Rattle.lot_word_lock.specs.declared.word_lock.view.View.{View};
 ghost use Rattle.lot_word_lock.specs.declared.word_lock.view.View.TheVariants.{Enqueued};
 
+mod lent;
 pub mod plays;
 mod steps;
 #[cfg(test)]

@@ -12,7 +12,7 @@ ghost use Rattle.lot_threads.specs.Handles.{handle_numbers, kept_handles};
 
 use super::ParkingLot;
 use super::handles::{HANDLES, Handles, Room};
-use crate::claimed::never;
+use crate::cell_steps::never;
 use crate::parker::{Letter, ThreadParkerT};
 use crate::told::add_return;
 use lot_base::queue::{Node, Queue};
@@ -25,7 +25,7 @@ use std::sync::Wait;
 impl<P: ThreadParkerT> ParkingLot<P> {
     // Commits the unparks of all nodes that were taken, in order. It wakes the threads for whose
     // handles there is no room.
-    pub(super) fn commit<R: Wait>(
+    pub(crate) fn commit<R: Wait>(
         &self,
         rt: &R,
         me: &mut Witness,
@@ -50,7 +50,7 @@ impl<P: ThreadParkerT> ParkingLot<P> {
     }
 
     // Commits the unpark of the node that was taken, if there is one.
-    pub(super) fn commit_one<R: Wait>(
+    pub(crate) fn commit_one<R: Wait>(
         &self,
         rt: &R,
         me: &mut Witness,

@@ -7,11 +7,11 @@ pub(super) const HANDLES: usize = 8;
 
 /// Room for eight handles. It is a nest of pairs, since an array of a type parameter's values is
 /// not provable today.
-pub(super) type Handles<H> = Pair<Pair<Pair<Option<H>>>>;
+pub(crate) type Handles<H> = Pair<Pair<Pair<Option<H>>>>;
 
 /// Room for some handles. Those that are kept before any is taken come out in the order in which
 /// they were kept.
-pub(super) trait Room<H>: Drop {
+pub(crate) trait Room<H>: Drop {
     /// For how many handles there is room.
     ghost capacity: { ℕ };
 
@@ -60,7 +60,7 @@ impl<H: Drop> Room<H> for Option<H> {
 
 /// The room of two.
 #[derive(Drop)]
-pub(super) struct Pair<R> {
+pub(crate) struct Pair<R> {
     first: R,
     second: R,
 }

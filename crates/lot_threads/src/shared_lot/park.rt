@@ -7,15 +7,12 @@ ghost use Rattle.lot_base.specs.Node.{fields};
 ghost use Rattle.lot_machine.specs.declared.step.Answer.{Answer};
 ghost use Rattle.lot_history.specs.Witness.{Extends, IsStill, IsWitnessOf, events_of, id_of, max_threads_of, pieces_of, seen_by};
 ghost use Rattle.lot_history.specs.declared.view.Piece.TheVariants.{Thread};
-ghost use Rattle.lot_threads.specs.Cells.{Has, IsBelow, IsLockFor};
+ghost use Rattle.lot_threads.specs.Cells.{Has, IsBelow};
 ghost use Rattle.lot_threads.specs.Members.{EndsWait, Leaves, entry_of, entry_step};
-ghost use Rattle.lot_threads.specs.Sections.{Finds, IsClaimed, Keeps};
 
 use super::ParkingLot;
-use crate::cell::Cell;
-use crate::claimed::Claimed;
 use crate::parker::ThreadParkerT;
-use crate::sections::{enter_in, leave_in};
+use crate::section::Section;
 use lot_base::queue::Node;
 use lot_base::token::ParkResult;
 use lot_history::history::{Part, Witness};
@@ -59,38 +56,12 @@ impl<P: ThreadParkerT> ParkingLot<P> {
             timed,
             ..
         } = *node;
-        let history = &self.history;
-        let mut claimed = self.claim(rt, key);
-        let (entered, _me) = claimed.with(
-            rt,
-            move |cell: &mut Cell|
-                requires finds { Finds history.now me.now (fields node.value).key cell.old }
-                requires below { IsBelow (max_threads_of history.now) (fields node.value) }
-                requires thread { Has (id_of history.now)
-                    (Thread (fields node.value).number Status.Running ∷ []) thread }
-                requires callable { V.pre validate }
-
-                ensures same { result.1.ghost_name ≡ me.entry.ghost_name }
-                ensures keeps { Keeps history.entry.now me.entry.now result.1.now cell.old
-                    cell.new }
-                ensures none { pieces_of result.1.now ≡ [] }
-                ensures asked { V.post validate (is_ok result.0) }
-                ensures entered { OnOk result.0 (Extends history.entry.now me.entry.now
-                    (entry_step (entry_of (fields node.value)) true) Answer.Entered result.1.now) }
-                ensures refused { IfErr result.0 (λ back. Extends history.entry.now me.entry.now
-                    (entry_step (entry_of (fields node.value)) false) Answer.Invalid result.1.now) }
-                ensures returned { IfErr result.0 (λ back. (back.1.value ≡ node.value)
-                    × Has (id_of history.entry.now)
-                    (Thread (fields node.value).number Status.Running ∷ []) back.0) }
-            {
-                let entered = enter_in(history, me, cell, thread, node, validate);
-                (entered, me)
-            },
-        );
+        let mut section = Section::open(rt, self, key);
+        let entered = section.enter(me, thread, node, validate);
         if entered.is_ok() {
             self.note_key(number, timed, key);
         }
-        claimed.close();
+        section.close();
         entered
     }
 
@@ -156,48 +127,25 @@ impl<P: ThreadParkerT> ParkingLot<P> {
         ensures unchanged { IfNone result ((seen_by me.new ≡ seen_by me.old)
             × (events_of me.new ≡ events_of me.old)) }
     {
-        let (key, mut claimed) = self.claim_own(rt, number);
-        let history = &self.history;
-        let (left, _me) = claimed.with(
-            rt,
-            move |cell: &mut Cell|
-                requires finds { Finds history.now me.now key cell.old }
-                requires callable { (last : _) → T.pre timed_out key last }
-
-                ensures same { result.1.ghost_name ≡ me.entry.ghost_name }
-                ensures keeps { Keeps history.entry.now me.entry.now result.1.now cell.old
-                    cell.new }
-                ensures none { pieces_of result.1.now ≡ [] }
-                ensures left { IfSome result.0 (λ back. (last : Bool) × T.post timed_out key last tt
-                    × Leaves history.entry.now number key last me.entry.now result.1.now) }
-                ensures returned { IfSome result.0 (λ back.
-                    ((fields back.1.value).number ≡ number)
-                    × Has (id_of history.entry.now) (Thread number Status.Running ∷ []) back.0) }
-                ensures unchanged { IfNone result.0 ((seen_by result.1.now ≡ seen_by me.entry.now)
-                    × (events_of result.1.now ≡ events_of me.entry.now)) }
-            {
-                let left = leave_in(rt, history, me, cell, number, key, timed_out);
-                (left, me)
-            },
-        );
-        claimed.close();
+        let mut section = self.open_own(rt, number);
+        let left = section.leave(rt, me, number, timed_out);
+        section.close();
         left
     }
 
     // Locks the bucket of the key on which a thread waits that has a timeout. A requeue moves the
     // thread with both buckets locked, so while this one is, it stands here or was taken.
-    fn claim_own<R: Wait>(&self, rt: &R, number: usize) -> (usize, Claimed<'_>)
+    fn open_own<R: Wait>(&self, rt: &R, number: usize) -> Section<'_, P>
         requires { number < max_threads_of self.now }
-        ensures lock { IsLockFor self.now result.0 result.1.lock.now }
-        ensures claim { IsClaimed result.1 }
+        ensures { result.lot.now ≡ self.now }
     {
         for _ in rt.forever() {
             let key = self.key(number);
-            let claimed = self.claim(rt, key);
+            let section = Section::open(rt, self, key);
             if self.key(number) == key {
-                return (key, claimed);
+                return section;
             }
-            claimed.close();
+            section.close();
         }
         unreachable!()
     }

@@ -8,13 +8,15 @@ ghost use Rattle.lot_base.specs.declared.token.UnparkResult.{UnparkResult};
 ghost use Rattle.lot_machine.specs.declared.step.Answer.{Answer};
 ghost use Rattle.lot_machine.specs.declared.step.Step.{Step};
 ghost use Rattle.lot_history.specs.Witness.{Adds, IsStill, IsWitnessOf, id_of, max_threads_of, pieces_of};
-ghost use Rattle.lot_word_lock.specs.WordLock.{IsHeldOf, key_of};
-ghost use Rattle.lot_threads.specs.Cells.{AreApart, AreLockedInOrder, FitsCell, IsBelow, IsCell, IsLockAt, IsLockFor, threads_in};
+ghost use Rattle.lot_word_lock.specs.WordLock.{key_of};
+ghost use Rattle.lot_threads.specs.Cells.{AreApart, IsBelow, IsCell, IsLockAt, IsLockFor, threads_in};
 ghost use Rattle.lot_threads.specs.Requeues.{IsRequeue, MayRequeue, Requeues};
+ghost use Rattle.lot_threads.specs.Sections.{AreLockedInOrder, IsKeyedLock};
 
 use super::ParkingLot;
-use crate::cell::{Cell, Locked, Slot, lock_at};
+use crate::cell::{Cell, Slot, lock_at};
 use crate::parker::ThreadParkerT;
+use crate::section::Section;
 use crate::told::{add_requeue, add_taking};
 use lot_base::bucket::place;
 use lot_base::queue::Queue;
@@ -23,14 +25,14 @@ use lot_base::word_lock::WordLock;
 use lot_history::history::Witness;
 use lot_history::plays::Told;
 use lot_machine::step::Answer;
-use std::marker::Brand;
 use std::sync::Wait;
 
-// The lock of a bucket, with the bucket's place in its row.
+// The lock of the bucket of a key, with the bucket's place in its row.
 #[derive(Copy, Clone)]
-struct PlacedLock<'b> {
+struct KeyedLock<'b> {
     lock: &'b WordLock<Slot>,
     place: usize,
+    key: usize,
 }
 
 impl<P: ThreadParkerT> ParkingLot<P> {
@@ -57,88 +59,47 @@ impl<P: ThreadParkerT> ParkingLot<P> {
         ensures requeued { Requeues V.FnOnce C.FnOnce validate callback from to self.now me.old
             result me.new }
     {
-        let (result, handle) = self.requeue::<Brand, R, V, C>(rt, me, from, to, validate, callback);
+        let (mut source, target) = self.open_two(rt, from, to);
+        let Some(mut target) = target else {
+            let (result, handle) = source.requeue_within(rt, me, to, validate, callback);
+            source.close();
+            self.wake_if_any(handle);
+            return result;
+        };
+        let (result, handle) = source.requeue_to(rt, me, &mut target, validate, callback);
+        source.close();
+        target.close();
         self.wake_if_any(handle);
         result
     }
 
-    // The section of a requeue, in one bucket or in two.
-    fn requeue<
-        E: Told,
-        R: Wait,
-        V: FnOnce() -> RequeueOp,
-        C: FnOnce(RequeueOp, UnparkResult) -> UnparkToken,
-    >(
+    // The section of the key `from`, and that of the key `to` if it has another bucket. That of the
+    // lower place is opened first.
+    #[inline(always)]
+    fn open_two<R: Wait>(
         &self,
         rt: &R,
-        me: &mut Witness,
         from: usize,
         to: usize,
-        validate: V,
-        callback: C,
-    ) -> (UnparkResult, Option<P::UnparkHandle>)
-        requires witness { IsWitnessOf self.now me.old }
-        requires none { pieces_of me.old ≡ [] }
-        requires callable { MayRequeue V.FnOnce C.FnOnce validate callback }
-        requires said { (answer : UnparkResult) (s : Step) (a : Answer)
-            → IsRequeue V.FnOnce C.FnOnce validate callback from to answer s a → E.said s a }
-        ensures still { IsStill self.now me.old me.new }
-        ensures adds { Adds self.now me.old
-            (λ s a. E.said s a × (a ≡ Answer.Unpark result.0)) me.new }
-        ensures none { pieces_of me.new ≡ [] }
-    {
-        let (mut source, target) = self.claim_two(rt, from, to);
-        let Some(mut target) = target else {
-            let (result, taken) = self.requeue_in_one::<E, V, C>(
-                me,
-                &mut source.cell,
-                from,
-                to,
-                validate,
-                callback,
-            );
-            let handle = self.commit_one(rt, me, taken);
-            source.close();
-            return (result, handle);
-        };
-        let (result, taken) = self.requeue_across::<E, V, C>(
-            me,
-            &mut source.cell,
-            &mut target.cell,
-            from,
-            to,
-            validate,
-            callback,
-        );
-        let handle = self.commit_one(rt, me, taken);
-        source.close();
-        target.close();
-        (result, handle)
-    }
-
-    // Locks the bucket of the key `from`, and that of the key `to` if it is another, and takes them
-    // out. That of the lower place is locked first.
-    #[inline(always)]
-    fn claim_two<R: Wait>(&self, rt: &R, from: usize, to: usize) -> (Locked<'_>, Option<Locked<'_>>)
-        ensures from { IsLockFor self.now from result.0.lock.now }
+    ) -> (Section<'_, P>, Option<Section<'_, P>>)
+        ensures lot { result.0.lot.now ≡ self.now }
+        ensures other_lot { IfSome result.1 (λ other. other.lot.now ≡ self.now) }
+        ensures from { result.0.key ≡ from }
         ensures to { MatchOption result.1 (IsLockFor self.now to result.0.lock.now)
-            (λ other. IsLockFor self.now to other.lock.now
-            × AreApart result.0.lock.now other.lock.now) }
-        ensures held { IsHeldOf result.0.lock.now result.0.held
-            × IfSome result.1 (λ other. IsHeldOf other.lock.now other.held) }
-        ensures fits { FitsCell (key_of result.0.lock.now) result.0.cell
-            × IfSome result.1 (λ other. FitsCell (key_of other.lock.now) other.cell) }
-        ensures order { IfSome result.1 (AreLockedInOrder result.0) }
+            (λ other. other.key ≡ to) }
+        ensures apart { IfSome result.1 (λ other. AreApart result.0.lock.now other.lock.now) }
+        ensures order { IfSome result.1 (λ other.
+            AreLockedInOrder result.0.lock.now other.lock.now result.0.behind other.behind) }
     {
         for _ in rt.forever() {
             match self.locks_of(from, to) {
                 Some((source, Some(target))) => {
-                    if let Some((source, target)) = claim_both(rt, source, target) {
+                    if let Some((source, target)) = self.open_both(rt, source, target) {
                         return (source, Some(target));
                     }
                 }
                 Some((source, None)) => {
-                    if let Some(source) = Locked::of(rt, source.lock) {
+                    if let Some(source) = Section::at(rt, self, source.lock, from) {
                         return (source, None);
                     }
                 }
@@ -149,32 +110,85 @@ impl<P: ThreadParkerT> ParkingLot<P> {
         unreachable!()
     }
 
+    // Opens the sections of two buckets of a row, or answers `None` where either is away. That of
+    // the lower place is opened first, as whoever has two does.
+    #[inline(always)]
+    fn open_both<'b, R: Wait>(
+        &'b self,
+        rt: &R,
+        source: KeyedLock<'b>,
+        target: KeyedLock<'b>,
+    ) -> Option<(Section<'b, P>, Section<'b, P>)>
+        requires apart { AreApart source.lock.now target.lock.now }
+        requires source { IsKeyedLock self.now source }
+        requires target { IsKeyedLock self.now target }
+        ensures lots { IfSome result (λ both. (both.0.lot.now ≡ self.now)
+            × (both.1.lot.now ≡ self.now)) }
+        ensures keys { IfSome result (λ both. (both.0.key ≡ source.entry.key)
+            × (both.1.key ≡ target.entry.key)) }
+        ensures locks { IfSome result (λ both. (both.0.lock.now ≡ source.entry.lock.now)
+            × (both.1.lock.now ≡ target.entry.lock.now)) }
+        ensures order { IfSome result (λ both.
+            AreLockedInOrder both.0.lock.now both.1.lock.now both.0.behind both.1.behind) }
+    {
+        if source.place < target.place {
+            return self.open_in_order(rt, source, target);
+        }
+        let (target, source) = self.open_in_order(rt, target, source)?;
+        Some((source, target))
+    }
+
+    // Opens these two sections, one after the other.
+    #[inline(always)]
+    fn open_in_order<'b, R: Wait>(
+        &'b self,
+        rt: &R,
+        first: KeyedLock<'b>,
+        second: KeyedLock<'b>,
+    ) -> Option<(Section<'b, P>, Section<'b, P>)>
+        requires first { IsKeyedLock self.now first }
+        requires second { IsKeyedLock self.now second }
+        requires order { first.place < second.place }
+        ensures lots { IfSome result (λ both. (both.0.lot.now ≡ self.now)
+            × (both.1.lot.now ≡ self.now)) }
+        ensures keys { IfSome result (λ both. (both.0.key ≡ first.entry.key)
+            × (both.1.key ≡ second.entry.key)) }
+        ensures locks { IfSome result (λ both. (both.0.lock.now ≡ first.entry.lock.now)
+            × (both.1.lock.now ≡ second.entry.lock.now)) }
+        ensures behind { IfSome result (λ both.
+            both.1.behind ≡ Some (key_of first.entry.lock.now).place) }
+    {
+        let opened = Section::at(rt, self, first.lock, first.key)?;
+        let Some(other) = Section::behind(rt, &opened, first.place, second.lock, second.key) else {
+            opened.close();
+            return None;
+        };
+        Some((opened, other))
+    }
+
     // The lock of the bucket of the key `from`, and that of the key `to` if it is another, in one
     // row.
     #[inline(always)]
-    fn locks_of(&self, from: usize, to: usize) -> Option<(PlacedLock<'_>, Option<PlacedLock<'_>>)>
-        ensures from { IfSome result (λ locks. IsLockFor self.now from locks.0.lock.now) }
+    fn locks_of(&self, from: usize, to: usize) -> Option<(KeyedLock<'_>, Option<KeyedLock<'_>>)>
+        ensures from { IfSome result (λ locks.
+            IsKeyedLock self.now locks.0 × (locks.0.key ≡ from)) }
         ensures to { IfSome result (λ locks.
             MatchOption locks.1 (IsLockFor self.now to locks.0.lock.now)
-            (λ other. IsLockFor self.now to other.lock.now
+            (λ other. IsKeyedLock self.now other × (other.key ≡ to)
             × AreApart locks.0.lock.now other.lock.now)) }
-        ensures source { IfSome result (λ locks.
-            locks.0.place ≡ (key_of locks.0.lock.now).place) }
-        ensures target { IfSome result (λ locks. IfSome locks.1 (λ other.
-            other.place ≡ (key_of other.lock.now).place)) }
     {
         let row = self.row_in_use()?;
         let source = place(from, row.len());
         let target = place(to, row.len());
         if source == target {
-            return Some((placed_at(row, source), None));
+            return Some((keyed_at(row, source, from), None));
         }
-        Some((placed_at(row, source), Some(placed_at(row, target))))
+        Some((keyed_at(row, source, from), Some(keyed_at(row, target, to))))
     }
 
     // Requeues waiters of the key `from` onto the key `to`, where both have one bucket, and tells
     // so. The witness has the pieces of those that were taken, one at most.
-    fn requeue_in_one<
+    pub(crate) fn requeue_in_one<
         E: Told,
         V: FnOnce() -> RequeueOp,
         C: FnOnce(RequeueOp, UnparkResult) -> UnparkToken,
@@ -214,7 +228,7 @@ impl<P: ThreadParkerT> ParkingLot<P> {
     }
 
     // Does what `requeue_in_one` does, where each key has a bucket of its own.
-    fn requeue_across<
+    pub(crate) fn requeue_across<
         E: Told,
         V: FnOnce() -> RequeueOp,
         C: FnOnce(RequeueOp, UnparkResult) -> UnparkToken,
@@ -272,64 +286,16 @@ impl<P: ThreadParkerT> ParkingLot<P> {
     }
 }
 
-// The lock at this place of a row, with the place.
-fn placed_at(row: &[WordLock<Slot>], place: usize) -> PlacedLock<'_>
+// The lock at this place of a row, with the place, for this key.
+fn keyed_at(row: &[WordLock<Slot>], place: usize, key: usize) -> KeyedLock<'_>
     requires { place < length row.now }
     ensures lock { IsLockAt place row.now result.lock.now }
     ensures place { result.place ≡ place }
+    ensures key { result.key ≡ key }
 {
-    PlacedLock {
+    KeyedLock {
         lock: lock_at(row, place),
         place,
+        key,
     }
-}
-
-// Locks two buckets of a row and takes them out, or answers `None` where either is away. That of
-// the lower place is locked first, as whoever locks two does.
-#[inline(always)]
-fn claim_both<'b, R: Wait>(
-    rt: &R,
-    source: PlacedLock<'b>,
-    target: PlacedLock<'b>,
-) -> Option<(Locked<'b>, Locked<'b>)>
-    requires apart { AreApart source.lock.now target.lock.now }
-    requires source { source.place ≡ (key_of source.lock.now).place }
-    requires target { target.place ≡ (key_of target.lock.now).place }
-    ensures locks { IfSome result (λ both. (both.0.lock.now ≡ source.entry.lock.now)
-        × (both.1.lock.now ≡ target.entry.lock.now)) }
-    ensures held { IfSome result (λ both. IsHeldOf both.0.lock.now both.0.held
-        × IsHeldOf both.1.lock.now both.1.held) }
-    ensures fits { IfSome result (λ both. FitsCell (key_of both.0.lock.now) both.0.cell
-        × FitsCell (key_of both.1.lock.now) both.1.cell) }
-    ensures order { IfSome result (λ both. AreLockedInOrder both.0 both.1) }
-{
-    if source.place < target.place {
-        return claim_in_order(rt, source.lock, target.lock);
-    }
-    let (target, source) = claim_in_order(rt, target.lock, source.lock)?;
-    Some((source, target))
-}
-
-// Locks these two buckets, one after the other, and takes them out.
-#[inline(always)]
-fn claim_in_order<'b, R: Wait>(
-    rt: &R,
-    first: &'b WordLock<Slot>,
-    second: &'b WordLock<Slot>,
-) -> Option<(Locked<'b>, Locked<'b>)>
-    requires { (key_of first.now).place < (key_of second.now).place }
-    ensures locks { IfSome result (λ both. (both.0.lock.now ≡ first.now)
-        × (both.1.lock.now ≡ second.now)) }
-    ensures held { IfSome result (λ both. IsHeldOf both.0.lock.now both.0.held
-        × IsHeldOf both.1.lock.now both.1.held) }
-    ensures fits { IfSome result (λ both. FitsCell (key_of both.0.lock.now) both.0.cell
-        × FitsCell (key_of both.1.lock.now) both.1.cell) }
-    ensures behind { IfSome result (λ both. both.1.behind ≡ Some (key_of first.now).place) }
-{
-    let first = Locked::of(rt, first)?;
-    let Some(second) = Locked::behind(rt, &first, second) else {
-        first.close();
-        return None;
-    };
-    Some((first, second))
 }

@@ -3,11 +3,9 @@
 ghost use Rattle.std.specs.Prelude.{◌+◌, ◌<◌, ◌^◌, length, IfSome};
 ghost use Rattle.lot_history.specs.Witness.{id_of, max_threads_of};
 ghost use Rattle.lot_threads.specs.Cells.{IsLockFor, IsRow, IsSlotAt};
-ghost use Rattle.lot_threads.specs.Sections.{IsClaimed};
 
 use super::ParkingLot;
 use crate::cell::{MOST_ROWS, RowSlot, Slot, lock_at};
-use crate::claimed::Claimed;
 use crate::parker::ThreadParkerT;
 use lot_base::bucket::place;
 use lot_base::word_lock::WordLock;
@@ -63,34 +61,17 @@ impl<P: ThreadParkerT> ParkingLot<P> {
 
     // The lock of the key's place in the row in use.
     #[inline]
-    fn lock_of(&self, key: usize) -> Option<&WordLock<Slot>>
+    pub(crate) fn lock_of(&self, key: usize) -> Option<&WordLock<Slot>>
         ensures { IfSome result (λ lock. IsLockFor self.now key lock.now) }
     {
         let row = self.row_in_use()?;
         Some(lock_at(row, place(key, row.len())))
     }
 
-    // Locks the bucket of the key, which begins a section.
-    #[inline(always)]
-    pub(super) fn claim<R: Wait>(&self, rt: &R, key: usize) -> Claimed<'_>
-        ensures lock { IsLockFor self.now key result.lock.now }
-        ensures claim { IsClaimed result }
-    {
-        for _ in rt.forever() {
-            if let Some(lock) = self.lock_of(key)
-                && let Some(claimed) = Claimed::of(rt, lock)
-            {
-                return claimed;
-            }
-            self.wait_for_change(rt);
-        }
-        unreachable!()
-    }
-
     // Waits until the thread that changes the row is done, which has the numbers locked meanwhile.
     #[cold]
     #[inline(never)]
-    pub(super) fn wait_for_change<R: Wait>(&self, rt: &R) {
+    pub(crate) fn wait_for_change<R: Wait>(&self, rt: &R) {
         let held = self.registry.lock(rt);
         self.registry.unlock(held);
     }

@@ -32,8 +32,8 @@ const LAST_PLACE: usize = FIRST_PLACE + WORD_SLOTS - 1;
 // The index of a word that nobody writes.
 const UNWRITTEN: usize = 16;
 
-// The index of the slot of the value.
-const VALUE: usize = 0;
+/// The index of the slot of the value.
+pub(super) const VALUE: usize = 0;
 
 /// The mark of a place that nobody has.
 const FREE: u64 = 0;
@@ -57,7 +57,7 @@ pub(super) const OLDEST: u64 = 1;
 /// One caller of a word lock. It has no `Drop`, and none but this module reads its seat, so that
 /// each one made by `arrive` ends in `leave`.
 pub struct Caller<T: Fits> {
-    seat: Seat<Option<T>, (T::Key, View)>,
+    pub(super) seat: Seat<Option<T>, (T::Key, View)>,
 }
 
 impl<T: Fits> Caller<T> {

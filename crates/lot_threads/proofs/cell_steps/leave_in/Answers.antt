@@ -1,0 +1,70 @@
+use Rattle.std.proofs.Common.{◌≡◌, Bool, true, false, not, List, [], ◌∷◌, refl, rules, sym, subst}
+use Rattle.lot_base.specs.BucketState.{BucketState}
+use Rattle.lot_base.specs.Node.{fields}
+use Rattle.lot_base.specs.NodeLists.{has_number, lists_of}
+use Rattle.lot_base.specs.Waiting.{has_any, without_first}
+use Rattle.lot_machine.specs.declared.status.Status.TheVariants as status
+use Rattle.lot_machine.specs.declared.step.Answer.TheVariants as answer
+use Rattle.lot_machine.specs.declared.step.Step.TheVariants as step
+use Rattle.lot_base.proofs.RemoveLemmas.{find-number}
+use Rattle.lot_history.specs.Moves.{Moves}
+use Rattle.lot_history.specs.Witness.{id_of, max_threads_of}
+use Rattle.lot_history.specs.declared.view.Piece.{Piece}
+use Rattle.lot_history.specs.declared.view.Piece.TheVariants.{Thread}
+use Rattle.lot_history.proofs.RemoveLemmas.{removes, removes_late}
+use Rattle.lot_threads.specs.Cells.{Has, lists_in}
+use Rattle.lot_threads.specs.Late.{late_pieces}
+use Rattle.lot_threads.specs.Members.{Is}
+use Rattle.lot_threads.proofs.BelowLemmas.{below-left, split_without, without_parts}
+use Rattle.lot_threads.proofs.cell_steps.leave_in.Goals as goal
+
+not_false : (b : Bool) → not b ≡ false → b ≡ true
+not_false true same = refl
+not_false false same = absurd (cc (same))
+
+pub add_timeout-thread-requires-clause-deadline : goal.add_timeout-thread-requires-clause-deadline
+add_timeout-thread-requires-clause-deadline g c =
+    let bound = max_threads_of c.args.history.now in
+    let old = c.args.cell.now.bucket in
+    let node = fields c.in_ok-node.node.value in
+    let is_timed : not node.timed ≡ false = search rules in
+    subst (λ (pieces : List Piece). Moves bound (Is (step.Deadline c.args.number) answer.Late) pieces
+    (late_pieces c.args.number pieces)) (sym c.requires.cell.part.pieces)
+    (removes_late bound old.size old.place c.args.key c.args.number old.nodes node [] c.requires.place
+    c.in_ok-node.ensures.removed.0 (not_false node.timed is_timed))
+
+pub add_timeout-thread-requires-clause-resolve : goal.add_timeout-thread-requires-clause-resolve
+add_timeout-thread-requires-clause-resolve g c =
+    let bound = max_threads_of c.args.history.now in
+    let number = c.args.number in
+    let key = c.args.key in
+    let old = c.args.cell.now.bucket in
+    let new = c.remove.new.self in
+    let told = c.remove.ensures in
+    let last : c.in_ok-node.last ≡ not (has_any (without_first (has_number number) (lists_of old.nodes key))) = search rules in
+    subst (λ (pieces : List Piece). Moves bound (Is (step.Resolve number) (answer.TimedOut key c.in_ok-node.last))
+    (late_pieces number pieces) (lists_in new ∷ Thread number status.Running ∷ [])) (sym c.requires.cell.part.pieces)
+    (rw (told.place.place, told.place.size, last)
+    (removes bound old.size old.place key number old.nodes (fields c.in_ok-node.node.value) [] c.requires.place
+    c.in_ok-node.ensures.removed.0 new.nodes told.lists))
+
+pub returns-clause-cell : goal.returns-clause-cell
+returns-clause-cell g c =
+    let bound = max_threads_of c.args.history.now in
+    let same = c.add_timeout-thread.ensures.bucket in
+    let nodes = c.args.cell.now.bucket.nodes in
+    let waiting = lists_of nodes c.args.key in
+    record {
+      part = subst (λ (bucket : BucketState).
+          Has (id_of c.args.history.now) (lists_in bucket ∷ []) c.add_timeout-thread.new.cell.part)
+          (sym same) c.add_timeout-thread.ensures.part;
+      below = rw same (below-left bound c.args.key nodes (split_without c.args.number waiting)
+          (without_parts c.args.number waiting) c.requires.cell.below c.remove.new.self.nodes c.remove.ensures.lists);
+    }
+
+pub returns-clause-returned : goal.returns-clause-returned
+returns-clause-returned g c = (
+  find-number c.args.number (lists_of c.args.cell.now.bucket.nodes c.args.key) (fields c.in_ok-node.node.value)
+      c.in_ok-node.ensures.removed.0,
+  c.add_timeout-thread.ensures.thread,
+)

@@ -1,0 +1,69 @@
+use Rattle.std.proofs.Common.{◌≡◌, List, [], ◌∷◌, ◌++◌, rules, sym, ap, ◌∙◌, subst}
+use Rattle.lot_base.specs.Filter.{park_tokens}
+use Rattle.lot_base.specs.NodeLists.{lists_of}
+use Rattle.lot_base.specs.declared.token.ParkToken.{ParkToken}
+use Rattle.lot_base.specs.declared.token.UnparkResult.{UnparkResult}
+use Rattle.lot_machine.specs.declared.step.Answer.{Answer}
+use Rattle.lot_machine.specs.declared.step.Answer.TheVariants as answer
+use Rattle.lot_machine.specs.declared.step.Op.TheVariants.{Filter}
+use Rattle.lot_machine.specs.declared.step.Step.{Step}
+use Rattle.lot_machine.specs.declared.step.Step.TheVariants.{Unpark}
+use Rattle.lot_history.specs.declared.view.Piece.{Piece}
+use Rattle.lot_history.specs.Pieces.{AllSo}
+use Rattle.lot_history.specs.Witness.{Extends, max_threads_of, pieces_in, pieces_of}
+use Rattle.lot_threads.specs.Cells.{lists_in}
+use Rattle.lot_threads.specs.Filters.{AreCalled}
+use Rattle.lot_threads.proofs.AnswerLemmas.{same_result}
+use Rattle.lot_threads.proofs.ListLemmas.{tokens_at}
+use Rattle.lot_threads.proofs.cell_steps.take_filter_of.Goals as goal
+
+-- the machine that the step found is as the bucket's part says, on whose park tokens the filter decided
+pub returns-clause-unparked : goal.returns-clause-unparked
+returns-clause-unparked g c =
+    let bucket = c.args.cell.now.bucket in
+    let key = c.args.key in
+    let filter = c.args.filter in
+    let callback = c.args.callback in
+    let history = c.args.history.now in
+    let bound = max_threads_of history in
+    let result = c.take_filter_with.result.0 in
+    let last = c.take_filter_with.new.me in
+    let taken : pieces_of c.take.new.me ≡ lists_in bucket ∷ [] =
+    c.take.ensures.pieces ∙ (ap (λ (ps : List Piece). ps ++ pieces_in c.replace-part.result) c.requires.none
+    ∙ (ap (λ part. pieces_in part) c.replace-part.ensures.value ∙ c.requires.cell.part.pieces)) in
+    let adds = c.take_filter_with.ensures.adds in
+    let found = c.take_filter_with.ensures.found in
+    let m = found.machine in
+    let so : AllSo m (lists_in bucket ∷ []) =
+    subst (λ (ps : List Piece). AllSo m ps) taken found.so in
+    let told = adds.is_said.0.1 in
+    let same : adds.is_said.0.0 ≡ result =
+    same_result adds.is_said.0.0 result (sym told.answer ∙ adds.is_said.1) in
+    let extends : Extends history c.take.new.me (Unpark (Filter key told.decisions told.token)) (answer.Unpark result) last =
+    subst (λ (s : Step). Extends history c.take.new.me s (answer.Unpark result) last) told.step
+    (subst (λ (a : Answer). Extends history c.take.new.me adds.step a last) adds.is_said.1 adds.extends) in
+    record {
+      decisions = told.decisions;
+      token = told.token;
+      extends = record {
+        between = extends.between;
+        seen = search rules;
+        mine = search rules;
+        all_mine = search rules;
+        history = search rules;
+      };
+      found = record {
+        before = found.before;
+        last = found.last;
+        machine = m;
+        begins = search rules;
+        seen = found.seen;
+        leads = found.leads;
+        so = search rules;
+      };
+      calls = subst (λ (tokens : List ParkToken).
+          AreCalled g.F.FnMut g.C.FnOnce filter callback tokens told.decisions.items result told.token)
+          (tokens_at m bucket.size bucket.place key bucket.nodes c.requires.place so)
+          (subst (λ (found : UnparkResult). AreCalled g.F.FnMut g.C.FnOnce filter callback
+          (park_tokens (lists_of bucket.nodes key)) told.decisions.items found told.token) same told.calls);
+    }

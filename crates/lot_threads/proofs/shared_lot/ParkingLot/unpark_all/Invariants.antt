@@ -1,8 +1,0 @@
-use Rattle.std.proofs.Common.{◌≡◌}
-use Rattle.lot_machine.specs.declared.step.Op.TheVariants as op
-use Rattle.lot_machine.specs.declared.step.Step.TheVariants as step
-use Rattle.lot_threads.proofs.shared_lot.ParkingLot.unpark_all.Given as goal
-
--- the unpark is of this key, with this token
-abbrev pub ghosts-take_all : goal.ghosts-take_all
-ghosts-take_all g a = record { said = λ s t. s ≡ step.Unpark (op.All a.key a.token) }

@@ -1,0 +1,293 @@
+//! What each call does to a bucket and its part, while it has them: the step, and what it tells the
+//! history.
+
+ghost use Rattle.std.specs.Prelude.{◌≡◌, ◌∷◌, ◌<◌, ◌≤◌, ◌^◌, ℕ, [], true, false, length, Bool, All, IfErr, IfNone, IfSome, OnOk, is_ok};
+ghost use Rattle.lot_base.specs.BucketState.{KeepsPlace};
+ghost use Rattle.lot_base.specs.Filter.{park_tokens};
+ghost use Rattle.lot_base.specs.Node.{fields};
+ghost use Rattle.lot_base.specs.NodeLists.{lists_of};
+ghost use Rattle.lot_base.specs.Place.{place_of};
+ghost use Rattle.lot_base.specs.Waiting.{result_of, split_first};
+ghost use Rattle.lot_machine.specs.declared.step.Answer.{Answer};
+ghost use Rattle.lot_machine.specs.declared.step.Step.{Step};
+ghost use Rattle.lot_base.specs.declared.token.UnparkResult.{UnparkResult};
+ghost use Rattle.lot_history.specs.Witness.{Adds, Extends, Found, IsStill, IsWitnessOf, events_of, id_of, max_threads_of, pieces_of, seen_by};
+ghost use Rattle.lot_history.specs.declared.view.Piece.TheVariants.{Thread};
+ghost use Rattle.lot_threads.specs.Cells.{Has, IsBelow, IsCell, lists_in, threads_in};
+ghost use Rattle.lot_threads.specs.Filters.{AreCallable, IsUnpark, Unparks};
+ghost use Rattle.lot_threads.specs.Members.{IsListed, Leaves, entry_of, entry_step};
+
+use crate::cell::Cell;
+use crate::told::{Entry, add_entered, add_invalid, add_taken, add_taking, add_timeout};
+use lot_base::queue::{Node, Queue};
+use lot_base::token::{FilterOp, NoMemory, ParkToken, UnparkResult, UnparkToken};
+use lot_history::history::{History, Part, Witness};
+use lot_history::plays::Told;
+use lot_machine::status::Status;
+use lot_machine::step::{Answer, Op, Step};
+use std::alloc::Global;
+use std::marker::Brand;
+use std::sync::Wait;
+use std::{mem, thread};
+
+// Takes the first waiter of the key out of its bucket, and tells so. The witness has the pieces of
+// those that were taken, one at most.
+pub(crate) fn take_one_of<E: Told, C: FnOnce(UnparkResult) -> UnparkToken>(
+    history: &History,
+    me: &mut Witness,
+    cell: &mut Cell,
+    key: usize,
+    callback: C,
+) -> (UnparkResult, Queue)
+    requires witness { IsWitnessOf history.now me.old }
+    requires none { pieces_of me.old ≡ [] }
+    requires cell { IsCell (id_of history.now) (max_threads_of history.now) cell.old }
+    requires place { place_of key cell.old.bucket.size ≡ cell.old.bucket.place }
+    requires callable { C.pre callback
+        (result_of (split_first (lists_of cell.old.bucket.nodes key))) }
+    requires said { (answer : UnparkResult) (token : UnparkToken) → C.post callback answer token
+        → E.said (Step.Unpark (Op.One key token)) (Answer.Unpark answer) }
+
+    ensures still { IsStill history.now me.old me.new }
+    ensures adds { Adds history.now me.old
+        (λ s a. E.said s a × (a ≡ Answer.Unpark result.0)) me.new }
+    ensures pieces { pieces_of me.new ≡ threads_in result.1 }
+    ensures cell { IsCell (id_of history.now) (max_threads_of history.now) cell.new }
+    ensures place { KeepsPlace cell.old.bucket cell.new.bucket }
+    ensures below { All (IsBelow (max_threads_of history.now)) result.1 }
+    ensures one { length result.1 ≤ 1 }
+{
+    let (result, taken) = cell.bucket.take_one(key, callback);
+    add_taking::<E>(history, me, cell, &taken, Answer::Unpark(result));
+    (result, taken)
+}
+
+// Takes all waiters of the key out of their bucket, and tells so. The witness has the pieces of
+// those that were taken.
+pub(crate) fn take_all_of<E: Told>(
+    history: &History,
+    me: &mut Witness,
+    cell: &mut Cell,
+    key: usize,
+    token: UnparkToken,
+) -> (usize, Queue)
+    requires witness { IsWitnessOf history.now me.old }
+    requires none { pieces_of me.old ≡ [] }
+    requires cell { IsCell (id_of history.now) (max_threads_of history.now) cell.old }
+    requires place { place_of key cell.old.bucket.size ≡ cell.old.bucket.place }
+    requires said { (count : ℕ)
+        → E.said (Step.Unpark (Op.All key token)) (Answer.Count count) }
+
+    ensures still { IsStill history.now me.old me.new }
+    ensures adds { Adds history.now me.old
+        (λ s a. E.said s a × (a ≡ Answer.Count result.0)) me.new }
+    ensures pieces { pieces_of me.new ≡ threads_in result.1 }
+    ensures cell { IsCell (id_of history.now) (max_threads_of history.now) cell.new }
+    ensures place { KeepsPlace cell.old.bucket cell.new.bucket }
+    ensures below { All (IsBelow (max_threads_of history.now)) result.1 }
+{
+    let (count, taken) = cell.bucket.take_all(key, token);
+    add_taking::<E>(history, me, cell, &taken, Answer::Count(count));
+    (count, taken)
+}
+
+// Takes those waiters of the key that the filter unparks out of their bucket, and tells so. The
+// witness has the pieces of those that were taken.
+pub(crate) fn take_filter_of<
+    F: FnMut(ParkToken) -> FilterOp,
+    C: FnOnce(UnparkResult) -> UnparkToken,
+>(
+    history: &History,
+    me: &mut Witness,
+    cell: &mut Cell,
+    key: usize,
+    filter: F,
+    callback: C,
+) -> (UnparkResult, Queue)
+    requires witness { IsWitnessOf history.now me.old }
+    requires none { pieces_of me.old ≡ [] }
+    requires few { max_threads_of history.now < 2 ^ 63 }
+    requires cell { IsCell (id_of history.now) (max_threads_of history.now) cell.old }
+    requires place { place_of key cell.old.bucket.size ≡ cell.old.bucket.place }
+    requires callable { AreCallable F.FnMut C.FnOnce filter callback }
+
+    ensures still { IsStill history.now me.old me.new }
+    ensures unparked { Unparks F.FnMut C.FnOnce filter callback key history.now me.old result.0
+        me.new }
+    ensures pieces { pieces_of me.new ≡ threads_in result.1 }
+    ensures cell { IsCell (id_of history.now) (max_threads_of history.now) cell.new }
+    ensures place { KeepsPlace cell.old.bucket cell.new.bucket }
+    ensures below { All (IsBelow (max_threads_of history.now)) result.1 }
+{
+    let part = mem::replace(&mut cell.part, Part::none());
+    history.take(me, part);
+    take_filter_with::<Brand, F, C>(history, me, cell, key, filter, callback)
+}
+
+// Takes those waiters of the key that the filter unparks out of their bucket, whose piece the
+// witness has, and tells so.
+fn take_filter_with<
+    E: Told,
+    F: FnMut(ParkToken) -> FilterOp,
+    C: FnOnce(UnparkResult) -> UnparkToken,
+>(
+    history: &History,
+    me: &mut Witness,
+    cell: &mut Cell,
+    key: usize,
+    filter: F,
+    callback: C,
+) -> (UnparkResult, Queue)
+    requires witness { IsWitnessOf history.now me.old }
+    requires piece { pieces_of me.old ≡ lists_in cell.old.bucket ∷ [] }
+    requires few { max_threads_of history.now < 2 ^ 63 }
+    requires below { All (IsBelow (max_threads_of history.now)) cell.old.bucket.nodes }
+    requires place { place_of key cell.old.bucket.size ≡ cell.old.bucket.place }
+    requires callable { AreCallable F.FnMut C.FnOnce filter callback }
+    requires said { (answer : UnparkResult) (s : Step) (a : Answer)
+        → IsUnpark F.FnMut C.FnOnce filter callback key
+        (park_tokens (lists_of cell.old.bucket.nodes key)) answer s a → E.said s a }
+
+    ensures still { IsStill history.now me.old me.new }
+    ensures adds { Adds history.now me.old
+        (λ s a. E.said s a × (a ≡ Answer.Unpark result.0)) me.new }
+    ensures found { Found history.now me.old me.new }
+    ensures pieces { pieces_of me.new ≡ threads_in result.1 }
+    ensures cell { IsCell (id_of history.now) (max_threads_of history.now) cell.new }
+    ensures place { KeepsPlace cell.old.bucket cell.new.bucket }
+    ensures below { All (IsBelow (max_threads_of history.now)) result.1 }
+{
+    let (result, taken) = cell.bucket.take_filter(key, filter, callback);
+    add_taken::<E>(history, me, cell, &taken, Answer::Unpark(result));
+    (result, taken)
+}
+
+// Puts a thread last in the list of its key, if `validate` answers true, and tells so; or gives
+// back its piece and its node.
+pub(crate) fn enter_in<V: FnOnce() -> bool>(
+    history: &History,
+    me: &mut Witness,
+    cell: &mut Cell,
+    thread: Part,
+    node: Box<Node>,
+    validate: V,
+) -> Result<(), (Part, Box<Node>)>
+    requires witness { IsWitnessOf history.now me.old }
+    requires none { pieces_of me.old ≡ [] }
+    requires cell { IsCell (id_of history.now) (max_threads_of history.now) cell.old }
+    requires place { place_of (fields node.value).key cell.old.bucket.size
+        ≡ cell.old.bucket.place }
+    requires below { IsBelow (max_threads_of history.now) (fields node.value) }
+    requires thread { Has (id_of history.now)
+        (Thread (fields node.value).number Status.Running ∷ []) thread }
+    requires callable { V.pre validate }
+
+    ensures still { IsStill history.now me.old me.new }
+    ensures none { pieces_of me.new ≡ [] }
+    ensures cell { IsCell (id_of history.now) (max_threads_of history.now) cell.new }
+    ensures place { KeepsPlace cell.old.bucket cell.new.bucket }
+    ensures asked { V.post validate (is_ok result) }
+    ensures entered { OnOk result (Extends history.now me.old
+        (entry_step (entry_of (fields node.value)) true) Answer.Entered me.new) }
+    ensures refused { IfErr result (λ back. Extends history.now me.old
+        (entry_step (entry_of (fields node.value)) false) Answer.Invalid me.new) }
+    ensures returned { IfErr result (λ back. (back.1.value ≡ node.value)
+        × Has (id_of history.now)
+        (Thread (fields node.value).number Status.Running ∷ []) back.0) }
+{
+    let entry = entry_for(&node);
+    match cell.bucket.enter(node, validate) {
+        Ok(()) => {
+            add_entered(history, me, cell, thread, entry);
+            Ok(())
+        }
+        Err(node) => Err((add_invalid(history, me, thread, entry), node)),
+    }
+}
+
+// Takes the node of a thread whose deadline has passed out of the bucket of its key, calls
+// `timed_out` and tells so; or answers `None` if the node is not there, since an unpark took it.
+pub(crate) fn leave_in<R: Wait, T: FnOnce(usize, bool)>(
+    rt: &R,
+    history: &History,
+    me: &mut Witness,
+    cell: &mut Cell,
+    number: usize,
+    key: usize,
+    timed_out: T,
+) -> Option<(Part, Box<Node>)>
+    requires witness { IsWitnessOf history.now me.old }
+    requires none { pieces_of me.old ≡ [] }
+    requires cell { IsCell (id_of history.now) (max_threads_of history.now) cell.old }
+    requires place { place_of key cell.old.bucket.size ≡ cell.old.bucket.place }
+    requires callable { (last : _) → T.pre timed_out key last }
+
+    ensures still { IsStill history.now me.old me.new }
+    ensures none { pieces_of me.new ≡ [] }
+    ensures cell { IsCell (id_of history.now) (max_threads_of history.now) cell.new }
+    ensures place { KeepsPlace cell.old.bucket cell.new.bucket }
+    ensures left { IfSome result (λ back. (last : Bool) × T.post timed_out key last tt
+        × Leaves history.now number key last me.old me.new) }
+    ensures returned { IfSome result (λ back. ((fields back.1.value).number ≡ number)
+        × Has (id_of history.now) (Thread number Status.Running ∷ []) back.0) }
+    ensures unchanged { IfNone result ((seen_by me.new ≡ seen_by me.old)
+        × (events_of me.new ≡ events_of me.old)) }
+{
+    let (node, last) = cell.bucket.remove(number, key, |_, last| last)?;
+    // A thread whose deadline has passed entered with a timeout, but no contract tells what the
+    // node of a thread says.
+    if !node.timed {
+        never(rt);
+    }
+    timed_out(key, last);
+    let thread = add_timeout(history, me, cell, number, key, last);
+    Some((thread, node))
+}
+
+// Sees the history with the bucket's part, and lists the threads of the key.
+pub(crate) fn list_in(
+    history: &History,
+    me: &mut Witness,
+    cell: &mut Cell,
+    alloc: Global,
+    key: usize,
+) -> Result<Vec<usize>, NoMemory>
+    requires witness { IsWitnessOf history.now me.old }
+    requires none { pieces_of me.old ≡ [] }
+    requires cell { IsCell (id_of history.now) (max_threads_of history.now) cell.old }
+    requires place { place_of key cell.old.bucket.size ≡ cell.old.bucket.place }
+
+    ensures still { IsStill history.now me.old me.new }
+    ensures none { pieces_of me.new ≡ [] }
+    ensures cell { IsCell (id_of history.now) (max_threads_of history.now) cell.new }
+    ensures place { KeepsPlace cell.old.bucket cell.new.bucket }
+    ensures listed { IsListed history.now key me.old me.new result }
+{
+    let part = mem::replace(&mut cell.part, Part::none());
+    history.take(me, part);
+    history.look(me);
+    cell.part = history.give(me);
+    cell.bucket.list(alloc, key)
+}
+
+// What the thread of a node enters with.
+fn entry_for(node: &Node) -> Entry
+    ensures { result ≡ entry_of (fields node.now) }
+{
+    Entry {
+        number: node.number,
+        key: node.key,
+        park_token: node.park_token,
+        timed: node.timed,
+    }
+}
+
+// Waits for ever, where the code does not come.
+#[cold]
+#[inline(never)]
+pub(crate) fn never<R: Wait>(rt: &R) -> ! {
+    for _ in rt.forever() {
+        thread::yield_now();
+    }
+    unreachable!()
+}

@@ -1,0 +1,375 @@
+//! A section: what a call does while it has the bucket of a key locked.
+
+ghost use Rattle.std.specs.Prelude.{◌≡◌, ◌<◌, ◌∷◌, List, [], true, false, Bool, IfErr, IfNone, IfSome, IsFalse, IsTrue, OnOk, Some, is_ok};
+ghost use Rattle.std.proofs.Props.{props};
+ghost use Rattle.lot_base.specs.Node.{fields};
+ghost use Rattle.lot_base.specs.NodeFields.{NodeFields};
+ghost use Rattle.lot_base.specs.Waiting.{result_of, split_first};
+ghost use Rattle.lot_machine.specs.declared.step.Answer.{Answer};
+ghost use Rattle.lot_machine.specs.declared.step.Step.{Step};
+ghost use Rattle.lot_history.specs.Witness.{Extends, IsStill, IsWitnessOf, events_of, id_of, max_threads_of, pieces_of, seen_by};
+ghost use Rattle.lot_history.specs.declared.view.Piece.TheVariants.{Thread};
+ghost use Rattle.lot_word_lock.specs.WordLock.{IsClaimOn, key_of};
+ghost use Rattle.lot_threads.specs.Cells.{AreApart, FitsSlot, Has, IsBelow, IsLockFor};
+ghost use Rattle.lot_threads.specs.Filters.{AreCallable, Unparks};
+ghost use Rattle.lot_threads.specs.Members.{IsListed, Leaves, entry_of, entry_step};
+ghost use Rattle.lot_threads.specs.Requeues.{MayRequeue, Requeues};
+ghost use Rattle.lot_threads.specs.Sections.{HasBucket};
+
+use crate::cell::Slot;
+use crate::cell_steps::{enter_in, leave_in, list_in, take_all_of, take_filter_of, take_one_of};
+use crate::parker::ThreadParkerT;
+use crate::shared_lot::ParkingLot;
+use crate::shared_lot::handles::Handles;
+use lot_base::queue::Node;
+use lot_base::token::{FilterOp, NoMemory, ParkToken, RequeueOp, UnparkResult, UnparkToken};
+use lot_base::word_lock::{Claim, WordLock};
+use lot_history::history::{Part, Witness};
+use lot_machine::status::Status;
+use lot_machine::step::{Answer, Op, Step};
+use std::alloc::Global;
+use std::marker::Brand;
+use std::sync::Wait;
+
+/// A call that has the bucket of a key, which lies behind its lock. Each of its steps changes the
+/// bucket and adds to the history what it did. It has no `Drop`: it ends in `close`.
+///
+/// A requeue has two, of which `behind` tells the place of the one that was opened before.
+pub(crate) struct Section<'a, P: ThreadParkerT> {
+    lot: &'a ParkingLot<P>,
+    lock: &'a WordLock<Slot>,
+    behind: Option<usize>,
+    claim: Claim<Slot>,
+    key: usize,
+    ghost for_key: { IsLockFor lot.now key lock.now },
+    ghost has_bucket: { HasBucket lock.now claim } by { Prim.hlevel props },
+}
+
+impl<'a, P: ThreadParkerT> Section<'a, P> {
+    /// Locks the bucket of the key. Where a change of rows took it away, it waits until that is
+    /// done, and looks again.
+    #[inline(always)]
+    pub(crate) fn open<R: Wait>(rt: &R, lot: &'a ParkingLot<P>, key: usize) -> Section<'a, P>
+        ensures lot { result.lot.now ≡ lot.now }
+        ensures key { result.key ≡ key }
+    {
+        for _ in rt.forever() {
+            if let Some(lock) = lot.lock_of(key)
+                && let Some(section) = Section::at(rt, lot, lock, key)
+            {
+                return section;
+            }
+            lot.wait_for_change(rt);
+        }
+        unreachable!()
+    }
+
+    /// Locks the bucket of this lock, which is that of the key, or answers `None` where a change of
+    /// rows took it away.
+    #[inline(always)]
+    pub(crate) fn at<R: Wait>(
+        rt: &R,
+        lot: &'a ParkingLot<P>,
+        lock: &'a WordLock<Slot>,
+        key: usize,
+    ) -> Option<Section<'a, P>>
+        requires { IsLockFor lot.now key lock.now }
+        ensures lot { IfSome result (λ section. section.lot.now ≡ lot.now) }
+        ensures lock { IfSome result (λ section. section.lock.now ≡ lock.now) }
+        ensures key { IfSome result (λ section. section.key ≡ key) }
+    {
+        let claim = claim_bucket(rt, lock)?;
+        Some(Section {
+            lot,
+            lock,
+            behind: None,
+            claim,
+            key,
+        })
+    }
+
+    /// Does what `at` does, for a call that has the bucket of a lower place, whose section is
+    /// `first`.
+    #[inline(always)]
+    pub(crate) fn behind<R: Wait>(
+        rt: &R,
+        first: &Section<'a, P>,
+        place: usize,
+        lock: &'a WordLock<Slot>,
+        key: usize,
+    ) -> Option<Section<'a, P>>
+        requires lock { IsLockFor first.now.lot.now key lock.now }
+        requires place { place ≡ (key_of first.now.lock.now).place }
+        requires order { place < (key_of lock.now).place }
+        ensures lot { IfSome result (λ section. section.lot.now ≡ first.now.lot.now) }
+        ensures lock { IfSome result (λ section. section.lock.now ≡ lock.now) }
+        ensures key { IfSome result (λ section. section.key ≡ key) }
+        ensures behind { IfSome result (λ section.
+            section.behind ≡ Some (key_of first.now.lock.now).place) }
+    {
+        let mut section = Section::at(rt, first.lot, lock, key)?;
+        section.behind = Some(place);
+        Some(section)
+    }
+
+    /// Lets the bucket go.
+    #[inline]
+    pub(crate) fn close(self) {
+        let Section {
+            lot: _,
+            lock,
+            behind: _,
+            claim,
+            key: _,
+        } = self;
+        lock.release(claim);
+    }
+
+    /// Unparks the first thread of the key, if there is one, and answers its handle too.
+    #[inline]
+    pub(crate) fn take_one<R: Wait, C: FnOnce(UnparkResult) -> UnparkToken>(
+        &mut self,
+        rt: &R,
+        me: &mut Witness,
+        callback: C,
+    ) -> (UnparkResult, Option<P::UnparkHandle>)
+        requires witness { IsWitnessOf self.old.lot.now me.old }
+        requires none { pieces_of me.old ≡ [] }
+        requires callable { (waiters : List NodeFields)
+            → C.pre callback (result_of (split_first waiters)) }
+        ensures still { IsStill self.old.lot.now me.old me.new }
+        ensures none { pieces_of me.new ≡ [] }
+        ensures unparked { (token : UnparkToken) × C.post callback result.0 token
+            × Extends self.old.lot.now me.old (Step.Unpark (Op.One self.old.key token))
+            (Answer.Unpark result.0) me.new }
+    {
+        let lot = self.lot;
+        let key = self.key;
+        let slot = self.claim.value_mut(self.lock).as_mut().unwrap();
+        let cell = slot.cell.as_mut().unwrap();
+        let (result, taken) = take_one_of::<Brand, C>(lot.history(), me, cell, key, callback);
+        (result, lot.commit_one(rt, me, taken))
+    }
+
+    /// Unparks all threads of the key, and answers handles of the first of them.
+    pub(crate) fn take_all<R: Wait>(
+        &mut self,
+        rt: &R,
+        me: &mut Witness,
+        token: UnparkToken,
+    ) -> (usize, Handles<P::UnparkHandle>)
+        requires witness { IsWitnessOf self.old.lot.now me.old }
+        requires none { pieces_of me.old ≡ [] }
+        ensures still { IsStill self.old.lot.now me.old me.new }
+        ensures none { pieces_of me.new ≡ [] }
+        ensures unparked { Extends self.old.lot.now me.old
+            (Step.Unpark (Op.All self.old.key token)) (Answer.Count result.0) me.new }
+    {
+        let lot = self.lot;
+        let key = self.key;
+        let slot = self.claim.value_mut(self.lock).as_mut().unwrap();
+        let cell = slot.cell.as_mut().unwrap();
+        let (count, taken) = take_all_of::<Brand>(lot.history(), me, cell, key, token);
+        (count, lot.commit(rt, me, taken))
+    }
+
+    /// Unparks those threads of the key that the filter unparks, and answers handles of the first
+    /// of them.
+    pub(crate) fn take_filter<
+        R: Wait,
+        F: FnMut(ParkToken) -> FilterOp,
+        C: FnOnce(UnparkResult) -> UnparkToken,
+    >(
+        &mut self,
+        rt: &R,
+        me: &mut Witness,
+        filter: F,
+        callback: C,
+    ) -> (UnparkResult, Handles<P::UnparkHandle>)
+        requires witness { IsWitnessOf self.old.lot.now me.old }
+        requires none { pieces_of me.old ≡ [] }
+        requires callable { AreCallable F.FnMut C.FnOnce filter callback }
+        ensures still { IsStill self.old.lot.now me.old me.new }
+        ensures none { pieces_of me.new ≡ [] }
+        ensures unparked { Unparks F.FnMut C.FnOnce filter callback self.old.key self.old.lot.now
+            me.old result.0 me.new }
+    {
+        let lot = self.lot;
+        let key = self.key;
+        let slot = self.claim.value_mut(self.lock).as_mut().unwrap();
+        let cell = slot.cell.as_mut().unwrap();
+        let (result, taken) = take_filter_of(lot.history(), me, cell, key, filter, callback);
+        (result, lot.commit(rt, me, taken))
+    }
+
+    /// Requeues threads of the key onto the key `to`, which has the same bucket, as `validate`
+    /// chooses, and answers the handle of the one that is unparked, if there is one.
+    pub(crate) fn requeue_within<
+        R: Wait,
+        V: FnOnce() -> RequeueOp,
+        C: FnOnce(RequeueOp, UnparkResult) -> UnparkToken,
+    >(
+        &mut self,
+        rt: &R,
+        me: &mut Witness,
+        to: usize,
+        validate: V,
+        callback: C,
+    ) -> (UnparkResult, Option<P::UnparkHandle>)
+        requires witness { IsWitnessOf self.old.lot.now me.old }
+        requires none { pieces_of me.old ≡ [] }
+        requires to { IsLockFor self.old.lot.now to self.old.lock.now }
+        requires callable { MayRequeue V.FnOnce C.FnOnce validate callback }
+        ensures still { IsStill self.old.lot.now me.old me.new }
+        ensures none { pieces_of me.new ≡ [] }
+        ensures requeued { Requeues V.FnOnce C.FnOnce validate callback self.old.key to
+            self.old.lot.now me.old result.0 me.new }
+    {
+        let lot = self.lot;
+        let from = self.key;
+        let slot = self.claim.value_mut(self.lock).as_mut().unwrap();
+        let cell = slot.cell.as_mut().unwrap();
+        let (result, taken) = lot.requeue_in_one::<Brand, V, C>(
+            me, cell, from, to, validate, callback,
+        );
+        (result, lot.commit_one(rt, me, taken))
+    }
+
+    /// Does what `requeue_within` does, onto the key of another bucket, which the section `target`
+    /// has.
+    pub(crate) fn requeue_to<
+        R: Wait,
+        V: FnOnce() -> RequeueOp,
+        C: FnOnce(RequeueOp, UnparkResult) -> UnparkToken,
+    >(
+        &mut self,
+        rt: &R,
+        me: &mut Witness,
+        target: &mut Section<'a, P>,
+        validate: V,
+        callback: C,
+    ) -> (UnparkResult, Option<P::UnparkHandle>)
+        requires witness { IsWitnessOf self.old.lot.now me.old }
+        requires none { pieces_of me.old ≡ [] }
+        requires lot { target.old.lot.now ≡ self.old.lot.now }
+        requires apart { AreApart self.old.lock.now target.old.lock.now }
+        requires callable { MayRequeue V.FnOnce C.FnOnce validate callback }
+        ensures still { IsStill self.old.lot.now me.old me.new }
+        ensures none { pieces_of me.new ≡ [] }
+        ensures requeued { Requeues V.FnOnce C.FnOnce validate callback self.old.key target.old.key
+            self.old.lot.now me.old result.0 me.new }
+    {
+        let lot = self.lot;
+        let from = self.key;
+        let to = target.key;
+        let slot = self.claim.value_mut(self.lock).as_mut().unwrap();
+        let source = slot.cell.as_mut().unwrap();
+        let slot = target.claim.value_mut(target.lock).as_mut().unwrap();
+        let other = slot.cell.as_mut().unwrap();
+        let (result, taken) = lot.requeue_across::<Brand, V, C>(
+            me, source, other, from, to, validate, callback,
+        );
+        (result, lot.commit_one(rt, me, taken))
+    }
+
+    /// Puts a thread last in the list of the key, if `validate` answers true, or gives its piece
+    /// and its node back.
+    #[inline]
+    pub(crate) fn enter<V: FnOnce() -> bool>(
+        &mut self,
+        me: &mut Witness,
+        thread: Part,
+        node: Box<Node>,
+        validate: V,
+    ) -> Result<(), (Part, Box<Node>)>
+        requires witness { IsWitnessOf self.old.lot.now me.old }
+        requires none { pieces_of me.old ≡ [] }
+        requires key { (fields node.value).key ≡ self.old.key }
+        requires below { IsBelow (max_threads_of self.old.lot.now) (fields node.value) }
+        requires thread { Has (id_of self.old.lot.now)
+            (Thread (fields node.value).number Status.Running ∷ []) thread }
+        requires callable { V.pre validate }
+        ensures still { IsStill self.old.lot.now me.old me.new }
+        ensures none { pieces_of me.new ≡ [] }
+        ensures asked { V.post validate (is_ok result) }
+        ensures entered { OnOk result (Extends self.old.lot.now me.old
+            (entry_step (entry_of (fields node.value)) true) Answer.Entered me.new) }
+        ensures refused { IfErr result (λ back. Extends self.old.lot.now me.old
+            (entry_step (entry_of (fields node.value)) false) Answer.Invalid me.new) }
+        ensures returned { IfErr result (λ back. (back.1.value ≡ node.value)
+            × Has (id_of self.old.lot.now)
+            (Thread (fields node.value).number Status.Running ∷ []) back.0) }
+    {
+        let history = self.lot.history();
+        let slot = self.claim.value_mut(self.lock).as_mut().unwrap();
+        let cell = slot.cell.as_mut().unwrap();
+        enter_in(history, me, cell, thread, node, validate)
+    }
+
+    /// Takes a thread whose deadline has passed out of the list of the key and calls `timed_out`,
+    /// or answers `None` if it does not stand there, since an unpark took it.
+    pub(crate) fn leave<R: Wait, T: FnOnce(usize, bool)>(
+        &mut self,
+        rt: &R,
+        me: &mut Witness,
+        number: usize,
+        timed_out: T,
+    ) -> Option<(Part, Box<Node>)>
+        requires witness { IsWitnessOf self.old.lot.now me.old }
+        requires none { pieces_of me.old ≡ [] }
+        requires callable { (last : _) → T.pre timed_out self.old.key last }
+        ensures still { IsStill self.old.lot.now me.old me.new }
+        ensures none { pieces_of me.new ≡ [] }
+        ensures left { IfSome result (λ back. (last : Bool) × T.post timed_out self.old.key last tt
+            × Leaves self.old.lot.now number self.old.key last me.old me.new) }
+        ensures returned { IfSome result (λ back. ((fields back.1.value).number ≡ number)
+            × Has (id_of self.old.lot.now) (Thread number Status.Running ∷ []) back.0) }
+        ensures unchanged { IfNone result ((seen_by me.new ≡ seen_by me.old)
+            × (events_of me.new ≡ events_of me.old)) }
+    {
+        let history = self.lot.history();
+        let key = self.key;
+        let slot = self.claim.value_mut(self.lock).as_mut().unwrap();
+        let cell = slot.cell.as_mut().unwrap();
+        leave_in(rt, history, me, cell, number, key, timed_out)
+    }
+
+    /// Sees the history with the bucket's part, and lists the threads of the key.
+    pub(crate) fn list(&mut self, me: &mut Witness, alloc: Global) -> Result<Vec<usize>, NoMemory>
+        requires witness { IsWitnessOf self.old.lot.now me.old }
+        requires none { pieces_of me.old ≡ [] }
+        ensures still { IsStill self.old.lot.now me.old me.new }
+        ensures none { pieces_of me.new ≡ [] }
+        ensures listed { IsListed self.old.lot.now self.old.key me.old me.new result }
+    {
+        let history = self.lot.history();
+        let key = self.key;
+        let slot = self.claim.value_mut(self.lock).as_mut().unwrap();
+        let cell = slot.cell.as_mut().unwrap();
+        list_in(history, me, cell, alloc, key)
+    }
+}
+
+// Claims the lock, or answers `None` where its bucket is away, since the row is not in use there.
+#[inline]
+fn claim_bucket<R: Wait>(rt: &R, lock: &WordLock<Slot>) -> Option<Claim<Slot>>
+    ensures { IfSome result (HasBucket lock.now) }
+{
+    let mut claim = lock.claim(rt);
+    if is_away(lock, &mut claim) {
+        lock.release(claim);
+        return None;
+    }
+    Some(claim)
+}
+
+// Looks whether the bucket is away.
+#[inline]
+fn is_away(lock: &WordLock<Slot>, claim: &mut Claim<Slot>) -> bool
+    requires { IsClaimOn (FitsSlot (key_of lock.now)) lock.now claim.old }
+    ensures there { IsFalse result → HasBucket lock.now claim.new }
+    ensures away { IsTrue result → IsClaimOn (FitsSlot (key_of lock.now)) lock.now claim.new }
+{
+    let value = claim.value_mut(lock);
+    value.as_mut().unwrap().cell.is_none()
+}
