@@ -17,7 +17,7 @@ pub const KEY: usize = 7;
 pub const TOKEN: UnparkToken = UnparkToken(42);
 
 /// A way to unpark the thread that waits first on a key.
-#[derive(Copy, Clone, Debug, Eq, PartialEq)]
+#[derive(Copy, Clone)]
 pub enum Way {
     One,
     All,
@@ -28,16 +28,8 @@ pub enum Way {
 /// Every way to unpark.
 pub const WAYS: [Way; 4] = [Way::One, Way::All, Way::Filter, Way::Requeue];
 
-/// How a park ended, and the key and whether it was the last, as a thread that was late was told.
-pub type Left = (ParkResult, Option<(usize, bool)>);
-
-/// How a park ends that was unparked with the token of tests.
-pub const UNPARKED: Left = (ParkResult::Unparked(TOKEN), None);
-
-/// How a late thread leaves a key on which nobody else waits.
-pub fn late_on(key: usize) -> Left {
-    (ParkResult::TimedOut, Some((key, true)))
-}
+/// What a filter is shown of each thread that parks. It is not the default.
+pub const PARK_TOKEN: ParkToken = ParkToken(usize::MAX);
 
 /// A lot for so many threads.
 pub fn new_lot<P: ThreadParkerT>(alloc: Global, threads: usize) -> Result<ParkingLot<P>, LotError> {
@@ -67,6 +59,22 @@ pub fn register_all<'a, P: ThreadParkerT, R: Wait>(
     Ok(members)
 }
 
+/// Registers so many threads, and retires them. It tells whether there was room for them.
+pub fn come_and_go<P: ThreadParkerT, R: Wait>(
+    rt: &R,
+    alloc: Global,
+    lot: &ParkingLot<P>,
+    threads: usize,
+) -> bool {
+    let Ok(guests) = register_all(rt, alloc, lot, threads) else {
+        return false;
+    };
+    for guest in guests {
+        guest.retire(rt);
+    }
+    true
+}
+
 /// The numbers of those who wait on the key.
 pub fn waiting<P: ThreadParkerT, R: Wait>(
     rt: &R,
@@ -77,32 +85,25 @@ pub fn waiting<P: ThreadParkerT, R: Wait>(
     lot.list(rt, alloc, key)
 }
 
-/// The token for filters of whoever parks on the key. It is not the default.
-pub fn token_of(key: usize) -> ParkToken {
-    ParkToken(!key)
-}
-
-/// Parks on the key, with its token for filters, and does this before it sleeps.
+/// Parks on the key, and does this before it sleeps.
 pub fn park_and<P: ThreadParkerT, R: Wait + Clock, B: FnOnce()>(
     rt: &R,
     member: &mut Member<'_, P>,
     key: usize,
     before_sleep: B,
     deadline: Option<Instant>,
-) -> Left
+) -> ParkResult
     requires { B.pre before_sleep }
 {
-    let mut told = None;
-    let result = member.park(
+    member.park(
         rt,
         key,
         || true,
         before_sleep,
-        |key, last| told = Some((key, last)),
-        token_of(key),
+        |_, _| (),
+        PARK_TOKEN,
         deadline,
-    );
-    (result, told)
+    )
 }
 
 /// Parks on the key until another thread unparks this one, or until the deadline.
@@ -112,7 +113,7 @@ pub fn wait<P: ThreadParkerT, R: Wait + Clock>(
     key: usize,
     deadline: Option<Instant>,
 ) -> ParkResult {
-    park_and(rt, member, key, || (), deadline).0
+    park_and(rt, member, key, || (), deadline)
 }
 
 // Unparks all waiters of the key, by a filter.

@@ -1,5 +1,6 @@
 //! A parker whose thread is held up as it comes to park, or is followed as it is woken.
 
+use crate::waits::comes_within;
 use lot_threads::{
     Letter, NoMemory, Node, ParkerKey, ParkerT, Payload, UnparkHandleT, YieldHandle, YieldParker,
 };
@@ -33,39 +34,23 @@ pub struct FollowedParker {
     parked: AtomicUsize,
 }
 
-// What whoever wakes a thread waits for.
-#[derive(Copy, Clone, Eq, PartialEq, Debug)]
-enum Until {
-    // For nothing.
-    Now,
-
-    // Until the thread has prepared to park more than so often.
-    Prepared(usize),
-
-    // Until the thread has parked more than so often.
-    Parked(usize),
-}
-
 impl FollowedParker {
-    // For what to wait, if the thread is unparked from this key.
-    fn until(&self, key: usize) -> Until {
+    // How often the thread is to have prepared to park, and to have parked, before whoever unparks
+    // it from this key goes on.
+    fn turns_after(&self, key: usize) -> (usize, usize) {
         if key == GATE {
             self.is_held_up.store(true, Ordering::SeqCst);
-            return Until::Prepared(self.prepared.load(Ordering::SeqCst));
+            return (one_more(&self.prepared), 0);
         }
         if self.is_followed.swap(false, Ordering::SeqCst) {
-            return Until::Parked(self.parked.load(Ordering::SeqCst));
+            return (0, one_more(&self.parked));
         }
-        Until::Now
+        (0, 0)
     }
+}
 
-    fn has_come(&self, until: Until) -> bool {
-        match until {
-            Until::Now => true,
-            Until::Prepared(times) => self.prepared.load(Ordering::SeqCst) > times,
-            Until::Parked(times) => self.parked.load(Ordering::SeqCst) > times,
-        }
-    }
+fn one_more(count: &AtomicUsize) -> usize {
+    count.load(Ordering::SeqCst).wrapping_add(1)
 }
 
 impl ParkerT for FollowedParker {
@@ -124,9 +109,12 @@ impl ParkerT for FollowedParker {
     }
 
     fn unpark_lock<R: Wait>(&self, rt: &R, node: Box<Node>, payload: Letter) -> FollowedHandle {
-        let until = self.until(node.key);
-        let handle = self.parker.unpark_lock(rt, node, payload);
-        FollowedHandle { handle, until }
+        let (prepared, parked) = self.turns_after(node.key);
+        FollowedHandle {
+            handle: self.parker.unpark_lock(rt, node, payload),
+            prepared,
+            parked,
+        }
     }
 }
 
@@ -134,7 +122,10 @@ impl ParkerT for FollowedParker {
 #[derive(Drop)]
 pub struct FollowedHandle {
     handle: YieldHandle,
-    until: Until,
+
+    // How often the thread is to prepare to park, and to park, before whoever woke it goes on.
+    prepared: usize,
+    parked: usize,
 }
 
 impl UnparkHandleT<FollowedParker> for FollowedHandle {
@@ -147,11 +138,7 @@ impl UnparkHandleT<FollowedParker> for FollowedHandle {
 
     fn unpark(self, parker: &FollowedParker) {
         self.handle.unpark(&parker.parker);
-        for _ in 0..TURNS {
-            if parker.has_come(self.until) {
-                return;
-            }
-            thread::yield_now();
-        }
+        comes_within(TURNS, &parker.prepared, self.prepared);
+        comes_within(TURNS, &parker.parked, self.parked);
     }
 }

@@ -9,14 +9,14 @@ use std::sync::Wait;
 use std::sync::atomic::{AtomicUsize, Ordering};
 use std::time::{Clock, Instant};
 
-// How often a parker was called, in the order in which its first calls come.
-#[derive(Copy, Clone, PartialEq, Eq)]
-struct Calls {
-    prepare_park: usize,
-    unpark_lock: usize,
-    park_until: usize,
-    park: usize,
-}
+// The digits of the calls.
+const PREPARE_PARK: usize = 1;
+
+const UNPARK_LOCK: usize = 2;
+
+const PARK_UNTIL: usize = 3;
+
+const PARK: usize = 4;
 
 /// A `YieldParker` that notes its calls. Its deadlines pass before it has looked. Its thread parks
 /// twice: the first time in vain, since that is not valid, and then until it is unparked. Each call
@@ -24,22 +24,22 @@ struct Calls {
 #[derive(Drop)]
 pub struct OrderedParker {
     parker: YieldParker,
-    prepared: AtomicUsize,
-    committed: AtomicUsize,
-    timed: AtomicUsize,
-    parked: AtomicUsize,
+
+    // The digits of the calls so far.
+    calls: AtomicUsize,
     faults: Faults,
 }
 
 impl OrderedParker {
-    // Notes a fault unless it has been called so often by now.
-    fn expect_calls(&self, expected: Calls) {
-        let calls = Calls {
-            prepare_park: self.prepared.load(Ordering::SeqCst),
-            unpark_lock: self.committed.load(Ordering::SeqCst),
-            park_until: self.timed.load(Ordering::SeqCst),
-            park: self.parked.load(Ordering::SeqCst),
-        };
+    // Notes a call, and tells the calls so far. All come from the parker's thread.
+    fn call(&self, digit: usize) -> usize {
+        let before = self.calls.load(Ordering::SeqCst);
+        let calls = before.wrapping_mul(10).wrapping_add(digit);
+        self.calls.store(calls, Ordering::SeqCst);
+        calls
+    }
+
+    fn expect(&self, calls: usize, expected: usize) {
         if calls != expected {
             self.faults.note();
         }
@@ -49,7 +49,7 @@ impl OrderedParker {
 impl ParkerT for OrderedParker {
     type Payload = Letter;
 
-    type UnparkHandle = OrderedHandle;
+    type UnparkHandle = YieldHandle;
 
     const IS_CHEAP_TO_CONSTRUCT: bool = true;
 
@@ -63,16 +63,13 @@ impl ParkerT for OrderedParker {
     ) -> Result<OrderedParker, NoMemory> {
         Ok(OrderedParker {
             parker: YieldParker::new(alloc, key)?,
-            prepared: AtomicUsize::new(0),
-            committed: AtomicUsize::new(0),
-            timed: AtomicUsize::new(0),
-            parked: AtomicUsize::new(0),
+            calls: AtomicUsize::new(0),
             faults: Faults::new(),
         })
     }
 
     fn prepare_park(&self) {
-        self.prepared.fetch_add(1, Ordering::SeqCst);
+        self.call(PREPARE_PARK);
         self.parker.prepare_park();
     }
 
@@ -81,14 +78,9 @@ impl ParkerT for OrderedParker {
     }
 
     fn park<R: Wait>(&self, rt: &R) -> (Box<Node>, Option<Letter>) {
-        self.parked.fetch_add(1, Ordering::SeqCst);
+        let calls = self.call(PARK);
         let (node, letter) = self.parker.park(rt);
-        self.expect_calls(Calls {
-            prepare_park: 2,
-            unpark_lock: 1,
-            park_until: usize::from(node.timed),
-            park: 1,
-        });
+        self.expect(calls, if node.timed { 11_234 } else { 1_124 });
         (node, letter)
     }
 
@@ -97,41 +89,27 @@ impl ParkerT for OrderedParker {
         rt: &R,
         _timeout: Instant,
     ) -> Option<(Box<Node>, Option<Letter>)> {
-        self.timed.fetch_add(1, Ordering::SeqCst);
+        self.call(PARK_UNTIL);
         self.faults.tell(rt);
         None
     }
 
     // The thread is unparked before it sleeps.
-    fn unpark_lock<R: Wait>(&self, rt: &R, node: Box<Node>, letter: Letter) -> OrderedHandle {
-        self.committed.fetch_add(1, Ordering::SeqCst);
-        self.expect_calls(Calls {
-            prepare_park: 2,
-            unpark_lock: 1,
-            park_until: 0,
-            park: 0,
-        });
-        OrderedHandle {
-            handle: self.parker.unpark_lock(rt, node, letter),
-        }
+    fn unpark_lock<R: Wait>(&self, rt: &R, node: Box<Node>, letter: Letter) -> YieldHandle {
+        let calls = self.call(UNPARK_LOCK);
+        self.expect(calls, 112);
+        self.parker.unpark_lock(rt, node, letter)
     }
 }
 
-/// What is left to do after an unpark.
-#[derive(Drop)]
-pub struct OrderedHandle {
-    handle: YieldHandle,
-}
-
-impl UnparkHandleT<OrderedParker> for OrderedHandle {
-    ghost number = { λ ordered.
-        ⟦<YieldHandle as UnparkHandleT<YieldParker>>⟧.number ordered.handle };
+impl UnparkHandleT<OrderedParker> for YieldHandle {
+    ghost number = { λ handle. ⟦<YieldHandle as UnparkHandleT<YieldParker>>⟧.number handle };
 
     fn number(&self) -> usize {
-        UnparkHandleT::<YieldParker>::number(&self.handle)
+        UnparkHandleT::<YieldParker>::number(self)
     }
 
     fn unpark(self, parker: &OrderedParker) {
-        self.handle.unpark(&parker.parker);
+        UnparkHandleT::<YieldParker>::unpark(self, &parker.parker);
     }
 }

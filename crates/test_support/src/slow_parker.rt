@@ -35,7 +35,7 @@ fn spin_once(flag: &AtomicBool) {
 impl ParkerT for SlowParker {
     type Payload = Letter;
 
-    type UnparkHandle = SlowHandle;
+    type UnparkHandle = YieldHandle;
 
     const IS_CHEAP_TO_CONSTRUCT: bool = true;
 
@@ -74,28 +74,20 @@ impl ParkerT for SlowParker {
         self.parker.park_until(rt, timeout)
     }
 
-    fn unpark_lock<R: Wait>(&self, rt: &R, node: Box<Node>, payload: Letter) -> SlowHandle {
-        let handle = self.parker.unpark_lock(rt, node, payload);
-        SlowHandle { handle }
+    fn unpark_lock<R: Wait>(&self, rt: &R, node: Box<Node>, payload: Letter) -> YieldHandle {
+        self.parker.unpark_lock(rt, node, payload)
     }
 }
 
-/// What is left to do after an unpark.
-#[derive(Drop)]
-pub struct SlowHandle {
-    handle: YieldHandle,
-}
-
-impl UnparkHandleT<SlowParker> for SlowHandle {
-    ghost number = { λ slow.
-        ⟦<YieldHandle as UnparkHandleT<YieldParker>>⟧.number slow.handle };
+impl UnparkHandleT<SlowParker> for YieldHandle {
+    ghost number = { λ handle. ⟦<YieldHandle as UnparkHandleT<YieldParker>>⟧.number handle };
 
     fn number(&self) -> usize {
-        UnparkHandleT::<YieldParker>::number(&self.handle)
+        UnparkHandleT::<YieldParker>::number(self)
     }
 
     fn unpark(self, parker: &SlowParker) {
         spin_once(&parker.is_woken);
-        self.handle.unpark(&parker.parker);
+        UnparkHandleT::<YieldParker>::unpark(self, &parker.parker);
     }
 }

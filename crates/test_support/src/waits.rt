@@ -4,26 +4,20 @@ use crate::calls::waiting;
 use lot_threads::{ParkingLot, ThreadParkerT};
 use std::alloc::Global;
 use std::sync::Wait;
-use std::sync::atomic::{AtomicBool, AtomicUsize, Ordering};
+use std::sync::atomic::{AtomicUsize, Ordering};
 use std::thread;
 
 /// So often a thread yields before it gives up.
 pub const TURNS: usize = 10_000_000;
 
-/// Waits until the flag is raised, and tells whether it was.
-pub fn raised_by_turns(flag: &AtomicBool) -> bool {
-    for _ in 0..TURNS {
-        if flag.load(Ordering::SeqCst) {
-            return true;
-        }
-        thread::yield_now();
-    }
-    false
-}
-
 /// Waits until there are so many, and tells whether there were.
 pub fn comes_to(count: &AtomicUsize, least: usize) -> bool {
-    for _ in 0..TURNS {
+    comes_within(TURNS, count, least)
+}
+
+/// Waits so many turns at most until there are so many, and tells whether there were.
+pub fn comes_within(turns: usize, count: &AtomicUsize, least: usize) -> bool {
+    for _ in 0..turns {
         if count.load(Ordering::SeqCst) >= least {
             return true;
         }
