@@ -2,7 +2,8 @@
 
 use crate::played::goes_well;
 
-const ROUNDS: usize = 3;
+// So many growths and trims: each change three times.
+const CHANGES: [[usize; 2]; 6] = [[1, 0], [0, 1], [1, 0], [0, 1], [1, 0], [0, 1]];
 
 // The keys have the first and the second place of 16, which are emptied first, and the first and
 // the third of 32.
@@ -53,16 +54,16 @@ fn a_late_thread_that_was_moved_after_a_change_of_rows_leaves_its_new_key(rt: Ho
     }
 }
 
-// A section of the key stays until an unpark has come to its bucket, and lets the table grow before
-// that has gone on. It refuses an unpark and a requeue that look in the old row for ever where the
-// bucket is away.
+// A section of the key stays until an unpark has come to its bucket, and lets the table grow, or
+// has it trimmed, before that has gone on. It refuses an unpark and a requeue that look in the old
+// row for ever where the bucket is away.
 #[test]
-fn an_unpark_that_a_growth_overtakes_finds_who_waits(rt: HostRuntime) {
+fn an_unpark_that_a_change_of_rows_overtakes_finds_who_waits(rt: HostRuntime) {
     let scene = "
         lot 6
         register 4
         come_and_go 1
-        trim
+        repeat $2 trim
         thread
         before_sleep: raise entered; await done 2
         park $0 forever -> unparked 42
@@ -76,45 +77,14 @@ fn an_unpark_that_a_growth_overtakes_finds_who_waits(rt: HostRuntime) {
         await entered
         callback: raise inside; await coming; sleep 1000
         unpark_chosen $0 s 42 -> 0 0 more
-        register 1
+        repeat $2 register 1
+        repeat $3 trim
         raise done
     ";
-    for _ in 0..ROUNDS {
+    for [growths, trims] in CHANGES {
         for key in KEYS {
             for way in 0..WAYS {
-                goes_well(&rt, scene, &[key, way]);
-            }
-        }
-    }
-}
-
-// The same with a trim.
-#[test]
-fn an_unpark_that_a_trim_overtakes_finds_who_waits(rt: HostRuntime) {
-    let scene = "
-        lot 6
-        register 4
-        come_and_go 1
-        thread
-        before_sleep: raise entered; await done 2
-        park $0 forever -> unparked 42
-        caller
-        await entered
-        await inside
-        raise coming
-        unpark $1 $0 42 -> 1
-        raise done
-        caller
-        await entered
-        callback: raise inside; await coming; sleep 1000
-        unpark_chosen $0 s 42 -> 0 0 more
-        trim
-        raise done
-    ";
-    for _ in 0..ROUNDS {
-        for key in KEYS {
-            for way in 0..WAYS {
-                goes_well(&rt, scene, &[key, way]);
+                goes_well(&rt, scene, &[key, way, growths, trims]);
             }
         }
     }
@@ -123,12 +93,12 @@ fn an_unpark_that_a_trim_overtakes_finds_who_waits(rt: HostRuntime) {
 // It refuses a park that looks in the old row for ever where the bucket is away: nobody finds the
 // thread then.
 #[test]
-fn a_thread_whose_park_a_growth_overtakes_is_found(rt: HostRuntime) {
+fn a_thread_whose_park_a_change_of_rows_overtakes_is_found(rt: HostRuntime) {
     let scene = "
         lot 6
         register 4
         come_and_go 1
-        trim
+        repeat $1 trim
         thread
         await inside
         raise coming
@@ -136,38 +106,14 @@ fn a_thread_whose_park_a_growth_overtakes_is_found(rt: HostRuntime) {
         caller
         callback: raise inside; await coming; sleep 1000
         unpark_chosen $0 s 42 -> 0 0
-        register 1
+        repeat $1 register 1
+        repeat $2 trim
         waiting $0 1
         unpark_all $0 42 -> 1
     ";
-    for _ in 0..ROUNDS {
+    for [growths, trims] in CHANGES {
         for key in KEYS {
-            goes_well(&rt, scene, &[key]);
-        }
-    }
-}
-
-// The same with a trim.
-#[test]
-fn a_thread_whose_park_a_trim_overtakes_is_found(rt: HostRuntime) {
-    let scene = "
-        lot 6
-        register 4
-        come_and_go 1
-        thread
-        await inside
-        raise coming
-        park $0 forever -> unparked 42
-        caller
-        callback: raise inside; await coming; sleep 1000
-        unpark_chosen $0 s 42 -> 0 0
-        trim
-        waiting $0 1
-        unpark_all $0 42 -> 1
-    ";
-    for _ in 0..ROUNDS {
-        for key in KEYS {
-            goes_well(&rt, scene, &[key]);
+            goes_well(&rt, scene, &[key, growths, trims]);
         }
     }
 }

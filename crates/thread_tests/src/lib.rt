@@ -13,8 +13,6 @@ mod growths;
 #[cfg(test)]
 mod late;
 #[cfg(test)]
-mod lots;
-#[cfg(test)]
 mod noted;
 #[cfg(test)]
 mod numbers;
@@ -36,13 +34,10 @@ mod waiters;
 mod witnesses;
 
 #[cfg(test)]
-use std::fmt::Debug;
-#[cfg(test)]
 use std::process::Abort;
 
-// Compares what was found with what is expected. For any type it is proved once; an `assert_eq!` of
-// lists or tuples costs a proof seconds wherever it stands.
+// An assertion costs a proof a second or more wherever it stands, and a call of this a tenth.
 #[cfg(test)]
-fn expect_equal<T: PartialEq + Debug + Drop>(rt: &impl Abort, found: T, expected: T) {
-    assert_eq!(rt; found, expected);
+fn expect(rt: &impl Abort, is_so: bool, case: &str) {
+    assert!(rt; is_so, "{case}");
 }

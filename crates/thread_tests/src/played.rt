@@ -1,7 +1,6 @@
-//! Scenes that are to go well. One function names the parkers, since a proof pays for each that
-//! does.
+//! Scenes that are to go well. Few functions name a parker, since a proof pays for each that does.
 
-use crate::expect_equal;
+use crate::expect;
 use lot_threads::{ThreadParker, ThreadParkerT, WordParker, YieldParker};
 use std::process::Abort;
 use std::sync::Wait;
@@ -15,8 +14,17 @@ where
     P: ThreadParkerT + Send + Sync,
     R: AllocGlobal + Threads + Wait + Clock + Abort + Sync,
 {
-    let fault = play::<P, R>(rt, rt.alloc(), text, values);
-    expect_equal(rt, (text, values, fault), (text, values, None));
+    if let Some(line) = play::<P, R>(rt, rt.alloc(), text, values) {
+        assert!(rt; false, "line {line} goes otherwise with {values:?}:{text}");
+    }
+}
+
+/// The scene goes well with parkers of one word.
+pub fn goes_well_on_words<R>(rt: &R, text: &str, values: &[usize])
+where
+    R: AllocGlobal + Threads + Wait + Clock + Abort + Sync,
+{
+    goes_well_with::<WordParker, R>(rt, text, values);
 }
 
 /// The scene goes well with each parker.
@@ -24,7 +32,7 @@ pub fn goes_well<R>(rt: &R, text: &str, values: &[usize])
 where
     R: AllocGlobal + Threads + Wait + Clock + Abort + Sync,
 {
-    goes_well_with::<WordParker, R>(rt, text, values);
+    goes_well_on_words(rt, text, values);
     goes_well_with::<ThreadParker, R>(rt, text, values);
     goes_well_with::<YieldParker, R>(rt, text, values);
 }
@@ -45,6 +53,6 @@ fn a_scene_tells_the_line_that_goes_otherwise(rt: HostRuntime) {
     ];
     for (scene, fault) in scenes {
         let found = play::<WordParker, _>(&rt, rt.alloc(), scene, &[]);
-        expect_equal(&rt, (scene, found), (scene, fault));
+        expect(&rt, found == fault, scene);
     }
 }

@@ -44,7 +44,7 @@ impl ReturningParker {
 impl ParkerT for ReturningParker {
     type Payload = Letter;
 
-    type UnparkHandle = ReturningHandle;
+    type UnparkHandle = YieldHandle;
 
     const IS_CHEAP_TO_CONSTRUCT: bool = true;
 
@@ -87,28 +87,21 @@ impl ParkerT for ReturningParker {
         self.parker.park_until(rt, timeout)
     }
 
-    fn unpark_lock<R: Wait>(&self, rt: &R, node: Box<Node>, letter: Letter) -> ReturningHandle {
+    fn unpark_lock<R: Wait>(&self, rt: &R, node: Box<Node>, letter: Letter) -> YieldHandle {
         let is_first = self.prepared.load(Ordering::SeqCst) == 1;
         let handle = self.parker.unpark_lock(rt, node, letter);
         if is_first {
             self.wait_for_return();
         }
-        ReturningHandle { handle }
+        handle
     }
 }
 
-/// What is left to do after an unpark.
-#[derive(Drop)]
-pub struct ReturningHandle {
-    handle: YieldHandle,
-}
-
-impl UnparkHandleT<ReturningParker> for ReturningHandle {
-    ghost number = { λ returning.
-        ⟦<YieldHandle as UnparkHandleT<YieldParker>>⟧.number returning.handle };
+impl UnparkHandleT<ReturningParker> for YieldHandle {
+    ghost number = { λ handle. ⟦<YieldHandle as UnparkHandleT<YieldParker>>⟧.number handle };
 
     fn number(&self) -> usize {
-        UnparkHandleT::<YieldParker>::number(&self.handle)
+        UnparkHandleT::<YieldParker>::number(self)
     }
 
     fn unpark(self, parker: &ReturningParker) {

@@ -2,9 +2,10 @@
 
 use crate::played::goes_well;
 
-// It refuses an unpark that calls its `callback` without the lock of the bucket.
+// It refuses an unpark of one, an unpark by a filter and a requeue that call one of their closures
+// without the lock of the bucket, and a requeue that lacks that of the other key's bucket.
 #[test]
-fn an_unpark_of_one_calls_back_in_its_section(rt: HostRuntime) {
+fn an_unpark_calls_its_closures_in_its_section(rt: HostRuntime) {
     let scene = "
         thread
         before_sleep: raise parked; await done
@@ -12,52 +13,13 @@ fn an_unpark_of_one_calls_back_in_its_section(rt: HostRuntime) {
         caller
         await parked
         callback: raise inside; await coming; never heard
-        unpark_one 7 42 -> 1 0
-        raise done
-        caller
-        await inside
-        raise coming
-        list 7
-        raise heard
-    ";
-    goes_well(&rt, scene, &[]);
-}
-
-// It refuses an unpark that calls its `filter` or its `callback` without the lock of the bucket.
-#[test]
-fn an_unpark_by_a_filter_calls_its_closures_in_its_section(rt: HostRuntime) {
-    let scene = "
-        thread
-        before_sleep: raise parked; await done
-        park 7 forever -> unparked 42
-        caller
-        await parked
+        repeat $1 unpark_one 7 42 -> 1 0
         filter: raise inside; await coming; never heard
         callback: never heard
-        unpark_chosen 7 u 42 -> 1 0
-        raise done
-        caller
-        await inside
-        raise coming
-        list 7
-        raise heard
-    ";
-    goes_well(&rt, scene, &[]);
-}
-
-// It refuses a requeue that calls its `validate` or its `callback` without the locks of its two
-// buckets.
-#[test]
-fn a_requeue_calls_its_closures_in_its_section(rt: HostRuntime) {
-    let scene = "
-        thread
-        before_sleep: raise parked; await done
-        park 7 forever -> unparked 42
-        caller
-        await parked
+        repeat $2 unpark_chosen 7 u 42 -> 1 0
         validate: raise inside; await coming; never heard
         callback: never heard
-        requeue 7 8 unpark_one_requeue_rest 42 -> 1 0
+        repeat $3 requeue 7 8 unpark_one_requeue_rest 42 -> 1 0
         raise done
         caller
         await inside
@@ -65,12 +27,13 @@ fn a_requeue_calls_its_closures_in_its_section(rt: HostRuntime) {
         list $0
         raise heard
     ";
-    for key in [7, 8] {
-        goes_well(&rt, scene, &[key]);
+    for values in [[7, 1, 0, 0], [7, 0, 1, 0], [7, 0, 0, 1], [8, 0, 0, 1]] {
+        goes_well(&rt, scene, &values);
     }
 }
 
-// It refuses a `park` that calls `validate` without the lock of the bucket.
+// It refuses a `park` that calls `validate` without the lock of the bucket, goes on although that
+// answered false, or leaves the thread in its queue then.
 #[test]
 fn a_park_validates_in_its_section(rt: HostRuntime) {
     let scene = "

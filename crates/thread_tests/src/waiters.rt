@@ -1,7 +1,6 @@
 //! Threads that wait in a row, and are unparked by another.
 
-use crate::played::{goes_well, goes_well_with};
-use lot_threads::WordParker;
+use crate::played::{goes_well, goes_well_on_words, goes_well_with};
 use test_support::ordered_parker::OrderedParker;
 
 const WAYS: usize = 4;
@@ -69,7 +68,7 @@ fn waiters_keep_their_order_where_the_table_grows_twice_and_is_trimmed(rt: HostR
         unpark_one 0 12 -> 1 0
         unpark_one 13 13 -> 1 0
     ";
-    goes_well_with::<WordParker, _>(&rt, scene, &[]);
+    goes_well_on_words(&rt, scene, &[]);
 }
 
 // It refuses any call that takes less of a key or a token than all of it.
@@ -77,11 +76,17 @@ fn waiters_keep_their_order_where_the_table_grows_twice_and_is_trimmed(rt: HostR
 fn the_greatest_key_and_tokens_come_through_each_way(rt: HostRuntime) {
     let scene = "
         thread
-        before_sleep: move greatest $1 -> 1; list greatest ->; list $1 -> 0; move $1 greatest -> 1; unpark $0 greatest greatest -> 1
         park greatest forever -> unparked greatest
+        caller
+        waiting greatest 1
+        move greatest $1 -> 1
+        list greatest ->
+        list $1 -> 0
+        move $1 greatest -> 1
+        unpark $0 greatest greatest -> 1
     ";
     for way in 0..WAYS {
-        goes_well_with::<WordParker, _>(&rt, scene, &[way, usize::MAX - 1]);
+        goes_well_on_words(&rt, scene, &[way, usize::MAX - 1]);
     }
 }
 

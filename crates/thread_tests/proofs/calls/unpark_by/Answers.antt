@@ -1,9 +1,0 @@
-use Rattle.lot_base.proofs.FilterLemmas.{IsFilterCallable-always}
-use Rattle.thread_tests.proofs.calls.unpark_by.Goals as goal
-
-pub unpark_filter-requires-clause-callable : goal.unpark_filter-requires-clause-callable
-unpark_filter-requires-clause-callable g c κs within = record {
-  may_filter = λ tokens. IsFilterCallable-always g.F.FnMut (λ filter token. c.requires.filter filter token)
-      c.args.filter tokens;
-  may_call_back = λ waiters decisions filtered. c.requires.callback _;
-}
