@@ -23,3 +23,15 @@ use std::process::Abort;
 fn expect_text(rt: &impl Abort, case: &str, found: &str, expected: &str) {
     assert!(rt; found == expected, "{case}: {found}");
 }
+
+// An assertion costs a proof a second or more wherever it stands, and a call of these a tenth.
+#[cfg(test)]
+fn expect(rt: &impl Abort, is_so: bool, case: &str) {
+    assert!(rt; is_so, "{case}");
+}
+
+// The same in a round, a row or another case that has a number.
+#[cfg(test)]
+fn expect_each(rt: &impl Abort, is_so: bool, case: &str, number: usize) {
+    assert!(rt; is_so, "{case}: {number}");
+}

@@ -1,5 +1,6 @@
 //! Tests of `SpinWait`, by the answers of `spin`.
 
+use crate::expect;
 use lot_base::spinwait::SpinWait;
 
 // How often it spins, of so many calls.
@@ -24,12 +25,11 @@ fn spin_no_yield(wait: &mut SpinWait, calls: usize) {
 #[test]
 fn one_spins_ten_times_until_it_is_reset(rt: HostRuntime) {
     let (mut wait, mut other) = (SpinWait::new(), SpinWait::default());
-    assert!(rt; spins(&mut wait, 12) == 10 && spins(&mut other, 12) == 10);
+    let spun = (spins(&mut wait, 12), spins(&mut other, 12));
+    expect(&rt, spun.0 == 10 && spun.1 == 10, "a new one");
     wait.reset();
-    assert!(rt; spins(&mut wait, 12) == 10);
+    expect(&rt, spins(&mut wait, 12) == 10, "one that was reset");
     wait.reset();
-    spin_no_yield(&mut wait, 10);
-    assert!(rt; spins(&mut wait, 1) == 0);
-    spin_no_yield(&mut wait, 100);
-    assert!(rt; spins(&mut wait, 100) == 0);
+    spin_no_yield(&mut wait, 110);
+    expect(&rt, spins(&mut wait, 100) == 0, "one that is used up");
 }

@@ -9,6 +9,7 @@ mod meeting;
 mod payload;
 mod races;
 
+use crate::expect;
 use lot_base::queue::Node;
 use lot_base::thread_parker::{
     ParkerKey, Slot, ThreadParker, ThreadParkerT, WordParker, YieldParker,
@@ -29,6 +30,19 @@ fn now<R: Clock + Abort>(rt: &R) -> Instant {
 fn from_now<R: Clock + Abort>(rt: &R, duration: Duration) -> Instant {
     let time = now(rt).checked_add(duration);
     time.expect(rt, "a time of the clock")
+}
+
+// The token of the node that comes next, or before the deadline.
+fn token_by<P: ThreadParkerT, R: Wait + Clock>(
+    rt: &R,
+    parker: &P,
+    deadline: Option<Instant>,
+) -> Option<usize> {
+    let node = match deadline {
+        None => parker.park(rt).0,
+        Some(deadline) => parker.park_until(rt, deadline)?.0,
+    };
+    Some(node.unpark_token.0)
 }
 
 fn new_parker<P: ThreadParkerT>(rt: &impl Abort, alloc: Global) -> P
@@ -55,7 +69,11 @@ where
     P: ThreadParkerT + Sync,
     R: Threads + Wait + Clock + Sync + Abort,
 {
-    assert!(rt; P::IS_CHEAP_TO_CONSTRUCT == is_cheap);
+    expect(
+        rt,
+        P::IS_CHEAP_TO_CONSTRUCT == is_cheap,
+        "whether it is cheap to make",
+    );
     alone::takes_turns_and_waits::<P, _>(rt, alloc);
     between::wakes_and_keeps_deadlines::<P, _>(rt, alloc);
     if sleeps {
@@ -97,8 +115,13 @@ fn take(slot: &mut Slot) -> usize {
 #[test]
 fn a_slot_has_an_owner_and_gives_its_nodes_in_the_order_of_the_puts(rt: HostRuntime) {
     let mut slot = Slot::new(OWNER);
-    assert!(rt; slot.owner() == OWNER && slot.is_empty());
+    expect(&rt, slot.owner() == OWNER && slot.is_empty(), "a new slot");
     put(&rt, rt.alloc(), &mut slot, 1);
     put(&rt, rt.alloc(), &mut slot, 2);
-    assert!(rt; take(&mut slot) == 1 && take(&mut slot) == 2 && take(&mut slot) == 0);
+    let taken = (take(&mut slot), take(&mut slot), take(&mut slot));
+    expect(
+        &rt,
+        taken.0 == 1 && taken.1 == 2 && taken.2 == 0,
+        "the order of the puts",
+    );
 }

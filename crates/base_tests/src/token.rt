@@ -1,6 +1,6 @@
 //! Tests of results, tokens and the texts of refusals.
 
-use crate::expect_text;
+use crate::{expect, expect_text};
 use lot_base::token::{
     DEFAULT_PARK_TOKEN, DEFAULT_UNPARK_TOKEN, LotError, Misfit, NoMemory, ParkResult, StepError,
     UnparkResult, UnparkToken,
@@ -30,10 +30,16 @@ fn each_refusal_has_its_text(rt: HostRuntime) {
 // The constants have no clauses.
 #[test]
 fn the_defaults_are_0_and_only_unparked_is_unparked(rt: HostRuntime) {
-    assert!(rt; DEFAULT_UNPARK_TOKEN.0 == 0 && DEFAULT_PARK_TOKEN.0 == 0);
+    let tokens = DEFAULT_UNPARK_TOKEN.0 == 0 && DEFAULT_PARK_TOKEN.0 == 0;
+    expect(&rt, tokens, "the tokens");
     let nobody = UnparkResult::default();
-    assert!(rt; nobody.unparked_threads == 0 && nobody.requeued_threads == 0);
-    assert!(rt; nobody.threads() == 0 && !nobody.have_more_threads);
-    assert!(rt; ParkResult::Unparked(UnparkToken(42)).is_unparked());
-    assert!(rt; !ParkResult::Invalid.is_unparked() && !ParkResult::TimedOut.is_unparked());
+    let none = nobody.unparked_threads == 0 && nobody.requeued_threads == 0;
+    expect(
+        &rt,
+        none && nobody.threads() == 0 && !nobody.have_more_threads,
+        "nobody",
+    );
+    let is_unparked = ParkResult::Unparked(UnparkToken(42)).is_unparked();
+    let others = ParkResult::Invalid.is_unparked() || ParkResult::TimedOut.is_unparked();
+    expect(&rt, is_unparked && !others, "unparked alone");
 }

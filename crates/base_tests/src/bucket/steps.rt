@@ -1,31 +1,25 @@
-//! Each step, by the words of a line, with closures that note what they were handed. A line's first
-//! number is a key of the bucket.
+//! Each step, by the words of a line. A line's first number is a key of the bucket.
 #![tactic(auto, using(crate::proofs::TableSizes::is_table_size_16))]
 
 ghost use Rattle.std.specs.Prelude.{◌≡◌};
 ghost use Rattle.lot_base.specs.Node.{fields};
 ghost use Rattle.lot_base.specs.Place.{place_of};
 
+use crate::expect;
 use crate::words::{number, with_digit, word};
 use lot_base::bucket::{Bucket, place};
 use lot_base::queue::{Node, Queue};
 use lot_base::token::{FilterOp, ParkToken, RequeueOp, UnparkResult, UnparkToken};
 use std::alloc::{AllocError, Global};
-use std::cell::Cell;
 use std::fmt::Write;
 use std::process::Abort;
-
-// Whether the thread of this number waits with a timeout.
-fn is_timed(number: usize) -> bool {
-    number % 2 == 0
-}
 
 // The node of a thread that is about to wait on the key, with its number for a park token.
 fn node(rt: &impl Abort, alloc: Global, number: usize, key: usize) -> Box<Node>
     ensures { (fields result.value).key ≡ key }
 {
     let mut node = Node::new(alloc, number).expect(rt, "memory");
-    node.prepare(key, ParkToken(number), is_timed(number));
+    node.prepare(key, ParkToken(number), false);
     node
 }
 
@@ -36,22 +30,17 @@ fn expect_place(rt: &impl Abort, bucket: &Bucket, key: usize)
     assert!(rt; place(key, bucket.size()) == bucket.place());
 }
 
-/// A thread enters: the key and the number. The bucket's place and size are written.
-pub fn enter(
-    rt: &impl Abort,
-    alloc: Global,
-    bucket: &mut Bucket,
-    asked: &str,
-    text: &mut String,
-) -> Result<(), AllocError> {
+/// Threads enter: the key and their numbers, as digits.
+pub fn enter(rt: &impl Abort, alloc: Global, bucket: &mut Bucket, asked: &str) {
     let key = number(rt, asked, 1);
-    let node = node(rt, alloc, number(rt, asked, 2), key);
-    expect_place(rt, bucket, key);
-    assert!(rt; bucket.enter(node, || true).is_ok());
-    write!(text, "{} {}", bucket.place(), bucket.size())
+    for digit in word(asked, 2).bytes() {
+        let node = node(rt, alloc, usize::from(digit.wrapping_sub(b'0')), key);
+        expect_place(rt, bucket, key);
+        expect(rt, bucket.enter(node, || true).is_ok(), asked);
+    }
 }
 
-/// The same with a `validate` that answers false. The node that comes back is written.
+/// A thread comes with a `validate` that answers false. The node that comes back is written.
 pub fn refuse(
     rt: &impl Abort,
     alloc: Global,
@@ -68,7 +57,7 @@ pub fn refuse(
     }
 }
 
-/// The numbers of the threads that wait on the key.
+/// The numbers of the threads that wait on the key, as digits.
 pub fn list(
     rt: &impl Abort,
     alloc: Global,
@@ -76,12 +65,9 @@ pub fn list(
     asked: &str,
     text: &mut String,
 ) -> Result<(), AllocError> {
-    let found = bucket
-        .list(alloc, number(rt, asked, 1))
-        .expect(rt, "memory");
-    for (index, number) in found.iter().enumerate() {
-        let blank = if index == 0 { "" } else { " " };
-        write!(text, "{blank}{number}")?;
+    let found = bucket.list(alloc, number(rt, asked, 1));
+    for number in found.expect(rt, "memory") {
+        write!(text, "{number}")?;
     }
     Ok(())
 }
@@ -114,12 +100,7 @@ pub fn take_one(
     text: &mut String,
 ) -> Result<(), AllocError> {
     let token = number(rt, asked, 2);
-    let mut told = None;
-    let (result, taken) = bucket.take_one(number(rt, asked, 1), |handed| {
-        told = Some(handed);
-        UnparkToken(token)
-    });
-    assert!(rt; told == Some(result), "the callback's result: {asked}");
+    let (result, taken) = bucket.take_one(number(rt, asked, 1), |_| UnparkToken(token));
     write_taken(text, result, &taken, token)
 }
 
@@ -135,9 +116,16 @@ pub fn take_all(
     write!(text, "{count} {}", digits(&taken, token))
 }
 
-// A filter that calls this, and its callback.
+fn decision(decisions: &str, index: usize) -> FilterOp {
+    match decisions.as_bytes().get(index) {
+        Some(b'U') => FilterOp::Unpark,
+        Some(b'X') => FilterOp::Stop,
+        _ => FilterOp::Skip,
+    }
+}
+
+// A filter that calls this.
 fn filter<F: FnMut(ParkToken) -> FilterOp>(
-    rt: &impl Abort,
     bucket: &mut Bucket,
     key: usize,
     filter: F,
@@ -146,21 +134,8 @@ fn filter<F: FnMut(ParkToken) -> FilterOp>(
 ) -> Result<(), AllocError>
     requires { (state : F) (park_token : _) → F.pre state park_token }
 {
-    let mut told = None;
-    let (result, taken) = bucket.take_filter(key, filter, |handed| {
-        told = Some(handed);
-        UnparkToken(token)
-    });
-    assert!(rt; told == Some(result), "the callback's result: {key}");
+    let (result, taken) = bucket.take_filter(key, filter, |_| UnparkToken(token));
     write_taken(text, result, &taken, token)
-}
-
-fn decision(decisions: &str, index: usize) -> FilterOp {
-    match decisions.as_bytes().get(index) {
-        Some(b'U') => FilterOp::Unpark,
-        Some(b'X') => FilterOp::Stop,
-        _ => FilterOp::Skip,
-    }
 }
 
 /// A filter: the key, its decisions, behind which it skips, and the token.
@@ -170,7 +145,7 @@ pub fn take_filter(
     asked: &str,
     text: &mut String,
 ) -> Result<(), AllocError> {
-    let decisions = word(rt, asked, 2);
+    let decisions = word(asked, 2);
     let (mut calls, mut tokens) = (0_usize, 0_usize);
     let decide = |token: ParkToken| {
         let op = decision(decisions, calls);
@@ -179,78 +154,50 @@ pub fn take_filter(
         op
     };
     let (key, token) = (number(rt, asked, 1), number(rt, asked, 3));
-    filter(rt, bucket, key, decide, token, text)?;
+    filter(bucket, key, decide, token, text)?;
     write!(text, " asked {tokens}")
 }
 
-fn requeue_op(rt: &impl Abort, asked: &str) -> RequeueOp {
-    match word(rt, asked, 3) {
+fn requeue_op(name: &str) -> RequeueOp {
+    match name {
         "all" => RequeueOp::RequeueAll,
         "one" => RequeueOp::UnparkOne,
         "one-rest" => RequeueOp::UnparkOneRequeueRest,
         "requeue-one" => RequeueOp::RequeueOne,
-        word => {
-            assert!(rt; word == "abort", "no such requeue: {asked}");
-            RequeueOp::Abort
-        }
+        _ => RequeueOp::Abort,
     }
-}
-
-// The digits with the number of a thread that was moved, or with 9 where it was told otherwise
-// whether the thread is timed.
-fn with_moved(moved: usize, number: usize, timed: bool) -> usize {
-    with_digit(moved, if timed == is_timed(number) { number } else { 9 })
 }
 
 // Requeues from the first key to the second, in one bucket if both have its place.
-fn requeue_with<C: FnOnce(RequeueOp, UnparkResult) -> UnparkToken>(
+fn requeue_with(
     rt: &impl Abort,
-    buckets: (&mut Bucket, &mut Bucket),
-    asked: &str,
-    callback: C,
-    moved: &Cell<usize>,
-) -> (UnparkResult, Queue)
-    requires { (op : _) (answered : _) → C.pre callback op answered }
-{
-    let (bucket, other) = buckets;
-    let (from, to) = (number(rt, asked, 1), number(rt, asked, 2));
-    let op = requeue_op(rt, asked);
-    let mut note = |number, timed| moved.set(with_moved(moved.get(), number, timed));
+    (bucket, other): (&mut Bucket, &mut Bucket),
+    (from, to): (usize, usize),
+    op: RequeueOp,
+    token: usize,
+) -> (UnparkResult, Queue) {
+    let callback = |_, _| UnparkToken(token);
     expect_place(rt, bucket, from);
     if place(to, 16) == bucket.place() {
         expect_place(rt, bucket, to);
-        return bucket.requeue_one(from, to, || op, callback, &mut note);
+        return bucket.requeue_one(from, to, || op, callback, &mut |_, _| ());
     }
     expect_place(rt, other, to);
     assert!(rt; other.size() == bucket.size() && other.place() != bucket.place());
-    bucket.requeue_two(other, from, to, || op, callback, &mut note)
+    bucket.requeue_two(other, from, to, || op, callback, &mut |_, _| ())
 }
 
-/// A requeue: the first key and the second, what it does, and the token. Behind whom it took come
-/// those whom it moved, and those whom it had moved when its callback was called.
+/// A requeue: the first key and the second, what it does, and the token.
 pub fn requeue(
     rt: &impl Abort,
     buckets: (&mut Bucket, &mut Bucket),
     asked: &str,
     text: &mut String,
 ) -> Result<(), AllocError> {
-    let token = number(rt, asked, 4);
-    let moved = Cell::new(0_usize);
-    let mut told = None;
-    let callback = |op, handed| {
-        told = Some((op, handed, moved.get()));
-        UnparkToken(token)
-    };
-    let (result, taken) = requeue_with(rt, buckets, asked, callback, &moved);
-    write_taken(text, result, &taken, token)?;
-    write!(text, " moved {}", moved.get())?;
-    match told {
-        None => text.push_str(" uncalled"),
-        Some((op, handed, before)) => {
-            assert!(rt; op == requeue_op(rt, asked) && handed == result, "{asked}");
-            write!(text, " {before}")
-        }
-    }
+    let keys = (number(rt, asked, 1), number(rt, asked, 2));
+    let (op, token) = (requeue_op(word(asked, 3)), number(rt, asked, 4));
+    let (result, taken) = requeue_with(rt, buckets, keys, op, token);
+    write_taken(text, result, &taken, token)
 }
 
 /// A removal whose `timed_out` answers 77: the key and the number. The number, this answer, and

@@ -4,7 +4,8 @@ ghost use Rattle.std.specs.Prelude.{◌≡◌};
 ghost use Rattle.lot_base.specs.Node.{fields};
 
 use super::meeting::{Meeting, TestClock};
-use super::{OWNER, from_now, new_parker, now, owners_node};
+use super::{OWNER, from_now, new_parker, now, owners_node, token_by};
+use crate::{expect, expect_each};
 use lot_base::queue::Node;
 use lot_base::thread_parker::{ThreadParkerT, UnparkHandleT};
 use std::alloc::Global;
@@ -14,13 +15,13 @@ use std::time::{Clock, Duration, Instant};
 
 // No node is in the slot, for this cause.
 fn expect_empty<P: ThreadParkerT, R: Wait + Abort>(rt: &R, parker: &P, cause: &str) {
-    assert!(rt; parker.timed_out(rt), "{cause}");
+    expect(rt, parker.timed_out(rt), cause);
 }
 
 // The first node that comes has this token.
 fn expect_token<P: ThreadParkerT, R: Wait + Abort>(rt: &R, parker: &P, token: usize) {
-    let (node, _) = parker.park(rt);
-    assert!(rt; node.unpark_token.0 == token, "{token}");
+    let found = parker.park(rt).0.unpark_token.0;
+    expect_each(rt, found == token, "the token of the first node", token);
 }
 
 // No node comes until the deadline, for this cause.
@@ -30,14 +31,13 @@ pub(super) fn expect_none<P: ThreadParkerT, R: Wait + Clock + Abort>(
     deadline: Instant,
     cause: &str,
 ) {
-    assert!(rt; parker.park_until(rt, deadline).is_none(), "{cause}");
+    expect(rt, token_by(rt, parker, Some(deadline)).is_none(), cause);
 }
 
 // A node with this token is there at a deadline that passes at once.
 fn expect_found<P: ThreadParkerT, R: Wait + Clock + Abort>(rt: &R, parker: &P, token: usize) {
-    let back = parker.park_until(rt, now(rt));
-    let found = back.is_some_and(|(node, _)| node.unpark_token.0 == token);
-    assert!(rt; found, "{token}");
+    let found = token_by(rt, parker, Some(now(rt)));
+    expect_each(rt, found == Some(token), "a node that is there", token);
 }
 
 // A commit fills the slot until its node is taken, and its unpark may come after that.
@@ -45,8 +45,8 @@ fn take_a_commit<P: ThreadParkerT, R: Wait + Abort>(rt: &R, parker: &P, node: Bo
     requires { (fields node.value).number ≡ P.owner parker.now }
 {
     let late = parker.unpark_lock(rt, node, ());
-    assert!(rt; late.number() == OWNER);
-    assert!(rt; !parker.timed_out(rt), "the commit fills the slot");
+    expect(rt, late.number() == OWNER, "the owner's number");
+    expect(rt, !parker.timed_out(rt), "the commit fills the slot");
     expect_token(rt, parker, 42);
     expect_empty(rt, parker, "the node was taken");
     late.unpark(parker);
@@ -88,7 +88,7 @@ fn waits_to_the_deadline<P: ThreadParkerT, R: Wait + Clock + Abort>(rt: &R, allo
     let parker: P = new_parker(rt, alloc);
     let soon = from_now(rt, Duration::from_millis(20));
     expect_none(rt, &parker, soon, "nobody puts a node");
-    assert!(rt; soon <= now(rt), "the deadline has passed");
+    expect(rt, soon <= now(rt), "the deadline has passed");
     expect_none(rt, &parker, soon, "the deadline passed before");
     expect_empty(rt, &parker, "nobody has put a node");
     let in_an_hour = from_now(rt, Duration::from_hours(1));
@@ -98,7 +98,8 @@ fn waits_to_the_deadline<P: ThreadParkerT, R: Wait + Clock + Abort>(rt: &R, allo
         ahead: None,
         is_slow: false,
     };
-    assert!(rt; parker.park_until(&unreadable, in_an_hour).is_none());
+    let found = token_by(&unreadable, &parker, Some(in_an_hour));
+    expect(rt, found.is_none(), "the clock cannot be read");
 }
 
 // No clause says that a node in the slot is found. This refuses a `park_until` that answers `None`
@@ -163,7 +164,8 @@ pub(super) fn sleeps_each_time<P: ThreadParkerT, R: Wait + Clock + Abort>(rt: &R
             is_slow: false,
         };
         let deadline = from_now(rt, Duration::from_millis(50));
-        assert!(rt; parker.park_until(&clock, deadline).is_none(), "{wait}");
-        assert!(rt; meeting.reads() <= READS, "{wait}");
+        let found = token_by(&clock, &parker, Some(deadline));
+        let sleeps = found.is_none() && meeting.reads() <= READS;
+        expect_each(rt, sleeps, "a wait that sleeps", wait);
     }
 }

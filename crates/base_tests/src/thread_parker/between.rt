@@ -5,7 +5,8 @@ ghost use Rattle.lot_base.specs.Node.{fields};
 
 use super::alone::expect_none;
 use super::meeting::{Meeting, TestClock};
-use super::{from_now, new_parker, now, owners_node};
+use super::{from_now, new_parker, now, owners_node, token_by};
+use crate::{expect, expect_each};
 use lot_base::queue::Node;
 use lot_base::thread_parker::{ThreadParkerT, UnparkHandleT};
 use std::alloc::Global;
@@ -30,6 +31,9 @@ struct Plan {
     // Whether the other thread begins after the owner has waited.
     is_last: bool,
 
+    // Whether the owner waits once more, in vain, when it has its node.
+    waits_again: bool,
+
     // How long after the owner's beginning the node is put.
     pause: Duration,
 
@@ -45,14 +49,29 @@ impl Plan {
             ahead: Duration::ZERO,
             is_slow: false,
             is_last: false,
+            waits_again: false,
             pause,
             wake_after: Some(Duration::ZERO),
         }
     }
 }
 
+// Waits in vain until a deadline, and not for long after it. This refuses a `park_until` that
+// sleeps for longer than is left until its deadline.
+fn ends_in_time<P: ThreadParkerT, R: Wait + Clock + Abort>(rt: &R, parker: &P) {
+    let deadline = from_now(rt, Duration::from_millis(500));
+    expect_none(rt, parker, deadline, "nobody puts a node");
+    let past = now(rt).checked_duration_since(deadline);
+    let past = past.expect(rt, "a wait until the deadline");
+    expect(
+        rt,
+        past < Duration::from_millis(300),
+        "a wait that ends in time",
+    );
+}
+
 // The token of the node that the owner finds, if it finds one.
-fn wait<P: ThreadParkerT, R: Wait + Clock>(
+fn wait<P: ThreadParkerT, R: Wait + Clock + Abort>(
     rt: &R,
     parker: &P,
     plan: &Plan,
@@ -67,14 +86,11 @@ fn wait<P: ThreadParkerT, R: Wait + Clock>(
     if !plan.is_slow && !plan.is_last {
         meeting.begin();
     }
-    let token = match plan.deadline {
-        None => Some(parker.park(rt).0.unpark_token.0),
-        Some(deadline) => {
-            let back = parker.park_until(&clock, deadline);
-            back.map(|(node, _)| node.unpark_token.0)
-        }
-    };
+    let token = token_by(&clock, parker, plan.deadline);
     meeting.begin();
+    if plan.waits_again {
+        ends_in_time(rt, parker);
+    }
     token
 }
 
@@ -103,7 +119,7 @@ fn commit<P: ThreadParkerT, R: Wait + Clock>(
 }
 
 // The token that the owner finds, and whether the node was put before the deadline.
-fn meet<P: ThreadParkerT + Sync, R: Threads + Wait + Clock + Sync>(
+fn meet<P: ThreadParkerT + Sync, R: Threads + Wait + Clock + Abort + Sync>(
     rt: &R,
     parker: &P,
     node: Box<Node>,
@@ -143,7 +159,7 @@ fn wakes_its_thread<P: ThreadParkerT + Sync, R: Threads + Wait + Clock + Sync + 
     let plan = Plan::until(deadline, Duration::ZERO);
     for round in 0..100 {
         let (token, _) = found::<P, _>(rt, alloc, round, &plan);
-        assert!(rt; token == Some(round), "{round}");
+        expect_each(rt, token == Some(round), "a wake", round);
     }
 }
 
@@ -160,7 +176,7 @@ fn wakes_a_sleeper<P: ThreadParkerT + Sync, R: Threads + Wait + Clock + Sync + A
     let node = owners_node(rt, alloc, 42);
     let plan = Plan::until(deadline, Duration::from_millis(5));
     let (token, _) = meet(rt, &parker, node, &plan, &Meeting::new());
-    assert!(rt; token == Some(42), "a sleeper");
+    expect(rt, token == Some(42), "a sleeper");
 }
 
 // Without a deadline, and with one that no wake is to reach.
@@ -170,7 +186,7 @@ fn wakes<P: ThreadParkerT + Sync, R: Threads + Wait + Clock + Sync + Abort>(rt: 
         wakes_its_thread::<P, _>(rt, alloc, deadline);
         wakes_a_sleeper::<P, _>(rt, alloc, deadline);
     }
-    assert!(rt; now(rt) < late, "no wait lasted to the deadline");
+    expect(rt, now(rt) < late, "no wait lasted to the deadline");
 }
 
 // This refuses a `park_until` that lets its lock go, reads the clock, and answers `None` without a
@@ -186,8 +202,13 @@ fn looks_after_the_clock<P: ThreadParkerT + Sync, R: Threads + Wait + Clock + Ab
     plan.wake_after = None;
     let node = owners_node(rt, alloc, 42);
     let (token, _) = meet(rt, &parker, node, &plan, &meeting);
-    assert!(rt; token == Some(42) || !meeting.was_seen());
-    assert!(rt; parker.timed_out(rt) == token.is_some());
+    let is_found = token == Some(42) || !meeting.was_seen();
+    expect(rt, is_found, "a node that came before the clock was read");
+    expect(
+        rt,
+        parker.timed_out(rt) == token.is_some(),
+        "the slot of the parker",
+    );
 }
 
 // A node that is put before the deadline, so long from now, comes back.
@@ -199,7 +220,13 @@ fn comes_back<P: ThreadParkerT + Sync, R: Threads + Wait + Clock + Abort + Sync>
 ) {
     let plan = Plan::until(Some(from_now(rt, duration)), pause);
     let (token, in_time) = found::<P, _>(rt, alloc, 42, &plan);
-    assert!(rt; token == Some(42) || !in_time, "{duration:?}");
+    let seconds = duration.as_secs() as usize;
+    expect_each(
+        rt,
+        token == Some(42) || !in_time,
+        "seconds to the deadline",
+        seconds,
+    );
 }
 
 // The same, while the owner sleeps, and it is not woken.
@@ -211,7 +238,7 @@ fn comes_back_unwoken<P: ThreadParkerT + Sync, R: Threads + Wait + Clock + Abort
     let mut plan = Plan::until(Some(deadline), Duration::from_millis(10));
     plan.wake_after = None;
     let (token, in_time) = found::<P, _>(rt, alloc, 42, &plan);
-    assert!(rt; token == Some(42) || !in_time, "nobody wakes the owner");
+    expect(rt, token == Some(42) || !in_time, "nobody wakes the owner");
 }
 
 // Durations that an integer of 32 or 64 bits cannot hold, in seconds and parts of them, or that it
@@ -264,45 +291,21 @@ fn gives_up_at_once<P: ThreadParkerT + Sync, R: Threads + Wait + Clock + Abort +
     plan.ahead = ago;
     plan.is_last = true;
     let (token, _) = found::<P, _>(rt, alloc, 42, &plan);
-    assert!(rt; token.is_none(), "{ago:?}");
-}
-
-// Waits in vain until a deadline, and not for long after it. This refuses a `park_until` that
-// sleeps for longer than is left until its deadline.
-fn ends_in_time<P: ThreadParkerT, R: Wait + Clock + Abort>(rt: &R, parker: &P) {
-    let deadline = from_now(rt, Duration::from_millis(500));
-    expect_none(rt, parker, deadline, "nobody puts a node");
-    let past = now(rt).checked_duration_since(deadline);
-    let past = past.expect(rt, "a wait until the deadline");
-    assert!(rt; past < Duration::from_millis(300), "{past:?}");
-}
-
-// Takes its node, and waits again.
-fn take_and_wait<P: ThreadParkerT, R: Wait + Clock + Abort>(rt: &R, parker: &P, meeting: &Meeting) {
-    meeting.begin();
-    drop(parker.park(rt));
-    ends_in_time(rt, parker);
+    let seconds = ago.as_secs() as usize;
+    expect_each(rt, token.is_none(), "seconds since the deadline", seconds);
 }
 
 // The owner has its node and waits again when it is woken. This refuses a `park_until` that ends at
 // a wake without a node, or begins its whole wait anew.
 fn outlasts_a_late_wake<P: ThreadParkerT + Sync, R: Threads + Wait + Clock + Abort + Sync>(
     rt: &R,
-    parker: &P,
-    node: Box<Node>,
-)
-    requires { (fields node.value).number ≡ P.owner parker.now }
-{
-    let meeting = Meeting::new();
+    alloc: Global,
+) {
     let mut plan = Plan::until(None, Duration::ZERO);
     plan.wake_after = Some(Duration::from_millis(400));
-    thread::join(
-        rt,
-        || take_and_wait(rt, parker, &meeting),
-        ||
-            requires { (fields node.value).number ≡ P.owner parker.now }
-        { commit(rt, parker, node, &plan, &meeting) },
-    );
+    plan.waits_again = true;
+    let (token, _) = found::<P, _>(rt, alloc, 42, &plan);
+    expect(rt, token == Some(42), "a late wake");
 }
 
 /// Wakes, and deadlines that nothing moves.
@@ -318,8 +321,6 @@ where
     for ago in great_durations() {
         gives_up_at_once::<P, _>(rt, alloc, ago);
     }
-    let parker: P = new_parker(rt, alloc);
-    ends_in_time(rt, &parker);
-    let node = owners_node(rt, alloc, 42);
-    outlasts_a_late_wake(rt, &parker, node);
+    ends_in_time::<P, _>(rt, &new_parker(rt, alloc));
+    outlasts_a_late_wake::<P, _>(rt, alloc);
 }

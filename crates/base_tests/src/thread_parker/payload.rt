@@ -4,6 +4,7 @@ ghost use Rattle.std.specs.Prelude.{◌≡◌};
 ghost use Rattle.lot_base.specs.Node.{fields};
 
 use super::{OWNER, owners_node};
+use crate::expect_each;
 use lot_base::queue::Node;
 use lot_base::thread_parker::{ParkerKey, ParkerT, Payload, ThreadParker, WordParker, YieldParker};
 use lot_base::token::UnparkToken;
@@ -43,8 +44,12 @@ fn expect_back<P: ParkerT<Payload = Parcel>, R: Wait + Abort>(
     beside: Option<usize>,
 ) {
     let (node, parcel) = parker.park(rt);
-    assert!(rt; node.unpark_token.0 == token, "{token}");
-    assert!(rt; parcel.map(|parcel| parcel.token.0) == beside, "{token}");
+    let comes = match parcel {
+        Some(parcel) => beside == Some(parcel.token.0),
+        None => beside.is_none(),
+    };
+    let is_back = comes && node.unpark_token.0 == token;
+    expect_each(rt, is_back, "a node and what comes beside it", token);
 }
 
 // No clause says that a payload comes out. This refuses a slot that keeps the payload, or drops it,

@@ -4,6 +4,7 @@ ghost use Rattle.std.specs.Prelude.{◌≡◌};
 
 use super::meeting::Meeting;
 use super::{OWNER, from_now, new_parker, now, owners_node};
+use crate::expect;
 use lot_base::thread_parker::{ThreadParkerT, UnparkHandleT, WordParker};
 use std::alloc::Global;
 use std::process::Abort;
@@ -93,5 +94,6 @@ where
 // every second run: the two have to meet within some nanoseconds.
 #[test]
 fn a_word_parker_wakes_one_that_just_goes_to_sleep(rt: HostRuntime) {
-    assert!(rt; each_node_is_that_of_its_round::<WordParker, _>(&rt, rt.alloc()));
+    let all = each_node_is_that_of_its_round::<WordParker, _>(&rt, rt.alloc());
+    expect(&rt, all, "each node is that of its round");
 }
