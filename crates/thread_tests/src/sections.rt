@@ -1,6 +1,6 @@
 //! What is done in a section, while no other call on the key comes through.
 
-use crate::played::goes_well;
+use crate::played::{goes_well, goes_well_on_words};
 
 // It refuses an unpark of one, an unpark by a filter and a requeue that call one of their closures
 // without the lock of the bucket, and a requeue that lacks that of the other key's bucket.
@@ -28,7 +28,7 @@ fn an_unpark_calls_its_closures_in_its_section(rt: HostRuntime) {
         raise heard
     ";
     for values in [[7, 1, 0, 0], [7, 0, 1, 0], [7, 0, 0, 1], [8, 0, 0, 1]] {
-        goes_well(&rt, scene, &values);
+        goes_well_on_words(&rt, scene, &values);
     }
 }
 
