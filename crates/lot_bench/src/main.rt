@@ -2,20 +2,16 @@
 #![tactic(auto)]
 
 mod alone;
-mod cost;
 mod crowd;
 mod fair;
-mod locked;
-mod locking;
-mod many_keys;
+mod locks;
+mod measure;
 mod program;
 mod row;
-mod sizes;
-mod synced;
+mod scene;
+mod tables;
 mod thousand;
-mod together;
 mod turns;
-mod waiting;
 mod word_mutex;
 
 use std::process::ExitCode;

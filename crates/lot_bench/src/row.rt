@@ -1,170 +1,146 @@
 //! The rows: what can be measured, and by which names.
 
-use crate::crowd::{Until, WAITERS};
-use crate::locked::Section;
-use crate::waiting::KEYS;
+/// A line for each row, in the order in which they are printed: its name, and the fields of a
+/// `Row`, which are 0 where there are no more.
+pub const ROWS: &str = "\
+unpark_one_nobody          unpark          7 1    1     0 1000000 1000000
+unpark_one_two_keys        unpark_apart    7 1    2     0  300000  300000
+unpark_one_four_keys       unpark_apart    7 1    4     0  300000  300000
+unpark_one_one_key         unpark          7 1    4     0  300000  300000
+unpark_one_one_key_sixteen unpark          7 1   16     0  300000  300000
+park_invalid               park_invalid    7 1    1     0 1000000 1000000
+park_past_deadline         park_late       7 1    1     0 1000000 1000000
+turns_strict               strict          5 1    2     0    1000    1000
+turns_by_word              by_word         5 1    2     0    5000    5000
+unpark_all_call            call           15 0  100     0       1       1
+unpark_all_awake           awake          15 0  100     0       1       1
+requeue_ten                requeue         7 0   10     0    1000    2000
+requeue_all                requeue         7 0  100     0    1000    2000
+requeue_thousand           requeue         7 0 1000     0    1000    2000
+mutex_alone                mutex           7 1    1     0  300000  300000   300000
+mutex_two                  mutex           7 1    2     0  300000  600000   600000
+mutex_four                 mutex           7 1    4     0  300000 1200000  1200000
+mutex_sixteen              mutex           7 1   16     0  300000 4800000  4800000
+fair_alone                 fair            7 1    1     0   20000   20000    20000
+fair_two                   fair            7 1    2     0   20000   40000    40000
+fair_four                  fair            7 1    4     0   20000   80000    80000
+fair_notify_all            notify         15 0  100     0       1       1
+word_lock_alone            word_lock       7 1    1     0    3000  300000  2400000 100
+word_lock_two              word_lock       7 1    2     0    3000  600000  4800000 100
+word_lock_four             word_lock       7 1    4     0    3000 1200000  9600000 100
+word_lock_sixteen          word_lock       7 1   16     0    3000 4800000 38400000 100
+word_lock_two_longer       word_lock       7 1    2     0    3000  600000  4800000 100 50
+word_lock_four_longer      word_lock       7 1    4     0    3000 1200000  9600000 100 50
+word_lock_sixteen_longer   word_lock       7 1   16     0    3000 4800000 38400000 100 50
+std_mutex_alone            std_mutex       7 1    1     0    3000  300000  2400000 100
+std_mutex_two              std_mutex       7 1    2     0    3000  600000  4800000 100
+std_mutex_four             std_mutex       7 1    4     0    3000 1200000  9600000 100
+std_mutex_two_longer       std_mutex       7 1    2     0    3000  600000  4800000 100 50
+std_mutex_four_longer      std_mutex       7 1    4     0    3000 1200000  9600000 100 50
+sync_mutex_alone           sync_mutex      7 1    1     0    3000  300000  2400000 100
+sync_mutex_two             sync_mutex      7 1    2     0    3000  600000  4800000 100
+sync_mutex_four            sync_mutex      7 1    4     0    3000 1200000  9600000 100
+sync_mutex_two_longer      sync_mutex      7 1    2     0    3000  600000  4800000 100 50
+sync_mutex_four_longer     sync_mutex      7 1    4     0    3000 1200000  9600000 100 50
+sync_read_alone            sync_rw_lock    7 1    1     0    3000  300000        0   0  0 100
+sync_read_two              sync_rw_lock    7 1    2     0    3000  600000        0   0  0 100
+sync_read_four             sync_rw_lock    7 1    4     0    3000 1200000        0   0  0 100
+sync_write_alone           sync_rw_lock    7 1    1     0    3000  300000  2400000 100
+sync_mostly_read_four      sync_rw_lock    7 1    4     0    3000 1200000    96000   1  0  99
+std_read_four              std_rw_lock     7 1    4     0    3000 1200000        0   0  0 100
+std_mostly_read_four       std_rw_lock     7 1    4     0    3000 1200000    96000   1  0  99
+sync_once_done             once            7 1    1     0 1000000 1000000
+sync_condvar_turns         condvar         5 1    2     0    5000    5000    60000
+many_keys                  many_keys       7 1    1   998  100000  100000
+thousand_threads           thousand        1 0 1000     0       1    1000
+register_all               register        7 1    0 16384       1   16384
+trim                       trim            7 1    5   678       1       1
+trim_exclusive             trim_exclusive  7 1    0   678       5       1
+unpark_in_small_table      unpark_keys     7 1    1     0 1000000 1000000
+unpark_in_large_table      unpark_keys     7 1    1 10922 1000000 1000000";
+/// What is measured, and how often.
+#[derive(Drop)]
+pub struct Row<'t> {
+    /// What is done.
+    pub deed: &'t str,
 
-/// What is measured.
-#[derive(Copy, Clone)]
-pub enum Row {
-    /// One thread unparks one where nobody waits.
-    UnparkOneNobody,
+    /// How many runs count. The cost is their median.
+    pub runs: usize,
 
-    /// A thread for each of these keys does so.
-    UnparkOneOnEach(&'static [usize]),
+    /// How many runs go before them.
+    pub uncounted: usize,
 
-    /// One thread parks, and its validation answers false.
-    ParkInvalid,
+    /// How many threads there are, beside one that leads them, if one does.
+    pub threads: usize,
 
-    /// One thread parks with a deadline that has passed.
-    ParkPastDeadline,
+    /// How many more are registered, meanwhile or in each run.
+    pub others: usize,
 
-    /// Two threads hand a turn to each other; each unparks until the other was parked.
-    TurnsStrict,
+    /// How many calls, or rounds of calls, each thread makes in a run.
+    pub calls: usize,
 
-    /// Two threads hand a turn to each other by a word at which the validation looks.
-    TurnsByWord,
+    /// By what the time of a run is divided: the operations of all threads, or of one.
+    pub operations: usize,
 
-    /// One thread unparks a hundred.
-    UnparkAll(Until),
+    /// What is counted under the lock in all runs.
+    pub counted: usize,
 
-    /// So many threads are requeued to another key, or back.
-    RequeueAllOf(usize),
+    /// How often a call locks a lock to count one, and how often it mixes a number then.
+    pub counts: usize,
+    pub turns: usize,
 
-    /// So many threads lock and unlock one mutex of one word.
-    Mutex(usize),
-
-    /// The same with a fair mutex.
-    FairMutex(usize),
-
-    /// A hundred threads that sleep on the condition variable of a fair mutex are all notified.
-    FairNotifyAll,
-
-    /// So many threads lock and unlock one word lock, and each does this meanwhile.
-    WordLock(usize, Section),
-
-    /// The same with std's `Mutex`.
-    StdMutex(usize, Section),
-
-    /// The same with std's `RwLock`.
-    StdRwLock(usize, Section),
-
-    /// The same with the mutex whose threads wait in a lot.
-    SyncMutex(usize, Section),
-
-    /// The same with the lock for readers and writers whose threads wait in a lot.
-    SyncRwLock(usize, Section),
-
-    /// One thread calls a once that is done.
-    OnceDone,
-
-    /// Two threads hand a turn to each other by a count under a mutex, and a condition variable.
-    CondvarTurns,
-
-    /// One thread parks on many keys in turn, and is unparked on each.
-    ManyKeys,
-
-    /// A thousand threads start, register, park, are woken and end.
-    ThousandThreads,
-
-    /// As many threads as a lot can have are registered, and retired.
-    RegisterAll,
-
-    /// The table of a threaded lot is trimmed from 4,096 buckets to 16, while five threads wait.
-    Trim,
-
-    /// The same of an exclusive lot.
-    TrimExclusive,
-
-    /// One thread unparks one on many keys where nobody waits, in a table of 16 buckets.
-    UnparkInSmallTable,
-
-    /// The same in a table of 65,536.
-    UnparkInLargeTable,
+    /// How often it locks it to read what was counted.
+    pub reads: usize,
 }
 
-/// The rows by their names, in the order in which they are printed.
-pub fn rows() -> [(&'static str, Row); 55] {
-    [
-        ("unpark_one_nobody", Row::UnparkOneNobody),
-        (
-            "unpark_one_two_keys",
-            Row::UnparkOneOnEach(&[KEYS[0], KEYS[1]]),
-        ),
-        ("unpark_one_four_keys", Row::UnparkOneOnEach(&KEYS)),
-        ("unpark_one_one_key", Row::UnparkOneOnEach(&[KEYS[0]; 4])),
-        (
-            "unpark_one_one_key_sixteen",
-            Row::UnparkOneOnEach(&[KEYS[0]; 16]),
-        ),
-        ("park_invalid", Row::ParkInvalid),
-        ("park_past_deadline", Row::ParkPastDeadline),
-        ("turns_strict", Row::TurnsStrict),
-        ("turns_by_word", Row::TurnsByWord),
-        ("unpark_all_call", Row::UnparkAll(Until::Answered)),
-        ("unpark_all_awake", Row::UnparkAll(Until::Awake)),
-        ("requeue_ten", Row::RequeueAllOf(10)),
-        ("requeue_all", Row::RequeueAllOf(WAITERS)),
-        ("requeue_thousand", Row::RequeueAllOf(1_000)),
-        ("mutex_alone", Row::Mutex(1)),
-        ("mutex_two", Row::Mutex(2)),
-        ("mutex_four", Row::Mutex(4)),
-        ("mutex_sixteen", Row::Mutex(16)),
-        ("fair_alone", Row::FairMutex(1)),
-        ("fair_two", Row::FairMutex(2)),
-        ("fair_four", Row::FairMutex(4)),
-        ("fair_notify_all", Row::FairNotifyAll),
-        ("word_lock_alone", Row::WordLock(1, Section::SHORT)),
-        ("word_lock_two", Row::WordLock(2, Section::SHORT)),
-        ("word_lock_four", Row::WordLock(4, Section::SHORT)),
-        ("word_lock_sixteen", Row::WordLock(16, Section::SHORT)),
-        ("word_lock_two_longer", Row::WordLock(2, Section::LONGER)),
-        ("word_lock_four_longer", Row::WordLock(4, Section::LONGER)),
-        (
-            "word_lock_sixteen_longer",
-            Row::WordLock(16, Section::LONGER),
-        ),
-        ("std_mutex_alone", Row::StdMutex(1, Section::SHORT)),
-        ("std_mutex_two", Row::StdMutex(2, Section::SHORT)),
-        ("std_mutex_four", Row::StdMutex(4, Section::SHORT)),
-        ("std_mutex_two_longer", Row::StdMutex(2, Section::LONGER)),
-        ("std_mutex_four_longer", Row::StdMutex(4, Section::LONGER)),
-        ("sync_mutex_alone", Row::SyncMutex(1, Section::SHORT)),
-        ("sync_mutex_two", Row::SyncMutex(2, Section::SHORT)),
-        ("sync_mutex_four", Row::SyncMutex(4, Section::SHORT)),
-        ("sync_mutex_two_longer", Row::SyncMutex(2, Section::LONGER)),
-        ("sync_mutex_four_longer", Row::SyncMutex(4, Section::LONGER)),
-        ("sync_read_alone", Row::SyncRwLock(1, Section::READ)),
-        ("sync_read_two", Row::SyncRwLock(2, Section::READ)),
-        ("sync_read_four", Row::SyncRwLock(4, Section::READ)),
-        ("sync_write_alone", Row::SyncRwLock(1, Section::SHORT)),
-        (
-            "sync_mostly_read_four",
-            Row::SyncRwLock(4, Section::MOSTLY_READ),
-        ),
-        ("std_read_four", Row::StdRwLock(4, Section::READ)),
-        (
-            "std_mostly_read_four",
-            Row::StdRwLock(4, Section::MOSTLY_READ),
-        ),
-        ("sync_once_done", Row::OnceDone),
-        ("sync_condvar_turns", Row::CondvarTurns),
-        ("many_keys", Row::ManyKeys),
-        ("thousand_threads", Row::ThousandThreads),
-        ("register_all", Row::RegisterAll),
-        ("trim", Row::Trim),
-        ("trim_exclusive", Row::TrimExclusive),
-        ("unpark_in_small_table", Row::UnparkInSmallTable),
-        ("unpark_in_large_table", Row::UnparkInLargeTable),
-    ]
-}
-
-/// The row of this name.
-pub fn row_named(name: &str) -> Option<Row> {
-    for (known, row) in rows() {
-        if known == name {
-            return Some(row);
-        }
+impl Row<'_> {
+    /// Whether one thread leads the others, and measures what it does.
+    pub fn is_led(&self) -> bool {
+        matches!(
+            self.deed,
+            "call" | "awake" | "requeue" | "notify" | "trim" | "trim_exclusive" | "register"
+        )
     }
-    None
+}
+
+/// The name of the row of a line.
+pub fn name_of(line: &str) -> &str {
+    line.split_whitespace().next().unwrap_or("")
+}
+
+impl Row<'static> {
+    /// The row of this name.
+    pub fn named(name: &str) -> Option<Row<'static>> {
+        for line in ROWS.lines() {
+            if name_of(line) == name {
+                return Row::of(line);
+            }
+        }
+        None
+    }
+
+    fn of(line: &'static str) -> Option<Row<'static>> {
+        let mut words = line.split_whitespace().skip(1);
+        Some(Row {
+            deed: words.next()?,
+            runs: number(words.next())?,
+            uncounted: number(words.next())?,
+            threads: number(words.next())?,
+            others: number(words.next())?,
+            calls: number(words.next())?,
+            operations: number(words.next())?,
+            counted: number(words.next())?,
+            counts: number(words.next())?,
+            turns: number(words.next())?,
+            reads: number(words.next())?,
+        })
+    }
+}
+
+// There is none at the end of a line.
+fn number(word: Option<&str>) -> Option<usize> {
+    match word {
+        Some(word) => word.parse().ok(),
+        None => Some(0),
+    }
 }

@@ -1,74 +1,70 @@
-//! The row of a thousand threads that register, park and are woken.
+//! A thousand threads that start, park and end.
 
-use crate::cost::Cost;
-use crate::waiting::{Lot, LotMember, comes_to};
-use lot_threads::{DEFAULT_PARK_TOKEN, DEFAULT_UNPARK_TOKEN, unpark_all};
+use crate::measure::nanoseconds_since;
+use crate::turns::{comes_to, park_while};
+use lot_threads::{
+    DEFAULT_UNPARK_TOKEN, Member, ParkingLot, ThreadParkerT, WordParker, unpark_all,
+};
 use std::alloc::Global;
 use std::sync::atomic::{AtomicU64, Ordering};
 use std::sync::{Arc, Wait};
 use std::thread::{Builder, JoinHandle, Threads};
 use std::time::{Clock, Instant};
 
-const THREADS: usize = 1_000;
-
 const STACK_SIZE: usize = 64 * 1024;
 
-/// A thousand threads start, register and park, each on a key of its own; then each is woken and
-/// joined. The cost is that of one thread. If it fails the threads are not joined.
+// What the threads share: the lot, and how many of them have parked.
+#[derive(Drop)]
+struct Crowd {
+    lot: ParkingLot<WordParker>,
+    parked: AtomicU64,
+}
+
+/// So many threads start, register and park, each on a key of its own; then each is woken and
+/// joined. It answers how long that takes. If it fails the threads are not joined.
 pub fn thousand_threads<R: Threads + Wait + Clock + Copy + Send + 'static>(
     rt: &R,
     alloc: Global,
-) -> Option<Cost> {
-    let crowd = Arc::new(alloc, Crowd::new(alloc)?).ok()?;
+    threads: usize,
+) -> Option<u64> {
+    let lot = ParkingLot::new(alloc, threads).ok()?;
+    let parked = AtomicU64::new(0);
+    let crowd = Arc::new(alloc, Crowd { lot, parked }).ok()?;
     let start = Instant::now(rt).ok();
-    if come_and_go(rt, alloc, &crowd) {
-        Cost::since(rt, start, THREADS as u64)
+    if comes_and_goes(rt, alloc, &crowd, threads) {
+        nanoseconds_since(rt, start)
     } else {
         None
     }
 }
 
-// What the threads share: the lot, and how many of them have parked.
-#[derive(Drop)]
-struct Crowd {
-    lot: Lot,
-    parked: AtomicU64,
-}
-
-impl Crowd {
-    fn new(alloc: Global) -> Option<Crowd> {
-        Some(Crowd {
-            lot: Lot::new(alloc, THREADS).ok()?,
-            parked: AtomicU64::new(0),
-        })
-    }
-}
-
 // Starts all threads, wakes each once all have parked, and joins them. False says that one of them
 // could not be started, or was not woken.
-fn come_and_go<R: Threads + Wait + Clock + Copy + Send + 'static>(
+fn comes_and_goes<R: Threads + Wait + Clock + Copy + Send + 'static>(
     rt: &R,
     alloc: Global,
     crowd: &Arc<Crowd, Global>,
+    threads: usize,
 ) -> bool {
-    let Some(threads) = start_all(rt, alloc, crowd) else {
+    let Some(started) = start_all(rt, alloc, crowd, threads) else {
         return false;
     };
-    comes_to(&crowd.parked, THREADS as u64)
-        && woken(rt, &crowd.lot) == THREADS
-        && join_all(rt, threads)
+    comes_to(&crowd.parked, threads)
+        && woken(rt, &crowd.lot, threads) == threads
+        && join_all(rt, started)
 }
 
 fn start_all<R: Threads + Wait + Clock + Copy + Send + 'static>(
     rt: &R,
     alloc: Global,
     crowd: &Arc<Crowd, Global>,
+    threads: usize,
 ) -> Option<Vec<JoinHandle<bool>>> {
-    let mut threads = Vec::with_capacity(alloc, THREADS).ok()?;
-    for key in 0..THREADS {
-        threads.push(start_one(rt, alloc, crowd, key)?).ok()?;
+    let mut started = Vec::with_capacity(alloc, threads).ok()?;
+    for key in 0..threads {
+        started.push(start_one(rt, alloc, crowd, key)?).ok()?;
     }
-    Some(threads)
+    Some(started)
 }
 
 fn start_one<R: Threads + Wait + Clock + Copy + Send + 'static>(
@@ -81,34 +77,36 @@ fn start_one<R: Threads + Wait + Clock + Copy + Send + 'static>(
     let runtime = *rt;
     Builder::new()
         .stack_size(STACK_SIZE)
-        .spawn(rt, move || waits(&runtime, alloc, &crowd, key))
+        .spawn(rt, move || {
+            waits_on(&runtime, alloc, &crowd.lot, &crowd.parked, key)
+        })
         .ok()
 }
 
 // Registers and parks, and tells whether it was unparked.
-fn waits<R: Wait + Clock>(rt: &R, alloc: Global, crowd: &Crowd, key: usize) -> bool {
-    let Ok(mut member) = LotMember::register(rt, alloc, &crowd.lot) else {
+fn waits_on<P: ThreadParkerT, R: Wait + Clock>(
+    rt: &R,
+    alloc: Global,
+    lot: &ParkingLot<P>,
+    parked: &AtomicU64,
+    key: usize,
+) -> bool {
+    let Ok(mut member) = Member::register(rt, alloc, lot) else {
         return false;
     };
-    let result = member.park(
-        rt,
-        key,
-        || true,
-        || {
-            crowd.parked.fetch_add(1, Ordering::SeqCst);
-        },
-        |_, _| (),
-        DEFAULT_PARK_TOKEN,
-        None,
-    );
+    let word = AtomicU64::new(0);
+    let comes = || {
+        parked.fetch_add(1, Ordering::SeqCst);
+    };
+    let is_unparked = park_while(rt, &mut member, key, &word, 0, comes);
     member.retire(rt);
-    result.is_unparked()
+    is_unparked
 }
 
 // Wakes the thread of each key, and answers how many were woken.
-fn woken<R: Wait>(rt: &R, lot: &Lot) -> usize {
+fn woken<P: ThreadParkerT, R: Wait>(rt: &R, lot: &ParkingLot<P>, threads: usize) -> usize {
     let mut woken = 0usize;
-    for key in 0..THREADS {
+    for key in 0..threads {
         woken = woken.wrapping_add(unpark_all(rt, lot, key, DEFAULT_UNPARK_TOKEN));
     }
     woken

@@ -1,297 +1,172 @@
-//! The rows of two threads that hand a turn to each other.
+//! Two threads that hand a turn to each other.
 
-use crate::cost::{Cost, median_of};
-use crate::locked::Tally;
-use crate::waiting::{KEYS, Lot, LotMember, TURNS};
+use crate::alone::{ignore, nothing};
+use crate::locks::Tally;
+use lot_base::token::UnparkResult;
 use lot_sync::mutex::{Condvar, Mutex};
-use lot_threads::{DEFAULT_PARK_TOKEN, DEFAULT_UNPARK_TOKEN, ParkResult, unpark_all, unpark_one};
-use std::alloc::Global;
+use lot_threads::{
+    DEFAULT_PARK_TOKEN, DEFAULT_UNPARK_TOKEN, Member, ParkResult, ParkingLot, ThreadParkerT,
+    UnparkToken, unpark_all, unpark_one,
+};
 use std::sync::Wait;
-use std::sync::atomic::{AtomicBool, AtomicU64, Ordering};
-use std::thread::Threads;
-use std::time::{Clock, Instant};
+use std::sync::atomic::{AtomicU64, Ordering};
+use std::time::Clock;
 use std::{hint, thread};
 
-const STRICT_ROUNDS: u64 = 1_000;
+/// How often a loop that waits by turns looks before it has failed.
+pub const TURNS: usize = 10_000_000;
 
-const WORD_ROUNDS: u64 = 5_000;
+/// What the word says once a side has given up, or all is over.
+pub const OVER: u64 = 2;
 
-const RUNS: usize = 5;
-
-// No side's turn: a side has given up.
-const NOBODY: u64 = 2;
-
-/// Each of two threads unparks the other until it was parked, and then parks. The cost is that of
-/// a round, there and back.
-pub fn turns_strict<R: Threads + Wait + Clock + Sync>(rt: &R, alloc: Global) -> Option<Cost> {
-    let lot = Lot::new(alloc, 2).ok()?;
-    median_of(alloc, RUNS, || cost_of_strict(rt, alloc, &lot))
+/// The token of whoever is unparked.
+pub fn token(_: UnparkResult) -> UnparkToken {
+    DEFAULT_UNPARK_TOKEN
 }
 
-// Both sides, registered.
-fn register_two<'a, R: Wait>(
-    rt: &R,
-    alloc: Global,
-    lot: &'a Lot,
-) -> Option<(LotMember<'a>, LotMember<'a>)> {
-    let first = LotMember::register(rt, alloc, lot).ok()?;
-    let second = LotMember::register(rt, alloc, lot).ok()?;
-    Some((first, second))
-}
-
-fn cost_of_strict<R: Threads + Wait + Clock + Sync>(
-    rt: &R,
-    alloc: Global,
-    lot: &Lot,
-) -> Option<Cost> {
-    let (first, second) = register_two(rt, alloc, lot)?;
-    let gave_up = AtomicBool::new(false);
-    let start = Instant::now(rt).ok();
-    let (led, followed) = thread::join(
-        rt,
-        || leads(rt, first, &gave_up),
-        || follows(rt, second, &gave_up),
-    );
-    if led && followed {
-        Cost::since(rt, start, STRICT_ROUNDS)
-    } else {
-        None
-    }
-}
-
-// Unparks first and then parks, in each round. False says that a side gave up.
-fn leads<R: Wait + Clock>(rt: &R, mut member: LotMember<'_>, gave_up: &AtomicBool) -> bool {
-    for _ in 0..STRICT_ROUNDS {
-        if !unpark_surely(rt, member.lot(), KEYS[1], gave_up)
-            || !park_strictly(rt, &mut member, KEYS[0], gave_up)
-        {
-            return false;
+/// Waits by turns until the word has this value. False says that it never had.
+pub fn comes_to(word: &AtomicU64, value: usize) -> bool {
+    for _ in 0..TURNS {
+        if word.load(Ordering::SeqCst) == value as u64 {
+            return true;
         }
+        thread::yield_now();
     }
-    member.retire(rt);
-    true
+    false
 }
 
-// Parks first and then unparks, in each round. False says that a side gave up.
-fn follows<R: Wait + Clock>(rt: &R, mut member: LotMember<'_>, gave_up: &AtomicBool) -> bool {
-    for _ in 0..STRICT_ROUNDS {
-        if !park_strictly(rt, &mut member, KEYS[1], gave_up)
-            || !unpark_surely(rt, member.lot(), KEYS[0], gave_up)
-        {
-            return false;
-        }
-    }
-    member.retire(rt);
-    true
-}
-
-// Parks until the other side unparks this one. False says that it gave up.
-fn park_strictly<R: Wait + Clock>(
+/// Parks if the word has this value. False says that it had another.
+pub fn park_while<P: ThreadParkerT, R: Wait + Clock, B: FnOnce()>(
     rt: &R,
-    member: &mut LotMember<'_>,
+    member: &mut Member<'_, P>,
     key: usize,
-    gave_up: &AtomicBool,
-) -> bool {
+    word: &AtomicU64,
+    value: u64,
+    before_sleep: B,
+) -> bool
+    requires { B.pre before_sleep }
+{
     let result = member.park(
         rt,
         key,
-        || !gave_up.load(Ordering::SeqCst),
-        || (),
-        |_, _| (),
+        || word.load(Ordering::SeqCst) == value,
+        before_sleep,
+        ignore,
         DEFAULT_PARK_TOKEN,
         None,
     );
     result != ParkResult::Invalid
 }
 
+/// Unparks the other side until it was parked, and then parks, in each round; the side 1 parks
+/// first. False says that a side gave up. A side is 0 or 1, and so is its key.
+pub fn takes_turns_strictly<P: ThreadParkerT, R: Wait + Clock>(
+    rt: &R,
+    lot: &ParkingLot<P>,
+    member: &mut Member<'_, P>,
+    word: &AtomicU64,
+    side: usize,
+    rounds: usize,
+) -> bool {
+    for turn in 0..rounds.wrapping_mul(2) {
+        let is_well = if turn % 2 == side {
+            unparks_surely(rt, lot, word, side ^ 1)
+        } else {
+            park_while(rt, member, side, word, 0, nothing)
+        };
+        if !is_well {
+            return false;
+        }
+    }
+    true
+}
+
 // Unparks until it unparked the other side. False says that it gave up: the other side is woken,
 // and does not park again.
-fn unpark_surely<R: Wait>(rt: &R, lot: &Lot, key: usize, gave_up: &AtomicBool) -> bool {
+fn unparks_surely<P: ThreadParkerT, R: Wait>(
+    rt: &R,
+    lot: &ParkingLot<P>,
+    word: &AtomicU64,
+    key: usize,
+) -> bool {
     for _ in 0..TURNS {
-        if unpark_one(rt, lot, key, |_| DEFAULT_UNPARK_TOKEN).unparked_threads == 1 {
+        if unpark_one(rt, lot, key, token).unparked_threads == 1 {
             return true;
         }
         hint::spin_loop();
     }
-    gave_up.store(true, Ordering::SeqCst);
+    word.store(OVER, Ordering::SeqCst);
     unpark_all(rt, lot, key, DEFAULT_UNPARK_TOKEN);
     false
 }
 
-/// Each of two threads parks until a word says that it is its turn, and then gives the turn to the
-/// other. The cost is that of a round, there and back.
-pub fn turns_by_word<R: Threads + Wait + Clock + Sync>(rt: &R, alloc: Global) -> Option<Cost> {
-    let lot = Lot::new(alloc, 2).ok()?;
-    median_of(alloc, RUNS, || cost_by_word(rt, alloc, &lot))
-}
-
-fn cost_by_word<R: Threads + Wait + Clock + Sync>(
+/// Parks until the word says that it is this side's turn, and then gives the turn to the other, in
+/// each round. False says that a side gave up.
+pub fn takes_turns_by_word<P: ThreadParkerT, R: Wait + Clock>(
     rt: &R,
-    alloc: Global,
-    lot: &Lot,
-) -> Option<Cost> {
-    let (first, second) = register_two(rt, alloc, lot)?;
-    let turn = AtomicU64::new(0);
-    let start = Instant::now(rt).ok();
-    let (one, other) = thread::join(
-        rt,
-        || takes_turns(rt, first, &turn, Side::FIRST),
-        || takes_turns(rt, second, &turn, Side::SECOND),
-    );
-    if one && other {
-        Cost::since(rt, start, WORD_ROUNDS)
-    } else {
-        None
-    }
-}
-
-// A side's own turn and key, and those of the other side.
-#[derive(Copy, Clone)]
-struct Side {
-    turn: u64,
-    key: usize,
-    other_turn: u64,
-    other_key: usize,
-}
-
-impl Side {
-    const FIRST: Side = Side {
-        turn: 0,
-        key: KEYS[0],
-        other_turn: 1,
-        other_key: KEYS[1],
-    };
-
-    const SECOND: Side = Side {
-        turn: 1,
-        key: KEYS[1],
-        other_turn: 0,
-        other_key: KEYS[0],
-    };
-}
-
-// Takes its turn in each round. False says that a side gave up.
-fn takes_turns<R: Wait + Clock>(
-    rt: &R,
-    mut member: LotMember<'_>,
-    turn: &AtomicU64,
-    side: Side,
+    lot: &ParkingLot<P>,
+    member: &mut Member<'_, P>,
+    word: &AtomicU64,
+    side: usize,
+    rounds: usize,
 ) -> bool {
-    for _ in 0..WORD_ROUNDS {
-        let has_turn = awaits_turn(rt, &mut member, turn, side);
-        give_turn(
-            rt,
-            member.lot(),
-            turn,
-            if has_turn { side.other_turn } else { NOBODY },
-            side,
-        );
+    for _ in 0..rounds {
+        let has_turn = awaits_turn(rt, member, word, side);
+        let next = if has_turn { (side ^ 1) as u64 } else { OVER };
+        word.store(next, Ordering::SeqCst);
+        unpark_one(rt, lot, side ^ 1, token);
         if !has_turn {
             return false;
         }
     }
-    member.retire(rt);
     true
 }
 
 // Parks until it is this side's turn. False says that it is nobody's, or never came.
-fn awaits_turn<R: Wait + Clock>(
+fn awaits_turn<P: ThreadParkerT, R: Wait + Clock>(
     rt: &R,
-    member: &mut LotMember<'_>,
-    turn: &AtomicU64,
-    side: Side,
+    member: &mut Member<'_, P>,
+    word: &AtomicU64,
+    side: usize,
 ) -> bool {
+    let other = (side ^ 1) as u64;
     for _ in 0..TURNS {
-        let whose = turn.load(Ordering::SeqCst);
-        if whose != side.other_turn {
-            return whose == side.turn;
+        let whose = word.load(Ordering::SeqCst);
+        if whose != other {
+            return whose == side as u64;
         }
-        park_by_word(rt, member, turn, side);
+        park_while(rt, member, side, word, other, nothing);
     }
     false
 }
 
-// Parks, if it is the other side's turn.
-fn park_by_word<R: Wait + Clock>(rt: &R, member: &mut LotMember<'_>, turn: &AtomicU64, side: Side) {
-    member.park(
-        rt,
-        side.key,
-        || turn.load(Ordering::SeqCst) == side.other_turn,
-        || (),
-        |_, _| (),
-        DEFAULT_PARK_TOKEN,
-        None,
-    );
-}
-
-fn give_turn<R: Wait>(rt: &R, lot: &Lot, turn: &AtomicU64, next: u64, side: Side) {
-    turn.store(next, Ordering::SeqCst);
-    unpark_one(rt, lot, side.other_key, |_| DEFAULT_UNPARK_TOKEN);
-}
-
-/// Each of two threads waits on a condition variable until the count under its mutex says that it
-/// is its turn, and then counts one. The cost is that of a round, there and back.
-pub fn turns_by_condvar<R: Threads + Wait + Clock + Sync>(rt: &R, alloc: Global) -> Option<Cost> {
-    let lot = Lot::new(alloc, 2).ok()?;
-    median_of(alloc, RUNS, || cost_by_condvar(rt, alloc, &lot))
-}
-
-fn cost_by_condvar<R: Threads + Wait + Clock + Sync>(
+/// Counts one in each round, when the count is even or odd as the side says. Answers the last
+/// count.
+pub fn counts_by_turns<P: ThreadParkerT, R: Wait + Clock>(
     rt: &R,
-    alloc: Global,
-    lot: &Lot,
-) -> Option<Cost> {
-    let mutex = Mutex::new(alloc, KEYS[0], Tally::new()).ok()?;
-    cost_with_mutex(rt, alloc, lot, &mutex)
-}
-
-fn cost_with_mutex<R: Threads + Wait + Clock + Sync>(
-    rt: &R,
-    alloc: Global,
-    lot: &Lot,
-    mutex: &Mutex<Tally>,
-) -> Option<Cost> {
-    let condvar = Condvar::new(KEYS[1]);
-    let (first, second) = register_two(rt, alloc, lot)?;
-    let start = Instant::now(rt).ok();
-    let (one, other) = thread::join(
-        rt,
-        || counts_by_turns(rt, first, mutex, &condvar, 0),
-        || counts_by_turns(rt, second, mutex, &condvar, 1),
-    );
-    if one.max(other) == 2 * WORD_ROUNDS {
-        Cost::since(rt, start, WORD_ROUNDS)
-    } else {
-        None
-    }
-}
-
-// Counts one in each round, when the count is even or odd as it says. Answers the last count.
-fn counts_by_turns<R: Wait + Clock>(
-    rt: &R,
-    mut member: LotMember<'_>,
+    member: &mut Member<'_, P>,
     mutex: &Mutex<Tally>,
     condvar: &Condvar,
-    turn: u64,
+    side: usize,
+    rounds: usize,
 ) -> u64 {
     let mut last = 0u64;
-    for _ in 0..WORD_ROUNDS {
-        last = count_at_turn(rt, &mut member, mutex, condvar, turn);
+    for _ in 0..rounds {
+        last = counts_at_turn(rt, member, mutex, condvar, side as u64);
     }
-    member.retire(rt);
     last
 }
 
-fn count_at_turn<R: Wait + Clock>(
+fn counts_at_turn<P: ThreadParkerT, R: Wait + Clock>(
     rt: &R,
-    member: &mut LotMember<'_>,
+    member: &mut Member<'_, P>,
     mutex: &Mutex<Tally>,
     condvar: &Condvar,
-    turn: u64,
+    side: u64,
 ) -> u64 {
     let mut held = mutex.lock(rt, member);
     for _ in rt.forever() {
-        if held.value.count % 2 == turn {
+        if held.value.count % 2 == side {
             break;
         }
         held = condvar.wait(rt, member, held);

@@ -1,10 +1,8 @@
 //! A mutex of one word, whose threads wait in a lot.
 
-ghost use Rattle.lot_threads.specs.Members.{IsDataOf};
-
-use crate::locking::LotMutex;
-use crate::waiting::{KEYS, Lot, TURNS};
-use lot_threads::{DEFAULT_PARK_TOKEN, DEFAULT_UNPARK_TOKEN, ThreadData, park, unpark_one};
+use crate::alone::nothing;
+use crate::turns::{TURNS, park_while};
+use lot_threads::{DEFAULT_UNPARK_TOKEN, Member, ParkingLot, ThreadParkerT, unpark_one};
 use std::sync::Wait;
 use std::sync::atomic::{AtomicU64, Ordering};
 use std::time::Clock;
@@ -25,7 +23,10 @@ const SPINS: u32 = 3;
 
 const YIELDS: u32 = 7;
 
-/// The mutex. The lot keeps those who wait for it in the queue of one key.
+// The lot keeps those who wait for the mutex in the queue of this key.
+const KEY: usize = 1;
+
+/// The mutex.
 ///
 /// An `AtomicU8` takes a word too, and its exchange reads that word first; so this is a whole word.
 #[derive(Drop)]
@@ -42,56 +43,52 @@ impl WordMutex {
     }
 
     #[inline]
-    fn exchange(&self, current: u64, new: u64) -> Result<u64, u64> {
+    fn exchange(&self, current: u64, new: u64) -> bool {
         self.state
             .compare_exchange(current, new, Ordering::SeqCst, Ordering::SeqCst)
+            .is_ok()
+    }
+
+    // False says that it was not free in all the turns that this thread waited.
+    #[inline]
+    fn lock<P: ThreadParkerT, R: Wait + Clock>(&self, rt: &R, member: &mut Member<'_, P>) -> bool {
+        self.exchange(FREE, LOCKED) || self.lock_slowly(rt, member)
     }
 
     #[cold]
-    fn lock_slowly<R: Wait + Clock>(&self, rt: &R, lot: &Lot, thread_data: &mut ThreadData) -> bool
-        requires own { IsDataOf lot.now thread_data.old }
-        ensures own { IsDataOf lot.now thread_data.new }
-    {
+    fn lock_slowly<P: ThreadParkerT, R: Wait + Clock>(
+        &self,
+        rt: &R,
+        member: &mut Member<'_, P>,
+    ) -> bool {
         let mut spun = 0u32;
         for _ in 0..TURNS {
             let state = self.state.load(Ordering::SeqCst);
             if state == FREE || state == PARKED {
-                if self.exchange(state, state | LOCKED).is_ok() {
+                if self.exchange(state, state | LOCKED) {
                     return true;
                 }
             } else if state == LOCKED && spun < SPINS + YIELDS {
                 spun += 1;
                 spin(spun);
-            } else if state == CONTENDED || self.exchange(LOCKED, CONTENDED).is_ok() {
-                self.wait(rt, lot, thread_data);
+            } else if state == CONTENDED || self.exchange(LOCKED, CONTENDED) {
+                park_while(rt, member, KEY, &self.state, CONTENDED, nothing);
                 spun = 0;
             }
         }
         false
     }
 
-    // Parks until the thread that has the mutex unlocks it, if it is locked still and says that
-    // threads wait.
-    fn wait<R: Wait + Clock>(&self, rt: &R, lot: &Lot, thread_data: &mut ThreadData)
-        requires own { IsDataOf lot.now thread_data.old }
-        ensures own { IsDataOf lot.now thread_data.new }
-    {
-        park(
-            rt,
-            lot,
-            thread_data,
-            KEYS[0],
-            || self.state.load(Ordering::SeqCst) == CONTENDED,
-            || (),
-            |_, _| (),
-            DEFAULT_PARK_TOKEN,
-            None,
-        );
+    #[inline]
+    fn unlock<P: ThreadParkerT, R: Wait>(&self, rt: &R, lot: &ParkingLot<P>) {
+        if !self.exchange(LOCKED, FREE) {
+            self.unlock_slowly(rt, lot);
+        }
     }
 
     #[cold]
-    fn unlock_slowly<R: Wait>(&self, rt: &R, lot: &Lot) {
-        unpark_one(rt, lot, KEYS[0], |answer| {
+    fn unlock_slowly<P: ThreadParkerT, R: Wait>(&self, rt: &R, lot: &ParkingLot<P>) {
+        unpark_one(rt, lot, KEY, |answer| {
             let state = if answer.have_more_threads {
                 PARKED
             } else {
@@ -101,21 +98,49 @@ impl WordMutex {
             DEFAULT_UNPARK_TOKEN
         });
     }
+
+    /// Locks and unlocks it so often. False says that it could not be had.
+    pub fn pairs<P: ThreadParkerT, R: Wait + Clock>(
+        &self,
+        rt: &R,
+        lot: &ParkingLot<P>,
+        member: &mut Member<'_, P>,
+        calls: usize,
+    ) -> bool {
+        let mut locked = 0usize;
+        for _ in 0..calls {
+            if self.lock(rt, member) {
+                self.unlock(rt, lot);
+                locked = locked.wrapping_add(1);
+            }
+        }
+        locked == calls
+    }
+
+    /// Counts one under the mutex so often. False says that it could not be had.
+    pub fn counts<P: ThreadParkerT, R: Wait + Clock>(
+        &self,
+        rt: &R,
+        lot: &ParkingLot<P>,
+        member: &mut Member<'_, P>,
+        count: &AtomicU64,
+        calls: usize,
+    ) -> bool {
+        for _ in 0..calls {
+            if !self.lock(rt, member) {
+                return false;
+            }
+            count_one(count);
+            self.unlock(rt, lot);
+        }
+        true
+    }
 }
 
-impl LotMutex for WordMutex {
-    // False says that it was not free in all the turns that this thread waited.
-    #[inline]
-    fn acquire<R: Wait + Clock>(&self, rt: &R, lot: &Lot, thread_data: &mut ThreadData) -> bool {
-        self.exchange(FREE, LOCKED).is_ok() || self.lock_slowly(rt, lot, thread_data)
-    }
-
-    #[inline]
-    fn release<R: Wait>(&self, rt: &R, lot: &Lot) {
-        if self.exchange(LOCKED, FREE).is_err() {
-            self.unlock_slowly(rt, lot);
-        }
-    }
+/// Counts one, where nobody else does at one time.
+pub fn count_one(count: &AtomicU64) {
+    let before = count.load(Ordering::SeqCst);
+    count.store(before.wrapping_add(1), Ordering::SeqCst);
 }
 
 // Spins twice as long each time, and at last yields.

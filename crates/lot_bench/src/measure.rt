@@ -1,0 +1,90 @@
+//! What one operation of a row costs.
+
+use crate::locks::Tally;
+use crate::row::Row;
+use crate::scene::Scene;
+use crate::tables::register;
+use crate::thousand::thousand_threads;
+use crate::word_mutex::WordMutex;
+use lot_base::word_lock::WordLock;
+use lot_sync::mutex::{Condvar, Mutex};
+use lot_sync::once::Once;
+use lot_sync::rw_lock::RwLock;
+use lot_sync::{FairCondvar, FairMutex};
+use lot_threads::{MAX_THREADS, ParkingLot, ThreadParkerT};
+use std::alloc::Global;
+use std::sync::atomic::AtomicU64;
+use std::sync::{self, Barrier, Wait};
+use std::thread::Threads;
+use std::time::{Clock, Instant};
+
+/// How many nanoseconds have passed since the start, if the clock could be read.
+pub fn nanoseconds_since<R: Clock>(rt: &R, start: Option<Instant>) -> Option<u64> {
+    u64::try_from(start?.elapsed(rt).ok()?.as_nanos()).ok()
+}
+
+/// Hundredths of a nanosecond for each operation. `None` says that memory, a thread or the clock
+/// could not be had, or that a wait by turns or a call did not end as it should.
+pub fn measure<P, R>(rt: &R, alloc: Global, row: &Row<'_>) -> Option<u64>
+where
+    P: ThreadParkerT + Send + Sync,
+    R: Threads + Wait + Clock + Copy + Send + Sync + 'static,
+{
+    let nanoseconds = match row.deed {
+        "thousand" => thousand_threads(rt, alloc, row.threads)?,
+        _ => time_of::<P, R>(rt, alloc, row)?,
+    };
+    let hundredths = nanoseconds.checked_mul(100)?;
+    hundredths.checked_div(row.operations as u64)
+}
+
+// The lot has room for those who register twice, and for the one who leads.
+fn time_of<P, R>(rt: &R, alloc: Global, row: &Row<'_>) -> Option<u64>
+where
+    P: ThreadParkerT + Send + Sync,
+    R: Threads + Wait + Clock + Sync,
+{
+    let room = row.threads.checked_mul(2)?.checked_add(row.others)?;
+    let lot = ParkingLot::<P>::new(alloc, room.checked_add(1)?.min(MAX_THREADS)).ok()?;
+    let once = Once::new(alloc, 1).ok()?;
+    let word_lock = WordLock::new(alloc, Tally::new(), &()).ok()?;
+    let mutex = Mutex::new(alloc, 1, Tally::new()).ok()?;
+    let scene = Scene {
+        row,
+        lot: &lot,
+        once: &once,
+        word_lock: &word_lock,
+        mutex: &mutex,
+        rw_lock: RwLock::new(rt, 1, Tally::new()),
+        condvar: Condvar::new(2),
+        std_mutex: sync::Mutex::new(Tally::new()),
+        std_rw_lock: sync::RwLock::new(Tally::new()),
+        word_mutex: WordMutex::new(),
+        fair_mutex: FairMutex::new(1),
+        fair_condvar: FairCondvar::new(2),
+        begins: Barrier::new(row.threads),
+        runs: AtomicU64::new(0),
+        epoch: Instant::now(rt).ok(),
+        start: AtomicU64::new(0),
+        end: AtomicU64::new(0),
+        counted: AtomicU64::new(0),
+        word: AtomicU64::new(0),
+        parked: AtomicU64::new(0),
+        awake: AtomicU64::new(0),
+    };
+    time_in(rt, alloc, &scene)
+}
+
+// The time of a run in a scene, while the others are registered if they do not come and go.
+fn time_in<P, R>(rt: &R, alloc: Global, scene: &Scene<'_, P>) -> Option<u64>
+where
+    P: ThreadParkerT + Send + Sync,
+    R: Threads + Wait + Clock + Sync,
+{
+    let row = scene.row;
+    if !row.is_led() {
+        register(rt, alloc, scene.lot, row.others)?;
+    }
+    let time = scene.time(rt, alloc);
+    if scene.has_counted() { time } else { None }
+}
