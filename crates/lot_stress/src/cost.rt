@@ -38,12 +38,10 @@ const ENTRIES: usize = 1 + 3 * PARKS;
 /// Registers as many threads as there can be, again and again; and works in a lot, in an
 /// interleaved one and in journals of so many.
 pub fn run(alloc: Global) -> Result<(), Fault> {
-    for _ in 1..LOTS {
+    for number in 0..LOTS {
         let mut lot = Lot::new(alloc, THREADS)?;
-        register_all(&mut lot)?;
+        work_in(&mut lot, number == 0)?;
     }
-    let mut lot = Lot::new(alloc, THREADS)?;
-    work_in(&mut lot)?;
     let mut lot = FineLot::new(alloc, THREADS, 1)?;
     requeue_all(alloc, &mut lot)?;
     for _ in 0..JOURNALS {
@@ -53,17 +51,15 @@ pub fn run(alloc: Global) -> Result<(), Fault> {
     Ok(())
 }
 
-fn register_all(lot: &mut Lot) -> Result<(), Fault> {
+// Registers all threads. In one of the lots it then retires and registers one of them; unparks all
+// one by one from one key; and records many keys, which it releases from the last to the first.
+fn work_in(lot: &mut Lot, is_long: bool) -> Result<(), Fault> {
     for _ in 0..THREADS {
         lot.register()?;
     }
-    Ok(())
-}
-
-// Retires and registers one of all threads; unparks all one by one from one key; and records many
-// keys, which it releases from the last to the first.
-fn work_in(lot: &mut Lot) -> Result<(), Fault> {
-    register_all(lot)?;
+    if !is_long {
+        return Ok(());
+    }
     for _ in 0..RETIREMENTS {
         lot.retire(THREADS - 1)?;
         lot.register()?;
@@ -81,12 +77,22 @@ fn work_in(lot: &mut Lot) -> Result<(), Fault> {
 }
 
 fn park_and_unpark_all(lot: &mut Lot) -> Result<(), Fault> {
-    for number in 0..THREADS {
-        lot.enter(number, KEY, || true, DEFAULT_PARK_TOKEN, false)?;
+    for thread in 0..THREADS {
+        lot.apply(&Step::Enter {
+            thread,
+            key: KEY,
+            valid: true,
+            park_token: DEFAULT_PARK_TOKEN,
+            timed: false,
+        });
     }
-    for number in 0..THREADS {
-        lot.unpark_one(KEY, |_| DEFAULT_UNPARK_TOKEN);
-        lot.give_back(number)?;
+    let first = Step::Unpark(Op::One {
+        key: KEY,
+        token: DEFAULT_UNPARK_TOKEN,
+    });
+    for thread in 0..THREADS {
+        lot.apply(&first);
+        lot.give_back(thread)?;
     }
     Ok(())
 }
@@ -96,50 +102,49 @@ fn park_and_unpark_all(lot: &mut Lot) -> Result<(), Fault> {
 fn requeue_all(alloc: Global, lot: &mut FineLot) -> Result<(), Fault> {
     let (mut answers, mut sequential) = (Vec::new(alloc), Vec::new(alloc));
     for thread in 0..THREADS {
-        let steps = [FineStep::Register, enter(thread)];
-        run_fine(lot, &steps, &mut answers, &mut sequential)?;
+        let enter = FineStep::Enter {
+            thread,
+            key: KEY,
+            valid: true,
+            park_token: DEFAULT_PARK_TOKEN,
+            timed: false,
+        };
+        run_fine(
+            lot,
+            &[FineStep::Register, enter],
+            &mut answers,
+            &mut sequential,
+        )?;
     }
     for turn in 0..REQUEUES {
-        let (from, to) = if turn % 2 == 0 {
-            (KEY, OTHER_KEY)
-        } else {
-            (OTHER_KEY, KEY)
-        };
-        let steps = [begin(from, to), FineStep::End { caller: 0 }];
         answers.clear();
-        run_fine(lot, &steps, &mut answers, &mut sequential)?;
-        if !are_all_requeued(answers.as_slice()) {
-            return Err(Fault("how many threads were requeued"));
+        run_fine(lot, &requeue(turn), &mut answers, &mut sequential)?;
+        match answers.first() {
+            Some(FineAnswer::Answer(Answer::Unpark(result)))
+                if result.requeued_threads == THREADS => {}
+            _ => return Err(Fault("how many threads were requeued")),
         }
     }
     Ok(())
 }
 
-fn are_all_requeued(answers: &[FineAnswer]) -> bool {
-    match answers.first() {
-        Some(FineAnswer::Answer(Answer::Unpark(result))) => result.requeued_threads == THREADS,
-        _ => false,
-    }
-}
-
-fn enter(thread: usize) -> FineStep {
-    FineStep::Enter {
-        thread,
-        key: KEY,
-        valid: true,
-        park_token: DEFAULT_PARK_TOKEN,
-        timed: false,
-    }
-}
-
-fn begin(from: usize, to: usize) -> FineStep {
+// The steps of a requeue of all from one key to the other.
+fn requeue(turn: usize) -> [FineStep; 2] {
+    let (from, to) = if turn % 2 == 0 {
+        (KEY, OTHER_KEY)
+    } else {
+        (OTHER_KEY, KEY)
+    };
     let op = Op::Requeue {
         from,
         to,
         op: RequeueOp::RequeueAll,
         token: DEFAULT_UNPARK_TOKEN,
     };
-    FineStep::Begin { caller: 0, op }
+    [
+        FineStep::Begin { caller: 0, op },
+        FineStep::End { caller: 0 },
+    ]
 }
 
 // One thread of very many parks again and again, each time until its deadline. Each of its steps

@@ -5,7 +5,7 @@ use std::alloc::{AllocError, AllocFailed};
 use std::io;
 
 /// What a refusal of memory is called. The sweep of `bench/refuse` knows this word.
-const NO_MEMORY: &str = "NoMemory";
+pub const NO_MEMORY: &str = "NoMemory";
 
 /// Why it failed, in words.
 #[derive(Drop)]
@@ -36,11 +36,8 @@ impl From<NoMemory> for Fault {
 }
 
 impl From<LotError> for Fault {
-    fn from(error: LotError) -> Fault {
-        match error {
-            LotError::NoMemory => Fault(NO_MEMORY),
-            LotError::Full | LotError::TooManyThreads => Fault("too many threads"),
-        }
+    fn from(_error: LotError) -> Fault {
+        Fault(NO_MEMORY)
     }
 }
 

@@ -1,278 +1,238 @@
-//! `lot_stress locks`: threads that share a mutex with its condition variable and a lock for
-//! readers and writers, while what the locks are around is compared with what was added to it.
+//! `lot_stress locks`: threads that count under a mutex with its condition variable and under a lock
+//! for readers and writers, in orders that are drawn.
 
-ghost use Rattle.std.specs.Prelude.{◌≡◌};
-
-use crate::draws::Draws;
+use crate::draws::draw;
 use crate::fault::Fault;
 use crate::marks;
-use crate::threads::are_all_right;
+use crate::threads::sum_of;
+use crate::word_lock::Count;
 use lot_sync::fits::Fits;
 use lot_sync::mutex::{Condvar, Mutex};
-use lot_sync::once::{Once, OnceValue};
 use lot_sync::rw_lock::RwLock;
 use lot_threads::{Member, ParkingLot, ThreadParkerT};
 use std::alloc::Global;
 use std::sync::Wait;
-use std::sync::atomic::{AtomicUsize, Ordering};
 use std::thread;
 use std::thread::Threads;
 use std::time::{Clock, Duration, Instant};
 
 const THREADS: usize = 6;
 
+/// How many numbers the lot of a round has.
+pub const MOST: usize = THREADS + 1;
+
 // How many operations each thread does in a round.
 const OPERATIONS: usize = 2_000;
 
 // How many kinds of operations there are.
-const KINDS: u64 = 12;
+const KINDS: u64 = 10;
 
-const KEYS: [usize; 5] = [0, 13, 7, 34, 89];
+const MUTEX_KEY: usize = 0;
+
+const CONDVAR_KEY: usize = 13;
+
+const LOCK_KEY: usize = 7;
 
 // In microseconds, so short that many deadlines pass.
 const MOMENT: u64 = 50;
 
-/// Two numbers, which are equal while nobody holds the lock.
-#[derive(Drop)]
-pub struct Pair {
-    first: usize,
-    second: usize,
-}
+impl Fits for Count {}
 
-impl Fits for Pair {
-    ghost fits = { λ pair. pair.first ≡ pair.second };
-}
-
-// A lock of each kind, and how often threads added under the mutex and under the other lock.
 #[derive(Drop)]
-struct Shared<P: ThreadParkerT> {
-    lot: ParkingLot<P>,
-    mutex: Mutex<Pair>,
+struct Locks {
+    mutex: Mutex<Count>,
     condvar: Condvar,
-    lock: RwLock<Pair>,
-    once: Once,
-    value: OnceValue<Pair>,
-    locked: AtomicUsize,
-    written: AtomicUsize,
+    lock: RwLock<Count>,
 }
 
-impl Pair {
-    pub fn zero() -> Pair
-        ensures { result.first ≡ result.second }
-    {
-        Pair {
-            first: 0,
-            second: 0,
-        }
-    }
-
-    // Adds one to both numbers, in steps between which other threads may come.
-    fn add_one(&mut self)
-        requires { self.old.first ≡ self.old.second }
-        ensures { self.new.first ≡ self.new.second }
-    {
-        self.first = self.first.wrapping_add(1);
-        thread::yield_now();
-        self.second = self.second.wrapping_add(1);
-    }
-}
-
-/// Runs a round: threads use new locks, each in an order that is drawn.
-pub fn run_round<P, R>(rt: &R, alloc: Global, seed: u64) -> Result<(), Fault>
+/// Threads use new locks, each in an order that begins with the seed; without one a thread does
+/// each operation alone, between marks, with a deadline that has passed. Answers how often they
+/// counted, which is what they counted.
+pub fn run<P, R>(
+    rt: &R,
+    alloc: Global,
+    lot: &ParkingLot<P>,
+    seed: Option<u64>,
+) -> Result<usize, Fault>
 where
     P: ThreadParkerT + Send + Sync,
     R: Threads + Wait + Clock + Sync,
 {
-    let shared = Shared::<P>::new(rt, alloc)?;
-    let act = |index: usize| shared.acts(rt, alloc, seed.wrapping_add(index as u64));
-    if are_all_right(rt, alloc, THREADS, &act) && shared.has_all(rt, alloc) {
-        Ok(())
-    } else {
-        Err(Fault("what the locks are around"))
-    }
-}
-
-/// One thread does each operation on new locks, between marks, with a deadline that has passed.
-/// Answers how many did what they should.
-pub fn use_alone<P: ThreadParkerT, R: Wait + Clock>(rt: &R, alloc: Global) -> Result<usize, Fault> {
     let past = Instant::now(rt)?;
-    let shared = Shared::<P>::new(rt, alloc)?;
-    let right = shared.does_each(rt, alloc, past)?;
-    if shared.has_all(rt, alloc) {
-        Ok(right)
-    } else {
-        Err(Fault("what the locks are around"))
-    }
+    let locks = Locks {
+        mutex: Mutex::new(alloc, MUTEX_KEY, Count(0))?,
+        condvar: Condvar::new(CONDVAR_KEY),
+        lock: RwLock::new(rt, LOCK_KEY, Count(0)),
+    };
+    let counted = match seed {
+        Some(seed) => {
+            let act = |index: usize| locks.act_often(
+                rt,
+                alloc,
+                lot,
+                seed.wrapping_add(index as u64),
+            );
+            sum_of(rt, alloc, THREADS, &act)
+        }
+        None => locks.act_alone(rt, alloc, lot, past),
+    };
+    locks.judge(rt, alloc, lot, counted)
 }
 
-impl<P: ThreadParkerT> Shared<P> {
-    fn new<R: Wait>(rt: &R, alloc: Global) -> Result<Shared<P>, Fault> {
-        Ok(Shared {
-            mutex: Mutex::new(alloc, KEYS[0], Pair::zero())?,
-            lot: ParkingLot::new(alloc, THREADS)?,
-            condvar: Condvar::new(KEYS[1]),
-            lock: RwLock::new(rt, KEYS[2], Pair::zero()),
-            once: Once::new(alloc, KEYS[3])?,
-            value: OnceValue::new(alloc, KEYS[4])?,
-            locked: AtomicUsize::new(0),
-            written: AtomicUsize::new(0),
-        })
-    }
-
-    // Registers, does what is drawn, and retires. False says that something was not right.
-    fn acts<R: Wait + Clock>(&self, rt: &R, alloc: Global, seed: u64) -> bool {
-        let Ok(mut member) = Member::register(rt, alloc, &self.lot) else {
-            return false;
-        };
-        let is_right = self.acts_often(rt, &mut member, seed);
-        member.retire(rt);
-        is_right
-    }
-
-    fn acts_often<R: Wait + Clock>(&self, rt: &R, member: &mut Member<'_, P>, seed: u64) -> bool {
-        let mut draws = Draws(seed);
-        for _ in 0..OPERATIONS {
-            let Ok(now) = Instant::now(rt) else {
-                return false;
-            };
-            let soon = now
-                .checked_add(Duration::from_micros(MOMENT))
-                .unwrap_or(now);
-            if !self.act(rt, member, draws.next() % KINDS, soon) {
-                return false;
-            }
-        }
-        true
-    }
-
-    fn does_each<R: Wait + Clock>(
+impl Locks {
+    // Does each operation, between marks.
+    fn act_alone<P: ThreadParkerT, R: Wait + Clock>(
         &self,
         rt: &R,
         alloc: Global,
+        lot: &ParkingLot<P>,
         past: Instant,
-    ) -> Result<usize, Fault> {
-        let mut member = Member::register(rt, alloc, &self.lot)?;
-        let mut right = 0usize;
+    ) -> Option<usize> {
+        let mut member = Member::register(rt, alloc, lot).ok()?;
+        let mut counted = 0usize;
         marks::begin(alloc);
         for kind in 0..KINDS {
-            let is_right = self.act(rt, &mut member, kind, past);
-            right = right.wrapping_add(usize::from(is_right));
+            counted = counted.wrapping_add(self.act(rt, &mut member, kind, past));
         }
         marks::end(alloc);
-        member.retire(rt);
-        Ok(right)
+        Some(counted)
     }
 
-    // Does an operation of this kind.
-    fn act<R: Wait + Clock>(
+    // Registers, does what is drawn, and retires. Answers how often it counted.
+    fn act_often<P: ThreadParkerT, R: Wait + Clock>(
+        &self,
+        rt: &R,
+        alloc: Global,
+        lot: &ParkingLot<P>,
+        seed: u64,
+    ) -> Option<usize> {
+        let mut member = Member::register(rt, alloc, lot).ok()?;
+        let (mut draws, mut counted) = (seed, 0usize);
+        for _ in 0..OPERATIONS {
+            let moment = Duration::from_micros(MOMENT);
+            let soon = Instant::now(rt).ok()?.checked_add(moment)?;
+            let kind = draw(&mut draws) % KINDS;
+            counted = counted.wrapping_add(self.act(rt, &mut member, kind, soon));
+        }
+        member.retire(rt);
+        Some(counted)
+    }
+
+    // Does an operation of this kind, and answers how often it counted.
+    fn act<P: ThreadParkerT, R: Wait + Clock>(
         &self,
         rt: &R,
         member: &mut Member<'_, P>,
         kind: u64,
         soon: Instant,
-    ) -> bool {
+    ) -> usize {
         match kind {
-            0..=2 => self.locks(rt, member, kind, soon),
-            3 => self.sleeps(rt, member, soon),
-            4 => {
+            0..=3 => return self.count_locked(rt, member, kind, soon),
+            4..=6 => return self.count_written(rt, member, kind, soon),
+            7 => self.read_each_way(rt, member, soon),
+            8 => {
                 self.condvar.notify_one(rt, member, &self.mutex);
             }
-            5 => {
+            _ => {
                 self.condvar.notify_all(rt, member, &self.mutex);
             }
-            6..=8 => self.writes(rt, member, kind, soon),
-            9 => {
-                self.once.call_once(rt, member, || ());
-            }
-            10 => {
-                self.value.get_or_fill(rt, member, Pair::zero);
-            }
-            _ => return self.reads(rt, member, soon),
         }
-        true
+        0
     }
 
-    // Adds one under the mutex, which it locks at once or in a moment, or not.
-    fn locks<R: Wait + Clock>(&self, rt: &R, member: &mut Member<'_, P>, kind: u64, soon: Instant) {
-        let held = match kind {
-            0 => Some(self.mutex.lock(rt, member)),
-            1 => self.mutex.lock_until(rt, member, soon),
-            _ => self.mutex.try_lock(),
-        };
-        if let Some(mut held) = held {
-            held.value.add_one();
-            self.locked.fetch_add(1, Ordering::SeqCst);
-            if kind == 0 {
-                held.unlock(rt, member);
-            } else {
-                held.unlock_fair(rt, member);
-            }
-        }
-    }
-
-    // Adds one under the mutex after a sleep on its condition variable.
-    fn sleeps<R: Wait + Clock>(&self, rt: &R, member: &mut Member<'_, P>, soon: Instant) {
-        let held = self.mutex.lock(rt, member);
-        let (mut held, _) = self.condvar.wait_until(rt, member, held, soon);
-        held.value.add_one();
-        self.locked.fetch_add(1, Ordering::SeqCst);
-        held.unlock(rt, member);
-    }
-
-    // Adds one under the lock, which it writes at once or in a moment, or not.
-    fn writes<R: Wait + Clock>(
+    // Counts under the mutex, which it locks at once or in a moment, or not, or after a sleep on the
+    // condition variable.
+    fn count_locked<P: ThreadParkerT, R: Wait + Clock>(
         &self,
         rt: &R,
         member: &mut Member<'_, P>,
         kind: u64,
         soon: Instant,
-    ) {
+    ) -> usize {
         let held = match kind {
-            6 => Some(self.lock.write(rt, member)),
-            7 => self.lock.write_until(rt, member, soon),
-            _ => self.lock.try_write(),
+            0 => self.mutex.try_lock(),
+            1 => self.mutex.lock_until(rt, member, soon),
+            2 => Some(self.mutex.lock(rt, member)),
+            _ => {
+                let held = self.mutex.lock(rt, member);
+                Some(self.condvar.wait_until(rt, member, held, soon).0)
+            }
         };
-        if let Some(mut held) = held {
-            held.value.add_one();
-            self.written.fetch_add(1, Ordering::SeqCst);
+        let Some(mut held) = held else {
+            return 0;
+        };
+        held.value.0 = held.value.0.wrapping_add(1);
+        thread::yield_now();
+        if kind == 2 {
+            held.unlock_fair(rt, member);
+        } else {
             held.unlock(rt, member);
         }
+        1
     }
 
-    // Reads in each way. False says that both numbers were not equal, with other threads between
-    // the looks.
-    fn reads<R: Wait + Clock>(&self, rt: &R, member: &mut Member<'_, P>, soon: Instant) -> bool {
-        let mut is_even = true;
+    // Counts under the lock, which it writes at once or in a moment, or not.
+    fn count_written<P: ThreadParkerT, R: Wait + Clock>(
+        &self,
+        rt: &R,
+        member: &mut Member<'_, P>,
+        kind: u64,
+        soon: Instant,
+    ) -> usize {
+        let held = match kind {
+            4 => self.lock.try_write(),
+            5 => self.lock.write_until(rt, member, soon),
+            _ => Some(self.lock.write(rt, member)),
+        };
+        let Some(mut held) = held else {
+            return 0;
+        };
+        held.value.0 = held.value.0.wrapping_add(1);
+        thread::yield_now();
+        held.unlock(rt, member);
+        1
+    }
+
+    fn read_each_way<P: ThreadParkerT, R: Wait + Clock>(
+        &self,
+        rt: &R,
+        member: &mut Member<'_, P>,
+        soon: Instant,
+    ) {
         for way in 0..4 {
             let held = match way {
-                0 => Some(self.lock.read(rt, member)),
+                0 => self.lock.try_read(),
                 1 => self.lock.read_until(rt, member, soon),
-                2 => self.lock.try_read(),
+                2 => Some(self.lock.read(rt, member)),
                 _ => Some(self.lock.write(rt, member).downgrade(rt, member)),
             };
             if let Some(held) = held {
-                let first = held.value().first;
                 thread::yield_now();
-                is_even = is_even && first == held.value().second;
                 held.unlock(rt, member);
             }
         }
-        is_even
     }
 
-    // Whether the locks are around as much as was added.
-    fn has_all<R: Wait + Clock>(&self, rt: &R, alloc: Global) -> bool {
-        let Ok(mut member) = Member::register(rt, alloc, &self.lot) else {
-            return false;
-        };
+    // Whether the locks are around as much as was counted.
+    fn judge<P: ThreadParkerT, R: Wait + Clock>(
+        &self,
+        rt: &R,
+        alloc: Global,
+        lot: &ParkingLot<P>,
+        counted: Option<usize>,
+    ) -> Result<usize, Fault> {
+        let mut member = Member::register(rt, alloc, lot)?;
         let held = self.mutex.lock(rt, &mut member);
-        let locked = held.value.first;
+        let locked = held.value.0;
         held.unlock(rt, &member);
         let held = self.lock.read(rt, &mut member);
-        let written = held.value().first;
+        let written = held.value().0;
         held.unlock(rt, &member);
-        member.retire(rt);
-        locked == self.locked.load(Ordering::SeqCst)
-            && written == self.written.load(Ordering::SeqCst)
+        let sum = locked.wrapping_add(written);
+        if counted == Some(sum) {
+            Ok(sum)
+        } else {
+            Err(Fault("what the locks are around"))
+        }
     }
 }

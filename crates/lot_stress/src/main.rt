@@ -11,7 +11,6 @@ mod cost;
 mod crowd;
 mod draws;
 mod fault;
-mod figures;
 mod locks;
 mod marks;
 mod memory;

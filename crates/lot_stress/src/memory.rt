@@ -9,8 +9,8 @@ mod exclusive;
 mod one_thread;
 
 use crate::fault::Fault;
-use crate::{crowd, locks, marks, word_lock};
-use lot_threads::ThreadParkerT;
+use crate::{crowd, locks, word_lock};
+use lot_threads::{MAX_THREADS, ParkingLot, ThreadParkerT};
 use std::alloc::Global;
 use std::sync::Wait;
 use std::thread::Threads;
@@ -39,38 +39,48 @@ none lot_steps any
 none spin_wait any
 ";
 
+// How many numbers the lot of most scenarios has.
+const MOST: usize = 1_024;
+
 // In milliseconds, long enough for a thread to fall asleep.
 const MOMENT: u64 = 5;
 
 // How often each of the threads locks that share a word lock.
 const LOCKS: usize = 500;
 
-/// Does the scenario, with parkers of this type, and prints what it saw. It gives back all memory
-/// that it had.
-pub fn play<P, R>(rt: &R, alloc: Global, name: &str) -> Result<(), Fault>
+/// How many numbers the scenario's lot has.
+pub fn threads_of(name: &str) -> usize {
+    if name == "all_registered_twice" {
+        MAX_THREADS
+    } else {
+        MOST
+    }
+}
+
+/// Does the scenario on a new lot, prints what it saw, and answers how much was done. It gives back
+/// all memory that it had.
+pub fn play<P, R>(rt: &R, alloc: Global, lot: &ParkingLot<P>, name: &str) -> Result<usize, Fault>
 where
     P: ThreadParkerT + Send + Sync,
     R: Print + Threads + Wait + Clock + Sync,
 {
-    marks::enter(alloc);
     let moment = Duration::from_millis(MOMENT);
-    let played = match name {
-        "threads" => tell(rt, crowd::gather::<P, _>(rt, alloc, Duration::ZERO)),
-        "word_lock" => tell(rt, word_lock::count_together(rt, alloc, LOCKS, moment)),
-        "lock_calls" => tell(rt, locks::use_alone::<P, _>(rt, alloc)),
-        "lot_steps" => tell(rt, exclusive::do_steps(alloc)),
-        _ => one_thread::play::<P, _>(rt, alloc, name),
+    let answer = match name {
+        "threads" => crowd::gather(rt, alloc, lot, Duration::ZERO)?,
+        "word_lock" => word_lock::count_together(rt, alloc, LOCKS, moment)?,
+        "lock_calls" => locks::run(rt, alloc, lot, None)?,
+        "lot_steps" => exclusive::do_steps(alloc)?,
+        _ => return one_thread::play(rt, alloc, lot, name),
     };
-    marks::leave(alloc);
-    played
+    tell(rt, Ok(answer))
 }
 
 // Tells how much was done, or that memory was refused. Any other fault is one of the scenario.
-fn tell<R: Print>(rt: &R, answer: Result<usize, Fault>) -> Result<(), Fault> {
+fn tell<R: Print>(rt: &R, answer: Result<usize, Fault>) -> Result<usize, Fault> {
     match answer {
         Ok(number) => println!(rt; "answer {number}")?,
         Err(Fault("NoMemory")) => println!(rt; "answer NoMemory")?,
         Err(fault) => return Err(fault),
     }
-    Ok(())
+    Ok(0)
 }

@@ -7,9 +7,10 @@
 
 ghost use Rattle.std.specs.Prelude.{◌<◌};
 
-mod calls;
 mod walk;
 
+use crate::calls::park;
+use crate::draws::draw_below;
 use crate::fault::Fault;
 use lot_threads::{Member, ParkingLot, WordParker};
 use std::alloc::Global;
@@ -39,22 +40,17 @@ pub fn run<R: Print + Wait + Clock>(
     is_deep: bool,
     seed: u64,
 ) -> Result<(), Fault> {
-    let shapes = if is_deep { [MANY, ALL] } else { [FEW, SOME] };
-    for shape in shapes {
-        compare(rt, alloc, shape, seed)?;
+    let past = Instant::now(rt)?;
+    for shape in if is_deep { [MANY, ALL] } else { [FEW, SOME] } {
+        let lot = ParkingLot::<WordParker>::new(alloc, shape.0)?;
+        compare(rt, alloc, &lot, shape, seed, past)?;
         println!(rt; "{} threads: as in the exclusive lot", shape.0)?;
     }
     Ok(())
 }
 
 // Walks, and fails unless both lots answered the same.
-fn compare<R: Wait + Clock>(rt: &R, alloc: Global, shape: Shape, seed: u64) -> Result<(), Fault> {
-    let past = Instant::now(rt)?;
-    let lot = ParkingLot::<WordParker>::new(alloc, shape.0)?;
-    compare_on(rt, alloc, &lot, shape, seed, past)
-}
-
-fn compare_on<R: Wait + Clock>(
+fn compare<R: Wait + Clock>(
     rt: &R,
     alloc: Global,
     lot: &ParkingLot<WordParker>,
@@ -62,7 +58,7 @@ fn compare_on<R: Wait + Clock>(
     seed: u64,
     past: Instant,
 ) -> Result<(), Fault> {
-    let mut walk = Walk::new(rt, alloc, lot, shape, seed, past)?;
+    let mut walk = Walk::new(alloc, lot, shape, seed, past)?;
     for _ in 0..shape.2 {
         if walk.parks_left > 0 {
             nest(rt, alloc, &mut walk, shape.0);
@@ -89,7 +85,7 @@ fn nest<R: Wait + Clock>(rt: &R, alloc: Global, walk: &mut Walk<'_, WordParker>,
             park_beside(rt, alloc, walk, &mut thread, depth);
             walk.calls(rt, alloc);
         }
-        if !walk.draws.is_one_in(SELDOM) {
+        if draw_below(&mut walk.draws, SELDOM) != 0 {
             break;
         }
     }
@@ -111,9 +107,9 @@ fn park_beside<R: Wait + Clock>(
     let entry = walk.entry();
     walk.enter(number, entry);
     let left = depth - 1;
-    let ended = entry.park(rt, thread, || {
+    let ended = park(rt, thread, entry, || {
         nest(rt, alloc, walk, left);
-        if entry.timeout.is_none() {
+        if entry.3.is_none() {
             walk.free(rt, number, entry);
         }
     });

@@ -1,7 +1,7 @@
 //! `lot_stress parks`: one thread that parks so often that memory which its parks would keep shows
 //! in the size of the process.
 
-use crate::calls::{Ended, Entry, requeue, unpark_by_filter, unpark_first};
+use crate::calls::{ALL, Ended, park, requeue, unpark_first, unpark_through};
 use crate::fault::Fault;
 use lot_threads::{
     DEFAULT_PARK_TOKEN, Member, ParkResult, ParkingLot, RequeueOp, ThreadParkerT, UnparkToken,
@@ -11,27 +11,17 @@ use std::alloc::Global;
 use std::sync::Wait;
 use std::time::{Clock, Instant};
 
-/// Parks so often on a lot of its own.
+/// Parks so often with one number of the lot.
 pub fn run<P: ThreadParkerT, R: Wait + Clock>(
-    rt: &R,
-    alloc: Global,
-    count: usize,
-) -> Result<(), Fault> {
-    let past = Instant::now(rt)?;
-    let lot = ParkingLot::<P>::new(alloc, 1)?;
-    run_on(rt, alloc, &lot, count, past)
-}
-
-fn run_on<P: ThreadParkerT, R: Wait + Clock>(
     rt: &R,
     alloc: Global,
     lot: &ParkingLot<P>,
     count: usize,
-    past: Instant,
-) -> Result<(), Fault> {
+) -> Result<usize, Fault> {
+    let past = Instant::now(rt)?;
     let mut member = Member::register(rt, alloc, lot)?;
     if park_often(rt, &mut member, count, past) == count {
-        Ok(())
+        Ok(count)
     } else {
         Err(Fault("the end of a park"))
     }
@@ -45,16 +35,12 @@ pub fn park_often<P: ThreadParkerT, R: Wait + Clock>(
     count: usize,
     past: Instant,
 ) -> usize {
+    let lot = member.lot();
     let mut right = 0usize;
     for key in 0..count {
-        let lot = member.lot();
-        let entry = Entry {
-            key,
-            valid: key % 8 != 5,
-            park_token: DEFAULT_PARK_TOKEN,
-            timeout: if key % 2 == 0 { Some(past) } else { None },
-        };
-        let ended = entry.park(rt, member, || unpark(rt, lot, key));
+        let timeout = if key % 2 == 0 { Some(past) } else { None };
+        let entry = (key, key % 8 != 5, DEFAULT_PARK_TOKEN, timeout);
+        let ended = park(rt, member, entry, || unpark(rt, lot, key));
         right = right.wrapping_add(usize::from(ended == expected(key)));
     }
     right
@@ -71,7 +57,7 @@ fn unpark<P: ThreadParkerT, R: Wait>(rt: &R, lot: &ParkingLot<P>, key: usize) {
             unpark_all(rt, lot, key, token);
         }
         3 => {
-            unpark_by_filter(rt, lot, key, token);
+            unpark_through(rt, lot, key, ALL, token);
         }
         // To other keys and back, and then out of the lot.
         4 | 7 => {

@@ -1,7 +1,6 @@
 //! The commands of the program.
 
 use crate::fault::Fault;
-use crate::figures::Figures;
 use crate::memory::SCENARIOS;
 use crate::parkers::{numbered, perform};
 use crate::{cost, nested};
@@ -24,9 +23,9 @@ const USAGE: &str = "usage: lot_stress memory [SCENARIO word|thread|yield]
 
 /// Runs the command that the arguments name. A failure is told on the error output, with the status
 /// 1; it is the usage lines where the words are any others.
-pub fn run<
-    R: Env + Print + Eprint + AllocGlobal + Threads + Wait + Clock + Copy + Send + Sync + 'static,
->(rt: &R) -> ExitCode {
+pub fn run<R: Env + Print + Eprint + AllocGlobal + Threads + Wait + Clock + Sync>(
+    rt: &R,
+) -> ExitCode {
     match follow_words(rt) {
         Ok(()) => ExitCode::SUCCESS,
         Err(Fault(what)) => {
@@ -36,9 +35,9 @@ pub fn run<
     }
 }
 
-fn follow_words<
-    R: Env + Print + Eprint + AllocGlobal + Threads + Wait + Clock + Copy + Send + Sync + 'static,
->(rt: &R) -> Result<(), Fault> {
+fn follow_words<R: Env + Print + Eprint + AllocGlobal + Threads + Wait + Clock + Sync>(
+    rt: &R,
+) -> Result<(), Fault> {
     let Ok(words) = env::args(rt) else {
         return Err(Fault(USAGE));
     };
@@ -52,16 +51,11 @@ fn follow_words<
     let Some(second) = words.next() else {
         return follow(rt, rt.alloc(), command.as_str(), first.as_str(), "");
     };
-    follow(
-        rt,
-        rt.alloc(),
-        command.as_str(),
-        first.as_str(),
-        second.as_str(),
-    )
+    let (command, first) = (command.as_str(), first.as_str());
+    follow(rt, rt.alloc(), command, first, second.as_str())
 }
 
-fn follow<R: Print + Eprint + Threads + Wait + Clock + Copy + Send + Sync + 'static>(
+fn follow<R: Print + Eprint + Threads + Wait + Clock + Sync>(
     rt: &R,
     alloc: Global,
     command: &str,
@@ -77,10 +71,7 @@ fn follow<R: Print + Eprint + Threads + Wait + Clock + Copy + Send + Sync + 'sta
         "parks" => perform_each(rt, alloc, 3, command, number(first)?)?,
         // A parker that yields does not sleep.
         "rest" => perform_each(rt, alloc, 2, command, number(first)?)?,
-        "race" => run_rounds(rt, alloc, command, number(first)?, number(second)?)?.print(rt)?,
-        "locks" => {
-            run_rounds(rt, alloc, command, number(first)?, number(second)?)?;
-        }
+        "race" | "locks" => run_rounds(rt, alloc, command, number(first)?, number(second)?)?,
         "nested" => nested::run(rt, alloc, false, number(first)?)?,
         "deep" => nested::run(rt, alloc, true, number(first)?)?,
         _ => return Err(Fault(USAGE)),
@@ -96,7 +87,7 @@ fn number(word: &str) -> Result<u64, Fault> {
 }
 
 // Does the task with each of so many parkers.
-fn perform_each<R: Print + Eprint + Threads + Wait + Clock + Copy + Send + Sync + 'static>(
+fn perform_each<R: Print + Eprint + Threads + Wait + Clock + Sync>(
     rt: &R,
     alloc: Global,
     parkers: u64,
@@ -110,31 +101,31 @@ fn perform_each<R: Print + Eprint + Threads + Wait + Clock + Copy + Send + Sync 
     Ok(())
 }
 
-// Plays rounds of the task for so long, each on a lot of its own, with each parker by turns, tells
-// how many they were, and answers the sum of all. The seed of a round is that of the one before and
+// Plays rounds of the task for so long, each on a lot of its own, with each parker by turns, and
+// tells how many they were, and how much was done. The seed of a round is that of the one before and
 // one more, so a round that failed is the first of those with its seed.
-fn run_rounds<R: Print + Eprint + Threads + Wait + Clock + Copy + Send + Sync + 'static>(
+fn run_rounds<R: Print + Eprint + Threads + Wait + Clock + Sync>(
     rt: &R,
     alloc: Global,
     task: &str,
     seconds: u64,
     seed: u64,
-) -> Result<Figures, Fault> {
+) -> Result<(), Fault> {
     let start = Instant::now(rt)?;
-    let mut total = Figures::default();
-    for number in 0..u64::MAX {
+    let (mut rounds, mut done) = (0u64, 0usize);
+    for seed in seed..u64::MAX {
         if start.elapsed(rt)? >= Duration::from_secs(seconds) {
-            println!(rt; "{task}: {number} rounds as they should be")?;
             break;
         }
-        let seed = seed.wrapping_add(number);
         match perform(rt, alloc, seed, task, seed) {
-            Ok(figures) => total.add(figures),
+            Ok(more) => done = done.wrapping_add(more),
             Err(fault) => {
                 eprintln!(rt; "a round failed: lot_stress {task} 1 {seed}")?;
                 return Err(fault);
             }
         }
+        rounds = rounds.wrapping_add(1);
     }
-    Ok(total)
+    println!(rt; "{task}: {rounds} rounds as they should be, {done} wakes or counts in them")?;
+    Ok(())
 }

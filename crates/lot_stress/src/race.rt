@@ -1,12 +1,12 @@
 //! `lot_stress race`: threads that park, unpark, requeue, register and retire on one lot, while the
 //! tokens that were handed out are compared with those that were told.
 
-use crate::calls::{requeue, unpark_first};
-use crate::draws::Draws;
+use crate::calls::{requeue, unpark_first, unpark_through};
+use crate::draws::{draw, draw_op, draw_sieve, mixed};
 use crate::fault::Fault;
-use crate::figures::Figures;
+use crate::threads::sum_of;
 use lot_threads::{
-    FilterOp, Member, ParkToken, ParkingLot, ThreadParkerT, UnparkToken, unpark_all, unpark_chosen,
+    Member, ParkResult, ParkToken, ParkingLot, ThreadParkerT, UnparkToken, unpark_all,
 };
 use std::alloc::Global;
 use std::sync::Wait;
@@ -19,17 +19,22 @@ use std::time::{Clock, Duration, Instant};
 // the fifth has the first's while the table is of 16 buckets, the last while it is of 64 at most.
 const KEYS: [usize; 6] = [0, 233, 7, 384, 13, 34];
 
-// How many numbers the lot has.
-const MOST: usize = 64;
+/// How many numbers the lot of a round has.
+pub const MOST: usize = 64;
 
 // The first thread ends the round, one registers, and those behind unpark, requeue and park.
 const LEADER: usize = 0;
 
 const REGISTRAR: usize = 1;
 
+const FIRST_PARKER: usize = 6;
+
 const PARKERS: usize = 8;
 
-const THREADS: usize = 6 + PARKERS;
+const THREADS: usize = FIRST_PARKER + PARKERS;
+
+// Added to how many threads still park, once nobody is to park any more.
+const OVER: usize = 1_000;
 
 // A table grows in the first of these alone, so rounds are short.
 const ROUND_MILLISECONDS: u64 = 50;
@@ -43,268 +48,204 @@ const HELD: usize = 48;
 // How many parks a thread does with one number.
 const PARKS: usize = 64;
 
-// What the threads of a round share: their lot, whether nobody is to park any more, and how many
-// still park.
-#[derive(Drop)]
-struct Round<P: ThreadParkerT> {
-    lot: ParkingLot<P>,
-    over: AtomicUsize,
-    parking: AtomicUsize,
-}
-
-/// Runs a round, and answers what its threads have done. A thread that is not woken is told, and
-/// then waited for.
-pub fn run_round<P, R>(rt: &R, alloc: Global, seed: u64) -> Result<Figures, Fault>
+/// Runs a round on a new lot, and answers how many parks ended by an unpark. A thread that is not
+/// woken is told, and then waited for.
+///
+/// Each token that was handed out was told, if the tokens of all threads cancel out: a mixed one is
+/// added for each thread that it was handed to, and taken away where a park ended with it.
+pub fn run_round<P, R>(
+    rt: &R,
+    alloc: Global,
+    lot: &ParkingLot<P>,
+    seed: u64,
+) -> Result<usize, Fault>
 where
     P: ThreadParkerT + Send + Sync,
     R: Eprint + Threads + Wait + Clock + Sync,
 {
-    let round = Round::<P> {
-        lot: ParkingLot::new(alloc, MOST)?,
-        over: AtomicUsize::new(0),
-        parking: AtomicUsize::new(PARKERS),
-    };
-    let act = |index: usize| round.acts(rt, alloc, index, seed);
-    let all = match thread::map_indices(rt, alloc, THREADS, &act) {
-        Ok(all) => all,
-        Err(_) => return Err(Fault("threads that could not be started")),
-    };
-    let mut total = Figures::default();
-    for figures in all {
-        match figures {
-            Some(figures) => total.add(figures),
-            None => return Err(Fault("a call that was refused in a race")),
+    let (state, unparked) = (AtomicUsize::new(PARKERS), AtomicUsize::new(0));
+    let act = |index: usize| act(rt, alloc, lot, &state, &unparked, index, seed);
+    let tokens = sum_of(rt, alloc, THREADS, &act);
+    for key in KEYS {
+        if !lot.list(rt, alloc, key)?.is_empty() {
+            return Err(Fault("a list after the race"));
         }
     }
-    round.judge(rt, alloc, total)
+    match tokens {
+        Some(0) => Ok(unparked.load(Ordering::SeqCst)),
+        Some(_) => Err(Fault("the tokens that were told, beside those handed out")),
+        None => Err(Fault("a call that was refused in a race")),
+    }
 }
 
-impl<P: ThreadParkerT> Round<P> {
-    // Each token that was handed out was told, and nobody waits any more.
-    fn judge<R: Wait>(&self, rt: &R, alloc: Global, total: Figures) -> Result<Figures, Fault> {
-        for key in KEYS {
-            if !self.lot.list(rt, alloc, key)?.is_empty() {
-                return Err(Fault("a list after the race"));
-            }
-        }
-        if total.are_even() {
-            Ok(total)
-        } else {
-            Err(Fault("the tokens that were told, beside those handed out"))
-        }
-    }
-
-    // What the thread of this index has done, or nothing if a call was refused.
-    fn acts<R: Eprint + Wait + Clock>(
-        &self,
-        rt: &R,
-        alloc: Global,
-        index: usize,
-        seed: u64,
-    ) -> Option<Figures> {
-        let mut draws = Draws(seed.wrapping_mul(THREADS as u64).wrapping_add(index as u64));
-        let mut figures = Figures::default();
-        let is_done = match index {
-            LEADER => self.leads(rt, seed, &mut figures),
-            REGISTRAR => self.registers_often(rt, alloc, &mut draws, &mut figures),
-            2..=5 => self.unparks_often(rt, index < 4, &mut draws, &mut figures),
-            _ => self.parks_often(rt, alloc, &mut draws, &mut figures),
+// Acts as the thread of this index until the round is over, and answers the sum of the tokens.
+fn act<P: ThreadParkerT, R: Eprint + Wait + Clock>(
+    rt: &R,
+    alloc: Global,
+    lot: &ParkingLot<P>,
+    state: &AtomicUsize,
+    unparked: &AtomicUsize,
+    index: usize,
+    seed: u64,
+) -> Option<usize> {
+    let mut draws = seed.wrapping_mul(THREADS as u64).wrapping_add(index as u64);
+    let mut tokens = 0usize;
+    for _ in 0..u64::MAX {
+        let told = match index {
+            LEADER => lead(rt, lot, state, seed),
+            REGISTRAR => register_and_retire(rt, alloc, lot, &mut draws),
+            2..=5 => Some(unpark(rt, lot, index < 4, &mut draws)),
+            _ => register_and_park(rt, alloc, lot, state, unparked, &mut draws),
         };
-        is_done.then_some(figures)
-    }
-
-    fn is_over(&self) -> bool {
-        self.over.load(Ordering::SeqCst) > 0
-    }
-
-    // Ends the round: nobody parks any more, and all who wait are woken.
-    fn leads<R: Eprint + Wait + Clock>(&self, rt: &R, seed: u64, figures: &mut Figures) -> bool {
-        thread::sleep(rt, Duration::from_millis(ROUND_MILLISECONDS));
-        self.over.store(1, Ordering::SeqCst);
-        let Ok(start) = Instant::now(rt) else {
-            return false;
-        };
-        for _ in 0..u64::MAX {
-            if self.parking.load(Ordering::SeqCst) == 0 {
-                break;
-            }
-            for key in KEYS {
-                let token = UnparkToken(key);
-                figures.hand(token, unpark_all(rt, &self.lot, key, token));
-            }
-            let Ok(wait) = start.elapsed(rt) else {
-                return false;
-            };
-            if wait >= Duration::from_secs(PATIENCE_SECONDS) {
-                let _ = eprintln!(rt; "a thread was not woken: lot_stress race 1 {seed}");
-                return false;
-            }
-            thread::yield_now();
+        tokens = tokens.wrapping_add(told?);
+        if is_over(state) {
+            break;
         }
-        true
     }
-
-    // Parks on any key, with a deadline or without, and registers anew now and then.
-    fn parks_often<R: Wait + Clock>(
-        &self,
-        rt: &R,
-        alloc: Global,
-        draws: &mut Draws,
-        figures: &mut Figures,
-    ) -> bool {
-        let mut is_right = true;
-        for _ in 0..u64::MAX {
-            is_right = is_right && self.registers_and_parks(rt, alloc, draws, figures);
-            if !is_right || self.is_over() {
-                break;
-            }
-        }
-        self.parking.fetch_sub(1, Ordering::SeqCst);
-        is_right
+    if index >= FIRST_PARKER {
+        state.fetch_sub(1, Ordering::SeqCst);
     }
+    Some(tokens)
+}
 
-    fn registers_and_parks<R: Wait + Clock>(
-        &self,
-        rt: &R,
-        alloc: Global,
-        draws: &mut Draws,
-        figures: &mut Figures,
-    ) -> bool {
-        let Ok(mut member) = Member::register(rt, alloc, &self.lot) else {
-            return false;
-        };
-        figures.registrations = figures.registrations.wrapping_add(1);
-        let mut is_right = true;
-        for _ in 0..PARKS {
-            is_right = is_right && self.parks(rt, &mut member, draws, figures);
+fn is_over(state: &AtomicUsize) -> bool {
+    state.load(Ordering::SeqCst) >= OVER
+}
+
+// What a token adds to the sum that is handed to so many threads.
+fn sum_for(token: UnparkToken, threads: usize) -> usize {
+    (mixed(token.0 as u64) as usize).wrapping_mul(threads)
+}
+
+// Ends the round: nobody parks any more, and all who wait are woken.
+fn lead<P: ThreadParkerT, R: Eprint + Wait + Clock>(
+    rt: &R,
+    lot: &ParkingLot<P>,
+    state: &AtomicUsize,
+    seed: u64,
+) -> Option<usize> {
+    thread::sleep(rt, Duration::from_millis(ROUND_MILLISECONDS));
+    state.fetch_add(OVER, Ordering::SeqCst);
+    let start = Instant::now(rt).ok()?;
+    let mut tokens = 0usize;
+    for _ in 0..u64::MAX {
+        tokens = tokens.wrapping_add(wake_all(rt, lot));
+        if state.load(Ordering::SeqCst) == OVER {
+            break;
         }
+        if start.elapsed(rt).ok()? >= Duration::from_secs(PATIENCE_SECONDS) {
+            let _ = eprintln!(rt; "a thread was not woken: lot_stress race 1 {seed}");
+            return None;
+        }
+        thread::yield_now();
+    }
+    Some(tokens)
+}
+
+fn wake_all<P: ThreadParkerT, R: Wait>(rt: &R, lot: &ParkingLot<P>) -> usize {
+    let mut tokens = 0usize;
+    for key in KEYS {
+        let token = UnparkToken(key);
+        tokens = tokens.wrapping_add(sum_for(token, unpark_all(rt, lot, key, token)));
+    }
+    tokens
+}
+
+// Parks again and again with a new number.
+fn register_and_park<P: ThreadParkerT, R: Wait + Clock>(
+    rt: &R,
+    alloc: Global,
+    lot: &ParkingLot<P>,
+    state: &AtomicUsize,
+    unparked: &AtomicUsize,
+    draws: &mut u64,
+) -> Option<usize> {
+    let mut member = Member::register(rt, alloc, lot).ok()?;
+    let (mut tokens, mut woken) = (0usize, 0usize);
+    for _ in 0..PARKS {
+        let start = Instant::now(rt).ok()?;
+        if let ParkResult::Unparked(token) = park(rt, &mut member, state, start, draws) {
+            tokens = tokens.wrapping_sub(sum_for(token, 1));
+            woken = woken.wrapping_add(1);
+        }
+    }
+    member.retire(rt);
+    unparked.fetch_add(woken, Ordering::SeqCst);
+    Some(tokens)
+}
+
+// Parks on any key with a deadline within two milliseconds, or with none, while the round is not
+// over.
+fn park<P: ThreadParkerT, R: Wait + Clock>(
+    rt: &R,
+    member: &mut Member<'_, P>,
+    state: &AtomicUsize,
+    start: Instant,
+    draws: &mut u64,
+) -> ParkResult {
+    let number = draw(draws);
+    let soon = start.checked_add(Duration::from_nanos(number & 0x1F_FFFF));
+    member.park(
+        rt,
+        draw_key(draws),
+        || !is_over(state),
+        || (),
+        |_, _| (),
+        ParkToken(draw(draws) as usize),
+        if number % 2 == 0 { None } else { soon },
+    )
+}
+
+fn draw_key(draws: &mut u64) -> usize {
+    KEYS[draw(draws) as usize % 6]
+}
+
+// Unparks or requeues by any call, from any key to any, and answers the sum of the tokens.
+fn unpark<P: ThreadParkerT, R: Wait + Clock>(
+    rt: &R,
+    lot: &ParkingLot<P>,
+    is_requeuing: bool,
+    draws: &mut u64,
+) -> usize {
+    let (key, token) = (draw_key(draws), UnparkToken(draw(draws) as usize));
+    let way = if is_requeuing { 3 } else { draw(draws) % 3 };
+    let threads = match way {
+        0 => unpark_first(rt, lot, key, token).unparked_threads,
+        1 => unpark_all(rt, lot, key, token),
+        2 => unpark_through(rt, lot, key, draw_sieve(draws), token).unparked_threads,
+        _ => {
+            let (to, op) = (draw_key(draws), draw_op(draws));
+            requeue(rt, lot, key, to, op, token).unparked_threads
+        }
+    };
+    pause(rt, draws);
+    sum_for(token, threads)
+}
+
+// Registers many threads one after another and retires them. It was handed no token.
+fn register_and_retire<P: ThreadParkerT, R: Wait + Clock>(
+    rt: &R,
+    alloc: Global,
+    lot: &ParkingLot<P>,
+    draws: &mut u64,
+) -> Option<usize> {
+    let mut held = Vec::new(alloc);
+    for _ in 0..HELD {
+        if let Ok(member) = Member::register(rt, alloc, lot) {
+            let _ = held.push(member);
+        }
+        pause(rt, draws);
+    }
+    let is_right = held.len() == HELD;
+    for member in held {
         member.retire(rt);
-        is_right
     }
-
-    // Parks with a deadline within two milliseconds, or with none, while the round is not over.
-    fn parks<R: Wait + Clock>(
-        &self,
-        rt: &R,
-        member: &mut Member<'_, P>,
-        draws: &mut Draws,
-        figures: &mut Figures,
-    ) -> bool {
-        let Ok(start) = Instant::now(rt) else {
-            return false;
-        };
-        let number = draws.next();
-        let soon = start.checked_add(Duration::from_nanos(number & 0x1F_FFFF));
-        let result = member.park(
-            rt,
-            KEYS[draws.next() as usize % 6],
-            || !self.is_over(),
-            || (),
-            |_, _| (),
-            ParkToken(draws.next() as usize),
-            if number % 2 == 0 { None } else { soon },
-        );
-        match start.elapsed(rt) {
-            Ok(wait) => {
-                let milliseconds = u64::try_from(wait.as_millis()).unwrap_or(u64::MAX);
-                figures.note_park(result, milliseconds);
-            }
-            Err(_) => return false,
-        }
-        true
-    }
-
-    // Unparks or requeues again and again, by any call, from any key to any.
-    fn unparks_often<R: Wait + Clock>(
-        &self,
-        rt: &R,
-        is_requeuing: bool,
-        draws: &mut Draws,
-        figures: &mut Figures,
-    ) -> bool {
-        for _ in 0..u64::MAX {
-            if self.is_over() {
-                break;
-            }
-            let token = UnparkToken(draws.next() as usize);
-            let key = KEYS[draws.next() as usize % 6];
-            let unparked = if is_requeuing {
-                let (to, op) = (KEYS[draws.next() as usize % 6], draws.requeue_op());
-                let result = requeue(rt, &self.lot, key, to, op, token);
-                let requeued = result.requeued_threads as u64;
-                figures.requeues = figures.requeues.wrapping_add(requeued);
-                result.unparked_threads
-            } else {
-                self.unparks(rt, key, token, draws.next())
-            };
-            figures.hand(token, unparked);
-            pause(rt, draws);
-        }
-        true
-    }
-
-    // By one of the three calls, of which a filter answers by two bits of the number for each
-    // thread.
-    fn unparks<R: Wait>(&self, rt: &R, key: usize, token: UnparkToken, number: u64) -> usize {
-        let mut left = number;
-        let filter = |_| {
-            left = left.rotate_right(2);
-            match left & 3 {
-                0 => FilterOp::Skip,
-                1 => FilterOp::Stop,
-                _ => FilterOp::Unpark,
-            }
-        };
-        match number % 3 {
-            0 => unpark_first(rt, &self.lot, key, token),
-            1 => unpark_all(rt, &self.lot, key, token),
-            _ => unpark_chosen(rt, &self.lot, key, filter, |_| token).unparked_threads,
-        }
-    }
-
-    // Registers many threads one after another and retires them, again and again.
-    fn registers_often<R: Wait + Clock>(
-        &self,
-        rt: &R,
-        alloc: Global,
-        draws: &mut Draws,
-        figures: &mut Figures,
-    ) -> bool {
-        let mut is_right = true;
-        for _ in 0..u64::MAX {
-            if !is_right || self.is_over() {
-                break;
-            }
-            is_right = self.registers_and_retires(rt, alloc, draws);
-            figures.registrations = figures.registrations.wrapping_add(HELD as u64);
-        }
-        is_right
-    }
-
-    fn registers_and_retires<R: Wait + Clock>(
-        &self,
-        rt: &R,
-        alloc: Global,
-        draws: &mut Draws,
-    ) -> bool {
-        let mut held = Vec::new(alloc);
-        for _ in 0..HELD {
-            if let Ok(member) = Member::register(rt, alloc, &self.lot) {
-                let _ = held.push(member);
-            }
-            pause(rt, draws);
-        }
-        let is_right = held.len() == HELD;
-        for member in held {
-            member.retire(rt);
-        }
-        is_right
-    }
+    is_right.then_some(0)
 }
 
 // Sleeps for a while now and then, so that threads gather in the queues.
-fn pause<R: Clock>(rt: &R, draws: &mut Draws) {
-    if draws.next() & 15 == 0 {
-        thread::sleep(rt, Duration::from_nanos(draws.next() & 0x7_FFFF));
+fn pause<R: Clock>(rt: &R, draws: &mut u64) {
+    if draw(draws) & 15 == 0 {
+        thread::sleep(rt, Duration::from_nanos(draw(draws) & 0x7_FFFF));
     }
 }

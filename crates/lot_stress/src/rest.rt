@@ -8,25 +8,32 @@ use crate::crowd;
 use crate::fault::Fault;
 use crate::word_lock::count_together;
 use lot_base::thread_parker as lower;
-use lot_threads::ThreadParkerT;
+use lot_threads::{ParkingLot, ThreadParkerT};
 use std::alloc::Global;
 use std::sync::Wait;
 use std::thread::Threads;
 use std::time::{Clock, Duration};
 
-/// Threads wait for so many milliseconds: twelve parked on a lot, three times each, after a park
-/// whose deadline passed; one three times over a parker without a lot; eight that come while a
-/// table grows, and eight for a word lock.
-pub fn run<P, Q, R>(rt: &R, alloc: Global, milliseconds: u64) -> Result<(), Fault>
+/// How many numbers the lot has.
+pub const MOST: usize = crowd::WAITERS + growth::REGISTERED;
+
+/// Threads wait for so many milliseconds: eight that come while a table grows; twelve parked on the
+/// lot, three times each, after a park whose deadline passed; eight for a word lock; and one three
+/// times over a parker without a lot.
+pub fn run<P, Q, R>(
+    rt: &R,
+    alloc: Global,
+    lot: &ParkingLot<P>,
+    milliseconds: u64,
+) -> Result<usize, Fault>
 where
     P: ThreadParkerT + Send + Sync,
     Q: lower::ThreadParkerT + Sync,
     R: Threads + Wait + Clock + Sync,
 {
     let rest = Duration::from_millis(milliseconds);
-    crowd::gather::<P, _>(rt, alloc, rest)?;
-    alone::wait_each_time::<Q, _>(rt, alloc, rest)?;
-    growth::come_to_a_growth::<P, _>(rt, alloc, rest)?;
+    growth::come_to_a_growth(rt, alloc, lot, rest)?;
+    crowd::gather(rt, alloc, lot, rest)?;
     count_together(rt, alloc, 1, rest)?;
-    Ok(())
+    alone::wait_each_time::<Q, _>(rt, alloc, rest)
 }

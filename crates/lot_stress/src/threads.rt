@@ -20,17 +20,19 @@ pub fn comes_to(count: &AtomicUsize, least: usize) -> bool {
     false
 }
 
-/// Lets so many threads act, each by its index, and tells whether all answered that they are right.
-pub fn are_all_right<R: Threads + Sync, F: Fn(usize) -> bool + Sync>(
+/// Lets so many threads act, each by its index, and answers the sum of what they answered, or
+/// nothing if one of them did.
+pub fn sum_of<R: Threads + Sync, F: Fn(usize) -> Option<usize> + Sync>(
     rt: &R,
     alloc: Global,
     threads: usize,
     act: &F,
-) -> bool
+) -> Option<usize>
     requires { F.IsAlwaysCallable act.now }
 {
-    match thread::map_indices(rt, alloc, threads, act) {
-        Ok(answers) => !answers.contains(&false),
-        Err(_) => false,
+    let mut sum = 0usize;
+    for answer in thread::map_indices(rt, alloc, threads, act).ok()? {
+        sum = sum.wrapping_add(answer?);
     }
+    Some(sum)
 }

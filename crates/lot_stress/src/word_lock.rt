@@ -4,7 +4,7 @@ ghost use Rattle.std.specs.Prelude.{⊤};
 
 use crate::fault::Fault;
 use crate::marks;
-use crate::threads::{are_all_right, comes_to};
+use crate::threads::{comes_to, sum_of};
 use lot_base::word_lock::{Fits, WordLock};
 use std::alloc::Global;
 use std::sync::Wait;
@@ -16,11 +16,15 @@ use std::time::{Clock, Duration};
 // More than a word lock has places.
 const THREADS: usize = 8;
 
-const OPEN: usize = 1;
+// How many steps the threads have done together when the lock is held, when all have counted, and
+// when the count of requests is over.
+const HELD: usize = THREADS + 1;
 
-const OVER: usize = 2;
+const COUNTED: usize = HELD + THREADS;
 
-/// What the lock is around.
+const OVER: usize = COUNTED + 1;
+
+/// What a lock is around.
 #[derive(Drop)]
 pub struct Count(pub usize);
 
@@ -39,33 +43,23 @@ pub fn count_together<R: Threads + Wait + Clock + Sync>(
     rest: Duration,
 ) -> Result<usize, Fault> {
     let lock = WordLock::new(alloc, Count(0), &())?;
-    let are_right = play(rt, alloc, &lock, locks, rest);
+    let steps = AtomicUsize::new(0);
+    let act = |index: usize| {
+        if index == 0 {
+            hold(rt, alloc, &lock, rest, &steps)
+        } else {
+            count_often(rt, &lock, locks, &steps)
+        }
+    };
+    let have_counted = sum_of(rt, alloc, THREADS + 1, &act).is_some();
     let held = lock.lock(rt);
     let count = held.value.0;
     lock.unlock(held);
-    if are_right && count == locks.wrapping_mul(THREADS) {
+    if have_counted && count == locks.wrapping_mul(THREADS) {
         Ok(count)
     } else {
         Err(Fault("the count of the threads that locked"))
     }
-}
-
-fn play<R: Threads + Wait + Clock + Sync>(
-    rt: &R,
-    alloc: Global,
-    lock: &WordLock<Count>,
-    locks: usize,
-    rest: Duration,
-) -> bool {
-    let (steps, state) = (AtomicUsize::new(0), AtomicUsize::new(0));
-    let act = |index: usize| {
-        if index == 0 {
-            hold(rt, alloc, lock, rest, &steps, &state)
-        } else {
-            count_often(rt, lock, locks, &steps, &state)
-        }
-    };
-    are_all_right(rt, alloc, THREADS + 1, &act)
 }
 
 // Holds the lock while the threads come and wait so long.
@@ -75,18 +69,17 @@ fn hold<R: Wait + Clock>(
     lock: &WordLock<Count>,
     rest: Duration,
     steps: &AtomicUsize,
-    state: &AtomicUsize,
-) -> bool {
+) -> Option<usize> {
     let have_come = comes_to(steps, THREADS);
     marks::begin(alloc);
     let held = lock.lock(rt);
-    state.store(OPEN, Ordering::SeqCst);
+    steps.fetch_add(1, Ordering::SeqCst);
     thread::sleep(rt, rest);
     lock.unlock(held);
-    let are_done = comes_to(steps, 2 * THREADS);
+    let are_done = comes_to(steps, COUNTED);
     marks::end(alloc);
-    state.store(OVER, Ordering::SeqCst);
-    have_come && are_done
+    steps.fetch_add(1, Ordering::SeqCst);
+    (have_come && are_done).then_some(0)
 }
 
 // Counts under the lock once it is held, and yields there, so that the others wait.
@@ -95,10 +88,9 @@ fn count_often<R: Wait>(
     lock: &WordLock<Count>,
     locks: usize,
     steps: &AtomicUsize,
-    state: &AtomicUsize,
-) -> bool {
+) -> Option<usize> {
     steps.fetch_add(1, Ordering::SeqCst);
-    let is_held = comes_to(state, OPEN);
+    let is_held = comes_to(steps, HELD);
     for _ in 0..locks {
         let mut held = lock.lock(rt);
         held.value.0 = held.value.0.wrapping_add(1);
@@ -106,5 +98,5 @@ fn count_often<R: Wait>(
         lock.unlock(held);
     }
     steps.fetch_add(1, Ordering::SeqCst);
-    comes_to(state, OVER) && is_held
+    (comes_to(steps, OVER) && is_held).then_some(0)
 }

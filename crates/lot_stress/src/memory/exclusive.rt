@@ -3,7 +3,8 @@
 use crate::fault::Fault;
 use crate::marks;
 use lot_simulator::lot::Lot;
-use lot_threads::{DEFAULT_PARK_TOKEN, FilterOp, RequeueOp, UnparkToken};
+use lot_simulator::schedule::{Answer, Op, Step};
+use lot_threads::{DEFAULT_PARK_TOKEN, DEFAULT_UNPARK_TOKEN, RequeueOp};
 use std::alloc::Global;
 
 // Keys of which the first two have one bucket of 16.
@@ -14,51 +15,74 @@ const THREADS: usize = 6;
 /// Steps of each kind but registrations, recordings and lists. Answers how many threads were woken.
 pub(super) fn do_steps(alloc: Global) -> Result<usize, Fault> {
     let mut lot = Lot::new(alloc, THREADS)?;
-    do_steps_on(alloc, &mut lot)
-}
-
-fn do_steps_on(alloc: Global, lot: &mut Lot) -> Result<usize, Fault> {
-    for number in 0..THREADS {
+    for thread in 0..THREADS {
         lot.register()?;
-        lot.acquire(number, KEYS[0])?;
+        lot.acquire(thread, KEYS[0])?;
     }
     marks::begin(alloc);
-    let woken = wait_and_wake(lot);
-    let left = leave(lot);
+    let woken = wait_and_wake(alloc, &mut lot);
+    let left = leave(&mut lot);
     marks::end(alloc);
     left?;
-    woken
+    Ok(woken)
 }
 
 // All but the last thread wait, are requeued within a bucket and across two, and four are woken.
-fn wait_and_wake(lot: &mut Lot) -> Result<usize, Fault> {
-    for number in 0..THREADS - 1 {
-        lot.enter(number, KEYS[0], || true, DEFAULT_PARK_TOKEN, true)?;
+fn wait_and_wake(alloc: Global, lot: &mut Lot) -> usize {
+    for thread in 0..THREADS - 1 {
+        lot.apply(&Step::Enter {
+            thread,
+            key: KEYS[0],
+            valid: true,
+            park_token: DEFAULT_PARK_TOKEN,
+            timed: true,
+        });
     }
-    let token = UnparkToken(1);
+    let key = KEYS[2];
     let mut woken = 0usize;
-    for (from, to, op) in [
-        (KEYS[0], KEYS[1], RequeueOp::RequeueAll),
-        (KEYS[1], KEYS[2], RequeueOp::UnparkOneRequeueRest),
-        (KEYS[2], KEYS[0], RequeueOp::RequeueOne),
+    for op in [
+        requeue(KEYS[0], KEYS[1], RequeueOp::RequeueAll),
+        requeue(KEYS[1], KEYS[2], RequeueOp::UnparkOneRequeueRest),
+        requeue(KEYS[2], KEYS[0], RequeueOp::RequeueOne),
+        Op::One {
+            key,
+            token: DEFAULT_UNPARK_TOKEN,
+        },
+        Op::Filter {
+            key,
+            decisions: Vec::new(alloc),
+            token: DEFAULT_UNPARK_TOKEN,
+        },
+        Op::All {
+            key,
+            token: DEFAULT_UNPARK_TOKEN,
+        },
     ] {
-        let result = lot.unpark_requeue(from, to, || op, |_, _| token);
-        woken = woken.wrapping_add(result.unparked_threads);
+        match lot.apply(&Step::Unpark(op)) {
+            Answer::Unpark(result) => woken = woken.wrapping_add(result.unparked_threads),
+            Answer::Count(count) => woken = woken.wrapping_add(count),
+            _ => (),
+        }
     }
-    let first = lot.unpark_one(KEYS[2], |_| token);
-    let chosen = lot.unpark_chosen(KEYS[2], |_| FilterOp::Stop, |_| token);
-    woken = woken.wrapping_add(first.unparked_threads);
-    woken = woken.wrapping_add(chosen.unparked_threads);
-    Ok(woken.wrapping_add(lot.unpark_all(KEYS[2], token)))
+    woken
+}
+
+fn requeue(from: usize, to: usize, op: RequeueOp) -> Op {
+    Op::Requeue {
+        from,
+        to,
+        op,
+        token: DEFAULT_UNPARK_TOKEN,
+    }
 }
 
 // The thread that still waits is late, the others come back, and the last retires.
 fn leave(lot: &mut Lot) -> Result<(), Fault> {
     lot.deadline(1)?;
-    lot.resolve(1, |_, _| ())?;
-    for number in [0, 2, 3, 4] {
-        lot.give_back(number)?;
-        lot.release(number, KEYS[0])?;
+    lot.apply(&Step::Resolve { thread: 1 });
+    for thread in [0, 2, 3, 4] {
+        lot.give_back(thread)?;
+        lot.release(thread, KEYS[0])?;
     }
     lot.retire(THREADS - 1)?;
     Ok(())

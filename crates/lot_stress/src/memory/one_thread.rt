@@ -1,9 +1,8 @@
 //! Scenarios on the lot of threads, and on what is made, with one thread.
 
-use super::tell;
-use crate::calls::Entry;
-use crate::fault::Fault;
-use crate::locks::Pair;
+use super::{MOST, tell};
+use crate::calls::park;
+use crate::fault::{Fault, NO_MEMORY};
 use crate::marks;
 use crate::parks::park_often;
 use crate::word_lock::Count;
@@ -11,8 +10,8 @@ use lot_base::word_lock::WordLock;
 use lot_sync::mutex::Mutex;
 use lot_sync::once::{Once, OnceValue};
 use lot_threads::{
-    MAX_THREADS, Member, ParkResult, ParkingLot, SpinWait, ThreadParkerT, UnparkToken,
-    thread_yield, unpark_all,
+    DEFAULT_PARK_TOKEN, MAX_THREADS, Member, ParkResult, ParkingLot, SpinWait, ThreadParkerT,
+    UnparkToken, thread_yield, unpark_all,
 };
 use std::alloc::Global;
 use std::sync::Wait;
@@ -20,9 +19,6 @@ use std::time::{Clock, Instant};
 
 // Keys of which the first two have one bucket of 16.
 const KEYS: [usize; 3] = [0, 13, 7];
-
-// How many numbers the lot has.
-const MOST: usize = 1_024;
 
 // A lot for so many is made with few enough requests to refuse each in turn.
 const SOME: usize = 40;
@@ -34,29 +30,14 @@ const RECORDINGS: usize = 130;
 
 const PARKS: usize = 16;
 
-/// Does the scenario's calls on a new lot.
+/// Does the scenario's calls on a new lot, between marks, and shows the state before and after them.
 pub(super) fn play<P: ThreadParkerT, R: Print + Wait + Clock>(
-    rt: &R,
-    alloc: Global,
-    name: &str,
-) -> Result<(), Fault> {
-    let most = if name == "all_registered_twice" {
-        MAX_THREADS
-    } else {
-        MOST
-    };
-    let past = Instant::now(rt)?;
-    let lot = ParkingLot::<P>::new(alloc, most)?;
-    play_on(rt, alloc, &lot, name, past)
-}
-
-fn play_on<P: ThreadParkerT, R: Print + Wait + Clock>(
     rt: &R,
     alloc: Global,
     lot: &ParkingLot<P>,
     name: &str,
-    past: Instant,
-) -> Result<(), Fault> {
+) -> Result<usize, Fault> {
+    let past = Instant::now(rt)?;
     let mut members = Vec::with_capacity(alloc, lot.max_threads())?;
     play_with(rt, alloc, lot, &mut members, name, past)
 }
@@ -68,14 +49,14 @@ fn play_with<'a, P: ThreadParkerT, R: Print + Wait + Clock>(
     members: &mut Vec<Member<'a, P>>,
     name: &str,
     past: Instant,
-) -> Result<(), Fault> {
+) -> Result<usize, Fault> {
     prepare(rt, alloc, lot, members, name)?;
-    show(rt, "before", members)?;
+    show(rt, "before", members.len(), records_of(members))?;
     marks::begin(alloc);
     let answer = call(rt, alloc, lot, members, name, past);
     marks::end(alloc);
     tell(rt, answer)?;
-    show(rt, "after", members)?;
+    show(rt, "after", members.len(), records_of(members))?;
     register_and_wait(rt, alloc, lot, members)
 }
 
@@ -96,10 +77,17 @@ fn prepare<'a, P: ThreadParkerT, R: Wait>(
         }
         _ => register_often(rt, alloc, lot, members, FEW)?,
     }
-    if let Some(member) = members.first_mut() {
-        member.acquire_resource(KEYS[0])?;
+    match members.first_mut() {
+        Some(member) => record(member),
+        None => Ok(()),
     }
-    Ok(())
+}
+
+fn record<P: ThreadParkerT>(member: &mut Member<'_, P>) -> Result<(), Fault> {
+    match member.acquire_resource(KEYS[0]) {
+        Ok(()) => Ok(()),
+        Err(_) => Err(Fault(NO_MEMORY)),
+    }
 }
 
 // Does the calls that are counted, and answers how many were not refused, or how much they did.
@@ -115,7 +103,7 @@ fn call<'a, P: ThreadParkerT, R: Wait + Clock>(
         "thread_data" => register_often(rt, alloc, lot, members, 1)?,
         "registrations" => {
             for _ in 0..MOST {
-                let _ = register_often(rt, alloc, lot, members, 1);
+                register(rt, alloc, lot, members);
             }
         }
         "all_registered_twice" => {
@@ -164,15 +152,19 @@ fn call_of_one<P: ThreadParkerT, R: Wait + Clock>(
 
 // Makes what the name says, and drops it.
 fn make<P: ThreadParkerT>(alloc: Global, name: &str) -> Result<usize, Fault> {
-    match name {
-        "parking_lot_new" => drop(ParkingLot::<P>::new(alloc, SOME)?),
-        "word_lock_new" => drop(WordLock::new(alloc, Count(0), &())?),
-        "mutex_new" => drop(Mutex::new(alloc, KEYS[0], Pair::zero())?),
-        "once_new" => drop(Once::new(alloc, KEYS[0])?),
-        "once_value_new" => drop(OnceValue::<Pair>::new(alloc, KEYS[0])?),
+    let is_made = match name {
+        "parking_lot_new" => ParkingLot::<P>::new(alloc, SOME).is_ok(),
+        "word_lock_new" => WordLock::new(alloc, Count(0), &()).is_ok(),
+        "mutex_new" => Mutex::new(alloc, KEYS[0], Count(0)).is_ok(),
+        "once_new" => Once::new(alloc, KEYS[0]).is_ok(),
+        "once_value_new" => OnceValue::<Count>::new(alloc, KEYS[0]).is_ok(),
         _ => return Err(Fault("no scenario of this name")),
+    };
+    if is_made {
+        Ok(1)
+    } else {
+        Err(Fault(NO_MEMORY))
     }
-    Ok(1)
 }
 
 // Registers so many more threads.
@@ -184,9 +176,26 @@ fn register_often<'a, P: ThreadParkerT, R: Wait>(
     calls: usize,
 ) -> Result<(), Fault> {
     for _ in 0..calls {
-        members.push(Member::register(rt, alloc, lot)?)?;
+        if !register(rt, alloc, lot, members) {
+            return Err(Fault(NO_MEMORY));
+        }
     }
     Ok(())
+}
+
+// Registers one more thread, if there is memory for it.
+fn register<'a, P: ThreadParkerT, R: Wait>(
+    rt: &R,
+    alloc: Global,
+    lot: &'a ParkingLot<P>,
+    members: &mut Vec<Member<'a, P>>,
+) -> bool {
+    let registered = Member::register(rt, alloc, lot);
+    let is_registered = registered.is_ok();
+    if let Ok(member) = registered {
+        let _ = members.push(member);
+    }
+    is_registered
 }
 
 fn retire_all_but<P: ThreadParkerT, R: Wait>(
@@ -219,19 +228,31 @@ fn list_in_a_park<P: ThreadParkerT, R: Wait + Clock>(
     key: usize,
 ) -> Result<usize, Fault> {
     let (lot, number, token) = (member.lot(), member.number(), UnparkToken(key));
-    let mut listed = None;
-    let (result, _) = Entry::at(key, None).park(rt, member, || {
-        listed = Some(lot.list(rt, alloc, key));
+    let mut is_alone = None;
+    let (result, _) = park(rt, member, (key, true, DEFAULT_PARK_TOKEN, None), || {
+        is_alone = is_listed_alone(rt, alloc, lot, key, number);
         unpark_all(rt, lot, key, token);
     });
-    let Some(waiting) = listed else {
-        return Err(Fault("a park that did not wait"));
+    let Some(is_alone) = is_alone else {
+        return Err(Fault(NO_MEMORY));
     };
-    if waiting?.as_slice() == [number].as_slice() && result == ParkResult::Unparked(token) {
+    if is_alone && result == ParkResult::Unparked(token) {
         Ok(1)
     } else {
         Err(Fault("a list of one who waits, or its token"))
     }
+}
+
+// Nothing says that there was no memory for the list.
+fn is_listed_alone<P: ThreadParkerT, R: Wait>(
+    rt: &R,
+    alloc: Global,
+    lot: &ParkingLot<P>,
+    key: usize,
+    number: usize,
+) -> Option<bool> {
+    let listed = lot.list(rt, alloc, key).ok()?;
+    Some(listed.len() == 1 && listed[0] == number)
 }
 
 // All of `SpinWait`, and `thread_yield`. Answers how many of twelve spins asked for more.
@@ -252,18 +273,16 @@ fn spin_each_way() -> usize {
 }
 
 // Shows how many are registered, and what the first of them has recorded.
-fn show<P: ThreadParkerT, R: Print>(
-    rt: &R,
-    moment: &str,
-    members: &[Member<'_, P>],
-) -> Result<(), Fault> {
-    let mut records = 0;
-    if let Some(member) = members.first() {
-        records = member.records(KEYS[0]);
-    }
-    let registered = members.len();
+fn show<R: Print>(rt: &R, moment: &str, registered: usize, records: usize) -> Result<(), Fault> {
     println!(rt; "{moment} registered {registered} records {records}")?;
     Ok(())
+}
+
+fn records_of<P: ThreadParkerT>(members: &[Member<'_, P>]) -> usize {
+    match members.first() {
+        Some(member) => member.records(KEYS[0]),
+        None => 0,
+    }
 }
 
 // Registrations that were refused have no number: the next gives the least. The first thread can
@@ -273,7 +292,7 @@ fn register_and_wait<'a, P: ThreadParkerT, R: Wait + Clock>(
     alloc: Global,
     lot: &'a ParkingLot<P>,
     members: &mut Vec<Member<'a, P>>,
-) -> Result<(), Fault> {
+) -> Result<usize, Fault> {
     if members.len() < lot.max_threads() {
         register_often(rt, alloc, lot, members, 1)?;
     }
@@ -287,5 +306,5 @@ fn register_and_wait<'a, P: ThreadParkerT, R: Wait + Clock>(
             list_in_a_park(rt, alloc, member, key)?;
         }
     }
-    Ok(())
+    Ok(0)
 }

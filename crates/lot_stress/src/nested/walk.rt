@@ -1,10 +1,13 @@
 //! A walk: a lot that threads share and the exclusive one, side by side, and what was compared.
 
-use crate::calls::{Ended, Entry};
-use crate::draws::Draws;
+use crate::calls::{Ended, Entry, Sieve, decide, requeue, unpark_first, unpark_through};
+use crate::draws::{draw, draw_below, draw_op, draw_sieve, mixed};
 use crate::fault::Fault;
 use lot_simulator::lot::{Lot, Status};
-use lot_threads::{Member, ParkResult, ParkToken, ParkingLot, ThreadParkerT};
+use lot_simulator::schedule::{Answer, Op, Step};
+use lot_threads::{
+    LotError, Member, ParkResult, ParkToken, ParkingLot, ThreadParkerT, UnparkToken, unpark_all,
+};
 use std::alloc::Global;
 use std::sync::Wait;
 use std::time::Instant;
@@ -16,222 +19,291 @@ pub type Shape = (usize, usize, usize, usize);
 // Added to a key it gives one that has the same place in nearly every table.
 const NEIGHBOR: usize = 75_025;
 
-/// A call whose answers are compared.
-#[derive(Copy, Clone)]
-pub(super) enum Call {
-    Register,
-    Retire,
-    Enter,
-    Park,
-    UnparkOne,
-    UnparkAll,
-    UnparkFilter,
-    UnparkRequeue,
-    Trim,
-    List,
-}
+const MOST_CALLS: usize = 4;
 
-/// The thread that unparks the others of its lot, and what the lot is compared with.
+const MOST_COMING: usize = 12;
+
+// Where no thread comes any more, and most wait.
+const LAST_CALLS: usize = 24;
+
+/// The lot of threads, the one that it is compared with, and threads that are registered and idle.
 #[derive(Drop)]
 pub(super) struct Walk<'a, P: ThreadParkerT> {
-    pub(super) me: Member<'a, P>,
-    pub(super) machine: Lot,
-    pub(super) idle: Vec<Member<'a, P>>,
-    pub(super) draws: Draws,
-    pub(super) shape: Shape,
+    lot: &'a ParkingLot<P>,
+    machine: Lot,
+    idle: Vec<Member<'a, P>>,
+    pub(super) draws: u64,
+    shape: Shape,
     pub(super) parks_left: usize,
     past: Instant,
     // How many parks were refused, unparked and late.
     ends: (usize, usize, usize),
-    // The first call that was answered differently.
-    unlike: Option<Call>,
+    // Whether both lots answered each call the same.
+    are_alike: bool,
 }
 
-fn name_of(call: Call) -> &'static str {
-    match call {
-        Call::Register => "a registration",
-        Call::Retire => "a retirement",
-        Call::Enter => "the entry of a park",
-        Call::Park => "the end of a park",
-        Call::UnparkOne => "unpark_one",
-        Call::UnparkAll => "unpark_all",
-        Call::UnparkFilter => "unpark_filter",
-        Call::UnparkRequeue => "unpark_requeue",
-        Call::Trim => "trim",
-        Call::List => "list",
-    }
-}
-
-/// The key of this index. The first three have one place in a table of 16 buckets, and the first
-/// two in every table; then come the greatest and some that differ in one bit, and then others that
-/// look random, three by three with one place.
-pub(super) fn key_at(index: usize) -> usize {
+// The key of this index. The first three have one place in a table of 16 buckets, and the first two
+// in every table; then come the greatest and some that differ in one bit, and then others that look
+// random, three by three with one place.
+fn key_at(index: usize) -> usize {
     match index {
         0 => 0,
         1 => NEIGHBOR,
         2 => 13,
         3 => usize::MAX,
-        4 => 1 << 32,
-        5 => 1 << 63,
+        4 => 0x1_0000_0000,
+        5 => 0x8000_0000_0000_0000,
         _ => {
-            let first = Draws((index / 3) as u64).next() as usize;
+            let first = mixed((index / 3) as u64) as usize;
             first.wrapping_add((index % 3).wrapping_mul(NEIGHBOR))
         }
     }
 }
 
 impl<'a, P: ThreadParkerT> Walk<'a, P> {
-    /// Begins a walk with a new lot, of this shape.
-    pub(super) fn new<R: Wait>(
-        rt: &R,
+    /// Begins a walk on a new lot, of this shape.
+    pub(super) fn new(
         alloc: Global,
         lot: &'a ParkingLot<P>,
         shape: Shape,
         seed: u64,
         past: Instant,
     ) -> Result<Walk<'a, P>, Fault> {
-        let mut walk = Walk {
-            me: Member::register(rt, alloc, lot)?,
+        Ok(Walk {
+            lot,
             machine: Lot::new(alloc, shape.0)?,
             idle: Vec::with_capacity(alloc, shape.0)?,
-            draws: Draws(seed),
+            draws: seed,
             shape,
             parks_left: shape.2,
             past,
             ends: (0, 0, 0),
-            unlike: None,
-        };
-        walk.machine.register()?;
-        Ok(walk)
+            are_alike: true,
+        })
     }
 
     /// Fails if the two lots answered a call differently, or no park ended in one of the ways.
     pub(super) fn judge(&self) -> Result<(), Fault> {
         let (refused, unparked, late) = self.ends;
-        match self.unlike {
-            Some(call) => Err(Fault(name_of(call))),
-            None if refused > 0 && unparked > 0 && late > 0 => Ok(()),
-            None => Err(Fault("how parks ended")),
+        if !self.are_alike {
+            Err(Fault("a call that the exclusive lot answers otherwise"))
+        } else if refused > 0 && unparked > 0 && late > 0 {
+            Ok(())
+        } else {
+            Err(Fault("how parks ended"))
         }
     }
 
-    /// Notes a call that was answered differently.
-    pub(super) fn expect(&mut self, is_same: bool, call: Call) {
-        if !is_same && self.unlike.is_none() {
-            self.unlike = Some(call);
-        }
+    // Does the step in the exclusive lot, which should answer the same.
+    fn expect(&mut self, step: Step, answer: Answer) {
+        let expected = self.machine.apply(&step);
+        self.are_alike = self.are_alike && answer == expected;
     }
 
-    /// One of the keys of the walk.
-    pub(super) fn key(&mut self) -> usize {
-        key_at(self.draws.below(self.shape.1))
+    fn key(&mut self) -> usize {
+        key_at(draw_below(&mut self.draws, self.shape.1))
     }
 
     pub(super) fn entry(&mut self) -> Entry {
-        Entry {
-            key: self.key(),
-            valid: !self.draws.is_one_in(16),
-            park_token: ParkToken(self.draws.next() as usize),
-            timeout: if self.draws.is_one_in(3) {
-                None
-            } else {
-                Some(self.past)
-            },
+        let timeout = if draw_below(&mut self.draws, 3) == 0 {
+            None
+        } else {
+            Some(self.past)
+        };
+        let is_valid = draw_below(&mut self.draws, 16) != 0;
+        (
+            self.key(),
+            is_valid,
+            ParkToken(draw(&mut self.draws) as usize),
+            timeout,
+        )
+    }
+
+    /// Enters the exclusive lot.
+    pub(super) fn enter(&mut self, thread: usize, entry: Entry) {
+        let (key, valid, park_token, timeout) = entry;
+        let answer = if valid {
+            Answer::Entered
+        } else {
+            Answer::Invalid
+        };
+        let step = Step::Enter {
+            thread,
+            key,
+            valid,
+            park_token,
+            timed: timeout.is_some(),
+        };
+        self.expect(step, answer);
+    }
+
+    /// Compares how a park ended with how it ends in the exclusive lot.
+    pub(super) fn end(&mut self, thread: usize, ended: Ended) {
+        match ended {
+            (ParkResult::Unparked(token), None) => {
+                self.expect(Step::Return { thread }, Answer::Unparked(token));
+                self.ends.1 = self.ends.1.wrapping_add(1);
+            }
+            (ParkResult::TimedOut, Some((key, last))) => {
+                self.expect(Step::Deadline { thread }, Answer::Late);
+                let answer = Answer::TimedOut { key, last };
+                self.expect(Step::Resolve { thread }, answer);
+                self.ends.2 = self.ends.2.wrapping_add(1);
+            }
+            (ParkResult::Invalid, None) => {
+                let status = self.machine.status(thread);
+                self.are_alike = self.are_alike && matches!(status, Status::Running);
+                self.ends.0 = self.ends.0.wrapping_add(1);
+            }
+            _ => self.are_alike = false,
         }
+    }
+
+    /// Makes a few calls, or none.
+    pub(super) fn calls<R: Wait>(&mut self, rt: &R, alloc: Global) {
+        if draw_below(&mut self.draws, self.shape.3) != 0 {
+            return;
+        }
+        for _ in 0..draw_below(&mut self.draws, MOST_CALLS) {
+            self.call(rt, alloc);
+        }
+    }
+
+    /// Makes many calls.
+    pub(super) fn last_calls<R: Wait>(&mut self, rt: &R, alloc: Global) {
+        for _ in 0..LAST_CALLS {
+            self.call(rt, alloc);
+        }
+    }
+
+    fn call<R: Wait>(&mut self, rt: &R, alloc: Global) {
+        let (key, token) = (self.key(), UnparkToken(draw(&mut self.draws) as usize));
+        match draw_below(&mut self.draws, 16) {
+            0 => {
+                let count = Answer::Count(unpark_all(rt, self.lot, key, token));
+                self.expect(Step::Unpark(Op::All { key, token }), count);
+            }
+            1..=4 => {
+                let result = Answer::Unpark(unpark_first(rt, self.lot, key, token));
+                self.expect(Step::Unpark(Op::One { key, token }), result);
+            }
+            5..=7 => {
+                let sieve = draw_sieve(&mut self.draws);
+                self.unpark_through(rt, key, sieve, token);
+            }
+            8..=10 => self.requeue(rt, key, token),
+            11 => self.trim(rt),
+            12 => self.come(rt, alloc),
+            13 => self.go(rt),
+            _ => {
+                let listed = self.lot.list(rt, alloc, key);
+                let expected = self.machine.list(key);
+                self.are_alike = self.are_alike && listed == expected;
+            }
+        }
+    }
+
+    fn unpark_through<R: Wait>(&mut self, rt: &R, key: usize, sieve: Sieve, token: UnparkToken) {
+        let result = unpark_through(rt, self.lot, key, sieve, token);
+        let filter = |waiting| decide(waiting, sieve);
+        let expected = self.machine.unpark_chosen(key, filter, |_| token);
+        self.are_alike = self.are_alike && result == expected;
+    }
+
+    fn requeue<R: Wait>(&mut self, rt: &R, from: usize, token: UnparkToken) {
+        let (to, op) = (self.key(), draw_op(&mut self.draws));
+        let result = Answer::Unpark(requeue(rt, self.lot, from, to, op, token));
+        let op = Op::Requeue {
+            from,
+            to,
+            op,
+            token,
+        };
+        self.expect(Step::Unpark(op), result);
+    }
+
+    fn trim<R: Wait>(&mut self, rt: &R) {
+        self.lot.trim(rt);
+        self.expect(Step::Trim, Answer::Trimmed);
+    }
+
+    // More threads register, and are idle.
+    fn come<R: Wait>(&mut self, rt: &R, alloc: Global) {
+        for _ in 0..draw_below(&mut self.draws, MOST_COMING) {
+            if let Some(thread) = self.register(rt, alloc) {
+                self.give_thread(rt, thread);
+            }
+        }
+    }
+
+    // Idle threads retire, and then the table has more buckets than it needs.
+    fn go<R: Wait>(&mut self, rt: &R) {
+        let most = self.idle.len().saturating_add(1);
+        for _ in 0..draw_below(&mut self.draws, most) {
+            if let Some(thread) = self.idle.pop() {
+                self.retire(rt, thread);
+            }
+        }
+        self.trim(rt);
     }
 
     /// A thread that is idle, or one that registers now, where there is one.
     pub(super) fn take_thread<R: Wait>(&mut self, rt: &R, alloc: Global) -> Option<Member<'a, P>> {
-        if self.draws.is_one_in(2)
-            && let Some(thread) = self.take_idle()
+        if draw_below(&mut self.draws, 2) == 0
+            && let Some(thread) = self.idle.pop()
         {
             return Some(thread);
         }
         match self.register(rt, alloc) {
             Some(thread) => Some(thread),
-            None => self.take_idle(),
+            None => self.idle.pop(),
         }
     }
 
-    pub(super) fn take_idle(&mut self) -> Option<Member<'a, P>> {
-        let index = self.draws.below(self.idle.len());
-        if index < self.idle.len() {
-            Some(self.idle.swap_remove(index))
-        } else {
-            None
-        }
+    // Registers a thread with both lots.
+    fn register<R: Wait>(&mut self, rt: &R, alloc: Global) -> Option<Member<'a, P>> {
+        let (answer, thread) = match Member::register(rt, alloc, self.lot) {
+            Ok(thread) => (Answer::Registered(thread.number()), Some(thread)),
+            Err(LotError::Full) => (Answer::Full, None),
+            Err(_) => (Answer::NoMemory, None),
+        };
+        self.expect(Step::Register, answer);
+        thread
     }
 
-    /// Registers a thread with both lots.
-    pub(super) fn register<R: Wait>(&mut self, rt: &R, alloc: Global) -> Option<Member<'a, P>> {
-        let registered = Member::register(rt, alloc, self.me.lot());
-        let expected = self.machine.register();
-        match registered {
-            Ok(thread) => {
-                self.expect(expected == Ok(thread.number()), Call::Register);
-                Some(thread)
-            }
-            Err(error) => {
-                self.expect(expected == Err(error), Call::Register);
-                None
-            }
-        }
-    }
-
-    /// Retires a thread from both lots.
-    pub(super) fn retire<R: Wait>(&mut self, rt: &R, thread: Member<'a, P>) {
-        let retired = self.machine.retire(thread.number());
-        self.expect(retired.is_ok(), Call::Retire);
-        thread.retire(rt);
+    // Retires a thread from both lots.
+    fn retire<R: Wait>(&mut self, rt: &R, member: Member<'a, P>) {
+        let thread = member.number();
+        member.retire(rt);
+        self.expect(Step::Retire { thread }, Answer::Retired);
     }
 
     /// Keeps the thread for later, or retires it.
     pub(super) fn give_thread<R: Wait>(&mut self, rt: &R, thread: Member<'a, P>) {
-        if self.draws.is_one_in(4) || self.idle.len() == self.idle.capacity() {
+        if draw_below(&mut self.draws, 4) == 0 || self.idle.len() == self.idle.capacity() {
             self.retire(rt, thread);
         } else {
             let _ = self.idle.push(thread);
         }
     }
 
-    /// Enters the exclusive lot.
-    pub(super) fn enter(&mut self, number: usize, entry: Entry) {
-        let entered = self.machine.enter(
-            number,
-            entry.key,
-            || entry.valid,
-            entry.park_token,
-            entry.timeout.is_some(),
-        );
-        self.expect(entered == Ok(entry.valid), Call::Enter);
-    }
-
-    /// Compares how a park ended with how it ends in the exclusive lot.
-    pub(super) fn end(&mut self, number: usize, ended: Ended) {
-        let expected = self.expected_end(number);
-        self.expect(ended == expected, Call::Park);
-        match expected.0 {
-            ParkResult::Invalid => self.ends.0 = self.ends.0.wrapping_add(1),
-            ParkResult::Unparked(_) => self.ends.1 = self.ends.1.wrapping_add(1),
-            ParkResult::TimedOut => self.ends.2 = self.ends.2.wrapping_add(1),
+    /// Unparks this thread alone, which waits on this key or was requeued, by its token.
+    pub(super) fn free<R: Wait>(&mut self, rt: &R, number: usize, entry: Entry) {
+        let token = UnparkToken(draw(&mut self.draws) as usize);
+        let sieve = (Some(entry.2), 0, 0);
+        if self.is_waiting(number) {
+            self.unpark_through(rt, entry.0, sieve, token);
+        }
+        for index in 0..self.shape.1 {
+            if !self.is_waiting(number) {
+                return;
+            }
+            self.unpark_through(rt, key_at(index), sieve, token);
         }
     }
 
-    // A thread that was not taken is late, and one that does not wait was refused.
-    fn expected_end(&mut self, number: usize) -> Ended {
-        if let Status::Taken(_) = self.machine.status(number)
-            && let Ok(token) = self.machine.give_back(number)
-        {
-            return (ParkResult::Unparked(token), None);
-        }
-        let mut told = None;
-        if self.machine.deadline(number).is_ok()
-            && let Ok(result) = self
-                .machine
-                .resolve(number, |key, last| told = Some((key, last)))
-        {
-            return (result, told);
-        }
-        (ParkResult::Invalid, None)
+    // Whether the thread waits, as the exclusive lot has it.
+    fn is_waiting(&self, number: usize) -> bool {
+        matches!(self.machine.status(number), Status::Waiting { .. })
     }
 }

@@ -30,14 +30,14 @@ pub(super) fn wait_each_time<P: ThreadParkerT + Sync, R: Threads + Wait + Clock 
     rt: &R,
     alloc: Global,
     rest: Duration,
-) -> Result<(), Fault> {
+) -> Result<usize, Fault> {
     let key = ParkerKey {
         number: OWNER,
         home: (),
     };
     let parker = P::new(alloc, &key)?;
     if play(rt, alloc, &parker, rest) {
-        Ok(())
+        Ok(0)
     } else {
         Err(Fault("how the waits over a parker ended"))
     }

@@ -1,7 +1,7 @@
 //! Threads that come to a table while it grows.
 
 use crate::fault::Fault;
-use crate::threads::{are_all_right, comes_to};
+use crate::threads::{comes_to, sum_of};
 use lot_threads::{DEFAULT_UNPARK_TOKEN, ParkingLot, ThreadParkerT, unpark_all, unpark_one};
 use std::alloc::Global;
 use std::sync::Wait;
@@ -10,8 +10,8 @@ use std::thread;
 use std::thread::Threads;
 use std::time::{Clock, Duration};
 
-// The table grows at the registration of the last of these.
-const REGISTERED: usize = 6;
+/// The table grows at the registration of the last of these.
+pub(super) const REGISTERED: usize = 6;
 
 // Its bucket is one that a growth empties late.
 const HELD_KEY: usize = 1;
@@ -25,32 +25,22 @@ const THREADS: usize = 10;
 // In milliseconds, until the growth has begun.
 const MOMENT: u64 = 20;
 
-/// Eight threads come while the table grows, and the growth waits so long for a section.
+/// Eight threads come while the table of a new lot grows, and the growth waits so long for a section.
 pub(super) fn come_to_a_growth<P: ThreadParkerT + Sync, R: Threads + Wait + Clock + Sync>(
-    rt: &R,
-    alloc: Global,
-    rest: Duration,
-) -> Result<(), Fault> {
-    let lot = ParkingLot::<P>::new(alloc, REGISTERED)?;
-    if play(rt, alloc, &lot, rest) {
-        Ok(())
-    } else {
-        Err(Fault("how many threads came through a growth"))
-    }
-}
-
-fn play<P: ThreadParkerT + Sync, R: Threads + Wait + Clock + Sync>(
     rt: &R,
     alloc: Global,
     lot: &ParkingLot<P>,
     rest: Duration,
-) -> bool {
+) -> Result<usize, Fault> {
     for _ in 1..REGISTERED {
         drop(lot.thread_data(rt, alloc));
     }
     let is_held = AtomicUsize::new(0);
     let act = |index: usize| act(rt, alloc, lot, index, &is_held, rest);
-    are_all_right(rt, alloc, THREADS, &act)
+    match sum_of(rt, alloc, THREADS, &act) {
+        Some(sum) => Ok(sum),
+        None => Err(Fault("how many threads came through a growth")),
+    }
 }
 
 // Stays so long in a section, lets the table grow meanwhile, or comes while it grows.
@@ -61,14 +51,14 @@ fn act<P: ThreadParkerT, R: Wait + Clock>(
     index: usize,
     is_held: &AtomicUsize,
     rest: Duration,
-) -> bool {
+) -> Option<usize> {
     if index == 0 {
         unpark_one(rt, lot, HELD_KEY, |_| {
             is_held.store(1, Ordering::SeqCst);
             thread::sleep(rt, rest);
             DEFAULT_UNPARK_TOKEN
         });
-        return true;
+        return Some(0);
     }
     let is_in_time = comes_to(is_held, 1);
     if index == 1 {
@@ -77,5 +67,5 @@ fn act<P: ThreadParkerT, R: Wait + Clock>(
         thread::sleep(rt, Duration::from_millis(MOMENT));
         unpark_all(rt, lot, OTHER_KEY, DEFAULT_UNPARK_TOKEN);
     }
-    is_in_time
+    is_in_time.then_some(0)
 }
