@@ -1,39 +1,30 @@
 //! Threads that use a lock round after round, and lose nothing.
 
-use crate::perform::perform;
+use crate::script::perform;
 
-// No clause says that an addition is not lost, or that whoever waits is woken. With two holders at
-// once some additions are lost; with an unlock that wakes nobody, this does not end.
+// No clause says that an addition is not lost, or that whoever waits is woken: with an unlock that
+// wakes nobody, this does not end. The second refuses a fair unlock that lets the mutex go behind
+// its section, where nobody waits: who comes to wait meanwhile sleeps then, though nobody holds it.
 #[test]
-fn four_threads_count_together(rt: HostRuntime) {
+fn threads_count_under_a_mutex(rt: HostRuntime) {
     perform(
         &rt,
         rt.alloc(),
         "play each
         thread 4
-            repeat 500 take fair; add; let_go; take lock; add; let_go
+            repeat 500 take lock; add; hand_over; take lock; add; let_go
             raise b
             await b 4
             take lock
-            value = 4000",
-    );
-}
-
-// It refuses a fair unlock that lets the mutex go behind its section, where nobody waits: who comes
-// to wait meanwhile sleeps then, though nobody holds it.
-#[test]
-fn two_threads_hand_a_mutex_over_often(rt: HostRuntime) {
-    perform(
-        &rt,
-        rt.alloc(),
-        "play word
+            value = 4000
+        %
+        play word
         thread 2
-            often 40000 take fair; let_go",
+            often 40000 take lock; hand_over",
     );
 }
 
-// With a lock that lets a writer in beside a reader or a writer, what one reads changes, or an
-// addition is lost; with one that wakes nobody, this does not end.
+// With one that wakes nobody, or forgets readers or writers, this does not end.
 #[test]
 fn two_write_and_two_read(rt: HostRuntime) {
     perform(
@@ -41,19 +32,19 @@ fn two_write_and_two_read(rt: HostRuntime) {
         rt.alloc(),
         "play each
         thread 2
-            repeat 500 take write; add; let_go; take write; add; downgrade; same; let_go
+            repeat 500 take write; add; let_go; take write; add; downgrade; let_go
             raise b
         thread 2
-            until b 2 take read; look; yield; same; let_go
+            until b 2 take read; let_go
             take read
             value = 2000",
     );
 }
 
-// With a semaphore that hands out a permit too many, three are inside; with one that wakes nobody,
-// this does not end.
+// With a semaphore or a barrier that wakes nobody, this does not end. No clause says that permits
+// come back, or that each round has a leader.
 #[test]
-fn four_threads_are_inside_two_at_a_time(rt: HostRuntime) {
+fn four_threads_share_two_permits_and_meet(rt: HostRuntime) {
     perform(
         &rt,
         rt.alloc(),
@@ -62,30 +53,19 @@ fn four_threads_are_inside_two_at_a_time(rt: HostRuntime) {
             repeat 1000 take two; inside 2; let_go
             raise b
             await b 4
-            available two = 2",
-    );
-}
-
-// With a barrier that lets one pass before all have come, too few have; with one that wakes nobody,
-// this does not end.
-#[test]
-fn four_threads_meet_each_round_and_one_leads(rt: HostRuntime) {
-    perform(
-        &rt,
-        rt.alloc(),
-        "play each
+            available two = 2
+        %
+        play each
         thread 4
-            repeat 1000 raise a; meet; tell a 4 = round
+            repeat 1000 meet
             raise b
             await b 4
-            tell a = 4000
             tell led = 1000",
     );
 }
 
-// It refuses a once that runs two closures, or lets a thread go before one has run, also one behind
-// another who waits, and a cell that two threads fill; with one that wakes nobody, this does not
-// end.
+// It refuses a once that lets a thread go before the closure has run, also one behind another who
+// waits, and a cell that two threads fill; with one that wakes nobody, this does not end.
 #[test]
 fn four_threads_do_it_once(rt: HostRuntime) {
     perform(
@@ -93,31 +73,30 @@ fn four_threads_do_it_once(rt: HostRuntime) {
         rt.alloc(),
         "play each
         thread 4
-            filled = no
             once waiting key 3, raise a = any
             tell a = 1
-            fill
-            filled",
+            fill",
     );
 }
 
-// No clause says that a notify wakes anybody. With a wait that misses one, this does not end. Each
-// item is put twice.
+// No clause says that a notify wakes anybody. It refuses a wait that lets the mutex go before its
+// thread stands in the queue: the next holder finds nobody to notify then.
 #[test]
-fn what_two_put_two_take(rt: HostRuntime) {
+fn each_notify_of_the_next_holder_finds_the_sleeper(rt: HostRuntime) {
     perform(
         &rt,
         rt.alloc(),
         "play each
-        thread 2
-            repeat 1000 take lock; wait_while full producers; set round; let_go; \
-                notify sleepers one = any
-        thread 2
-            repeat 1000 take lock; wait_while empty sleepers; gather; \
-                notify producers all = any; let_go
-            raise b
-            await b 2
-            tell a = 1001000",
+        thread 1
+            repeat 1000 take lock; raise a; wait far; let_go
+        thread 1
+            repeat 1000 await a round; take lock; notify one; let_go
+        %
+        play each
+        thread 1
+            repeat 1000 take lock; raise a; wait far; let_go
+        thread 1
+            repeat 1000 await a round; take lock; let_go; notify all = 1",
     );
 }
 
@@ -133,7 +112,6 @@ fn four_threads_are_dealt_different_keys(rt: HostRuntime) {
         thread 4
             deal 200000
             raise b
-        thread 1
             await b 4
             tell a = 319999600000",
     );

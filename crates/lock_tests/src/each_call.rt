@@ -1,68 +1,43 @@
 //! Each call once, by one thread or beside another.
 
-use crate::perform::perform;
+use crate::script::perform;
 use lot_sync::keys::Keys;
 
 #[test]
-fn keys_are_dealt_once(rt: HostRuntime) {
-    let keys = Keys::new();
-    assert!(rt; keys.deal() == Some(0), "the first key");
-    assert!(rt; keys.deal() == Some(1), "the second key");
-    let last = Keys::starting_at(usize::MAX - 1);
-    assert!(rt; last.deal() == Some(usize::MAX - 1), "the last key");
+fn the_greatest_number_is_never_dealt(rt: HostRuntime) {
+    let keys = Keys::starting_at(usize::MAX - 1);
     assert!(rt;
-        last.deal().is_none() && last.deal().is_none(),
-        "no further key"
+        matches!(keys.deal(), Some(key) if key == usize::MAX - 1),
+        "the last key"
+    );
+    assert!(rt;
+        keys.deal().is_none() && keys.deal().is_none(),
+        "a further key"
     );
 }
 
 #[test]
-fn a_mutex_is_locked_in_each_way(rt: HostRuntime) {
+fn each_lock_is_had_in_each_way(rt: HostRuntime) {
     perform(
         &rt,
         rt.alloc(),
-        "play word lock
-        play word fair
+        "play word
         thread 1
-            take $1
+            take lock
             can lock = no
             can lock now = no
-            can fair now = no
             let_go
-            try $1
+            try lock
             can lock = no
-            let_go
-            take $1 now
+            hand_over
+            take lock now
             let_go
             can lock now
-            can fair
-            take lock
-            key_of held = 7
-            key_of lock = 7",
-    );
-}
-
-#[test]
-fn a_wait_ends_at_its_deadline(rt: HostRuntime) {
-    perform(
-        &rt,
-        rt.alloc(),
-        "play word
-        thread 1
-            take lock
-            wait sleepers now = no
-            let_go
-            notify sleepers one = no
-            notify sleepers all = 0",
-    );
-}
-
-#[test]
-fn a_lock_is_read_and_written(rt: HostRuntime) {
-    perform(
-        &rt,
-        rt.alloc(),
-        "play word
+            can lock
+            notify one = no
+            notify all = 0
+        %
+        play word
         thread 1
             take write
             add
@@ -81,38 +56,17 @@ fn a_lock_is_read_and_written(rt: HostRuntime) {
             can write now
             take read
             value = 1
-            let_go
-            key_of read = 7",
-    );
-}
-
-#[test]
-fn a_once_runs_one_closure(rt: HostRuntime) {
-    perform(
-        &rt,
-        rt.alloc(),
-        "play word
+        %
+        play word
         thread 1
             once_done = no
             once raise a
             once raise a = no
             once_done
             tell a = 1
-            filled = no
             fill
-            filled
-            key_of once = 7
-            key_of cell = 9",
-    );
-}
-
-// A semaphore has one permit, two, none, or as many as a number counts.
-#[test]
-fn a_semaphore_is_acquired_in_each_way(rt: HostRuntime) {
-    perform(
-        &rt,
-        rt.alloc(),
-        "play word
+        %
+        play word
         thread 1
             take two
             available two = 1
@@ -132,34 +86,6 @@ fn a_semaphore_is_acquired_in_each_way(rt: HostRuntime) {
             raise b
             await a 2
             let_go
-            available two = 2
-            permits two = 2
-            key_of two = 7",
-    );
-    perform(
-        &rt,
-        rt.alloc(),
-        "play word
-        thread 1
-            can none = no
-            can none now = no
-            available none = 0
-            permits none = 0
-            take most
-            available most = 4294967294
-            let_go
-            available most = 4294967295",
-    );
-}
-
-#[test]
-fn one_thread_leads_each_round_of_its_own(rt: HostRuntime) {
-    perform(
-        &rt,
-        rt.alloc(),
-        "play word
-        thread 1
-            repeat 3 meet; tell led = round
-            key_of barrier = 7",
+            available two = 2",
     );
 }

@@ -1,15 +1,14 @@
-//! Whoever is handed a fair mutex holds it alone, and in order.
+//! Whoever is handed a fair mutex holds it alone, and in order. No clause says any of it.
 
-use crate::perform::perform;
+use crate::script::perform;
 
-// It refuses an unlock that hands the mutex to the last waiter and marks it free, or to another
-// than the first.
 #[test]
 fn those_who_wait_are_handed_the_mutex_alone_and_in_order(rt: HostRuntime) {
     perform(
         &rt,
         rt.alloc(),
-        "play each
+        "# It refuses an unlock that hands the mutex to the last waiter and marks it free.
+        play word
         thread 1
             fair_lock
             raise a
@@ -21,12 +20,10 @@ fn those_who_wait_are_handed_the_mutex_alone_and_in_order(rt: HostRuntime) {
             await a 1
             fair_lock
             waiting fair 1
-            fair_unlock",
-    );
-    perform(
-        &rt,
-        rt.alloc(),
-        "play each
+            fair_unlock
+        %
+        # It refuses an unlock that hands it to another than the first.
+        play word
         thread 1
             fair_lock
             raise a
@@ -42,7 +39,12 @@ fn those_who_wait_are_handed_the_mutex_alone_and_in_order(rt: HostRuntime) {
             await a 1
             waiting fair 1
             fair_lock; note; fair_unlock
-            raise a",
+            raise a
+        %
+        # It refuses a `lock` that lets a thread in while another holds the mutex.
+        play each
+        thread 4
+            repeat 1000 fair_lock; inside 1; fair_unlock",
     );
 }
 
@@ -53,8 +55,8 @@ fn who_is_handed_a_free_mutex_holds_it_alone(rt: HostRuntime) {
     perform(
         &rt,
         rt.alloc(),
-        "play each one
-        play each all
+        "play word one
+        play word all
         thread 1
             fair_lock
             fair_wait
@@ -64,12 +66,9 @@ fn who_is_handed_a_free_mutex_holds_it_alone(rt: HostRuntime) {
             waiting fair_sleepers 1
             fair_lock; fair_unlock
             fair_notify $1 = 100
-            fair_lock; fair_unlock",
-    );
-    perform(
-        &rt,
-        rt.alloc(),
-        "play each
+            fair_lock; fair_unlock
+        %
+        play word
         thread 1
             fair_lock
             fair_wait
@@ -89,14 +88,14 @@ fn who_is_handed_a_free_mutex_holds_it_alone(rt: HostRuntime) {
     );
 }
 
-// It refuses a notify of one that moves all, or the thread that came last, or that wakes one
-// although the mutex is held.
 #[test]
-fn a_notify_of_one_reaches_those_who_sleep_in_order(rt: HostRuntime) {
+fn a_notify_reaches_those_who_sleep_in_order(rt: HostRuntime) {
     perform(
         &rt,
         rt.alloc(),
-        "play each
+        "# It refuses a notify of one that moves all, or the thread that came last, or that wakes
+        # one although the mutex is held.
+        play word
         thread 1
             fair_lock; fair_wait; note; fair_unlock
             raise a
@@ -113,18 +112,11 @@ fn a_notify_of_one_reaches_those_who_sleep_in_order(rt: HostRuntime) {
             waiting fair 2
             fair_unlock
             await a 2
-            tell b = 12",
-    );
-}
-
-// It refuses a notify of all that reaches the first alone, or moves them in another order, while
-// the mutex is held or is free.
-#[test]
-fn a_notify_of_all_reaches_those_who_sleep_in_order(rt: HostRuntime) {
-    perform(
-        &rt,
-        rt.alloc(),
-        "play each
+            tell b = 12
+        %
+        # It refuses a notify of all that reaches the first alone, or moves them in another order,
+        # while the mutex is held.
+        play word
         thread 1
             fair_lock; fair_wait; note; fair_unlock
             raise a
@@ -139,12 +131,10 @@ fn a_notify_of_all_reaches_those_who_sleep_in_order(rt: HostRuntime) {
             waiting fair 2
             fair_unlock
             await a 2
-            tell b = 12",
-    );
-    perform(
-        &rt,
-        rt.alloc(),
-        "play each
+            tell b = 12
+        %
+        # The same while it is free.
+        play word
         thread 1
             fair_lock; fair_wait; note; fair_unlock
             raise a
@@ -158,21 +148,6 @@ fn a_notify_of_all_reaches_those_who_sleep_in_order(rt: HostRuntime) {
             fair_notify all = 110
             await a 2
             tell b = 12",
-    );
-}
-
-// It refuses a `lock` that lets a thread in while another holds the mutex.
-#[test]
-fn four_threads_count_under_a_fair_mutex(rt: HostRuntime) {
-    perform(
-        &rt,
-        rt.alloc(),
-        "play each
-        thread 4
-            repeat 1000 fair_lock; bump a; fair_unlock
-            raise b
-            await b 4
-            tell a = 4000",
     );
 }
 
@@ -211,7 +186,7 @@ fn a_notify_of_a_thread_that_does_not_hold_the_mutex_hands_it_to_one(rt: HostRun
             often 500 fair_lock; fair_wait; inside 1; fair_unlock
             raise end
         thread 1
-            until end 1 fair_lock; inside 1; fair_unlock; yield
+            until end 1 fair_lock; inside 1; fair_unlock
         thread 1
             until end 1 fair_notify one = any; fair_notify all = any",
     );
@@ -226,10 +201,10 @@ fn who_comes_as_the_mutex_is_unlocked_has_it_next(rt: HostRuntime) {
         rt.alloc(),
         "play word
         thread 1
-            often 300000 fair_lock; fair_race_unlock; await b round
+            often 300000 fair_lock; raise a; spin; fair_unlock; await b round
             fair_lock; fair_unlock
             raise end
         thread 1
-            until end 1 fair_race_lock; fair_unlock; raise b",
+            until end 1 await a round; fair_lock; fair_unlock; raise b",
     );
 }

@@ -11,22 +11,16 @@ mod each_call;
 #[cfg(test)]
 mod fair;
 #[cfg(test)]
-mod given_up;
-#[cfg(test)]
-mod handed;
-#[cfg(test)]
-mod notified;
-#[cfg(test)]
-mod perform;
+mod held;
 #[cfg(test)]
 mod released;
+#[cfg(test)]
+mod script;
 #[cfg(test)]
 mod slow;
 #[cfg(test)]
 mod stage;
 #[cfg(test)]
-mod surroundings;
-#[cfg(test)]
-mod taken;
+mod waits;
 #[cfg(test)]
 mod words;

@@ -1,9 +1,9 @@
-//! Whom a release wakes. Four threads park on the key of a lock, each behind the one before, with
-//! the token of a reader, 0, or of a writer, 1. Another comes in vain, so that the lock's word
-//! tells that threads may be parked, and what is held is let go. `tokens` tells who is left, a
-//! digit each, 1 more than its token. Then all are unparked.
+//! Whom a release wakes. Threads park on the key of a lock, each behind the one before, with the
+//! token of a reader, 0, or of a writer, 1. Another comes in vain, so that the lock's word tells
+//! that threads may be parked, and what is held is let go. `queue` tells who is left. Then all are
+//! unparked.
 
-use crate::perform::perform;
+use crate::script::perform;
 
 // It refuses a release that wakes all, one that wakes nobody, one that wakes a writer beside
 // readers, one that forgets those who are left, and a lock that lets new readers in before a writer
@@ -13,33 +13,24 @@ fn a_writer_wakes_a_writer_or_the_readers_in_front_of_one(rt: HostRuntime) {
     perform(
         &rt,
         rt.alloc(),
-        "play word 1 0 0 1 0 112 no
-        play word 1 0 0 1 1 2 no
-        play word 1 0 0 1 2 0 no
-        play word 0 0 1 0 0 21 no
-        play word 0 0 1 0 1 1 no
-        play word 0 0 1 0 2 0 yes
-        play word 0 0 0 0 0 0 yes
-        thread 1
+        "play word 1001 0 234 no
+        play word 1001 1 4 no
+        play word 1001 2 0 no
+        play word 0010 0 34 no
+        play word 0010 1 4 no
+        play word 0010 2 0 yes
+        play word 0000 0 0 yes
+        thread 4
             park key $1 far
-        thread 1
-            waiting key 1
-            park key $2 far
-        thread 1
-            waiting key 2
-            park key $3 far
-        thread 1
-            waiting key 3
-            park key $4 far
         thread 1
             waiting key 4
             try write
             can read now = no
             let_go
-            repeat $5 try write; let_go
-            tokens key = $6
-            can read = $7
-            unpark_all key = any",
+            repeat $2 try write; let_go
+            queue key = $3
+            can read = $4
+            unpark key = any",
     );
 }
 
@@ -50,18 +41,9 @@ fn a_reader_wakes_if_it_is_the_last(rt: HostRuntime) {
     perform(
         &rt,
         rt.alloc(),
-        "play word 1 0 0 1
-        thread 1
-            park key $1 far
-        thread 1
-            waiting key 1
-            park key $2 far
-        thread 1
-            waiting key 2
-            park key $3 far
-        thread 1
-            waiting key 3
-            park key $4 far
+        "play word
+        thread 4
+            park key 1001 far
         thread 1
             waiting key 4
             try read
@@ -69,13 +51,13 @@ fn a_reader_wakes_if_it_is_the_last(rt: HostRuntime) {
             await b 1
             can write now = no
             let_go
-            tokens key = 2112
+            queue key = 1234
             can read = no
             raise a
             await b 2
-            tokens key = 112
+            queue key = 234
             can read = no
-            unpark_all key = 3
+            unpark key = 3
         thread 1
             await a 1
             try read
@@ -91,58 +73,37 @@ fn a_downgrade_and_a_writer_that_gives_up_wake_no_writer(rt: HostRuntime) {
     perform(
         &rt,
         rt.alloc(),
-        "play word 1 0 0 1 2112 no
-        play word 0 0 1 0 21 no
-        play word 0 0 0 0 0 yes
-        thread 1
+        "play word 1001 1234 no
+        play word 0010 34 no
+        play word 0000 0 yes
+        thread 4
             park key $1 far
-        thread 1
-            waiting key 1
-            park key $2 far
-        thread 1
-            waiting key 2
-            park key $3 far
-        thread 1
-            waiting key 3
-            park key $4 far
         thread 1
             waiting key 4
             take write
             can read now = no
             downgrade
-            tokens key = $5
-            can read = $6
+            queue key = $2
+            can read = $3
             let_go
-            unpark_all key = any",
-    );
-    perform(
-        &rt,
-        rt.alloc(),
-        "play word 1 0 0 1 2112 no
-        play word 0 0 1 0 21 no
-        play word 0 0 0 0 0 yes
-        thread 1
+            unpark key = any
+        %
+        play word 1001 1234 no
+        play word 0010 34 no
+        play word 0000 0 yes
+        thread 4
             park key $1 far
-        thread 1
-            waiting key 1
-            park key $2 far
-        thread 1
-            waiting key 2
-            park key $3 far
-        thread 1
-            waiting key 3
-            park key $4 far
         thread 1
             waiting key 4
             try read
             raise a
             await a 2
             can write now = no
-            tokens key = $5
-            can read = $6
+            queue key = $2
+            can read = $3
             raise a
             let_go
-            unpark_all key = any
+            unpark key = any
         thread 1
             await a 1
             try read
@@ -157,46 +118,27 @@ fn a_mutex_or_permit_wakes_one(rt: HostRuntime) {
     perform(
         &rt,
         rt.alloc(),
-        "play word lock 0 111 yes
-        play word fair 0 111 no
-        play word one 0 111 yes
-        play word one 1 11 yes
-        thread 1
-            park key 0 far
-        thread 1
-            waiting key 1
-            park key 0 far
-        thread 1
-            waiting key 2
-            park key 0 far
-        thread 1
-            waiting key 3
-            park key 0 far
+        "play word lock let_go 0 234 yes
+        play word lock hand_over 0 234 no
+        play word one let_go 0 234 yes
+        play word one let_go 1 34 yes
+        thread 4
+            park key 0000 far
         thread 1
             waiting key 4
             try $1
             can $1 now = no
-            let_go
-            repeat $2 try $1; let_go
-            tokens key = $3
-            can $1 = $4
-            unpark_all key = any",
-    );
-}
-
-// It refuses a release that wakes nobody while another permit is free: the thread that was woken
-// for that one has not gone on yet, and wakes nobody either.
-#[test]
-fn each_of_two_releases_wakes_a_thread_before_the_first_has_gone_on(rt: HostRuntime) {
-    perform(
-        &rt,
-        rt.alloc(),
-        "play word
-        thread 1
-            park key 0 far
-        thread 1
-            waiting key 1
-            park key 0 far
+            $2
+            repeat $3 try $1; let_go
+            queue key = $4
+            can $1 = $5
+            unpark key = any
+        %
+        # It refuses a release that wakes nobody while another permit is free: the thread that was
+        # woken for that one has not gone on yet, and wakes nobody either.
+        play word
+        thread 2
+            park key 00 far
         thread 1
             waiting key 2
             take two
@@ -204,7 +146,7 @@ fn each_of_two_releases_wakes_a_thread_before_the_first_has_gone_on(rt: HostRunt
             await b 1
             can two now = no
             let_go
-            tokens key = 1
+            queue key = 2
             raise a
         thread 1
             await a 1
@@ -212,7 +154,7 @@ fn each_of_two_releases_wakes_a_thread_before_the_first_has_gone_on(rt: HostRunt
             raise b
             await a 2
             let_go
-            tokens key = 0
-            unpark_all key = 0",
+            queue key = 0
+            unpark key = 0",
     );
 }

@@ -3,16 +3,15 @@
 use std::time::{Clock, Instant};
 use test_support::clock::{FAR, SOON, from_now};
 use test_support::followed_parker::GATE;
+use test_support::words::Words;
 
-/// Where those wait who wait for a lock. Each test uses one of the locks alone.
+/// Where those wait who wait for a lock. Each script uses one of the locks alone.
 pub const KEY: usize = 7;
 
 /// Where those sleep who are to be notified.
 pub const SLEEPERS: usize = 8;
 
 pub const CELL: usize = 9;
-
-pub const PRODUCERS: usize = 10;
 
 // Both keys have one bucket of 16.
 pub const FAIR_KEY: usize = 0;
@@ -21,7 +20,11 @@ pub const FAIR_SLEEPERS: usize = 13;
 
 /// The word at this place of the line, the first being at 0. It is empty if there is none.
 pub fn word_at(line: &str, place: usize) -> &str {
-    line.split(' ').nth(place).unwrap_or("")
+    let mut words = Words::of(line, &[], 0);
+    for _ in 0..place {
+        words.word();
+    }
+    words.word().unwrap_or("")
 }
 
 /// What stands behind the first words of the line, so many.
@@ -38,11 +41,17 @@ pub fn behind(line: &str, words: usize) -> &str {
 
 /// The number of a word: `round` is that of the round that is played.
 pub fn number(word: &str, round: usize) -> Option<usize> {
-    if word == "round" {
-        return Some(round);
+    match word {
+        "round" => Some(round),
+        "yes" => Some(1),
+        "no" => Some(0),
+        "late" => Some(LATE),
+        _ => word.parse().ok(),
     }
-    word.parse::<usize>().ok()
 }
+
+/// What comes out of a wait that is notified behind its deadline.
+pub const LATE: usize = 2;
 
 /// The key with this name.
 pub fn key_named(word: &str) -> Option<usize> {
@@ -50,33 +59,20 @@ pub fn key_named(word: &str) -> Option<usize> {
         "gate" => GATE,
         "key" => KEY,
         "sleepers" => SLEEPERS,
-        "producers" => PRODUCERS,
         "fair" => FAIR_KEY,
         "fair_sleepers" => FAIR_SLEEPERS,
         _ => return None,
     })
 }
 
-/// Whether a lock is taken this way.
-pub fn is_way(word: &str) -> bool {
-    matches!(
-        word,
-        "lock" | "fair" | "read" | "write" | "one" | "two" | "none" | "most"
-    )
-}
-
-// So many milliseconds: `far` is when nobody comes who is woken, and `soon` passes while the test
-// runs.
-fn milliseconds(word: &str) -> Option<u64> {
-    match word {
-        "now" => Some(0),
-        "soon" => Some(SOON),
-        "far" => Some(FAR),
-        _ => Some(number(word, 0)? as u64),
-    }
-}
-
-/// The deadline with this name, from now.
+/// The deadline with this name, or so many milliseconds from now: `far` is when nobody comes who is
+/// woken, and `soon` passes while the test runs.
 pub fn deadline<R: Clock>(rt: &R, word: &str) -> Option<Instant> {
-    from_now(rt, milliseconds(word)?)
+    let milliseconds = match word {
+        "now" => 0,
+        "soon" => SOON,
+        "far" => FAR,
+        _ => word.parse().ok()?,
+    };
+    from_now(rt, milliseconds)
 }

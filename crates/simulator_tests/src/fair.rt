@@ -3,7 +3,7 @@
 
 use crate::plain::arbitrary::{write_fair_step, write_list};
 use crate::plain::fair::PlainFair;
-use crate::words::{expect_text, number, parts, word};
+use crate::words::{expect, expect_each, expect_text, number, parts, word};
 use lot_base::token::NoMemory;
 use lot_simulator::fair::{FairAnswer, FairCore, FairStep, run_fair};
 use std::alloc::Global;
@@ -23,7 +23,7 @@ fn fair_step(rt: &impl Abort, line: &str) -> FairStep {
         "leave" => FairStep::Leave { thread },
         "notify-one" => FairStep::NotifyOne,
         word => {
-            assert!(rt; word == "notify-all", "no such step: {line}");
+            expect(rt, word == "notify-all", line);
             FairStep::NotifyAll
         }
     }
@@ -79,12 +79,12 @@ fn play(
 // bound.
 fn compare(rt: &impl Abort, core: &FairCore, plain: &PlainFair, bound: usize, case: &str) {
     let waiters = core.waiters().expect(rt, "memory");
-    assert!(rt; waiters.as_slice() == plain.waiters(), "{case}");
+    expect(rt, waiters.as_slice() == plain.waiters(), case);
     let sleepers = core.sleepers().expect(rt, "memory");
-    assert!(rt; sleepers.as_slice() == plain.sleepers(), "{case}");
-    assert!(rt; core.is_locked() == plain.is_locked(), "{case}");
+    expect(rt, sleepers.as_slice() == plain.sleepers(), case);
+    expect(rt, core.is_locked() == plain.is_locked(), case);
     for number in 0..bound {
-        assert!(rt; core.status(number) == plain.status(number), "{case}");
+        expect(rt, core.status(number) == plain.status(number), case);
     }
 }
 
@@ -92,7 +92,7 @@ fn compare(rt: &impl Abort, core: &FairCore, plain: &PlainFair, bound: usize, ca
 fn expect_rows(rt: &impl Abort, alloc: Global, core: &mut FairCore, rows: &str) {
     let mut plain = PlainFair::new(alloc, 3).expect(rt, "memory");
     for row in rows.lines() {
-        let (asked, expected) = parts(rt, row);
+        let (asked, expected) = parts(row);
         let found = play(rt, alloc, (&mut *core, &mut plain), asked);
         expect_text(rt, row, found.as_str().trim(), expected);
         compare(rt, core, &plain, 4, row);
@@ -191,7 +191,7 @@ fn check_short_lists(rt: &impl Abort, alloc: Global, beginning: &str) {
         }
         count = count.wrapping_mul(STEPS.len());
     }
-    assert!(rt; lists == 22_621);
+    expect_each(rt, lists == 22_621, "so many lists", lists);
 }
 
 #[test]

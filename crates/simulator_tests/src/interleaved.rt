@@ -7,7 +7,7 @@ mod words;
 
 use crate::lot::{expect_lists, expect_records, expect_run};
 use crate::plain::interleaved::FinePlain;
-use crate::words::{expect_text, write_step};
+use crate::words::{expect, expect_text, write_step};
 use lot_machine::step::Step;
 use lot_simulator::interleaved::{FineAnswer, FineLot, FineStep, run_fine};
 use lot_simulator::lot::Lot;
@@ -66,11 +66,11 @@ impl Both {
     // Compares the lists of these keys, and the sequential steps, which are given to a new lot.
     fn compare(&self, rt: &impl Abort, keys: &[usize], case: &str) {
         let plain = self.plain.view();
-        assert!(rt; self.lot.size() == plain.size(), "{case}");
-        assert!(rt; self.lot.registered() == plain.registered(), "{case}");
+        expect(rt, self.lot.size() == plain.size(), case);
+        expect(rt, self.lot.registered() == plain.registered(), case);
         for key in keys {
             let found = self.lot.list(*key).expect(rt, "memory");
-            assert!(rt; found.as_slice() == plain.list(*key), "{case}");
+            expect(rt, found.as_slice() == plain.list(*key), case);
         }
         let mut text = String::new(self.alloc);
         for step in &self.told {
@@ -89,7 +89,7 @@ impl Both {
         expect_records(rt, lot, plain, (self.max_threads, keys), case);
         for number in 0..self.max_threads {
             let expected = self.plain.sequential_status(number);
-            assert!(rt; lot.status(number) == expected, "{case}");
+            expect(rt, lot.status(number) == expected, case);
         }
     }
 }

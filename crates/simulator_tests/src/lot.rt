@@ -5,7 +5,7 @@ mod calls;
 mod lists;
 
 use crate::plain::exclusive::Plain;
-use crate::words::{expect_text, step};
+use crate::words::{expect, expect_text, step};
 use lot_machine::step::{Answer, Step};
 use lot_script::script::write_answer;
 use lot_simulator::lot::Lot;
@@ -20,10 +20,10 @@ pub fn expect_run(rt: &impl Abort, alloc: Global, lot: &mut Lot, steps: &[Step],
     run(lot, steps, &mut answers).expect(rt, "memory");
     let mut written = Vec::new(alloc);
     for answer in &answers {
-        assert!(rt; write_answer(&mut written, *answer).is_ok());
+        write_answer(&mut written, *answer).expect(rt, "memory");
         written.push(b'\n').expect(rt, "memory");
     }
-    assert!(rt; written.as_slice() == expected.as_bytes(), "{expected}");
+    expect(rt, written.as_slice() == expected.as_bytes(), expected);
 }
 
 /// Runs the lines' steps on the lot, and compares what it answers with what the plain machine does.
@@ -44,11 +44,11 @@ pub fn run_beside(
 
 /// Compares the sizes, and the lists of the keys.
 pub fn expect_lists(rt: &impl Abort, lot: &Lot, plain: &Plain, keys: &[usize], case: &str) {
-    assert!(rt; lot.size() == plain.size(), "{case}");
-    assert!(rt; lot.registered() == plain.registered(), "{case}");
+    let is_as_large = lot.size() == plain.size() && lot.registered() == plain.registered();
+    expect(rt, is_as_large, case);
     for key in keys {
         let found = lot.list(*key).expect(rt, "memory");
-        assert!(rt; found.as_slice() == plain.list(*key), "{case}");
+        expect(rt, found.as_slice() == plain.list(*key), case);
     }
 }
 
@@ -63,7 +63,7 @@ pub fn expect_records(
     for thread in 0..threads {
         for key in keys {
             let expected = plain.records(thread, *key);
-            assert!(rt; lot.records(thread, *key) == expected, "{case}");
+            expect(rt, lot.records(thread, *key) == expected, case);
         }
     }
 }
@@ -79,7 +79,7 @@ fn expect_same(
     expect_lists(rt, lot, plain, keys, case);
     expect_records(rt, lot, plain, (threads, keys), case);
     for number in 0..threads {
-        assert!(rt; lot.status(number) == plain.status(number), "{case}");
+        expect(rt, lot.status(number) == plain.status(number), case);
     }
 }
 

@@ -1,6 +1,7 @@
 //! Requests for memory that are refused, as `rt try --test --fail-alloc N` refuses the Nth: each of
 //! these tests ends well whichever it is.
 
+use crate::words::{expect, expect_each};
 use lot_base::token::{DEFAULT_PARK_TOKEN, FilterOp, LotError, StepError, UnparkToken};
 use lot_machine::status::Status;
 use lot_machine::step::{Answer, Op, Step};
@@ -17,9 +18,9 @@ fn record_often(rt: &impl Abort, lot: &mut Lot) -> usize {
     for _ in 0..20 {
         match lot.acquire(0, 5) {
             Ok(()) => times = times.wrapping_add(1),
-            Err(refused) => assert!(rt; refused == StepError::NoMemory),
+            Err(refused) => expect(rt, refused == StepError::NoMemory, "memory is refused"),
         }
-        assert!(rt; lot.records(0, 5) == times);
+        expect_each(rt, lot.records(0, 5) == times, "so many records", times);
     }
     times
 }
@@ -28,16 +29,23 @@ fn record_often(rt: &impl Abort, lot: &mut Lot) -> usize {
 // for no memory.
 fn expect_unchanged(rt: &impl Abort, lot: &mut Lot) {
     let refused = lot.register().is_err();
-    assert!(rt; (lot.status(0) == Status::Free) == refused);
-    assert!(rt; !refused || lot.register() == Ok(0));
+    let is_free = (lot.status(0) == Status::Free) == refused;
+    expect(rt, is_free, "the number is free where it is refused");
+    expect(
+        rt,
+        !refused || lot.register() == Ok(0),
+        "the number is given",
+    );
     let times = record_often(rt, lot);
-    assert!(rt; times >= 19);
+    expect_each(rt, times >= 19, "one is refused", times);
     for left in (0..times).rev() {
-        assert!(rt; lot.release(0, 5) == Ok(()) && lot.records(0, 5) == left);
+        let is_released = lot.release(0, 5) == Ok(()) && lot.records(0, 5) == left;
+        expect_each(rt, is_released, "records are left", left);
     }
-    assert!(rt; lot.enter(0, 7, || true, DEFAULT_PARK_TOKEN, false) == Ok(true));
-    assert!(rt; lot.list(7).is_ok() || lot.list(7).is_ok());
-    assert!(rt; lot.status(0) == WAITS);
+    let entered = lot.enter(0, 7, || true, DEFAULT_PARK_TOKEN, false);
+    let is_listed = lot.list(7).is_ok() || lot.list(7).is_ok();
+    let waits = entered == Ok(true) && lot.status(0) == WAITS;
+    expect(rt, is_listed && waits, "the thread waits");
 }
 
 // For five threads 16 buckets are enough. A refused growth and a refused trim change nothing.
@@ -47,14 +55,17 @@ fn expect_sizes(rt: &impl Abort, lot: &mut Lot) {
             break;
         }
         if let Err(error) = lot.register() {
-            assert!(rt; error == LotError::NoMemory);
+            expect(rt, error == LotError::NoMemory, "memory is refused");
         }
-        assert!(rt; lot.size() == if lot.registered() < 6 { 16 } else { 32 });
+        let size = if lot.registered() < 6 { 16 } else { 32 };
+        expect_each(rt, lot.size() == size, "the size", size);
     }
-    assert!(rt; lot.registered() == 6 && lot.retire(5) == Ok(()));
+    let is_retired = lot.registered() == 6 && lot.retire(5) == Ok(());
+    expect(rt, is_retired, "the last one retires");
     let trimmed = lot.trim().is_ok();
-    assert!(rt; lot.size() == if trimmed { 16 } else { 32 });
-    assert!(rt; trimmed || lot.trim().is_ok());
+    let size = if trimmed { 16 } else { 32 };
+    expect_each(rt, lot.size() == size, "the size", size);
+    expect(rt, trimmed || lot.trim().is_ok(), "the table is trimmed");
 }
 
 #[test]
@@ -79,15 +90,19 @@ fn expect_answers(rt: &impl Abort, lot: &mut Lot, answers: &mut Vec<Answer>) {
         },
     ];
     if run(lot, &steps, answers).is_err() {
-        assert!(rt; answers.is_empty() && lot.registered() == 0);
-        assert!(rt; run(lot, &steps, answers).is_ok());
+        expect(
+            rt,
+            answers.is_empty() && lot.registered() == 0,
+            "nothing is done",
+        );
+        expect(rt, run(lot, &steps, answers).is_ok(), "all is done");
     }
     let expected = match (lot.registered(), lot.records(0, 5)) {
         (0, _) => [Answer::NoMemory, Answer::Misfit, Answer::Misfit],
         (_, 0) => [Answer::Registered(0), Answer::NoMemory, Answer::Entered],
         _ => [Answer::Registered(0), Answer::Recorded, Answer::Entered],
     };
-    assert!(rt; answers.as_slice() == expected.as_slice());
+    expect(rt, answers.as_slice() == expected.as_slice(), "the answers");
 }
 
 // A run that has no room for its answers leaves all as it was, and a registration or a recording
@@ -114,14 +129,17 @@ fn expect_filtered(
     };
     let steps = [FineStep::Register, FineStep::Begin { caller: 0, op }];
     if run_fine(lot, &steps, answers, sequential).is_err() {
-        assert!(rt; answers.is_empty() && sequential.is_empty() && lot.registered() == 0);
-        assert!(rt; run_fine(lot, &steps, answers, sequential).is_ok());
+        let is_new = answers.is_empty() && sequential.is_empty() && lot.registered() == 0;
+        expect(rt, is_new, "nothing is done");
+        let is_run = run_fine(lot, &steps, answers, sequential).is_ok();
+        expect(rt, is_run, "all is done");
     }
     let first = match lot.registered() {
         0 => Answer::NoMemory,
         _ => Answer::Registered(0),
     };
-    assert!(rt; answers.first() == Some(&FineAnswer::Answer(first)) && answers.len() == 2);
+    let is_first = answers.first() == Some(&FineAnswer::Answer(first));
+    expect(rt, is_first && answers.len() == 2, "the answers");
 }
 
 // A run that has no room for its answers, for its sequential steps or for copies leaves all as it
@@ -138,10 +156,10 @@ fn an_interleaved_run_without_room_changes_nothing(rt: HostRuntime) {
 // Registers so many threads, the last of which records a thousand keys.
 fn expect_room(rt: &impl Abort, lot: &mut Lot) {
     for number in 0..16_384 {
-        assert!(rt; lot.register() == Ok(number), "{number}");
+        expect_each(rt, lot.register() == Ok(number), "a number", number);
     }
     for key in 0..1_000 {
-        assert!(rt; lot.acquire(16_383, key) == Ok(()), "{key}");
+        expect_each(rt, lot.acquire(16_383, key) == Ok(()), "a key", key);
     }
 }
 
@@ -150,7 +168,11 @@ fn expect_room(rt: &impl Abort, lot: &mut Lot) {
 #[test]
 fn a_lot_has_room_for_16384_threads_and_a_thread_for_1000_records(rt: HostRuntime) {
     let refused = Lot::new(rt.alloc(), 16_385).err();
-    assert!(rt; refused == Some(LotError::TooManyThreads));
+    expect(
+        &rt,
+        refused == Some(LotError::TooManyThreads),
+        "too many threads",
+    );
     let mut lot = Lot::new(rt.alloc(), 16_384).expect(&rt, "memory");
     expect_room(&rt, &mut lot);
 }
@@ -163,17 +185,20 @@ fn expect_fine_room(
     sequential: &mut Vec<Step>,
 ) {
     for _ in 0..16_384 {
-        assert!(rt; run_fine(lot, &[FineStep::Register], answers, sequential).is_ok());
+        let is_run = run_fine(lot, &[FineStep::Register], answers, sequential).is_ok();
+        expect(rt, is_run, "a registration");
     }
     for key in 0..1_000 {
         let acquire = FineStep::Acquire {
             thread: 16_383,
             key,
         };
-        assert!(rt; run_fine(lot, &[acquire], answers, sequential).is_ok());
+        let is_run = run_fine(lot, &[acquire], answers, sequential).is_ok();
+        expect_each(rt, is_run, "a record", key);
     }
-    assert!(rt; lot.registered() == 16_384 && sequential.len() == 17_384);
-    assert!(rt; answers.last() == Some(&FineAnswer::Answer(Answer::Recorded)));
+    let is_full = lot.registered() == 16_384 && sequential.len() == 17_384;
+    let is_recorded = answers.last() == Some(&FineAnswer::Answer(Answer::Recorded));
+    expect(rt, is_full && is_recorded, "all have room");
 }
 
 // The same of an interleaved lot.
@@ -181,7 +206,12 @@ fn expect_fine_room(
 fn an_interleaved_lot_has_room_for_16384_threads_and_a_thread_for_1000_records(rt: HostRuntime) {
     for (threads, callers) in [(16_385, 1), (1, 16_385)] {
         let refused = FineLot::new(rt.alloc(), threads, callers).err();
-        assert!(rt; refused == Some(LotError::TooManyThreads), "{threads}");
+        expect_each(
+            &rt,
+            refused == Some(LotError::TooManyThreads),
+            "so many threads",
+            threads,
+        );
     }
     let mut lot = FineLot::new(rt.alloc(), 16_384, 16_384).expect(&rt, "memory");
     let (mut answers, mut sequential) = (Vec::new(rt.alloc()), Vec::new(rt.alloc()));

@@ -2,7 +2,7 @@
 
 use crate::plain::arbitrary::write_step;
 use crate::plain::record::PlainRecord;
-use crate::words::{expect_text, parts, step};
+use crate::words::{expect, expect_each, expect_text, parts, step};
 use lot_machine::step::Answer;
 use lot_script::script::write_answer;
 use lot_simulator::lot::Lot;
@@ -20,7 +20,7 @@ pub fn text_of(rt: &impl Abort, alloc: Global, given: Result<Answer, RecordError
     match given {
         Ok(answer) => {
             let mut written = Vec::new(alloc);
-            assert!(rt; write_answer(&mut written, answer).is_ok());
+            write_answer(&mut written, answer).expect(rt, "memory");
             let given = str::from_utf8(written.as_slice()).unwrap_or("no text");
             text.push_str(given).expect(rt, "memory");
         }
@@ -50,11 +50,12 @@ fn expect_rows(rt: &impl Abort, alloc: Global, (threads, room): (usize, usize), 
     let mut record = Record::new(alloc, threads, room).expect(rt, "memory");
     let mut plain = PlainRecord::new(alloc, threads, room).expect(rt, "memory");
     for row in rows.lines() {
-        let (asked, expected) = parts(rt, row);
+        let (asked, expected) = parts(row);
         let found = play(rt, alloc, (&mut record, &mut plain), asked);
         expect_text(rt, row, found.as_str(), expected);
     }
-    assert!(rt; record.journal().len() == room && record.max_threads() == threads);
+    let is_full = record.journal().len() == room && record.max_threads() == threads;
+    expect(rt, is_full, rows);
 }
 
 // The entries of a timed park are set aside for it, and no other step gets them. It refuses a
@@ -75,18 +76,20 @@ fn a_journal_has_the_room_that_it_was_made_with(rt: HostRuntime) {
     expect_rows(&rt, rt.alloc(), (0, 1), full);
     let trimmed = "trim = trimmed\n register = journal is full\n trim = journal is full";
     expect_rows(&rt, rt.alloc(), (0, 1), trimmed);
-    assert!(rt; Record::new(rt.alloc(), 0, MAX_JOURNAL).is_ok());
-    let text = RecordError::NoMemory.to_string(rt.alloc());
-    assert!(rt; text.expect(&rt, "memory").as_str() == "no memory");
+    let greatest = Record::new(rt.alloc(), 0, MAX_JOURNAL);
+    expect(&rt, greatest.is_ok(), "the greatest journal");
+    let text = text_of(&rt, rt.alloc(), Err(RecordError::NoMemory));
+    expect_text(&rt, "a refusal", text.as_str(), "no memory");
 }
 
 /// Does the journal's steps on a new lot for so many threads, and compares the answers.
 pub fn expect_replay(rt: &impl Abort, alloc: Global, record: &Record, threads: usize) {
     let mut lot = Lot::new(alloc, threads).expect(rt, "memory");
     for (step, answer) in record.journal() {
-        assert!(rt; lot.apply(step) == *answer);
+        expect(rt, lot.apply(step) == *answer, "the answer of the journal");
     }
-    assert!(rt; lot.registered() == record.lot().registered());
+    let are_as_many = lot.registered() == record.lot().registered();
+    expect(rt, are_as_many, "the registered threads");
 }
 
 // Does arbitrary steps on a record with so much room, and on a plain one. One number more than the
@@ -103,7 +106,8 @@ fn compare_steps(
         write_step(&mut state, 4, &mut line).expect(rt, "memory");
         play(rt, alloc, (&mut *record, &mut *plain), line.as_str());
     }
-    assert!(rt; record.journal().len() == plain.entries());
+    let are_as_many = record.journal().len() == plain.entries();
+    expect_each(rt, are_as_many, "a journal with so much room", room);
 }
 
 #[test]

@@ -3,7 +3,7 @@
 ghost use Rattle.std.specs.Prelude.{◌≡◌};
 
 use crate::record::{expect_replay, text_of};
-use crate::words::{expect_text, number, parts, step};
+use crate::words::{expect, expect_text, number, parts, step};
 use lot_base::token::{DEFAULT_PARK_TOKEN, UnparkToken};
 use lot_machine::step::{Op, Step};
 use lot_simulator::recording_lot::{RecordingLot, Ticket};
@@ -24,7 +24,7 @@ fn expect_rows<C: Ledger, W: Ledger, U: Ledger, R: Wait + Abort>(
     rows: &str,
 ) {
     for row in rows.lines() {
-        let (asked, expected) = parts(rt, row);
+        let (asked, expected) = parts(row);
         let (_, line) = asked.split_once(' ').unwrap_or(("", ""));
         let ticket = tickets.get_mut(number(asked, 0)).expect(rt, "a ticket");
         let given = lot.step(rt, ticket, step(rt, alloc, line));
@@ -38,10 +38,10 @@ fn expect_totals<C: Ledger, W: Ledger, U: Ledger, R: Abort>(
     tickets: &[Ticket<C, W, U>],
     expected: &[(usize, usize, usize)],
 ) {
-    assert!(rt; tickets.len() == expected.len());
+    expect(rt, tickets.len() == expected.len(), "as many tickets");
     for (ticket, totals) in tickets.iter().zip(expected) {
         let found = (ticket.count(), ticket.woken(), ticket.unparked());
-        assert!(rt; found == *totals);
+        expect(rt, found == *totals, "the totals of a ticket");
     }
 }
 
@@ -73,7 +73,7 @@ fn use_two_tickets<C: Ledger, W: Ledger, U: Ledger, R: Wait + Abort>(
     expect_rows(rt, alloc, &lot, tickets.as_mut_slice(), ROWS);
     expect_totals(rt, tickets.as_slice(), &[(3, 1, 0), (3, 0, 1)]);
     let recorded = lot.close(tickets);
-    assert!(rt; recorded.journal().len() == 6);
+    expect(rt, recorded.journal().len() == 6, "the entries");
     expect_replay(rt, alloc, &recorded, 2);
 }
 
@@ -166,8 +166,8 @@ where
         counted = counted.wrapping_add(ticket.count());
     }
     let recorded = lot.close(tickets);
-    assert!(rt; counted > CALLS);
-    assert!(rt; recorded.journal().len() == counted);
+    let is_counted = counted > CALLS && recorded.journal().len() == counted;
+    expect(rt, is_counted, "the entries that the tickets count");
     expect_replay(rt, alloc, &recorded, 6);
 }
 

@@ -6,7 +6,7 @@ mod rows;
 
 use crate::plain::arbitrary::write_line;
 use crate::plain::exclusive::Plain;
-use crate::words::{expect_text, number, parts};
+use crate::words::{expect, expect_text, number, parts};
 use lot_base::token::NoMemory;
 use lot_script::script::{Fault, ScriptedLot, buffered_script, script};
 use std::alloc::Global;
@@ -14,19 +14,25 @@ use std::fmt::Write;
 use std::process::Abort;
 
 // Runs a script on this input, and compares what it wrote and how it ended.
-fn expect(rt: &impl Abort, alloc: Global, input: &[u8], written: &str, ended: &Result<(), Fault>) {
+fn expect_input(
+    rt: &impl Abort,
+    alloc: Global,
+    input: &[u8],
+    written: &str,
+    ended: &Result<(), Fault>,
+) {
     let mut output = Vec::new(alloc);
     let result = script(alloc, input, &mut output);
-    assert!(rt; output.as_slice() == written.as_bytes(), "{input:?}");
-    assert!(rt; result == *ended, "{input:?}");
+    let is_well = output.as_slice() == written.as_bytes() && result == *ended;
+    expect(rt, is_well, str::from_utf8(input).unwrap_or("no text"));
 }
 
 // Runs a script that has buffers of its own, and compares what it wrote.
 fn expect_buffered(rt: &impl Abort, alloc: Global, input: &str, written: &str) {
     let mut output = Vec::new(alloc);
     let result = buffered_script(alloc, input.as_bytes(), &mut output);
-    assert!(rt; output.as_slice() == written.as_bytes(), "{input}");
-    assert!(rt; result == Ok(()), "{input}");
+    expect(rt, output.as_slice() == written.as_bytes(), input);
+    expect(rt, result == Ok(()), input);
 }
 
 // Gives the lines to a lot one at a time, and compares what it wrote.
@@ -35,9 +41,9 @@ fn expect_by_line(rt: &impl Abort, alloc: Global, input: &str, written: &str) {
     let mut output = Vec::new(alloc);
     for line in input.lines() {
         let answered = scripted.answer(line.as_bytes(), &mut output);
-        assert!(rt; answered == Ok(()), "{line}");
+        expect(rt, answered == Ok(()), line);
     }
-    assert!(rt; output.as_slice() == written.as_bytes(), "{input}");
+    expect(rt, output.as_slice() == written.as_bytes(), input);
 }
 
 // Gives the lines behind the first to a plain machine, and compares what it wrote.
@@ -56,12 +62,12 @@ fn expect_plain(rt: &impl Abort, alloc: Global, input: &str, written: &str) {
 fn play(rt: &impl Abort, alloc: Global, rows: &str) {
     let (mut input, mut written) = (String::new(alloc), String::new(alloc));
     for row in rows.lines() {
-        let (asked, expected) = parts(rt, row);
+        let (asked, expected) = parts(row);
         writeln!(input, "{asked}").expect(rt, "memory");
         writeln!(written, "{expected}").expect(rt, "memory");
     }
     let (input, written) = (input.as_str(), written.as_str());
-    expect(rt, alloc, input.as_bytes(), written, &Ok(()));
+    expect_input(rt, alloc, input.as_bytes(), written, &Ok(()));
     expect_buffered(rt, alloc, input, written);
     expect_by_line(rt, alloc, input, written);
     expect_plain(rt, alloc, input, written);
@@ -97,6 +103,6 @@ fn answers_of_arbitrary_scripts_are_those_of_the_plain_machine(rt: HostRuntime) 
         let texts = (&mut input, &mut expected);
         write_script(texts, &mut plain, *max_threads, seed).expect(&rt, "memory");
         let input = input.as_str().as_bytes();
-        expect(&rt, rt.alloc(), input, expected.as_str(), &Ok(()));
+        expect_input(&rt, rt.alloc(), input, expected.as_str(), &Ok(()));
     }
 }

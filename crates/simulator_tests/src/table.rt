@@ -1,6 +1,7 @@
 //! Worked rows of the table. The keys 0 and 13 have place 0 in a table of 16, and places of their
 //! own in a larger one.
 
+use crate::words::{expect, expect_each};
 use lot_base::queue::Node;
 use lot_base::token::{LotError, ParkToken};
 use lot_simulator::table::Table;
@@ -10,12 +11,17 @@ use std::process::Abort;
 // Registers or releases threads until there are so many, and then trims the table if it releases.
 fn go_to(rt: &impl Abort, table: &mut Table, threads: usize) {
     for number in table.registered()..threads {
-        assert!(rt; table.register() == Ok(number), "{number}");
+        expect_each(rt, table.register() == Ok(number), "a number", number);
     }
     for number in threads..table.registered() {
         table.release(number);
     }
-    assert!(rt; table.registered() == threads);
+    expect_each(
+        rt,
+        table.registered() == threads,
+        "so many threads",
+        threads,
+    );
 }
 
 // The least and the greatest number of threads that has each size.
@@ -39,18 +45,30 @@ fn expect_sizes(rt: &impl Abort, table: &mut Table) {
     for (least, greatest, size) in SIZES {
         for threads in [least, greatest] {
             go_to(rt, table, threads);
-            assert!(rt; table.size() == size && !table.is_too_large(), "{threads}");
+            expect_each(
+                rt,
+                table.size() == size && !table.is_too_large(),
+                "so many threads",
+                threads,
+            );
         }
-        assert!(rt;
-            table.is_too_small_for_one_more() == (greatest < 16_384),
-            "{greatest}"
-        );
+        let is_full = table.is_too_small_for_one_more() == (greatest < 16_384);
+        expect_each(rt, is_full, "the greatest number of threads", greatest);
     }
-    assert!(rt; table.register() == Err(LotError::Full));
+    expect(
+        rt,
+        table.register() == Err(LotError::Full),
+        "a table that is full",
+    );
     for (least, greatest, size) in SIZES.iter().rev() {
         for threads in [*greatest, *least] {
             go_to(rt, table, threads);
-            assert!(rt; table.trim().is_ok() && table.size() == *size, "{threads}");
+            expect_each(
+                rt,
+                table.trim().is_ok() && table.size() == *size,
+                "so many threads",
+                threads,
+            );
         }
     }
 }
@@ -81,11 +99,9 @@ fn expect_key(
 ) {
     let bucket = table.bucket(key);
     let found = bucket.list(alloc, key).expect(rt, "memory");
-    assert!(rt; found.as_slice() == numbers, "{key}");
-    assert!(rt;
-        bucket.place() == place && bucket.size() == table.size(),
-        "{key}"
-    );
+    expect_each(rt, found.as_slice() == numbers, "a key", key);
+    let is_there = bucket.place() == place && bucket.size() == table.size();
+    expect_each(rt, is_there, "the place of a key", key);
 }
 
 fn expect_kept(rt: &impl Abort, alloc: Global, table: &mut Table) {
@@ -94,7 +110,7 @@ fn expect_kept(rt: &impl Abort, alloc: Global, table: &mut Table) {
     }
     for (threads, place) in [(3, 0), (6, 1), (43, 8), (3, 0)] {
         go_to(rt, table, threads);
-        assert!(rt; table.trim().is_ok(), "{threads}");
+        expect_each(rt, table.trim().is_ok(), "so many threads", threads);
         expect_key(rt, alloc, table, 0, (&[0, 2], 0));
         expect_key(rt, alloc, table, 13, (&[1], place));
     }

@@ -1,6 +1,7 @@
 //! Readers and writers that fail, and a terminal on which each line is typed once the answers
 //! before it are shown.
 
+use crate::words::expect;
 use lot_script::script::{Cause, Fault, buffered_script, script};
 use std::alloc::Global;
 use std::cell::{Cell, RefCell};
@@ -101,9 +102,9 @@ impl<'a> Terminal<'a> {
     // Compares what is shown.
     fn expect_shown(&self, rt: &impl Abort, expected: &str) {
         let Ok(shown) = self.shown.try_borrow() else {
-            return assert!(rt; false, "nobody has it borrowed");
+            return expect(rt, false, "nobody has it borrowed");
         };
-        assert!(rt; shown.as_slice() == expected.as_bytes(), "{expected}");
+        expect(rt, shown.as_slice() == expected.as_bytes(), expected);
     }
 }
 
@@ -176,7 +177,7 @@ fn expect_script(
 ) {
     let input = BufReader::with_capacity(alloc, 1, End(terminal)).expect(rt, "memory");
     let result = script(alloc, input, &mut End(terminal));
-    assert!(rt; result == *ended, "{shown}");
+    expect(rt, result == *ended, shown);
     terminal.expect_shown(rt, shown);
 }
 
@@ -231,9 +232,8 @@ fn expect_buffered(
     (shown, reads): (&str, usize),
 ) {
     let result = buffered_script(alloc, End(terminal), &mut End(terminal));
-    assert!(rt; result == *ended, "{shown}");
+    expect(rt, result == *ended && terminal.reads.get() == reads, shown);
     terminal.expect_shown(rt, shown);
-    assert!(rt; terminal.reads.get() == reads, "{shown}");
 }
 
 // A read gives a line, or the first bytes of the next one too.

@@ -27,23 +27,31 @@ pub fn step(rt: &impl Abort, alloc: Global, line: &str) -> Step {
     match Command::of(alloc, line.as_bytes()) {
         Ok(Command::Do(step)) => step,
         _ => {
-            assert!(rt; false, "no such step: {line}");
+            expect(rt, false, line);
             Step::Trim
         }
     }
 }
 
 /// What a line asks for, and what is expected, which stands behind an equals sign.
-pub fn parts<'a>(rt: &impl Abort, line: &'a str) -> (&'a str, &'a str) {
-    let parts = line.split_once('=');
-    assert!(rt; parts.is_some(), "nothing is expected: {line}");
-    let (asked, expected) = parts.unwrap_or(("", ""));
+pub fn parts(line: &str) -> (&str, &str) {
+    let (asked, expected) = line.split_once('=').unwrap_or((line, ""));
     (asked.trim(), expected.trim())
 }
 
 /// Compares two texts.
 pub fn expect_text(rt: &impl Abort, case: &str, found: &str, expected: &str) {
     assert!(rt; found == expected, "{case}: {found}, and not {expected}");
+}
+
+/// An assertion costs a proof a second or more wherever it stands, and a call of this a tenth.
+pub fn expect(rt: &impl Abort, is_so: bool, case: &str) {
+    assert!(rt; is_so, "{case}");
+}
+
+/// The same of a case that has a number.
+pub fn expect_each(rt: &impl Abort, is_so: bool, case: &str, number: usize) {
+    assert!(rt; is_so, "{case}: {number}");
 }
 
 /// Writes the line of a step.

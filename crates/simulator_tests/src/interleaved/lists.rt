@@ -2,6 +2,7 @@
 
 use super::Both;
 use crate::plain::arbitrary::{KEYS, write_fine_step, write_list};
+use crate::words::{expect, expect_each};
 use lot_base::token::NoMemory;
 use std::alloc::Global;
 use std::fmt::Write;
@@ -92,7 +93,7 @@ fn check_lists(
 #[test]
 fn short_interleaved_lists_amount_to_their_sequential_steps(rt: HostRuntime) {
     let lists = check_lists(&rt, rt.alloc(), "", STEPS.as_slice(), 3);
-    assert!(rt; lists == 30_784);
+    expect_each(&rt, lists == 30_784, "so many lists", lists);
 }
 
 // There are 1 + 31 + 961 = 993 lists of up to two steps, after each of these.
@@ -107,7 +108,7 @@ fn short_lists_behind_a_race_amount_to_their_sequential_steps(rt: HostRuntime) {
         "begin 0 one 0 98\ndeadline 0\nread 0\ncommit 0\nend 0\n",
     ] {
         let lists = check_lists(&rt, rt.alloc(), before, STEPS.as_slice(), 2);
-        assert!(rt; lists == 993);
+        expect_each(&rt, lists == 993, "so many lists", lists);
     }
 }
 
@@ -119,7 +120,7 @@ fn races_amount_to_their_sequential_steps(rt: HostRuntime) {
         "deadline 0\nread 0\nbegin 0 one 0 98\n",
     ] {
         let lists = check_lists(&rt, rt.alloc(), before, RACE.as_slice(), 5);
-        assert!(rt; lists == 19_608);
+        expect_each(&rt, lists == 19_608, "so many lists", lists);
     }
 }
 
@@ -194,6 +195,6 @@ fn long_interleaved_lists_amount_to_their_sequential_steps(rt: HostRuntime) {
         given.push_str(answers.as_str()).expect(&rt, "memory");
     }
     for answer in ANSWERS {
-        assert!(rt; given.as_str().contains(answer), "{answer}");
+        expect(&rt, given.as_str().contains(answer), answer);
     }
 }

@@ -2,7 +2,7 @@
 //! have place 0 of 16.
 
 use super::Both;
-use crate::words::{expect_text, parts, write_step};
+use crate::words::{expect, expect_text, parts, write_step};
 use lot_machine::step::Step;
 use std::alloc::Global;
 use std::process::Abort;
@@ -12,7 +12,7 @@ fn both_of(rt: &impl Abort, alloc: Global, counts: (usize, usize), threads: usiz
     let mut both = Both::new(rt, alloc, counts);
     for _ in 0..threads {
         let found = both.play(rt, "register");
-        assert!(rt; found.as_str().starts_with("number"));
+        expect(rt, found.as_str().starts_with("number"), "a number");
     }
     both
 }
@@ -20,7 +20,7 @@ fn both_of(rt: &impl Abort, alloc: Global, counts: (usize, usize), threads: usiz
 // Does each line on both, and compares the answer with that of the row.
 fn expect_rows(rt: &impl Abort, both: &mut Both, rows: &str) {
     for row in rows.lines() {
-        let (asked, expected) = parts(rt, row);
+        let (asked, expected) = parts(row);
         let found = both.play(rt, asked);
         expect_text(rt, row, found.as_str().trim(), expected);
     }
@@ -38,7 +38,7 @@ fn expect_size(
 ) {
     let mut both = both_of(rt, alloc, (6, callers), threads);
     expect_rows(rt, &mut both, rows);
-    assert!(rt; both.plain.view().size() == size, "{rows}");
+    expect(rt, both.plain.view().size() == size, rows);
 }
 
 // Compares the sequential steps behind so many.
@@ -110,7 +110,8 @@ fn a_wake_may_come_after_the_thread_has_gone(rt: HostRuntime) {
         enter 0 2 yes 0 untimed = entered\n wake 0 = woken\n return 0 = misfit";
     let mut both = both_of(&rt, rt.alloc(), (1, 1), 1);
     expect_rows(&rt, &mut both, rows);
-    assert!(rt; both.plain.view().list(2) == [0].as_slice());
+    let waits = both.plain.view().list(2) == [0].as_slice();
+    expect(&rt, waits, "the thread waits on the other key");
 }
 
 // In the second row the table grows between the deadline and the look. It refuses a registration

@@ -1,6 +1,6 @@
 //! Interleaved steps and answers as lines: those of scripts, and a few more.
 
-use crate::words::{behind_two, number, step, word};
+use crate::words::{behind_two, expect, number, step, word};
 use lot_base::token::DEFAULT_UNPARK_TOKEN;
 use lot_machine::step::{Op, Step};
 use lot_script::script;
@@ -14,7 +14,7 @@ fn op(rt: &impl Abort, alloc: Global, words: &str) -> Op {
     match step(rt, alloc, words) {
         Step::Unpark(op) => op,
         _ => {
-            assert!(rt; false, "no such unpark: {words}");
+            expect(rt, false, words);
             Op::One {
                 key: 0,
                 token: DEFAULT_UNPARK_TOKEN,
@@ -64,7 +64,7 @@ fn fine_step_of(rt: &impl Abort, step: Step, line: &str) -> FineStep {
         Step::Release { thread, key } => FineStep::Release { thread, key },
         Step::Trim => FineStep::Trim,
         Step::Unpark(_) | Step::Resolve { .. } => {
-            assert!(rt; false, "no interleaved step: {line}");
+            expect(rt, false, line);
             FineStep::Trim
         }
     }
@@ -88,7 +88,7 @@ fn write_own(text: &mut String, answer: FineAnswer) -> Result<(), AllocError> {
 pub(super) fn write_answer(rt: &impl Abort, alloc: Global, text: &mut String, answer: FineAnswer) {
     if let FineAnswer::Answer(given) = answer {
         let mut written = Vec::new(alloc);
-        assert!(rt; script::write_answer(&mut written, given).is_ok());
+        script::write_answer(&mut written, given).expect(rt, "memory");
         let given = str::from_utf8(written.as_slice()).unwrap_or("no text");
         writeln!(text, "{given}").expect(rt, "memory");
     }

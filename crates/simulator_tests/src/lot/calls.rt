@@ -1,5 +1,6 @@
 //! The lot's own calls with closures, which note what they are handed, and those of its laws.
 
+use crate::words::{expect, expect_each};
 use lot_base::token::{DEFAULT_PARK_TOKEN, FilterOp, Misfit, ParkResult, RequeueOp, UnparkToken};
 use lot_simulator::laws;
 use lot_simulator::lot::Lot;
@@ -10,7 +11,8 @@ const TOKEN: UnparkToken = UnparkToken(42);
 // Registers a thread, which enters the key.
 fn enter_new(rt: &impl Abort, lot: &mut Lot, key: usize) {
     let number = lot.register().expect(rt, "a number and memory");
-    assert!(rt; lot.enter(number, key, || true, DEFAULT_PARK_TOKEN, true) == Ok(true));
+    let entered = lot.enter(number, key, || true, DEFAULT_PARK_TOKEN, true);
+    expect_each(rt, entered == Ok(true), "the thread enters", number);
 }
 
 // Whether the thread enters the key, if its `validate` answers false, and whether that was called.
@@ -59,9 +61,10 @@ fn unpark_rest(lot: &mut Lot, key: usize) -> (usize, bool) {
 // The deadline of the thread passes. It tells what `timed_out` was called with.
 fn time_out(rt: &impl Abort, lot: &mut Lot, number: usize) -> (usize, bool) {
     let mut told = (0, false);
-    assert!(rt; lot.deadline(number) == Ok(()));
+    let late = lot.deadline(number);
     let resolved = lot.resolve(number, |key, last| told = (key, last));
-    assert!(rt; resolved == Ok(ParkResult::TimedOut));
+    let is_late = late.is_ok() && resolved == Ok(ParkResult::TimedOut);
+    expect_each(rt, is_late, "the thread is late", number);
     told
 }
 
@@ -70,11 +73,23 @@ fn expect_told(rt: &impl Abort, lot: &mut Lot) {
     for _ in 0..3 {
         enter_new(rt, lot, 1);
     }
-    assert!(rt; refuse(lot, 0, 7) == (Err(Misfit), false));
-    assert!(rt; requeue(lot) == (3, true));
-    assert!(rt; unpark_rest(lot, 2) == (2, true));
-    assert!(rt; time_out(rt, lot, 0) == (2, true));
-    assert!(rt; refuse(lot, 0, 7) == (Ok(false), true));
+    expect(
+        rt,
+        refuse(lot, 0, 7) == (Err(Misfit), false),
+        "a thread that waits",
+    );
+    expect(rt, requeue(lot) == (3, true), "all are moved");
+    expect(rt, unpark_rest(lot, 2) == (2, true), "two are unparked");
+    expect(
+        rt,
+        time_out(rt, lot, 0) == (2, true),
+        "the last one is late",
+    );
+    expect(
+        rt,
+        refuse(lot, 0, 7) == (Ok(false), true),
+        "an entry that is not valid",
+    );
 }
 
 // It refuses a call that answers otherwise than it tells its closure, or does not call it.
@@ -88,9 +103,15 @@ fn expect_laws(rt: &impl Abort, lot: &mut Lot) {
     enter_new(rt, lot, 1);
     enter_new(rt, lot, 1);
     let number = lot.register().expect(rt, "a number and memory");
-    assert!(rt; laws::acquire_and_release(lot, number, 5) == Ok(()));
-    assert!(rt; laws::requeue_all_to_itself(lot, 1).requeued_threads == 2);
-    assert!(rt; laws::unpark_all_by_filter(lot, 1, TOKEN).unparked_threads == 2);
+    let recorded = laws::acquire_and_release(lot, number, 5);
+    expect(rt, recorded == Ok(()), "a record that is released");
+    let moved = laws::requeue_all_to_itself(lot, 1).requeued_threads;
+    let unparked = laws::unpark_all_by_filter(lot, 1, TOKEN).unparked_threads;
+    expect(
+        rt,
+        moved == 2 && unparked == 2,
+        "both are moved and unparked",
+    );
 }
 
 // It refuses an `acquire_and_release` that answers `NoMemory` at each call.

@@ -4,6 +4,7 @@
 use super::{expect_same, run_beside};
 use crate::plain::arbitrary::{KEYS, write_list, write_step};
 use crate::plain::exclusive::Plain;
+use crate::words::{expect, expect_each};
 use lot_base::token::NoMemory;
 use lot_simulator::lot::Lot;
 use std::alloc::Global;
@@ -79,7 +80,7 @@ fn check_short_lists(rt: &impl Abort, alloc: Global, beginning: &str) {
         }
         count = count.wrapping_mul(STEPS.len());
     }
-    assert!(rt; lists == 25_260);
+    expect_each(rt, lists == 25_260, "so many lists", lists);
 }
 
 // After each of eight beginnings.
@@ -127,7 +128,11 @@ fn check_long_lists(
             least_behind
         };
     }
-    assert!(rt; least_behind < greatest, "the table grew, and was trimmed");
+    expect(
+        rt,
+        least_behind < greatest,
+        "the table grew, and was trimmed",
+    );
 }
 
 #[test]

@@ -1,6 +1,7 @@
 //! Lines that are refused, and the calls for one line.
 
-use super::expect;
+use super::expect_input;
+use crate::words::expect;
 use lot_base::token::NoMemory;
 use lot_machine::step::Answer;
 use lot_script::script::{Cause, Command, Fault, ScriptedLot, write_answer};
@@ -15,7 +16,7 @@ fn stopped(line: usize, cause: Cause) -> Result<(), Fault> {
 fn expect_no_lot(rt: &impl Abort, alloc: Global, scripts: &str, cause: Cause) {
     let ended = stopped(1, cause);
     for input in scripts.split(';') {
-        expect(rt, alloc, input.as_bytes(), "", &ended);
+        expect_input(rt, alloc, input.as_bytes(), "", &ended);
     }
 }
 
@@ -37,7 +38,7 @@ fn expect_bad_line(rt: &impl Abort, alloc: Global, line: &str) -> Result<(), NoM
     input.push_str("lot 1\n")?;
     input.push_str(line)?;
     let ended = stopped(2, Cause::BadStep);
-    expect(rt, alloc, input.as_str().as_bytes(), "ok\n", &ended);
+    expect_input(rt, alloc, input.as_str().as_bytes(), "ok\n", &ended);
     Ok(())
 }
 
@@ -47,11 +48,11 @@ fn a_line_without_a_form_ends_the_script(rt: HostRuntime) {
         expect_bad_line(&rt, rt.alloc(), line).expect(&rt, "memory");
     }
     let ended = stopped(2, Cause::BadStep);
-    expect(&rt, rt.alloc(), b"lot 1\nretire \xff", "ok\n", &ended);
+    expect_input(&rt, rt.alloc(), b"lot 1\nretire \xff", "ok\n", &ended);
     let input = "lot 2\nregister\nenter 0 7 yes 5 untimed\none 7 42\nreturn 0\nreturn 0\none 7\n";
     let written = "ok\nnumber 0\nentered\nunparked 1 requeued 0 more false\nunparked 42\nmisfit\n";
     let ended = stopped(7, Cause::BadStep);
-    expect(&rt, rt.alloc(), input.as_bytes(), written, &ended);
+    expect_input(&rt, rt.alloc(), input.as_bytes(), written, &ended);
 }
 
 // A line of a filter with so many decisions, and what stands behind it.
@@ -69,7 +70,7 @@ fn expect_filter_line(
     }
     input.push_str(" 42")?;
     input.push_str(behind)?;
-    expect(rt, alloc, input.as_str().as_bytes(), written, ended);
+    expect_input(rt, alloc, input.as_str().as_bytes(), written, ended);
     Ok(())
 }
 
@@ -97,7 +98,7 @@ fn faults_have_their_texts(rt: HostRuntime) {
     ] {
         let fault = Fault { line: 7, cause };
         let written = fault.to_string(rt.alloc()).expect(&rt, "memory");
-        assert!(rt; written.as_str() == text, "{text}");
+        expect(&rt, written.as_str() == text, text);
     }
 }
 
@@ -111,7 +112,7 @@ fn give(
 ) {
     for line in lines.split(';') {
         let result = scripted.answer(line.as_bytes(), answers);
-        assert!(rt; result == *ended, "{line}");
+        expect(rt, result == *ended, line);
     }
 }
 
@@ -125,7 +126,7 @@ fn a_line_that_is_refused_leaves_lot_and_answers(rt: HostRuntime) {
     give(&rt, &mut scripted, &mut answers, lines, &bad);
     let too_many = Err(Cause::TooManyThreads);
     give(&rt, &mut scripted, &mut answers, "lot 16385", &too_many);
-    assert!(rt; scripted.lot().is_none());
+    expect(&rt, scripted.lot().is_none(), "no lot");
     let lines = "lot 2;register;register;acquire 1 3;enter 0 7 yes 5 timed;enter 1 7 yes 6 untimed";
     give(&rt, &mut scripted, &mut answers, lines, &Ok(()));
     let lines = ";lot 2;one 7;all 7 1 ;all 7 1\n;release 1 03;deadline 0 0;filter 7 u 1";
@@ -134,18 +135,24 @@ fn a_line_that_is_refused_leaves_lot_and_answers(rt: HostRuntime) {
     give(&rt, &mut scripted, &mut answers, lines, &Ok(()));
     let expected = "ok\nnumber 0\nnumber 1\nrecorded\nentered\nentered\n\
         waiters 0 1\nrecords 1\nbuckets 16 threads 2\nlate\ntimed out 7 false\nwaiters 1\n";
-    assert!(rt; answers.as_slice() == expected.as_bytes());
+    expect(&rt, answers.as_slice() == expected.as_bytes(), expected);
 }
 
 #[test]
 fn a_line_is_read_and_an_answer_written_alone(rt: HostRuntime) {
     let read = Command::of(rt.alloc(), b"records 3 18446744073709551615");
     let key = usize::MAX;
-    assert!(rt; matches!(read, Ok(Command::Records { thread: 3, key: read }) if read == key));
+    let is_read = matches!(read, Ok(Command::Records { thread: 3, key: read }) if read == key);
+    expect(&rt, is_read, "a question for records");
     let refused = Command::of(rt.alloc(), &[b' '; 4_097]);
-    assert!(rt; refused.err() == Some(Cause::BadStep));
+    expect(
+        &rt,
+        refused.err() == Some(Cause::BadStep),
+        "a line that is too long",
+    );
     let mut output = Vec::new(rt.alloc());
     let timed_out = Answer::TimedOut { key: 9, last: true };
-    assert!(rt; write_answer(&mut output, timed_out) == Ok(()));
-    assert!(rt; output.as_slice() == b"timed out 9 true".as_slice());
+    let is_written = write_answer(&mut output, timed_out) == Ok(());
+    let is_so = is_written && output.as_slice() == b"timed out 9 true".as_slice();
+    expect(&rt, is_so, "an answer");
 }

@@ -1,8 +1,8 @@
-//! Threads that play a script.
+//! Scripts, and the threads that play them.
 //!
-//! Before the first `thread`, each line `play PARKER [WORDS]` plays the script once: PARKER is
-//! `word`, `thread`, `yield`, `each` of these three, or `followed`. A line `thread N` begins what
-//! so many threads do.
+//! A `%` ends a script. Before its first `thread`, each line `play PARKER [WORDS]` plays it
+//! once: PARKER is `word`, `thread`, `yield`, `each` of these three, or `followed`. A line `thread
+//! N` begins what so many threads do, and one that begins with `#` is a comment.
 
 use crate::actor::Actor;
 use crate::stage::Locks;
@@ -17,39 +17,45 @@ use std::time::Clock;
 use test_support::calls::register_all;
 use test_support::followed_parker::FollowedParker;
 
-// How many threads a line begins.
+// How many threads a line begins. It is none if the line is another.
 fn begun(line: &str) -> Option<usize> {
-    if word_at(line, 0) != "thread" {
-        return None;
+    match word_at(line, 0) {
+        "thread" => number(word_at(line, 1), 0),
+        _ => None,
     }
-    number(word_at(line, 1), 0)
+}
+
+// Whether a line is more than a comment.
+fn is_action(line: &str) -> bool {
+    !matches!(word_at(line, 0), "" | "#")
 }
 
 fn count_threads(script: &str) -> usize {
     let mut threads: usize = 0;
-    for line in script.lines() {
+    for line in script.split('\n') {
         threads = threads.wrapping_add(begun(line.trim()).unwrap_or(0));
     }
     threads
 }
 
-// Does what the lines say of the thread with the actor's number.
+// Does what the lines say of the thread with this number.
 fn play_lines<'a, P: ThreadParkerT, R: Wait + Clock + Abort>(
     rt: &R,
     alloc: Global,
     actor: &mut Actor<'a, P>,
     script: &'a str,
+    thread: usize,
 ) {
     let mut before: usize = 0;
     let mut is_own = false;
-    for (place, line) in script.lines().enumerate() {
+    for line in script.split('\n') {
         let line = line.trim();
         if let Some(threads) = begun(line) {
             let behind = before.wrapping_add(threads);
-            is_own = before < actor.thread && actor.thread <= behind;
+            is_own = before <= thread && thread < behind;
             before = behind;
-        } else if is_own && line != "" {
-            actor.play(rt, alloc, place.wrapping_add(1), line);
+        } else if is_own && is_action(line) {
+            actor.play(rt, alloc, line);
         }
     }
 }
@@ -62,17 +68,15 @@ fn play_as<'a, P: ThreadParkerT, R: Wait + Clock + Abort>(
     script: &'a str,
     words: &'a str,
 ) {
-    let thread = member.number().wrapping_add(1);
+    let thread = member.number();
     let mut actor = Actor {
         locks,
         member: Some(member),
         held: None,
         words,
-        thread,
         round: 0,
-        seen: 0,
     };
-    play_lines(rt, alloc, &mut actor, script);
+    play_lines(rt, alloc, &mut actor, script, thread);
     actor.leave(rt);
 }
 
@@ -105,34 +109,43 @@ where
 }
 
 // Plays the script once, or with each parker.
-fn play_once<R>(rt: &R, alloc: Global, script: &str, parker: &str, words: &str)
+fn play_with<R>(rt: &R, alloc: Global, script: &str, parker: &str, words: &str)
 where
     R: Threads + Wait + Clock + Abort + Sync,
 {
-    let is_each = parker == "each";
-    if is_each || parker == "word" {
+    if matches!(parker, "each" | "word") {
         play_on::<WordParker, R>(rt, alloc, script, words);
     }
-    if is_each || parker == "thread" {
+    if matches!(parker, "each" | "thread") {
         play_on::<ThreadParker, R>(rt, alloc, script, words);
     }
-    if is_each || parker == "yield" {
+    if matches!(parker, "each" | "yield") {
         play_on::<YieldParker, R>(rt, alloc, script, words);
     }
-    if parker == "followed" {
+    if matches!(parker, "followed") {
         play_on::<FollowedParker, R>(rt, alloc, script, words);
     }
 }
 
-/// Plays the script as its lines say.
-pub fn perform<R>(rt: &R, alloc: Global, script: &str)
+// Plays the script as its lines say.
+fn play<R>(rt: &R, alloc: Global, script: &str)
 where
     R: Threads + Wait + Clock + Abort + Sync,
 {
-    for line in script.lines() {
+    for line in script.split('\n') {
         let line = line.trim();
-        if word_at(line, 0) == "play" {
-            play_once(rt, alloc, script, word_at(line, 1), behind(line, 2));
+        if matches!(word_at(line, 0), "play") {
+            play_with(rt, alloc, script, word_at(line, 1), behind(line, 2));
         }
+    }
+}
+
+/// Plays each script of the text.
+pub fn perform<R>(rt: &R, alloc: Global, text: &str)
+where
+    R: Threads + Wait + Clock + Abort + Sync,
+{
+    for script in text.split('%') {
+        play(rt, alloc, script);
     }
 }
