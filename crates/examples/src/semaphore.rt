@@ -13,7 +13,7 @@ use std::marker::Model;
 pub const PERMIT: UnparkToken = UnparkToken(1);
 
 /// How a thread acquired.
-#[derive(Copy, Clone, Eq, PartialEq, Debug)]
+#[derive(Copy, Clone)]
 pub enum Acquired {
     /// A permit was free: the thread has it, and runs on.
     Now,

@@ -1,176 +1,91 @@
-//! Tests of the event among threads.
+//! The event among threads.
+//!
+//! - `event wait`, `event wait_until_now`: tells whether the event was set when it ended.
+//! - `event set`: tells how many it woke.
+//! - `event exchange N`: of two threads with the numbers 0 and 1, sets the event N of the other,
+//!   and waits for its own.
 
-use crate::expect_equal;
-use crate::lots::{from_now, new_lot, register};
-use examples::event::Event;
-use lot_threads::{Member, ParkingLot, ThreadParkerT, WordParker};
-use std::alloc::Global;
-use std::process::Abort;
-use std::sync::{Arc, Wait};
-use std::thread;
-use std::thread::{JoinHandle, Threads};
+use crate::player::perform;
+use crate::stage::Stage;
+use lot_threads::{Member, ThreadParkerT};
+use std::sync::Wait;
 use std::time::{Clock, Instant};
-use test_support::waits::come_by_turns;
+use test_support::clock::now;
+use test_support::words::Words;
 
-const KEY: usize = 7;
-
-const THREADS: usize = 3;
-
-// How many events two threads set for each other.
-const EVENTS: usize = 5_000;
-
-#[derive(Drop)]
-struct Shared<P: ThreadParkerT> {
-    lot: ParkingLot<P>,
-    event: Event,
-}
-
-// Waits for the event, and tells whether it was set then.
-fn see_it_set<P: ThreadParkerT, R: Wait + Clock + Abort>(
-    rt: &R,
-    alloc: Global,
-    shared: &Shared<P>,
-    timeout: Option<Instant>,
-) -> bool {
-    let mut member = register(rt, alloc, &shared.lot);
-    let is_set = shared.event.wait(rt, &mut member, timeout) && shared.event.is_set();
-    member.retire(rt);
-    is_set
-}
-
-// Starts a thread that waits for the event.
-fn start_waiter<P, R>(
-    rt: &R,
-    alloc: Global,
-    shared: &Arc<Shared<P>, Global>,
-) -> Option<JoinHandle<bool>>
-where
-    P: ThreadParkerT + Send + Sync + 'static,
-    P::UnparkHandle: 'static,
-    R: Threads + Wait + Clock + Abort + Copy + Send + 'static,
-{
-    let runtime = *rt;
-    let shared = Arc::try_clone(shared).ok()?;
-    thread::spawn(rt, move || see_it_set(&runtime, alloc, &shared, None)).ok()
-}
-
-fn start_waiters<P, R>(
-    rt: &R,
-    alloc: Global,
-    shared: &Arc<Shared<P>, Global>,
-) -> Vec<JoinHandle<bool>>
-where
-    P: ThreadParkerT + Send + Sync + 'static,
-    P::UnparkHandle: 'static,
-    R: Threads + Wait + Clock + Abort + Copy + Send + 'static,
-{
-    let mut waiters = Vec::new(alloc);
-    for _ in 0..THREADS {
-        let started = start_waiter(rt, alloc, shared).expect(rt, "a thread");
-        waiters.push(started).expect(rt, "memory");
+impl<P: ThreadParkerT> Stage<P> {
+    fn see_it_set<R: Wait + Clock>(
+        &self,
+        rt: &R,
+        member: &mut Member<'_, P>,
+        timeout: Option<Instant>,
+    ) -> usize {
+        let is_set = self.event.wait(rt, member, timeout) && self.event.is_set();
+        usize::from(is_set)
     }
-    waiters
-}
 
-fn join_waiters<R: Threads + Abort>(rt: &R, waiters: Vec<JoinHandle<bool>>) {
-    for waiter in waiters {
-        expect_equal(rt, waiter.join(rt), true);
+    fn exchange_events<R: Wait + Clock>(
+        &self,
+        rt: &R,
+        member: &mut Member<'_, P>,
+        number: usize,
+    ) -> Option<usize> {
+        let first = number.wrapping_mul(2);
+        let mine = first.wrapping_add(member.number());
+        let theirs = first.wrapping_add(1).wrapping_sub(member.number());
+        self.events.get(theirs)?.set(rt, &self.lot);
+        self.events.get(mine)?.wait(rt, member, None);
+        Some(1)
     }
-}
 
-// Whoever waits until now does not see the event set before it is, and does afterwards. It is set
-// once all threads wait for it, and wakes so many; set again, it wakes nobody.
-fn set_once_all_wait<P: ThreadParkerT, R: Wait + Clock + Abort>(
-    rt: &R,
-    alloc: Global,
-    shared: &Shared<P>,
-) {
-    expect_equal(
-        rt,
-        come_by_turns(rt, alloc, &shared.lot, KEY, THREADS),
-        true,
-    );
-    for (is_set, woken) in [(false, THREADS), (true, 0)] {
-        let now = from_now(rt, 0);
-        expect_equal(rt, see_it_set(rt, alloc, shared, Some(now)), is_set);
-        expect_equal(rt, shared.event.set(rt, &shared.lot), woken);
+    pub fn use_event<R: Wait + Clock>(
+        &self,
+        rt: &R,
+        member: &mut Member<'_, P>,
+        words: &mut Words<'_>,
+    ) -> Option<usize> {
+        if words.reads("wait") {
+            Some(self.see_it_set(rt, member, None))
+        } else if words.reads("wait_until_now") {
+            Some(self.see_it_set(rt, member, Some(now(rt)?)))
+        } else if words.reads("set") {
+            Some(self.event.set(rt, &self.lot))
+        } else if words.reads("exchange") {
+            self.exchange_events(rt, member, words.number()?)
+        } else {
+            None
+        }
     }
-}
-
-fn all_wait<P, R>(rt: &R, alloc: Global)
-where
-    P: ThreadParkerT + Send + Sync + 'static,
-    P::UnparkHandle: 'static,
-    R: Threads + Wait + Clock + Abort + Copy + Send + 'static,
-{
-    let shared = Shared {
-        lot: new_lot::<P, _>(rt, alloc, THREADS + 1),
-        event: Event::new(KEY),
-    };
-    let shared = Arc::new(alloc, shared).expect(rt, "memory");
-    let waiters = start_waiters(rt, alloc, &shared);
-    set_once_all_wait(rt, alloc, &shared);
-    join_waiters(rt, waiters);
 }
 
 // It refuses a `set` that wakes one thread alone, and a `wait` that does not look at the event,
 // keeps no deadline, or answers then that the event was set.
 #[test]
 fn the_event_wakes_every_thread(rt: HostRuntime) {
-    all_wait::<WordParker, _>(&rt, rt.alloc());
-}
-
-// So many events, each with a key of its own from this one on.
-fn many_events<R: Abort>(rt: &R, alloc: Global, first_key: usize) -> Vec<Event> {
-    let mut events = Vec::new(alloc);
-    for number in 0..EVENTS {
-        let event = Event::new(first_key.wrapping_add(number));
-        events.push(event).expect(rt, "memory");
-    }
-    events
-}
-
-// Sets each event of the other thread and waits for its own, by turns.
-fn exchange<P: ThreadParkerT, R: Wait + Clock>(
-    rt: &R,
-    mut member: Member<'_, P>,
-    mine: &[Event],
-    theirs: &[Event],
-) -> Option<()> {
-    for turn in 0..EVENTS {
-        theirs.get(turn)?.set(rt, member.lot());
-        mine.get(turn)?.wait(rt, &mut member, None);
-    }
-    Some(())
-}
-
-// What both threads end with.
-fn both_exchange<P, R>(
-    rt: &R,
-    alloc: Global,
-    one: &[Event],
-    other: &[Event],
-) -> (Option<()>, Option<()>)
-where
-    P: ThreadParkerT + Send + Sync,
-    R: Threads + Wait + Clock + Abort + Sync,
-{
-    let lot = new_lot::<P, _>(rt, alloc, 2);
-    let first = register(rt, alloc, &lot);
-    let second = register(rt, alloc, &lot);
-    thread::join(
-        rt,
-        || exchange(rt, first, one, other),
-        || exchange(rt, second, other, one),
-    )
+    perform(
+        &rt,
+        rt.alloc(),
+        &[1],
+        "thread 3
+            event wait
+        thread
+            waiting event 3
+            event wait_until_now -> 0
+            event set -> 3
+            event wait_until_now
+            event set -> 0",
+    );
 }
 
 // It refuses a `set` that looks for waiters before the event is set: a thread that comes between
 // sleeps for ever.
 #[test]
 fn two_threads_set_events_for_each_other(rt: HostRuntime) {
-    let one = many_events(&rt, rt.alloc(), 0);
-    let other = many_events(&rt, rt.alloc(), EVENTS);
-    let ended = both_exchange::<WordParker, _>(&rt, rt.alloc(), one.as_slice(), other.as_slice());
-    expect_equal(&rt, ended, (Some(()), Some(())));
+    perform(
+        &rt,
+        rt.alloc(),
+        &[1],
+        "thread 2
+            repeat 4999 event exchange $1",
+    );
 }

@@ -1,4 +1,5 @@
-//! Tests of the examples, by their public calls alone.
+//! Tests of the examples, by their public calls alone. Those of threads are scripts: what threads
+//! do with the examples, line by line, and how each call has to end. `player` tells the words.
 #![tactic(auto)]
 
 #[cfg(test)]
@@ -10,32 +11,16 @@ mod callers;
 #[cfg(test)]
 mod event;
 #[cfg(test)]
-mod interleaving;
-#[cfg(test)]
-mod lots;
-#[cfg(test)]
-mod permits;
+mod player;
 #[cfg(test)]
 mod read_mostly_table;
 #[cfg(test)]
-mod recording;
+mod simulated;
 #[cfg(test)]
-mod simulation;
+mod stage;
 #[cfg(test)]
 mod thread_pool;
 #[cfg(test)]
 mod thread_semaphore;
 #[cfg(test)]
 mod token;
-
-#[cfg(test)]
-use std::fmt::Debug;
-#[cfg(test)]
-use std::process::Abort;
-
-// Compares what was found with what is expected. For any type it is proved once; an `assert_eq!` of
-// lists or tuples costs a proof seconds wherever it stands.
-#[cfg(test)]
-fn expect_equal<T: PartialEq + Debug + Drop>(rt: &impl Abort, found: T, expected: T) {
-    assert_eq!(rt; found, expected);
-}

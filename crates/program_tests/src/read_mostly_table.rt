@@ -1,192 +1,141 @@
-//! Tests of the table that many read.
+//! The table that many read.
+//!
+//! - `table insert KEY N`, `table get KEY`, `table remove KEY`: tells the value at the key, before
+//!   it is changed.
+//! - `table entries`: tells how many there are.
+//! - `table read KEY N`: reads until the value at the key, which is written last, is N. Tells
+//!   whether at each moment all values were one or the next, their halves were equal, no key but
+//!   one was without, and none became less.
 
-use crate::expect_equal;
-use crate::lots::{new_lot, register};
-use examples::read_mostly_table::ReadMostlyTable;
-use lot_sync::fits::Fits;
-use lot_threads::{Member, ParkingLot, ThreadParkerT, WordParker};
+use crate::player::perform;
+use crate::stage::{Pair, Stage, number_of, twice};
+use lot_threads::{Member, ThreadParkerT};
 use std::alloc::Global;
 use std::process::Abort;
 use std::sync::Wait;
-use std::thread;
-use std::thread::Threads;
 use std::time::Clock;
+use test_support::words::Words;
 
-const LOCK_KEY: usize = 7;
+// Of four keys that are written, one is taken out meanwhile.
+const ALWAYS: usize = 3;
 
-// In the order in which they are written, which is not that of the table.
-const KEYS: [u64; 4] = [30, 10, 40, 20];
-
-const VERSIONS: u64 = 1_000;
-
-// A value with two halves, which are equal in each that is put in.
-#[derive(Copy, Clone, Debug, PartialEq)]
-struct Version {
-    first: u64,
-    second: u64,
-}
-
-impl Fits for Version {}
-
-fn numbered(number: u64) -> Version {
-    Version {
-        first: number,
-        second: number,
-    }
-}
-
-#[derive(Drop)]
-struct Shared<P: ThreadParkerT> {
-    lot: ParkingLot<P>,
-    table: ReadMostlyTable<Version>,
-}
-
-// Puts each version at all keys, one after another, and takes a key out before the next version.
-fn write<P: ThreadParkerT, R: Wait + Clock + Abort>(rt: &R, alloc: Global, shared: &Shared<P>) {
-    let mut member = register(rt, alloc, &shared.lot);
-    for number in 1..=VERSIONS {
-        shared.table.remove(rt, &mut member, KEYS[1]);
-        write_at_all(rt, &mut member, &shared.table, number);
-    }
-    member.retire(rt);
-}
-
-fn write_at_all<P: ThreadParkerT, R: Wait + Clock + Abort>(
-    rt: &R,
-    member: &mut Member<'_, P>,
-    table: &ReadMostlyTable<Version>,
-    number: u64,
-) {
-    for key in KEYS {
-        let written = table.insert(rt, member, key, numbered(number));
-        expect_equal(rt, written.is_ok(), true);
-    }
-}
-
-// Compares the halves of all values, and tells the oldest version and the newest.
-fn oldest_and_newest<R: Abort>(rt: &R, entries: &[(u64, Version)]) -> (u64, u64) {
-    let mut oldest = VERSIONS;
+// Whether the halves of all values are equal, and all are one version or the next. The first
+// version comes to keys that have none.
+fn are_neighbours(entries: &[(u64, Pair)]) -> bool {
+    let mut oldest = usize::MAX;
     let mut newest = 0;
+    let mut are_equal = true;
     for (_, value) in entries {
-        expect_equal(rt, value.first, value.second);
-        oldest = oldest.min(value.first);
-        newest = newest.max(value.first);
+        are_equal = are_equal && value.one == value.other;
+        oldest = oldest.min(value.one);
+        newest = newest.max(value.one);
     }
-    (oldest, newest)
+    are_equal && (newest <= oldest.wrapping_add(1) || newest <= oldest)
 }
 
-// Reads until the last version is at all keys. At one moment all keys have a version or the next,
-// and none ever has an older one than before.
-fn read<P: ThreadParkerT, R: Wait + Clock + Abort>(rt: &R, alloc: Global, shared: &Shared<P>) {
-    let mut member = register(rt, alloc, &shared.lot);
-    let mut last = 0;
-    for _ in rt.forever() {
-        expect_neighbours(rt, alloc, &mut member, &shared.table);
-        let seen = version_seen(rt, &mut member, &shared.table);
-        expect_equal(rt, last <= seen, true);
-        last = seen;
-        if last == VERSIONS {
-            break;
+impl<P: ThreadParkerT> Stage<P> {
+    // Whether there are so many entries at least, and they are neighbours.
+    fn has_neighbours<R: Wait + Clock>(
+        &self,
+        rt: &R,
+        alloc: Global,
+        member: &mut Member<'_, P>,
+        least: usize,
+    ) -> Option<bool> {
+        let entries = self.table.entries(rt, alloc, member).ok()?;
+        Some(least <= entries.len() && are_neighbours(&entries))
+    }
+
+    fn read_until<R: Wait + Clock>(
+        &self,
+        rt: &R,
+        alloc: Global,
+        member: &mut Member<'_, P>,
+        key: u64,
+        last: usize,
+    ) -> Option<bool> {
+        let mut seen = 0;
+        for _ in rt.forever() {
+            let least = if seen > 0 { ALWAYS } else { 0 };
+            if !self.has_neighbours(rt, alloc, member, least)? {
+                return Some(false);
+            }
+            let before = seen;
+            seen = match self.table.get(rt, member, key) {
+                Some(value) => value.one,
+                None => 0,
+            };
+            if seen < before || seen == last {
+                return Some(seen == last);
+            }
+        }
+        unreachable!()
+    }
+
+    pub fn use_table<R: Wait + Clock + Abort>(
+        &self,
+        rt: &R,
+        alloc: Global,
+        member: &mut Member<'_, P>,
+        words: &mut Words<'_>,
+    ) -> Option<usize> {
+        if words.reads("insert") {
+            let key = words.number()? as u64;
+            let value = twice(words.number()?);
+            Some(number_of(self.table.insert(rt, member, key, value).ok()?))
+        } else if words.reads("get") {
+            let key = words.number()? as u64;
+            Some(number_of(self.table.get(rt, member, key)))
+        } else if words.reads("remove") {
+            let key = words.number()? as u64;
+            Some(number_of(self.table.remove(rt, member, key)))
+        } else if words.reads("entries") {
+            Some(self.table.entries(rt, alloc, member).ok()?.len())
+        } else if words.reads("read") {
+            let key = words.number()? as u64;
+            let last = words.number()?;
+            Some(usize::from(self.read_until(rt, alloc, member, key, last)?))
+        } else {
+            None
         }
     }
-    member.retire(rt);
-}
-
-// Compares the oldest version and the newest.
-fn expect_neighbours<P: ThreadParkerT, R: Wait + Clock + Abort>(
-    rt: &R,
-    alloc: Global,
-    member: &mut Member<'_, P>,
-    table: &ReadMostlyTable<Version>,
-) {
-    let entries = table.entries(rt, alloc, member).expect(rt, "memory");
-    let (oldest, newest) = oldest_and_newest(rt, &entries);
-    expect_equal(rt, newest <= oldest.wrapping_add(1) || newest == 1, true);
-}
-
-// The version at one of the keys, 0 if there is none yet.
-fn version_seen<P: ThreadParkerT, R: Wait + Clock>(
-    rt: &R,
-    member: &mut Member<'_, P>,
-    table: &ReadMostlyTable<Version>,
-) -> u64 {
-    let value = table.get(rt, member, KEYS[3]);
-    value.map_or(0, |value| value.first)
-}
-
-fn all_read<P, R>(rt: &R, alloc: Global)
-where
-    P: ThreadParkerT + Send + Sync,
-    R: Threads + Wait + Clock + Abort + Sync,
-{
-    let shared = Shared {
-        lot: new_lot::<P, _>(rt, alloc, 4),
-        table: ReadMostlyTable::new(rt, alloc, LOCK_KEY),
-    };
-    let play = |index: usize| match index {
-        0 => write(rt, alloc, &shared),
-        _ => read(rt, alloc, &shared),
-    };
-    thread::map_indices(rt, alloc, 4, &play).expect(rt, "threads");
 }
 
 // It refuses a table that lends its entries while they are written, or copies them piece by piece.
 // With a lock that is not let go, it does not end.
 #[test]
 fn three_read_old_or_new_values_while_one_writes(rt: HostRuntime) {
-    all_read::<WordParker, _>(&rt, rt.alloc());
-}
-
-// Puts values in, one over another, and compares what was there until then.
-fn put_in<P: ThreadParkerT, R: Wait + Clock + Abort>(
-    rt: &R,
-    member: &mut Member<'_, P>,
-    table: &ReadMostlyTable<Version>,
-) {
-    for (key, value, until_then) in [(3, 1, None), (1, 2, None), (2, 3, None), (3, 4, Some(1))] {
-        let previous = table.insert(rt, member, key, numbered(value));
-        expect_equal(rt, previous.expect(rt, "memory"), until_then.map(numbered));
-    }
-}
-
-// Compares the values at two keys, and takes what is at another out twice.
-fn look_and_remove<P: ThreadParkerT, R: Wait + Clock + Abort>(
-    rt: &R,
-    member: &mut Member<'_, P>,
-    table: &ReadMostlyTable<Version>,
-) {
-    for (key, value) in [(3, Some(4)), (4, None)] {
-        expect_equal(rt, table.get(rt, member, key), value.map(numbered));
-    }
-    for value in [Some(2), None] {
-        expect_equal(rt, table.remove(rt, member, 1), value.map(numbered));
-    }
-}
-
-// Compares all entries that are left.
-fn expect_entries<P: ThreadParkerT, R: Wait + Clock + Abort>(
-    rt: &R,
-    alloc: Global,
-    member: &mut Member<'_, P>,
-    table: &ReadMostlyTable<Version>,
-) {
-    let entries = table.entries(rt, alloc, member).expect(rt, "memory");
-    let expected = [(2, numbered(3)), (3, numbered(4))];
-    expect_equal(rt, entries.as_slice(), expected.as_slice());
-}
-
-fn put_look_and_remove<P: ThreadParkerT, R: Wait + Clock + Abort>(rt: &R, alloc: Global) {
-    let lot = new_lot::<P, _>(rt, alloc, 1);
-    let mut member = register(rt, alloc, &lot);
-    let table = ReadMostlyTable::new(rt, alloc, LOCK_KEY);
-    put_in(rt, &mut member, &table);
-    look_and_remove(rt, &mut member, &table);
-    expect_entries(rt, alloc, &mut member, &table);
+    perform(
+        &rt,
+        rt.alloc(),
+        &[1],
+        "thread 3
+            table read 20 1000
+        thread
+            repeat 1000 table remove 10 -> any ; table insert 30 $1 -> any ; \
+                table insert 10 $1 -> greatest ; table insert 40 $1 -> any ; \
+                table insert 20 $1 -> any",
+    );
 }
 
 // It refuses calls that find nothing, change nothing, or tell another value than the one until
 // then.
 #[test]
 fn a_table_has_what_was_put_in_last(rt: HostRuntime) {
-    put_look_and_remove::<WordParker, _>(&rt, rt.alloc());
+    perform(
+        &rt,
+        rt.alloc(),
+        &[1],
+        "thread
+            table insert 3 1 -> greatest
+            table insert 1 2 -> greatest
+            table insert 2 3 -> greatest
+            table insert 3 4 -> 1
+            table get 3 -> 4
+            table get 4 -> greatest
+            table remove 1 -> 2
+            table remove 1 -> greatest
+            table get 2 -> 3
+            table entries -> 2",
+    );
 }
