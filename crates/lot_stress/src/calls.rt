@@ -13,9 +13,9 @@ pub type Entry = (usize, bool, ParkToken, Option<Instant>);
 /// How a park ended, and the key and whether it was the last, as a late thread was told.
 pub type Ended = (ParkResult, Option<(usize, bool)>);
 
-/// Which waiting threads a filter unparks: the one of this token alone; or, without one, those whose
-/// token and the first number have a bit in common, and it stops at those that have all bits of the
-/// second.
+/// Which waiting threads a filter unparks: the one of this token alone; or, without one, those
+/// whose token and the first number have a bit in common, and it stops at those that have all bits
+/// of the second.
 pub type Sieve = (Option<ParkToken>, usize, usize);
 
 /// The sieve for threads that all have the default token, which unparks them.

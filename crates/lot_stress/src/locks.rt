@@ -1,5 +1,5 @@
-//! `lot_stress locks`: threads that count under a mutex with its condition variable and under a lock
-//! for readers and writers, in orders that are drawn.
+//! `lot_stress locks`: threads that count under a mutex with its condition variable and under a
+//! lock for readers and writers, in orders that are drawn.
 
 use crate::draws::draw;
 use crate::fault::Fault;
@@ -140,8 +140,8 @@ impl Locks {
         0
     }
 
-    // Counts under the mutex, which it locks at once or in a moment, or not, or after a sleep on the
-    // condition variable.
+    // Counts under the mutex, which it locks at once or in a moment, or not, or after a sleep on
+    // the condition variable.
     fn count_locked<P: ThreadParkerT, R: Wait + Clock>(
         &self,
         rt: &R,

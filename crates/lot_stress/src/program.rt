@@ -102,8 +102,8 @@ fn perform_each<R: Print + Eprint + Threads + Wait + Clock + Sync>(
 }
 
 // Plays rounds of the task for so long, each on a lot of its own, with each parker by turns, and
-// tells how many they were, and how much was done. The seed of a round is that of the one before and
-// one more, so a round that failed is the first of those with its seed.
+// tells how many they were, and how much was done. The seed of a round is that of the one before
+// and one more, so a round that failed is the first of those with its seed.
 fn run_rounds<R: Print + Eprint + Threads + Wait + Clock + Sync>(
     rt: &R,
     alloc: Global,

@@ -30,7 +30,8 @@ const RECORDINGS: usize = 130;
 
 const PARKS: usize = 16;
 
-/// Does the scenario's calls on a new lot, between marks, and shows the state before and after them.
+/// Does the scenario's calls on a new lot, between marks, and shows the state before and after
+/// them.
 pub(super) fn play<P: ThreadParkerT, R: Print + Wait + Clock>(
     rt: &R,
     alloc: Global,

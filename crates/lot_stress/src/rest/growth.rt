@@ -25,7 +25,8 @@ const THREADS: usize = 10;
 // In milliseconds, until the growth has begun.
 const MOMENT: u64 = 20;
 
-/// Eight threads come while the table of a new lot grows, and the growth waits so long for a section.
+/// Eight threads come while the table of a new lot grows, and the growth waits so long for a
+/// section.
 pub(super) fn come_to_a_growth<P: ThreadParkerT + Sync, R: Threads + Wait + Clock + Sync>(
     rt: &R,
     alloc: Global,
