@@ -36,8 +36,11 @@ impl From<NoMemory> for Fault {
 }
 
 impl From<LotError> for Fault {
-    fn from(_error: LotError) -> Fault {
-        Fault(NO_MEMORY)
+    fn from(error: LotError) -> Fault {
+        match error {
+            LotError::NoMemory => Fault(NO_MEMORY),
+            LotError::Full | LotError::TooManyThreads => Fault("too many threads"),
+        }
     }
 }
 

@@ -104,7 +104,7 @@ fn call<'a, P: ThreadParkerT, R: Wait + Clock>(
         "thread_data" => register_often(rt, alloc, lot, members, 1)?,
         "registrations" => {
             for _ in 0..MOST {
-                register(rt, alloc, lot, members);
+                let _ = register(rt, alloc, lot, members);
             }
         }
         "all_registered_twice" => {
@@ -177,26 +177,25 @@ fn register_often<'a, P: ThreadParkerT, R: Wait>(
     calls: usize,
 ) -> Result<(), Fault> {
     for _ in 0..calls {
-        if !register(rt, alloc, lot, members) {
-            return Err(Fault(NO_MEMORY));
-        }
+        register(rt, alloc, lot, members)?;
     }
     Ok(())
 }
 
-// Registers one more thread, if there is memory for it.
+// The list has room for as many as the lot.
 fn register<'a, P: ThreadParkerT, R: Wait>(
     rt: &R,
     alloc: Global,
     lot: &'a ParkingLot<P>,
     members: &mut Vec<Member<'a, P>>,
-) -> bool {
-    let registered = Member::register(rt, alloc, lot);
-    let is_registered = registered.is_ok();
-    if let Ok(member) = registered {
-        let _ = members.push(member);
+) -> Result<(), Fault> {
+    match Member::register(rt, alloc, lot) {
+        Ok(member) => {
+            let _ = members.push(member);
+            Ok(())
+        }
+        Err(error) => Err(Fault::from(error)),
     }
-    is_registered
 }
 
 fn retire_all_but<P: ThreadParkerT, R: Wait>(
