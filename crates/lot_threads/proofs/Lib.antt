@@ -5,6 +5,7 @@ pub mod HandedLemmas
 pub mod NumberLemmas
 pub mod RetireLemmas
 pub mod ListLemmas
+pub mod LookLemmas
 pub mod RecordingLemmas
 pub mod AnswerLemmas
 pub mod RequeueLemmas

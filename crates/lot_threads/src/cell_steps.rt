@@ -3,18 +3,18 @@
 
 ghost use Rattle.std.specs.Prelude.{◌≡◌, ◌∷◌, ◌<◌, ◌≤◌, ◌^◌, ℕ, [], true, false, length, Bool, All, IfErr, IfNone, IfSome, OnOk, is_ok};
 ghost use Rattle.lot_base.specs.BucketState.{KeepsPlace};
-ghost use Rattle.lot_base.specs.Filter.{park_tokens};
+ghost use Rattle.lot_base.specs.Filter.{IsFilterCallable, IsFiltered, park_tokens};
 ghost use Rattle.lot_base.specs.Node.{fields};
-ghost use Rattle.lot_base.specs.NodeLists.{lists_of};
+ghost use Rattle.lot_base.specs.NodeLists.{lists_of, with_saturated_counts};
 ghost use Rattle.lot_base.specs.Place.{place_of};
-ghost use Rattle.lot_base.specs.Waiting.{result_of, split_first};
+ghost use Rattle.lot_base.specs.Waiting.{result_of, split_filter, split_first};
 ghost use Rattle.lot_machine.specs.declared.step.Answer.{Answer};
 ghost use Rattle.lot_machine.specs.declared.step.Step.{Step};
 ghost use Rattle.lot_base.specs.declared.token.UnparkResult.{UnparkResult};
 ghost use Rattle.lot_history.specs.Witness.{Adds, Extends, Found, IsStill, IsWitnessOf, events_of, id_of, max_threads_of, pieces_of, seen_by};
 ghost use Rattle.lot_history.specs.declared.view.Piece.TheVariants.{Thread};
 ghost use Rattle.lot_threads.specs.Cells.{Has, IsBelow, IsCell, lists_in, threads_in};
-ghost use Rattle.lot_threads.specs.Filters.{AreCallable, IsUnpark, Unparks};
+ghost use Rattle.lot_threads.specs.Filters.{IsUnpark, MayFilter, Unparks};
 ghost use Rattle.lot_threads.specs.Members.{IsListed, Leaves, entry_of, entry_step};
 
 use crate::cell::Cell;
@@ -109,7 +109,7 @@ pub(crate) fn take_filter_of<
     requires few { max_threads_of history.now < 2 ^ 63 }
     requires cell { IsCell (id_of history.now) (max_threads_of history.now) cell.old }
     requires place { place_of key cell.old.bucket.size ≡ cell.old.bucket.place }
-    requires callable { AreCallable F.FnMut C.FnOnce filter callback }
+    requires callable { MayFilter F.FnMut C.FnOnce filter callback key history.now me.old }
 
     ensures still { IsStill history.now me.old me.new }
     ensures unparked { Unparks F.FnMut C.FnOnce filter callback key history.now me.old result.0
@@ -121,6 +121,7 @@ pub(crate) fn take_filter_of<
 {
     let part = mem::replace(&mut cell.part, Part::none());
     history.take(me, part);
+    history.look(me);
     take_filter_with::<Brand, F, C>(history, me, cell, key, filter, callback)
 }
 
@@ -143,7 +144,12 @@ fn take_filter_with<
     requires few { max_threads_of history.now < 2 ^ 63 }
     requires below { All (IsBelow (max_threads_of history.now)) cell.old.bucket.nodes }
     requires place { place_of key cell.old.bucket.size ≡ cell.old.bucket.place }
-    requires callable { AreCallable F.FnMut C.FnOnce filter callback }
+    requires filter { IsFilterCallable F.FnMut filter
+        (park_tokens (lists_of cell.old.bucket.nodes key)) }
+    requires callback { (decisions : _)
+        → IsFiltered F.FnMut filter (park_tokens (lists_of cell.old.bucket.nodes key)) decisions
+        → C.pre callback (with_saturated_counts
+        (result_of (split_filter decisions (lists_of cell.old.bucket.nodes key)))) }
     requires said { (answer : UnparkResult) (s : Step) (a : Answer)
         → IsUnpark F.FnMut C.FnOnce filter callback key
         (park_tokens (lists_of cell.old.bucket.nodes key)) answer s a → E.said s a }

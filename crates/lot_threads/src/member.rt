@@ -7,7 +7,7 @@ ghost use Rattle.lot_base.specs.NodeFields.{NodeFields};
 ghost use Rattle.lot_base.specs.Waiting.{result_of, split_first};
 ghost use Rattle.lot_machine.specs.Records.{one_less, one_more, times_recorded};
 ghost use Rattle.lot_history.specs.Witness.{Extends, IsStill, IsWitnessOf, Looks, events_of, id_of, pieces_of, seen_by, view_of};
-ghost use Rattle.lot_threads.specs.Filters.{AreCallable, Unparks};
+ghost use Rattle.lot_threads.specs.Filters.{MayFilter, Unparks};
 ghost use Rattle.lot_threads.specs.Members.{Begins, IsDataOf, IsListed, IsParked, IsSame, Makes, Stays, member_of};
 ghost use Rattle.lot_threads.specs.Requeues.{MayRequeue, Requeues};
 
@@ -231,7 +231,8 @@ impl<'a, P: ThreadParkerT> Member<'a, P> {
         F: FnMut(ParkToken) -> FilterOp,
         C: FnOnce(UnparkResult) -> UnparkToken,
     >(&mut self, rt: &R, key: usize, filter: F, callback: C) -> UnparkResult
-        requires callable { AreCallable F.FnMut C.FnOnce filter callback }
+        requires callable { MayFilter F.FnMut C.FnOnce filter callback key self.old.history
+            self.old.witness }
         ensures stays { Stays self.old self.new }
         ensures unparked { Unparks F.FnMut C.FnOnce filter callback key self.old.history
             self.old.witness result self.new.witness }

@@ -11,7 +11,7 @@ ghost use Rattle.lot_history.specs.Witness.{Extends, IsStill, IsWitnessOf, event
 ghost use Rattle.lot_history.specs.declared.view.Piece.TheVariants.{Thread};
 ghost use Rattle.lot_word_lock.specs.WordLock.{IsClaimOn, key_of};
 ghost use Rattle.lot_threads.specs.Cells.{AreApart, FitsSlot, Has, IsBelow, IsLockFor};
-ghost use Rattle.lot_threads.specs.Filters.{AreCallable, Unparks};
+ghost use Rattle.lot_threads.specs.Filters.{MayFilter, Unparks};
 ghost use Rattle.lot_threads.specs.Members.{IsListed, Leaves, entry_of, entry_step};
 ghost use Rattle.lot_threads.specs.Requeues.{MayRequeue, Requeues};
 ghost use Rattle.lot_threads.specs.Sections.{HasBucket};
@@ -188,7 +188,8 @@ impl<'a, P: ThreadParkerT> Section<'a, P> {
     ) -> (UnparkResult, Handles<P::UnparkHandle>)
         requires witness { IsWitnessOf self.old.lot.now me.old }
         requires none { pieces_of me.old ≡ [] }
-        requires callable { AreCallable F.FnMut C.FnOnce filter callback }
+        requires callable { MayFilter F.FnMut C.FnOnce filter callback self.old.key
+            self.old.lot.now me.old }
         ensures still { IsStill self.old.lot.now me.old me.new }
         ensures none { pieces_of me.new ≡ [] }
         ensures unparked { Unparks F.FnMut C.FnOnce filter callback self.old.key self.old.lot.now

@@ -14,7 +14,7 @@ ghost use Rattle.lot_machine.specs.declared.step.Step.{Step};
 ghost use Rattle.lot_history.specs.Witness.{Adds, Extends, IsPartOf, IsStill, IsWitnessOf, events_of, id_of, max_threads_of, pieces_of, seen_by};
 ghost use Rattle.lot_history.specs.declared.view.Piece.TheVariants.{Thread};
 ghost use Rattle.lot_threads.specs.Cells.{Has, HasRecords, IsBelow, IsCell, IsLockFor, IsRegistry, home_of, threads_in};
-ghost use Rattle.lot_threads.specs.Filters.{AreCallable, Unparks};
+ghost use Rattle.lot_threads.specs.Filters.{MayFilter, Unparks};
 ghost use Rattle.lot_threads.specs.Members.{EndsWait, IsListed, IsRegistered, Leaves, entry_of, entry_step, number_in};
 ghost use Rattle.lot_threads.specs.Rows.{EachAt};
 

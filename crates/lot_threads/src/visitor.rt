@@ -8,7 +8,7 @@ ghost use Rattle.lot_base.specs.Waiting.{result_of, split_first};
 ghost use Rattle.lot_machine.specs.declared.step.Answer.{Answer};
 ghost use Rattle.lot_machine.specs.declared.step.Step.{Step};
 ghost use Rattle.lot_history.specs.Witness.{Extends, IsStill, IsWitnessOf, Looks, events_of, pieces_of, seen_by, view_of};
-ghost use Rattle.lot_threads.specs.Filters.{AreCallable, Unparks};
+ghost use Rattle.lot_threads.specs.Filters.{MayFilter, Unparks};
 ghost use Rattle.lot_threads.specs.Members.{IsListed};
 ghost use Rattle.lot_threads.specs.Requeues.{MayRequeue, Requeues};
 ghost use Rattle.lot_threads.specs.Visitors.{Does, IsVisitorOf, Visits};
@@ -137,7 +137,8 @@ impl<'a, P: ThreadParkerT> Visitor<'a, P> {
         F: FnMut(ParkToken) -> FilterOp,
         C: FnOnce(UnparkResult) -> UnparkToken,
     >(&mut self, rt: &R, key: usize, filter: F, callback: C) -> UnparkResult
-        requires callable { AreCallable F.FnMut C.FnOnce filter callback }
+        requires callable { MayFilter F.FnMut C.FnOnce filter callback key self.old.history
+            self.old.witness }
         ensures visits { Visits self.old self.new }
         ensures unparked { Unparks F.FnMut C.FnOnce filter callback key self.old.history
             self.old.witness result self.new.witness }

@@ -6,7 +6,7 @@ ghost use Rattle.lot_base.specs.Waiting.{result_of, split_first};
 ghost use Rattle.lot_machine.specs.declared.step.Answer.{Answer};
 ghost use Rattle.lot_machine.specs.declared.step.Step.{Step};
 ghost use Rattle.lot_history.specs.Witness.{Extends, IsStill, IsWitnessOf, pieces_of};
-ghost use Rattle.lot_threads.specs.Filters.{AreCallable, Unparks};
+ghost use Rattle.lot_threads.specs.Filters.{MayFilter, Unparks};
 ghost use Rattle.lot_threads.specs.Members.{IsListed};
 
 use super::ParkingLot;
@@ -76,7 +76,7 @@ impl<P: ThreadParkerT> ParkingLot<P> {
     >(&self, rt: &R, me: &mut Witness, key: usize, filter: F, callback: C) -> UnparkResult
         requires witness { IsWitnessOf self.now me.old }
         requires none { pieces_of me.old ≡ [] }
-        requires callable { AreCallable F.FnMut C.FnOnce filter callback }
+        requires callable { MayFilter F.FnMut C.FnOnce filter callback key self.now me.old }
         ensures still { IsStill self.now me.old me.new }
         ensures none { pieces_of me.new ≡ [] }
         ensures unparked { Unparks F.FnMut C.FnOnce filter callback key self.now me.old result

@@ -16,9 +16,6 @@ use Rattle.lot_threads.proofs.BelowLemmas.{below-left, below-taken, filter_parts
 use Rattle.lot_threads.proofs.TakingLemmas.{taking_said}
 use Rattle.lot_threads.proofs.cell_steps.take_filter_with.Goals as goal
 
-pub take_filter-taken-requires-clause-filter : goal.take_filter-taken-requires-clause-filter
-take_filter-taken-requires-clause-filter g c = c.requires.callable.may_filter _
-
 pub add_taken-requires-clause-moves : goal.add_taken-requires-clause-moves
 add_taken-requires-clause-moves g c =
     let bound = max_threads_of c.args.history.now in
