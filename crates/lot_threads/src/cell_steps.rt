@@ -18,6 +18,7 @@ ghost use Rattle.lot_threads.specs.Filters.{IsUnpark, MayFilter, Unparks};
 ghost use Rattle.lot_threads.specs.Members.{IsListed, Leaves, entry_of, entry_step};
 
 use crate::cell::Cell;
+use crate::section::Licence;
 use crate::told::{Entry, add_entered, add_invalid, add_taken, add_taking, add_timeout};
 use lot_base::queue::{Node, Queue};
 use lot_base::token::{FilterOp, NoMemory, ParkToken, UnparkResult, UnparkToken};
@@ -35,6 +36,7 @@ use std::{mem, thread};
 pub(crate) fn take_one_of<E: Told, C: FnOnce(UnparkResult) -> UnparkToken>(
     history: &History,
     me: &mut Witness,
+    licence: Licence,
     cell: &mut Cell,
     key: usize,
     callback: C,
@@ -58,7 +60,7 @@ pub(crate) fn take_one_of<E: Told, C: FnOnce(UnparkResult) -> UnparkToken>(
     ensures one { length result.1 ≤ 1 }
 {
     let (result, taken) = cell.bucket.take_one(key, callback);
-    add_taking::<E>(history, me, cell, &taken, Answer::Unpark(result));
+    add_taking::<E>(history, me, licence, cell, &taken, Answer::Unpark(result));
     (result, taken)
 }
 
@@ -67,6 +69,7 @@ pub(crate) fn take_one_of<E: Told, C: FnOnce(UnparkResult) -> UnparkToken>(
 pub(crate) fn take_all_of<E: Told>(
     history: &History,
     me: &mut Witness,
+    licence: Licence,
     cell: &mut Cell,
     key: usize,
     token: UnparkToken,
@@ -87,7 +90,7 @@ pub(crate) fn take_all_of<E: Told>(
     ensures below { All (IsBelow (max_threads_of history.now)) result.1 }
 {
     let (count, taken) = cell.bucket.take_all(key, token);
-    add_taking::<E>(history, me, cell, &taken, Answer::Count(count));
+    add_taking::<E>(history, me, licence, cell, &taken, Answer::Count(count));
     (count, taken)
 }
 
@@ -99,6 +102,7 @@ pub(crate) fn take_filter_of<
 >(
     history: &History,
     me: &mut Witness,
+    licence: Licence,
     cell: &mut Cell,
     key: usize,
     filter: F,
@@ -122,7 +126,7 @@ pub(crate) fn take_filter_of<
     let part = mem::replace(&mut cell.part, Part::none());
     history.take(me, part);
     history.look(me);
-    take_filter_with::<Brand, F, C>(history, me, cell, key, filter, callback)
+    take_filter_with::<Brand, F, C>(history, me, licence, cell, key, filter, callback)
 }
 
 // Takes those waiters of the key that the filter unparks out of their bucket, whose piece the
@@ -134,6 +138,7 @@ fn take_filter_with<
 >(
     history: &History,
     me: &mut Witness,
+    licence: Licence,
     cell: &mut Cell,
     key: usize,
     filter: F,
@@ -164,7 +169,7 @@ fn take_filter_with<
     ensures below { All (IsBelow (max_threads_of history.now)) result.1 }
 {
     let (result, taken) = cell.bucket.take_filter(key, filter, callback);
-    add_taken::<E>(history, me, cell, &taken, Answer::Unpark(result));
+    add_taken::<E>(history, me, licence, cell, &taken, Answer::Unpark(result));
     (result, taken)
 }
 
@@ -173,6 +178,7 @@ fn take_filter_with<
 pub(crate) fn enter_in<V: FnOnce() -> bool>(
     history: &History,
     me: &mut Witness,
+    licence: Licence,
     cell: &mut Cell,
     thread: Part,
     node: Box<Node>,
@@ -204,10 +210,10 @@ pub(crate) fn enter_in<V: FnOnce() -> bool>(
     let entry = entry_for(&node);
     match cell.bucket.enter(node, validate) {
         Ok(()) => {
-            add_entered(history, me, cell, thread, entry);
+            add_entered(history, me, licence, cell, thread, entry);
             Ok(())
         }
-        Err(node) => Err((add_invalid(history, me, thread, entry), node)),
+        Err(node) => Err((add_invalid(history, me, licence, thread, entry), node)),
     }
 }
 
@@ -217,6 +223,7 @@ pub(crate) fn leave_in<R: Wait, T: FnOnce(usize, bool)>(
     rt: &R,
     history: &History,
     me: &mut Witness,
+    licence: Licence,
     cell: &mut Cell,
     number: usize,
     key: usize,
@@ -239,14 +246,17 @@ pub(crate) fn leave_in<R: Wait, T: FnOnce(usize, bool)>(
     ensures unchanged { IfNone result ((seen_by me.new ≡ seen_by me.old)
         × (events_of me.new ≡ events_of me.old)) }
 {
-    let (node, last) = cell.bucket.remove(number, key, |_, last| last)?;
+    let Some((node, last)) = cell.bucket.remove(number, key, |_, last| last) else {
+        licence.spend();
+        return None;
+    };
     // A thread whose deadline has passed entered with a timeout, but no contract tells what the
     // node of a thread says.
     if !node.timed {
         never(rt);
     }
     timed_out(key, last);
-    let thread = add_timeout(history, me, cell, number, key, last);
+    let thread = add_timeout(history, me, licence, cell, number, key, last);
     Some((thread, node))
 }
 

@@ -31,8 +31,22 @@ use std::alloc::Global;
 use std::marker::Brand;
 use std::sync::Wait;
 
-/// A call that has the bucket of a key, which lies behind its lock. Each of its steps changes the
-/// bucket and adds to the history what it did. It has no `Drop`: it ends in `close`.
+/// Leave to add one step to the history. Opening a section gives one, and nothing else does; the
+/// section's step uses it. It has no bytes, and no `Drop`.
+pub(crate) struct Licence {
+    given: (),
+}
+
+impl Licence {
+    /// Uses it up.
+    #[inline(always)]
+    pub(crate) fn spend(self) {
+        let Licence { given: () } = self;
+    }
+}
+
+/// A call that has the bucket of a key, which lies behind its lock. Its step changes the bucket and
+/// adds to the history what it did. It has no `Drop`: it ends in `close`.
 ///
 /// A requeue has two, of which `behind` tells the place of the one that was opened before.
 pub(crate) struct Section<'a, P: ThreadParkerT> {
@@ -49,15 +63,19 @@ impl<'a, P: ThreadParkerT> Section<'a, P> {
     /// Locks the bucket of the key. Where a change of rows took it away, it waits until that is
     /// done, and looks again.
     #[inline(always)]
-    pub(crate) fn open<R: Wait>(rt: &R, lot: &'a ParkingLot<P>, key: usize) -> Section<'a, P>
-        ensures lot { result.lot.now ≡ lot.now }
-        ensures key { result.key ≡ key }
+    pub(crate) fn open<R: Wait>(
+        rt: &R,
+        lot: &'a ParkingLot<P>,
+        key: usize,
+    ) -> (Section<'a, P>, Licence)
+        ensures lot { result.0.lot.now ≡ lot.now }
+        ensures key { result.0.key ≡ key }
     {
         for _ in rt.forever() {
             if let Some(lock) = lot.lock_of(key)
-                && let Some(section) = Section::at(rt, lot, lock, key)
+                && let Some(opened) = Section::at(rt, lot, lock, key)
             {
-                return section;
+                return opened;
             }
             lot.wait_for_change(rt);
         }
@@ -72,24 +90,25 @@ impl<'a, P: ThreadParkerT> Section<'a, P> {
         lot: &'a ParkingLot<P>,
         lock: &'a WordLock<Slot>,
         key: usize,
-    ) -> Option<Section<'a, P>>
+    ) -> Option<(Section<'a, P>, Licence)>
         requires { IsLockFor lot.now key lock.now }
-        ensures lot { IfSome result (λ section. section.lot.now ≡ lot.now) }
-        ensures lock { IfSome result (λ section. section.lock.now ≡ lock.now) }
-        ensures key { IfSome result (λ section. section.key ≡ key) }
+        ensures lot { IfSome result (λ opened. opened.0.lot.now ≡ lot.now) }
+        ensures lock { IfSome result (λ opened. opened.0.lock.now ≡ lock.now) }
+        ensures key { IfSome result (λ opened. opened.0.key ≡ key) }
     {
         let claim = claim_bucket(rt, lock)?;
-        Some(Section {
+        let section = Section {
             lot,
             lock,
             behind: None,
             claim,
             key,
-        })
+        };
+        Some((section, Licence { given: () }))
     }
 
     /// Does what `at` does, for a call that has the bucket of a lower place, whose section is
-    /// `first`.
+    /// `first`. Its licence is that of `first`.
     #[inline(always)]
     pub(crate) fn behind<R: Wait>(
         rt: &R,
@@ -107,7 +126,8 @@ impl<'a, P: ThreadParkerT> Section<'a, P> {
         ensures behind { IfSome result (λ section.
             section.behind ≡ Some (key_of first.now.lock.now).place) }
     {
-        let mut section = Section::at(rt, first.lot, lock, key)?;
+        let (mut section, licence) = Section::at(rt, first.lot, lock, key)?;
+        licence.spend();
         section.behind = Some(place);
         Some(section)
     }
@@ -131,6 +151,7 @@ impl<'a, P: ThreadParkerT> Section<'a, P> {
         &mut self,
         rt: &R,
         me: &mut Witness,
+        licence: Licence,
         callback: C,
     ) -> (UnparkResult, Option<P::UnparkHandle>)
         requires witness { IsWitnessOf self.old.lot.now me.old }
@@ -147,7 +168,14 @@ impl<'a, P: ThreadParkerT> Section<'a, P> {
         let key = self.key;
         let slot = self.claim.value_mut(self.lock).as_mut().unwrap();
         let cell = slot.cell.as_mut().unwrap();
-        let (result, taken) = take_one_of::<Brand, C>(lot.history(), me, cell, key, callback);
+        let (result, taken) = take_one_of::<Brand, C>(
+            lot.history(),
+            me,
+            licence,
+            cell,
+            key,
+            callback,
+        );
         (result, lot.commit_one(rt, me, taken))
     }
 
@@ -156,6 +184,7 @@ impl<'a, P: ThreadParkerT> Section<'a, P> {
         &mut self,
         rt: &R,
         me: &mut Witness,
+        licence: Licence,
         token: UnparkToken,
     ) -> (usize, Handles<P::UnparkHandle>)
         requires witness { IsWitnessOf self.old.lot.now me.old }
@@ -169,7 +198,7 @@ impl<'a, P: ThreadParkerT> Section<'a, P> {
         let key = self.key;
         let slot = self.claim.value_mut(self.lock).as_mut().unwrap();
         let cell = slot.cell.as_mut().unwrap();
-        let (count, taken) = take_all_of::<Brand>(lot.history(), me, cell, key, token);
+        let (count, taken) = take_all_of::<Brand>(lot.history(), me, licence, cell, key, token);
         (count, lot.commit(rt, me, taken))
     }
 
@@ -183,6 +212,7 @@ impl<'a, P: ThreadParkerT> Section<'a, P> {
         &mut self,
         rt: &R,
         me: &mut Witness,
+        licence: Licence,
         filter: F,
         callback: C,
     ) -> (UnparkResult, Handles<P::UnparkHandle>)
@@ -199,7 +229,15 @@ impl<'a, P: ThreadParkerT> Section<'a, P> {
         let key = self.key;
         let slot = self.claim.value_mut(self.lock).as_mut().unwrap();
         let cell = slot.cell.as_mut().unwrap();
-        let (result, taken) = take_filter_of(lot.history(), me, cell, key, filter, callback);
+        let (result, taken) = take_filter_of(
+            lot.history(),
+            me,
+            licence,
+            cell,
+            key,
+            filter,
+            callback,
+        );
         (result, lot.commit(rt, me, taken))
     }
 
@@ -213,6 +251,7 @@ impl<'a, P: ThreadParkerT> Section<'a, P> {
         &mut self,
         rt: &R,
         me: &mut Witness,
+        licence: Licence,
         to: usize,
         validate: V,
         callback: C,
@@ -231,7 +270,7 @@ impl<'a, P: ThreadParkerT> Section<'a, P> {
         let slot = self.claim.value_mut(self.lock).as_mut().unwrap();
         let cell = slot.cell.as_mut().unwrap();
         let (result, taken) = lot.requeue_in_one::<Brand, V, C>(
-            me, cell, from, to, validate, callback,
+            me, licence, cell, from, to, validate, callback,
         );
         (result, lot.commit_one(rt, me, taken))
     }
@@ -246,6 +285,7 @@ impl<'a, P: ThreadParkerT> Section<'a, P> {
         &mut self,
         rt: &R,
         me: &mut Witness,
+        licence: Licence,
         target: &mut Section<'a, P>,
         validate: V,
         callback: C,
@@ -268,7 +308,7 @@ impl<'a, P: ThreadParkerT> Section<'a, P> {
         let slot = target.claim.value_mut(target.lock).as_mut().unwrap();
         let other = slot.cell.as_mut().unwrap();
         let (result, taken) = lot.requeue_across::<Brand, V, C>(
-            me, source, other, from, to, validate, callback,
+            me, licence, source, other, from, to, validate, callback,
         );
         (result, lot.commit_one(rt, me, taken))
     }
@@ -279,6 +319,7 @@ impl<'a, P: ThreadParkerT> Section<'a, P> {
     pub(crate) fn enter<V: FnOnce() -> bool>(
         &mut self,
         me: &mut Witness,
+        licence: Licence,
         thread: Part,
         node: Box<Node>,
         validate: V,
@@ -304,7 +345,7 @@ impl<'a, P: ThreadParkerT> Section<'a, P> {
         let history = self.lot.history();
         let slot = self.claim.value_mut(self.lock).as_mut().unwrap();
         let cell = slot.cell.as_mut().unwrap();
-        enter_in(history, me, cell, thread, node, validate)
+        enter_in(history, me, licence, cell, thread, node, validate)
     }
 
     /// Takes a thread whose deadline has passed out of the list of the key and calls `timed_out`,
@@ -313,6 +354,7 @@ impl<'a, P: ThreadParkerT> Section<'a, P> {
         &mut self,
         rt: &R,
         me: &mut Witness,
+        licence: Licence,
         number: usize,
         timed_out: T,
     ) -> Option<(Part, Box<Node>)>
@@ -332,7 +374,7 @@ impl<'a, P: ThreadParkerT> Section<'a, P> {
         let key = self.key;
         let slot = self.claim.value_mut(self.lock).as_mut().unwrap();
         let cell = slot.cell.as_mut().unwrap();
-        leave_in(rt, history, me, cell, number, key, timed_out)
+        leave_in(rt, history, me, licence, cell, number, key, timed_out)
     }
 
     /// Sees the history with the bucket's part, and lists the threads of the key.

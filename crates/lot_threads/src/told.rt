@@ -12,6 +12,7 @@ ghost use Rattle.lot_threads.specs.Rows.{empty_lists, free_numbers};
 
 use crate::cell::Cell;
 use crate::numbered_nodes::NumberedNodes;
+use crate::section::Licence;
 use lot_base::bucket::Bucket;
 use lot_base::queue::Queue;
 use lot_base::token::{ParkToken, UnparkToken};
@@ -194,6 +195,7 @@ pub(crate) fn add_full(history: &History, me: &mut Witness)
 pub(crate) fn add_taking<E: Told>(
     history: &History,
     me: &mut Witness,
+    licence: Licence,
     cell: &mut Cell,
     taken: &Queue,
     answer: Answer,
@@ -211,7 +213,7 @@ pub(crate) fn add_taking<E: Told>(
 {
     let part = mem::replace(&mut cell.part, Part::none());
     history.take(me, part);
-    add_taken::<E>(history, me, cell, taken, answer);
+    add_taken::<E>(history, me, licence, cell, taken, answer);
 }
 
 // Adds an unpark, where the witness has the bucket's piece and the bucket is as the unpark left it.
@@ -219,6 +221,7 @@ pub(crate) fn add_taking<E: Told>(
 pub(crate) fn add_taken<E: Told>(
     history: &History,
     me: &mut Witness,
+    licence: Licence,
     cell: &mut Cell,
     taken: &Queue,
     answer: Answer,
@@ -233,6 +236,7 @@ pub(crate) fn add_taken<E: Told>(
     ensures bucket { cell.new.bucket ≡ cell.old.bucket }
     ensures part { Has (id_of history.now) (lists_in cell.old.bucket ∷ []) cell.new.part }
 {
+    licence.spend();
     add_with::<Brand, (&Bucket, &Queue, Answer)>(history, me, &(&cell.bucket, taken, answer));
     cell.part = history.give(me);
 }
@@ -242,6 +246,7 @@ pub(crate) fn add_taken<E: Told>(
 pub(crate) fn add_requeue<E: Told>(
     history: &History,
     me: &mut Witness,
+    licence: Licence,
     source: &mut Cell,
     target: &mut Cell,
     taken: &Queue,
@@ -262,6 +267,7 @@ pub(crate) fn add_requeue<E: Told>(
     ensures source { Has (id_of history.now) (lists_in source.old.bucket ∷ []) source.new.part }
     ensures target { Has (id_of history.now) (lists_in target.old.bucket ∷ []) target.new.part }
 {
+    licence.spend();
     let part = mem::replace(&mut source.part, Part::none());
     history.take(me, part);
     let other = mem::replace(&mut target.part, Part::none());
@@ -299,6 +305,7 @@ fn add_requeued<E: Told>(history: &History, me: &mut Witness, left: &Requeued<'_
 pub(crate) fn add_entered(
     history: &History,
     me: &mut Witness,
+    licence: Licence,
     cell: &mut Cell,
     thread: Part,
     entry: Entry,
@@ -320,12 +327,19 @@ pub(crate) fn add_entered(
     let part = mem::replace(&mut cell.part, Part::none());
     history.take(me, part);
     history.take(me, thread);
+    licence.spend();
     add_with::<Brand, (&Bucket, Entry)>(history, me, &(&cell.bucket, entry));
     cell.part = history.give(me);
 }
 
 // Adds that a thread was not let in, and gives its piece back.
-pub(crate) fn add_invalid(history: &History, me: &mut Witness, thread: Part, entry: Entry) -> Part
+pub(crate) fn add_invalid(
+    history: &History,
+    me: &mut Witness,
+    licence: Licence,
+    thread: Part,
+    entry: Entry,
+) -> Part
     requires witness { IsWitnessOf history.now me.old }
     requires none { pieces_of me.old ≡ [] }
     requires thread { Has (id_of history.now) (Thread entry.number Status.Running ∷ []) thread }
@@ -338,6 +352,7 @@ pub(crate) fn add_invalid(history: &History, me: &mut Witness, thread: Part, ent
     ensures thread { Has (id_of history.now) (Thread entry.number Status.Running ∷ []) result }
 {
     history.take(me, thread);
+    licence.spend();
     add_with::<Brand, Entry>(history, me, &entry);
     history.give(me)
 }
@@ -347,6 +362,7 @@ pub(crate) fn add_invalid(history: &History, me: &mut Witness, thread: Part, ent
 pub(crate) fn add_timeout(
     history: &History,
     me: &mut Witness,
+    licence: Licence,
     cell: &mut Cell,
     number: usize,
     key: usize,
@@ -371,6 +387,7 @@ pub(crate) fn add_timeout(
 {
     let part = mem::replace(&mut cell.part, Part::none());
     history.take(me, part);
+    licence.spend();
     add_late(history, me, number);
     add_resolved(history, me, &cell.bucket, number, key, last);
     cell.part = history.give(me);

@@ -12,7 +12,7 @@ ghost use Rattle.lot_threads.specs.Members.{EndsWait, Leaves, entry_of, entry_st
 
 use super::ParkingLot;
 use crate::parker::ThreadParkerT;
-use crate::section::Section;
+use crate::section::{Licence, Section};
 use lot_base::queue::Node;
 use lot_base::token::ParkResult;
 use lot_history::history::{Part, Witness};
@@ -56,8 +56,8 @@ impl<P: ThreadParkerT> ParkingLot<P> {
             timed,
             ..
         } = *node;
-        let mut section = Section::open(rt, self, key);
-        let entered = section.enter(me, thread, node, validate);
+        let (mut section, licence) = Section::open(rt, self, key);
+        let entered = section.enter(me, licence, thread, node, validate);
         if entered.is_ok() {
             self.note_key(number, timed, key);
         }
@@ -127,24 +127,25 @@ impl<P: ThreadParkerT> ParkingLot<P> {
         ensures unchanged { IfNone result ((seen_by me.new ≡ seen_by me.old)
             × (events_of me.new ≡ events_of me.old)) }
     {
-        let mut section = self.open_own(rt, number);
-        let left = section.leave(rt, me, number, timed_out);
+        let (mut section, licence) = self.open_own(rt, number);
+        let left = section.leave(rt, me, licence, number, timed_out);
         section.close();
         left
     }
 
     // Locks the bucket of the key on which a thread waits that has a timeout. A requeue moves the
     // thread with both buckets locked, so while this one is, it stands here or was taken.
-    fn open_own<R: Wait>(&self, rt: &R, number: usize) -> Section<'_, P>
+    fn open_own<R: Wait>(&self, rt: &R, number: usize) -> (Section<'_, P>, Licence)
         requires { number < max_threads_of self.now }
-        ensures { result.lot.now ≡ self.now }
+        ensures { result.0.lot.now ≡ self.now }
     {
         for _ in rt.forever() {
             let key = self.key(number);
-            let section = Section::open(rt, self, key);
+            let (section, licence) = Section::open(rt, self, key);
             if self.key(number) == key {
-                return section;
+                return (section, licence);
             }
+            licence.spend();
             section.close();
         }
         unreachable!()

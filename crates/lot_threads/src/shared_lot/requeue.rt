@@ -16,7 +16,7 @@ ghost use Rattle.lot_threads.specs.Sections.{AreLockedInOrder, IsKeyedLock};
 use super::ParkingLot;
 use crate::cell::{Cell, Slot, lock_at};
 use crate::parker::ThreadParkerT;
-use crate::section::Section;
+use crate::section::{Licence, Section};
 use crate::told::{add_requeue, add_taking};
 use lot_base::bucket::place;
 use lot_base::queue::Queue;
@@ -59,29 +59,29 @@ impl<P: ThreadParkerT> ParkingLot<P> {
         ensures requeued { Requeues V.FnOnce C.FnOnce validate callback from to self.now me.old
             result me.new }
     {
-        let (mut source, target) = self.open_two(rt, from, to);
+        let (mut source, target, licence) = self.open_two(rt, from, to);
         let Some(mut target) = target else {
-            let (result, handle) = source.requeue_within(rt, me, to, validate, callback);
+            let (result, handle) = source.requeue_within(rt, me, licence, to, validate, callback);
             source.close();
             self.wake_if_any(handle);
             return result;
         };
-        let (result, handle) = source.requeue_to(rt, me, &mut target, validate, callback);
+        let (result, handle) = source.requeue_to(rt, me, licence, &mut target, validate, callback);
         source.close();
         target.close();
         self.wake_if_any(handle);
         result
     }
 
-    // The section of the key `from`, and that of the key `to` if it has another bucket. That of the
-    // lower place is opened first.
+    // The section of the key `from`, and that of the key `to` if it has another bucket, with one
+    // licence. That of the lower place is opened first.
     #[inline(always)]
     fn open_two<R: Wait>(
         &self,
         rt: &R,
         from: usize,
         to: usize,
-    ) -> (Section<'_, P>, Option<Section<'_, P>>)
+    ) -> (Section<'_, P>, Option<Section<'_, P>>, Licence)
         ensures lot { result.0.lot.now ≡ self.now }
         ensures other_lot { IfSome result.1 (λ other. other.lot.now ≡ self.now) }
         ensures from { result.0.key ≡ from }
@@ -94,13 +94,13 @@ impl<P: ThreadParkerT> ParkingLot<P> {
         for _ in rt.forever() {
             match self.locks_of(from, to) {
                 Some((source, Some(target))) => {
-                    if let Some((source, target)) = self.open_both(rt, source, target) {
-                        return (source, Some(target));
+                    if let Some((source, target, licence)) = self.open_both(rt, source, target) {
+                        return (source, Some(target), licence);
                     }
                 }
                 Some((source, None)) => {
-                    if let Some(source) = Section::at(rt, self, source.lock, from) {
-                        return (source, None);
+                    if let Some((source, licence)) = Section::at(rt, self, source.lock, from) {
+                        return (source, None, licence);
                     }
                 }
                 None => {}
@@ -118,7 +118,7 @@ impl<P: ThreadParkerT> ParkingLot<P> {
         rt: &R,
         source: KeyedLock<'b>,
         target: KeyedLock<'b>,
-    ) -> Option<(Section<'b, P>, Section<'b, P>)>
+    ) -> Option<(Section<'b, P>, Section<'b, P>, Licence)>
         requires apart { AreApart source.lock.now target.lock.now }
         requires source { IsKeyedLock self.now source }
         requires target { IsKeyedLock self.now target }
@@ -134,8 +134,8 @@ impl<P: ThreadParkerT> ParkingLot<P> {
         if source.place < target.place {
             return self.open_in_order(rt, source, target);
         }
-        let (target, source) = self.open_in_order(rt, target, source)?;
-        Some((source, target))
+        let (target, source, licence) = self.open_in_order(rt, target, source)?;
+        Some((source, target, licence))
     }
 
     // Opens these two sections, one after the other.
@@ -145,7 +145,7 @@ impl<P: ThreadParkerT> ParkingLot<P> {
         rt: &R,
         first: KeyedLock<'b>,
         second: KeyedLock<'b>,
-    ) -> Option<(Section<'b, P>, Section<'b, P>)>
+    ) -> Option<(Section<'b, P>, Section<'b, P>, Licence)>
         requires first { IsKeyedLock self.now first }
         requires second { IsKeyedLock self.now second }
         requires order { first.place < second.place }
@@ -158,12 +158,13 @@ impl<P: ThreadParkerT> ParkingLot<P> {
         ensures behind { IfSome result (λ both.
             both.1.behind ≡ Some (key_of first.entry.lock.now).place) }
     {
-        let opened = Section::at(rt, self, first.lock, first.key)?;
+        let (opened, licence) = Section::at(rt, self, first.lock, first.key)?;
         let Some(other) = Section::behind(rt, &opened, first.place, second.lock, second.key) else {
+            licence.spend();
             opened.close();
             return None;
         };
-        Some((opened, other))
+        Some((opened, other, licence))
     }
 
     // The lock of the bucket of the key `from`, and that of the key `to` if it is another, in one
@@ -195,6 +196,7 @@ impl<P: ThreadParkerT> ParkingLot<P> {
     >(
         &self,
         me: &mut Witness,
+        licence: Licence,
         cell: &mut Cell,
         from: usize,
         to: usize,
@@ -223,7 +225,14 @@ impl<P: ThreadParkerT> ParkingLot<P> {
         let (result, taken) = cell
             .bucket
             .requeue_one(from, to, validate, callback, &mut moved);
-        add_taking::<E>(&self.history, me, cell, &taken, Answer::Unpark(result));
+        add_taking::<E>(
+            &self.history,
+            me,
+            licence,
+            cell,
+            &taken,
+            Answer::Unpark(result),
+        );
         (result, taken)
     }
 
@@ -235,6 +244,7 @@ impl<P: ThreadParkerT> ParkingLot<P> {
     >(
         &self,
         me: &mut Witness,
+        licence: Licence,
         source: &mut Cell,
         target: &mut Cell,
         from: usize,
@@ -277,6 +287,7 @@ impl<P: ThreadParkerT> ParkingLot<P> {
         add_requeue::<E>(
             &self.history,
             me,
+            licence,
             source,
             target,
             &taken,

@@ -38,8 +38,8 @@ impl<P: ThreadParkerT> ParkingLot<P> {
             × Extends self.now me.old (Step.Unpark (Op.One key token))
             (Answer.Unpark result) me.new }
     {
-        let mut section = Section::open(rt, self, key);
-        let (result, handle) = section.take_one(rt, me, callback);
+        let (mut section, licence) = Section::open(rt, self, key);
+        let (result, handle) = section.take_one(rt, me, licence, callback);
         section.close();
         self.wake_if_any(handle);
         result
@@ -60,8 +60,8 @@ impl<P: ThreadParkerT> ParkingLot<P> {
         ensures unparked { Extends self.now me.old (Step.Unpark (Op.All key token))
             (Answer.Count result) me.new }
     {
-        let mut section = Section::open(rt, self, key);
-        let (count, handles) = section.take_all(rt, me, token);
+        let (mut section, licence) = Section::open(rt, self, key);
+        let (count, handles) = section.take_all(rt, me, licence, token);
         section.close();
         self.wake_all(handles);
         count
@@ -82,8 +82,8 @@ impl<P: ThreadParkerT> ParkingLot<P> {
         ensures unparked { Unparks F.FnMut C.FnOnce filter callback key self.now me.old result
             me.new }
     {
-        let mut section = Section::open(rt, self, key);
-        let (result, handles) = section.take_filter(rt, me, filter, callback);
+        let (mut section, licence) = Section::open(rt, self, key);
+        let (result, handles) = section.take_filter(rt, me, licence, filter, callback);
         section.close();
         self.wake_all(handles);
         result
@@ -103,7 +103,8 @@ impl<P: ThreadParkerT> ParkingLot<P> {
         ensures none { pieces_of me.new ≡ [] }
         ensures listed { IsListed self.now key me.old me.new result }
     {
-        let mut section = Section::open(rt, self, key);
+        let (mut section, licence) = Section::open(rt, self, key);
+        licence.spend();
         let listed = section.list(me, alloc);
         section.close();
         listed

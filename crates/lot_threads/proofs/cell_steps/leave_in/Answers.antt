@@ -26,12 +26,12 @@ pub add_timeout-thread-requires-clause-deadline : goal.add_timeout-thread-requir
 add_timeout-thread-requires-clause-deadline g c =
     let bound = max_threads_of c.args.history.now in
     let old = c.args.cell.now.bucket in
-    let node = fields c.in_ok-node.node.value in
+    let node = fields c.in-Some.node.value in
     let is_timed : not node.timed ≡ false = search rules in
     subst (λ (pieces : List Piece). Moves bound (Is (step.Deadline c.args.number) answer.Late) pieces
     (late_pieces c.args.number pieces)) (sym c.requires.cell.part.pieces)
     (removes_late bound old.size old.place c.args.key c.args.number old.nodes node [] c.requires.place
-    c.in_ok-node.ensures.removed.0 (not_false node.timed is_timed))
+    c.in-Some.ensures.removed.0 (not_false node.timed is_timed))
 
 pub add_timeout-thread-requires-clause-resolve : goal.add_timeout-thread-requires-clause-resolve
 add_timeout-thread-requires-clause-resolve g c =
@@ -41,12 +41,12 @@ add_timeout-thread-requires-clause-resolve g c =
     let old = c.args.cell.now.bucket in
     let new = c.remove.new.self in
     let told = c.remove.ensures in
-    let last : c.in_ok-node.last ≡ not (has_any (without_first (has_number number) (lists_of old.nodes key))) = search rules in
-    subst (λ (pieces : List Piece). Moves bound (Is (step.Resolve number) (answer.TimedOut key c.in_ok-node.last))
+    let last : c.in-Some.last ≡ not (has_any (without_first (has_number number) (lists_of old.nodes key))) = search rules in
+    subst (λ (pieces : List Piece). Moves bound (Is (step.Resolve number) (answer.TimedOut key c.in-Some.last))
     (late_pieces number pieces) (lists_in new ∷ Thread number status.Running ∷ [])) (sym c.requires.cell.part.pieces)
     (rw (told.place.place, told.place.size, last)
-    (removes bound old.size old.place key number old.nodes (fields c.in_ok-node.node.value) [] c.requires.place
-    c.in_ok-node.ensures.removed.0 new.nodes told.lists))
+    (removes bound old.size old.place key number old.nodes (fields c.in-Some.node.value) [] c.requires.place
+    c.in-Some.ensures.removed.0 new.nodes told.lists))
 
 pub returns-clause-cell : goal.returns-clause-cell
 returns-clause-cell g c =
@@ -64,7 +64,7 @@ returns-clause-cell g c =
 
 pub returns-clause-returned : goal.returns-clause-returned
 returns-clause-returned g c = (
-  find-number c.args.number (lists_of c.args.cell.now.bucket.nodes c.args.key) (fields c.in_ok-node.node.value)
-      c.in_ok-node.ensures.removed.0,
+  find-number c.args.number (lists_of c.args.cell.now.bucket.nodes c.args.key) (fields c.in-Some.node.value)
+      c.in-Some.ensures.removed.0,
   c.add_timeout-thread.ensures.thread,
 )

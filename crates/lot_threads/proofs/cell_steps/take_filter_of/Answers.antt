@@ -15,7 +15,7 @@ use Rattle.lot_history.specs.Pieces.{AllSo}
 use Rattle.lot_history.specs.Tells as tells
 use Rattle.lot_history.specs.Witness.{Extends, max_threads_of, number_of, pieces_in, pieces_of, seen_by, view_of}
 use Rattle.lot_threads.specs.Cells.{lists_in}
-use Rattle.lot_threads.specs.Filters.{AreCalled, tokens_in}
+use Rattle.lot_threads.specs.Filters.{AreCalled}
 use Rattle.lot_threads.proofs.AnswerLemmas.{same_result}
 use Rattle.lot_threads.proofs.ListLemmas.{tokens_at}
 use Rattle.lot_threads.proofs.LookLemmas.{extends_after, finds, prefix_trans, same_tokens}
