@@ -9,6 +9,5 @@ pub mod faults;
 pub mod followed_parker;
 pub mod ordered_parker;
 pub mod scene;
-pub mod slow_parker;
 pub mod waits;
 pub mod words;
