@@ -16,6 +16,8 @@ mod memory;
 #[cfg(test)]
 mod plain;
 #[cfg(test)]
+mod player;
+#[cfg(test)]
 mod record;
 #[cfg(test)]
 mod recording_lot;

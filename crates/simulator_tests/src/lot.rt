@@ -1,90 +1,39 @@
-//! The exclusive lot: calls of its own that no script makes, and lists of steps beside the plain
-//! machine.
+//! Calls of the exclusive lot that stand on laws.
 
-mod calls;
-mod lists;
-
-use crate::plain::exclusive::Plain;
-use crate::words::{expect, expect_text, step};
-use lot_machine::step::{Answer, Step};
-use lot_script::script::write_answer;
+use crate::words::{expect, step};
+use lot_base::token::UnparkToken;
+use lot_machine::step::Answer;
+use lot_simulator::laws;
 use lot_simulator::lot::Lot;
-use lot_simulator::schedule::run;
 use std::alloc::Global;
 use std::process::Abort;
 
-/// Runs the steps on the lot, and compares what it answers, a line for each step. It refuses a
-/// `run` that answers `NoMemory` at each call.
-pub fn expect_run(rt: &impl Abort, alloc: Global, lot: &mut Lot, steps: &[Step], expected: &str) {
-    let mut answers: Vec<Answer> = Vec::new(alloc);
-    run(lot, steps, &mut answers).expect(rt, "memory");
-    let mut written = Vec::new(alloc);
-    for answer in &answers {
-        write_answer(&mut written, *answer).expect(rt, "memory");
-        written.push(b'\n').expect(rt, "memory");
+// Two of three threads wait on the key 1.
+const LINES: &str = "register\nregister\nregister\nenter 0 1 yes 0 timed\nenter 1 1 yes 0 timed";
+
+fn expect_laws(rt: &impl Abort, alloc: Global, lot: &mut Lot) {
+    for line in LINES.lines() {
+        let answer = lot.apply(&step(rt, alloc, line));
+        expect(
+            rt,
+            answer != Answer::Misfit && answer != Answer::NoMemory,
+            line,
+        );
     }
-    expect(rt, written.as_slice() == expected.as_bytes(), expected);
+    let recorded = laws::acquire_and_release(lot, 2, 5);
+    expect(rt, recorded == Ok(()), "a record that is released");
+    let moved = laws::requeue_all_to_itself(lot, 1).requeued_threads;
+    let unparked = laws::unpark_all_by_filter(lot, 1, UnparkToken(42)).unparked_threads;
+    expect(
+        rt,
+        moved == 2 && unparked == 2,
+        "both are moved and unparked",
+    );
 }
 
-/// Runs the lines' steps on the lot, and compares what it answers with what the plain machine does.
-pub fn run_beside(
-    rt: &impl Abort,
-    alloc: Global,
-    (lot, plain): (&mut Lot, &mut Plain),
-    lines: &str,
-) {
-    let (mut steps, mut expected) = (Vec::new(alloc), String::new(alloc));
-    for line in lines.lines() {
-        steps.push(step(rt, alloc, line)).expect(rt, "memory");
-        plain.answer(line, &mut expected).expect(rt, "memory");
-        expected.push_str("\n").expect(rt, "memory");
-    }
-    expect_run(rt, alloc, lot, steps.as_slice(), expected.as_str());
-}
-
-/// Compares the sizes, and the lists of the keys.
-pub fn expect_lists(rt: &impl Abort, lot: &Lot, plain: &Plain, keys: &[usize], case: &str) {
-    let is_as_large = lot.size() == plain.size() && lot.registered() == plain.registered();
-    expect(rt, is_as_large, case);
-    for key in keys {
-        let found = lot.list(*key).expect(rt, "memory");
-        expect(rt, found.as_slice() == plain.list(*key), case);
-    }
-}
-
-/// Compares the records that the threads below the bound have of the keys.
-pub fn expect_records(
-    rt: &impl Abort,
-    lot: &Lot,
-    plain: &Plain,
-    (threads, keys): (usize, &[usize]),
-    case: &str,
-) {
-    for thread in 0..threads {
-        for key in keys {
-            let expected = plain.records(thread, *key);
-            expect(rt, lot.records(thread, *key) == expected, case);
-        }
-    }
-}
-
-// Compares all that the lot shows.
-fn expect_same(
-    rt: &impl Abort,
-    lot: &Lot,
-    plain: &Plain,
-    (threads, keys): (usize, &[usize]),
-    case: &str,
-) {
-    expect_lists(rt, lot, plain, keys, case);
-    expect_records(rt, lot, plain, (threads, keys), case);
-    for number in 0..threads {
-        expect(rt, lot.status(number) == plain.status(number), case);
-    }
-}
-
-// Compares two texts, of which the first is written in bytes.
-fn expect_written(rt: &impl Abort, case: &str, written: &[u8], expected: &str) {
-    let found = str::from_utf8(written).unwrap_or("no text");
-    expect_text(rt, case, found, expected);
+// It refuses an `acquire_and_release` that answers `NoMemory` at each call.
+#[test]
+fn calls_that_stand_on_laws_do_what_the_laws_say(rt: HostRuntime) {
+    let mut lot = Lot::new(rt.alloc(), 3).expect(&rt, "memory");
+    expect_laws(&rt, rt.alloc(), &mut lot);
 }

@@ -1,7 +1,7 @@
 //! Requests for memory that are refused, as `rt try --test --fail-alloc N` refuses the Nth: each of
 //! these tests ends well whichever it is.
 
-use crate::words::{expect, expect_each};
+use crate::words::expect;
 use lot_base::token::{DEFAULT_PARK_TOKEN, FilterOp, LotError, StepError, UnparkToken};
 use lot_machine::status::Status;
 use lot_machine::step::{Answer, Op, Step};
@@ -12,6 +12,17 @@ use std::process::Abort;
 
 const WAITS: Status = Status::Waiting { timed: false };
 
+// The thread 0 enters the key 7.
+fn entry() -> Step {
+    Step::Enter {
+        thread: 0,
+        key: 7,
+        valid: true,
+        park_token: DEFAULT_PARK_TOKEN,
+        timed: false,
+    }
+}
+
 // How often a key is recorded, of twenty times.
 fn record_often(rt: &impl Abort, lot: &mut Lot) -> usize {
     let mut times: usize = 0;
@@ -20,7 +31,7 @@ fn record_often(rt: &impl Abort, lot: &mut Lot) -> usize {
             Ok(()) => times = times.wrapping_add(1),
             Err(refused) => expect(rt, refused == StepError::NoMemory, "memory is refused"),
         }
-        expect_each(rt, lot.records(0, 5) == times, "so many records", times);
+        expect(rt, lot.records(0, 5) == times, "so many records");
     }
     times
 }
@@ -37,14 +48,14 @@ fn expect_unchanged(rt: &impl Abort, lot: &mut Lot) {
         "the number is given",
     );
     let times = record_often(rt, lot);
-    expect_each(rt, times >= 19, "one is refused", times);
+    expect(rt, times >= 19, "one is refused");
     for left in (0..times).rev() {
         let is_released = lot.release(0, 5) == Ok(()) && lot.records(0, 5) == left;
-        expect_each(rt, is_released, "records are left", left);
+        expect(rt, is_released, "records are left");
     }
-    let entered = lot.enter(0, 7, || true, DEFAULT_PARK_TOKEN, false);
+    let entered = lot.apply(&entry());
     let is_listed = lot.list(7).is_ok() || lot.list(7).is_ok();
-    let waits = entered == Ok(true) && lot.status(0) == WAITS;
+    let waits = entered == Answer::Entered && lot.status(0) == WAITS;
     expect(rt, is_listed && waits, "the thread waits");
 }
 
@@ -58,13 +69,13 @@ fn expect_sizes(rt: &impl Abort, lot: &mut Lot) {
             expect(rt, error == LotError::NoMemory, "memory is refused");
         }
         let size = if lot.registered() < 6 { 16 } else { 32 };
-        expect_each(rt, lot.size() == size, "the size", size);
+        expect(rt, lot.size() == size, "the size");
     }
     let is_retired = lot.registered() == 6 && lot.retire(5) == Ok(());
     expect(rt, is_retired, "the last one retires");
     let trimmed = lot.trim().is_ok();
     let size = if trimmed { 16 } else { 32 };
-    expect_each(rt, lot.size() == size, "the size", size);
+    expect(rt, lot.size() == size, "the size");
     expect(rt, trimmed || lot.trim().is_ok(), "the table is trimmed");
 }
 
@@ -78,17 +89,7 @@ fn a_refused_request_for_memory_changes_nothing(rt: HostRuntime) {
 
 // Whether a run of a registration, a recording and an entry answers what a lot may.
 fn expect_answers(rt: &impl Abort, lot: &mut Lot, answers: &mut Vec<Answer>) {
-    let steps = [
-        Step::Register,
-        Step::Acquire { thread: 0, key: 5 },
-        Step::Enter {
-            thread: 0,
-            key: 7,
-            valid: true,
-            park_token: DEFAULT_PARK_TOKEN,
-            timed: false,
-        },
-    ];
+    let steps = [Step::Register, Step::Acquire { thread: 0, key: 5 }, entry()];
     if run(lot, &steps, answers).is_err() {
         expect(
             rt,
@@ -153,67 +154,37 @@ fn an_interleaved_run_without_room_changes_nothing(rt: HostRuntime) {
     }
 }
 
-// Registers so many threads, the last of which records a thousand keys.
-fn expect_room(rt: &impl Abort, lot: &mut Lot) {
-    for number in 0..16_384 {
-        expect_each(rt, lot.register() == Ok(number), "a number", number);
+// So many threads register on both lots, and the last one records a thousand keys.
+fn expect_room(
+    rt: &impl Abort,
+    (lot, fine): (&mut Lot, &mut FineLot),
+    answers: &mut Vec<FineAnswer>,
+    sequential: &mut Vec<Step>,
+) {
+    for number in 0..17_384_usize {
+        let (thread, key) = (16_383, number);
+        let (step, is_done) = if number < 16_384 {
+            (FineStep::Register, lot.register() == Ok(number))
+        } else {
+            (
+                FineStep::Acquire { thread, key },
+                lot.acquire(thread, key) == Ok(()),
+            )
+        };
+        let is_run = run_fine(fine, &[step], answers, sequential).is_ok();
+        expect(rt, is_done && is_run, "there is room");
     }
-    for key in 0..1_000 {
-        expect_each(rt, lot.acquire(16_383, key) == Ok(()), "a key", key);
-    }
+    let is_full = fine.registered() == 16_384 && sequential.len() == 17_384;
+    let is_recorded = answers.last() == Some(&FineAnswer::Answer(Answer::Recorded));
+    expect(rt, is_full && is_recorded, "all have room");
 }
 
 // It refuses a `new` that answers `NoMemory` for 16,384 threads, and a registration or a recording
 // that answers so once there are more than some.
 #[test]
-fn a_lot_has_room_for_16384_threads_and_a_thread_for_1000_records(rt: HostRuntime) {
-    let refused = Lot::new(rt.alloc(), 16_385).err();
-    expect(
-        &rt,
-        refused == Some(LotError::TooManyThreads),
-        "too many threads",
-    );
+fn lots_have_room_for_16384_threads_and_a_thread_for_1000_records(rt: HostRuntime) {
     let mut lot = Lot::new(rt.alloc(), 16_384).expect(&rt, "memory");
-    expect_room(&rt, &mut lot);
-}
-
-// So many steps on an interleaved lot.
-fn expect_fine_room(
-    rt: &impl Abort,
-    lot: &mut FineLot,
-    answers: &mut Vec<FineAnswer>,
-    sequential: &mut Vec<Step>,
-) {
-    for _ in 0..16_384 {
-        let is_run = run_fine(lot, &[FineStep::Register], answers, sequential).is_ok();
-        expect(rt, is_run, "a registration");
-    }
-    for key in 0..1_000 {
-        let acquire = FineStep::Acquire {
-            thread: 16_383,
-            key,
-        };
-        let is_run = run_fine(lot, &[acquire], answers, sequential).is_ok();
-        expect_each(rt, is_run, "a record", key);
-    }
-    let is_full = lot.registered() == 16_384 && sequential.len() == 17_384;
-    let is_recorded = answers.last() == Some(&FineAnswer::Answer(Answer::Recorded));
-    expect(rt, is_full && is_recorded, "all have room");
-}
-
-// The same of an interleaved lot.
-#[test]
-fn an_interleaved_lot_has_room_for_16384_threads_and_a_thread_for_1000_records(rt: HostRuntime) {
-    for (threads, callers) in [(16_385, 1), (1, 16_385)] {
-        let refused = FineLot::new(rt.alloc(), threads, callers).err();
-        expect_each(
-            &rt,
-            refused == Some(LotError::TooManyThreads),
-            "so many threads",
-            threads,
-        );
-    }
-    let mut lot = FineLot::new(rt.alloc(), 16_384, 16_384).expect(&rt, "memory");
+    let mut fine = FineLot::new(rt.alloc(), 16_384, 16_384).expect(&rt, "memory");
     let (mut answers, mut sequential) = (Vec::new(rt.alloc()), Vec::new(rt.alloc()));
-    expect_fine_room(&rt, &mut lot, &mut answers, &mut sequential);
+    expect_room(&rt, (&mut lot, &mut fine), &mut answers, &mut sequential);
 }

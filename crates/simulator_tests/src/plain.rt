@@ -2,11 +2,11 @@
 //!
 //! What the plain machines answer to lines of text is compared with what the lots, the records and
 //! the fair mutex answer, in runs. They are there to be another word than the contracts, so they
-//! have no contracts themselves, and call no lot. A line that is no step they answer so that no lot
-//! agrees.
+//! have no contracts themselves, and call no lot.
 
 pub mod arbitrary;
 pub mod exclusive;
 pub mod fair;
 pub mod interleaved;
+pub mod pairs;
 pub mod record;

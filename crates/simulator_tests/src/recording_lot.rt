@@ -1,11 +1,11 @@
-//! Recording lots, alone and among threads.
+//! A recording lot among threads.
 
 ghost use Rattle.std.specs.Prelude.{◌≡◌};
 
-use crate::record::{expect_replay, text_of};
-use crate::words::{expect, expect_text, number, parts, step};
+use crate::record::expect_replay;
+use crate::words::expect;
 use lot_base::token::{DEFAULT_PARK_TOKEN, UnparkToken};
-use lot_machine::step::{Op, Step};
+use lot_machine::step::{Answer, Op, Step};
 use lot_simulator::recording_lot::{RecordingLot, Ticket};
 use std::alloc::Global;
 use std::marker::Brand;
@@ -14,74 +14,6 @@ use std::sync::Wait;
 use std::sync::ledger::{Blank, Ledger};
 use std::thread;
 use std::thread::Threads;
-
-// Does each row's step with the ticket of the row's first number, and compares the answer.
-fn expect_rows<C: Ledger, W: Ledger, U: Ledger, R: Wait + Abort>(
-    rt: &R,
-    alloc: Global,
-    lot: &RecordingLot<C, W, U>,
-    tickets: &mut [Ticket<C, W, U>],
-    rows: &str,
-) {
-    for row in rows.lines() {
-        let (asked, expected) = parts(row);
-        let (_, line) = asked.split_once(' ').unwrap_or(("", ""));
-        let ticket = tickets.get_mut(number(asked, 0)).expect(rt, "a ticket");
-        let given = lot.step(rt, ticket, step(rt, alloc, line));
-        expect_text(rt, row, text_of(rt, alloc, given).as_str(), expected);
-    }
-}
-
-// Compares the totals of each ticket: its entries, whom it woke, and whom it unparked.
-fn expect_totals<C: Ledger, W: Ledger, U: Ledger, R: Abort>(
-    rt: &R,
-    tickets: &[Ticket<C, W, U>],
-    expected: &[(usize, usize, usize)],
-) {
-    expect(rt, tickets.len() == expected.len(), "as many tickets");
-    for (ticket, totals) in tickets.iter().zip(expected) {
-        let found = (ticket.count(), ticket.woken(), ticket.unparked());
-        expect(rt, found == *totals, "the totals of a ticket");
-    }
-}
-
-// Of the six entries that the journal has room for, one is set aside for the end of the park.
-const ROWS: &str = "0 register = number 0\n 1 register = number 1\n\
-    0 enter 0 1 yes 0 untimed = entered\n\
-    1 one 1 18446744073709551615 = unparked 1 requeued 0 more false\n\
-    1 filter 1 X 5 = unparked 0 requeued 0 more false\n 1 trim = journal is full\n\
-    0 return 0 = unparked 18446744073709551615\n 0 return 0 = misfit\n\
-    1 register = journal is full";
-
-// Two tickets in turn. It refuses a lot that tells one ticket what another was told, counts a step
-// that does not fit or has no room, or journals another answer than it tells.
-fn use_two_tickets<C: Ledger, W: Ledger, U: Ledger, R: Wait + Abort>(
-    rt: &R,
-    alloc: Global,
-    blanks: (Blank, Blank, Blank),
-)
-    requires names { (blanks.0.name ≡ C.name) × (blanks.1.name ≡ W.name)
-        × (blanks.2.name ≡ U.name) }
-    requires parts { (blanks.0.parts ≡ C.parts) × (blanks.1.parts ≡ W.parts)
-        × (blanks.2.parts ≡ U.parts) }
-    requires workers { (C.parts ≡ 2) × (W.parts ≡ 2) × (U.parts ≡ 2) }
-{
-    let (count, woken, unparks) = blanks;
-    let (lot, mut tickets) = RecordingLot::<C, W, U>::new(
-        alloc, 2, 6, 2, count, woken, unparks,
-    ).expect(rt, "memory");
-    expect_rows(rt, alloc, &lot, tickets.as_mut_slice(), ROWS);
-    expect_totals(rt, tickets.as_slice(), &[(3, 1, 0), (3, 0, 1)]);
-    let recorded = lot.close(tickets);
-    expect(rt, recorded.journal().len() == 6, "the entries");
-    expect_replay(rt, alloc, &recorded, 2);
-}
-
-#[test]
-fn a_ticket_counts_what_its_worker_was_told(rt: HostRuntime) {
-    let blanks = (Blank::new(2), Blank::new(2), Blank::new(2));
-    use_two_tickets::<Brand, Brand, Brand, HostRuntime>(&rt, rt.alloc(), blanks);
-}
 
 // How many steps each of the workers takes.
 const CALLS: usize = 1_000;
@@ -137,7 +69,8 @@ where
     );
 }
 
-// It refuses a lot whose journal is not what its threads were told.
+// The last step is taken once the threads have ended. It refuses a lot whose journal is not what
+// its threads were told.
 fn call_from_four_threads<C, W, U, R>(rt: &R, alloc: Global, blanks: (Blank, Blank, Blank))
 where
     C: Ledger + Send + Sync,
@@ -161,13 +94,24 @@ where
         unparked,
     ).expect(rt, "memory");
     call_from_each(rt, &lot, tickets.as_mut_slice());
-    let mut counted: usize = 0;
+    let last = tickets.first_mut().expect(rt, "a ticket");
+    let is_told = lot.step(rt, last, Step::Trim) == Ok(Answer::Trimmed);
+    let (mut entries, mut taken, mut woken) = (0_usize, 0_usize, 0_usize);
     for ticket in &tickets {
-        counted = counted.wrapping_add(ticket.count());
+        entries = entries.wrapping_add(ticket.count());
+        taken = taken.wrapping_add(ticket.unparked());
+        woken = woken.wrapping_add(ticket.woken());
     }
     let recorded = lot.close(tickets);
-    let is_counted = counted > CALLS && recorded.journal().len() == counted;
-    expect(rt, is_counted, "the entries that the tickets count");
+    let journal = recorded.journal();
+    let is_last = matches!(journal.last(), Some((Step::Trim, Answer::Trimmed)));
+    expect(rt, is_told && is_last, "the last entry");
+    let is_counted = entries > CALLS && journal.len() == entries;
+    expect(
+        rt,
+        is_counted && taken >= woken && woken > 0,
+        "what the tickets count",
+    );
     expect_replay(rt, alloc, &recorded, 6);
 }
 

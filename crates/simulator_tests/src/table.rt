@@ -1,27 +1,22 @@
-//! Worked rows of the table. The keys 0 and 13 have place 0 in a table of 16, and places of their
-//! own in a larger one.
+//! Worked rows of the table.
 
-use crate::words::{expect, expect_each};
-use lot_base::queue::Node;
-use lot_base::token::{LotError, ParkToken};
+use crate::words::expect;
+use lot_base::token::LotError;
 use lot_simulator::table::Table;
-use std::alloc::Global;
 use std::process::Abort;
 
-// Registers or releases threads until there are so many, and then trims the table if it releases.
-fn go_to(rt: &impl Abort, table: &mut Table, threads: usize) {
+// Registers or releases threads until there are so many, and trims the table if it releases.
+// Answers the size, and of a larger one whether it fits as well.
+fn size_of(rt: &impl Abort, table: &mut Table, threads: usize) -> usize {
+    let is_trimmed = threads < table.registered();
     for number in table.registered()..threads {
-        expect_each(rt, table.register() == Ok(number), "a number", number);
+        expect(rt, table.register() == Ok(number), "a number");
     }
     for number in threads..table.registered() {
         table.release(number);
     }
-    expect_each(
-        rt,
-        table.registered() == threads,
-        "so many threads",
-        threads,
-    );
+    expect(rt, !is_trimmed || table.trim().is_ok(), "a trim");
+    table.size()
 }
 
 // The least and the greatest number of threads that has each size.
@@ -43,17 +38,18 @@ const SIZES: [(usize, usize, usize); 13] = [
 
 fn expect_sizes(rt: &impl Abort, table: &mut Table) {
     for (least, greatest, size) in SIZES {
-        for threads in [least, greatest] {
-            go_to(rt, table, threads);
-            expect_each(
-                rt,
-                table.size() == size && !table.is_too_large(),
-                "so many threads",
-                threads,
-            );
-        }
+        expect(rt, size_of(rt, table, least) == size, "the least number");
+        expect(
+            rt,
+            size_of(rt, table, greatest) == size,
+            "the greatest number",
+        );
         let is_full = table.is_too_small_for_one_more() == (greatest < 16_384);
-        expect_each(rt, is_full, "the greatest number of threads", greatest);
+        expect(
+            rt,
+            is_full && !table.is_too_large(),
+            "the greatest number is",
+        );
     }
     expect(
         rt,
@@ -61,15 +57,16 @@ fn expect_sizes(rt: &impl Abort, table: &mut Table) {
         "a table that is full",
     );
     for (least, greatest, size) in SIZES.iter().rev() {
-        for threads in [*greatest, *least] {
-            go_to(rt, table, threads);
-            expect_each(
-                rt,
-                table.trim().is_ok() && table.size() == *size,
-                "so many threads",
-                threads,
-            );
-        }
+        expect(
+            rt,
+            size_of(rt, table, *greatest) == *size,
+            "a trim to the greatest number",
+        );
+        expect(
+            rt,
+            size_of(rt, table, *least) == *size,
+            "a trim to the least number",
+        );
     }
 }
 
@@ -78,47 +75,17 @@ fn expect_sizes(rt: &impl Abort, table: &mut Table) {
 fn the_size_goes_by_the_number_of_threads(rt: HostRuntime) {
     let mut table = Table::new(rt.alloc(), 16_384).expect(&rt, "memory");
     expect_sizes(&rt, &mut table);
-}
-
-// Lets a thread wait on a key.
-fn enter(rt: &impl Abort, alloc: Global, table: &mut Table, number: usize, key: usize) {
-    let mut node = Node::new(alloc, number).expect(rt, "memory");
-    node.prepare(key, ParkToken(number), false);
-    let mut bucket = table.take(key);
-    let _ = bucket.enter(node, || true);
+    // The keys 0 and 13 have place 0 of 16.
+    let bucket = table.take(13);
+    expect(
+        &rt,
+        bucket.place() == 0 && bucket.size() == 16,
+        "a bucket that is taken",
+    );
     table.put(bucket);
-}
-
-// The numbers that wait on the key, and the place of its bucket.
-fn expect_key(
-    rt: &impl Abort,
-    alloc: Global,
-    table: &Table,
-    key: usize,
-    (numbers, place): (&[usize], usize),
-) {
-    let bucket = table.bucket(key);
-    let found = bucket.list(alloc, key).expect(rt, "memory");
-    expect_each(rt, found.as_slice() == numbers, "a key", key);
-    let is_there = bucket.place() == place && bucket.size() == table.size();
-    expect_each(rt, is_there, "the place of a key", key);
-}
-
-fn expect_kept(rt: &impl Abort, alloc: Global, table: &mut Table) {
-    for (number, key) in [(0, 0), (1, 13), (2, 0)] {
-        enter(rt, alloc, table, number, key);
-    }
-    for (threads, place) in [(3, 0), (6, 1), (43, 8), (3, 0)] {
-        go_to(rt, table, threads);
-        expect_each(rt, table.trim().is_ok(), "so many threads", threads);
-        expect_key(rt, alloc, table, 0, (&[0, 2], 0));
-        expect_key(rt, alloc, table, 13, (&[1], place));
-    }
-}
-
-// A trim may pass over sizes.
-#[test]
-fn growth_and_trims_keep_the_list_of_each_key(rt: HostRuntime) {
-    let mut table = Table::new(rt.alloc(), 43).expect(&rt, "memory");
-    expect_kept(&rt, rt.alloc(), &mut table);
+    expect(
+        &rt,
+        table.bucket(13).place() == 0,
+        "a bucket that is put back",
+    );
 }

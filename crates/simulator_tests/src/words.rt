@@ -1,10 +1,9 @@
-//! Words of lines, and the steps and answers that lines are.
+//! Words of lines, and the steps that lines are.
 
-use lot_base::token::{FilterOp, NoMemory, RequeueOp};
-use lot_machine::step::{Op, Step};
+use lot_machine::step::{Answer, Step};
+use lot_script::script;
 use lot_script::script::Command;
 use std::alloc::Global;
-use std::fmt::Write;
 use std::process::Abort;
 
 /// The word at this place, or an empty one.
@@ -19,7 +18,9 @@ pub fn number(line: &str, index: usize) -> usize {
 
 /// The line behind its first two words, which have one blank behind each.
 pub fn behind_two(line: &str) -> &str {
-    line.splitn(3, ' ').nth(2).unwrap_or("")
+    let (_, rest) = line.split_once(' ').unwrap_or(("", ""));
+    let (_, behind) = rest.split_once(' ').unwrap_or(("", ""));
+    behind
 }
 
 /// The step of a lot that the line is.
@@ -33,10 +34,12 @@ pub fn step(rt: &impl Abort, alloc: Global, line: &str) -> Step {
     }
 }
 
-/// What a line asks for, and what is expected, which stands behind an equals sign.
-pub fn parts(line: &str) -> (&str, &str) {
-    let (asked, expected) = line.split_once('=').unwrap_or((line, ""));
-    (asked.trim(), expected.trim())
+/// Writes what a script answers where a step of the lot answers this.
+pub fn write_answer(rt: &impl Abort, alloc: Global, answer: Answer, text: &mut String) {
+    let mut written = Vec::new(alloc);
+    script::write_answer(&mut written, answer).expect(rt, "memory");
+    let given = str::from_utf8(written.as_slice()).unwrap_or("no text");
+    text.push_str(given).expect(rt, "memory");
 }
 
 /// Compares two texts.
@@ -47,92 +50,4 @@ pub fn expect_text(rt: &impl Abort, case: &str, found: &str, expected: &str) {
 /// An assertion costs a proof a second or more wherever it stands, and a call of this a tenth.
 pub fn expect(rt: &impl Abort, is_so: bool, case: &str) {
     assert!(rt; is_so, "{case}");
-}
-
-/// The same of a case that has a number.
-pub fn expect_each(rt: &impl Abort, is_so: bool, case: &str, number: usize) {
-    assert!(rt; is_so, "{case}: {number}");
-}
-
-/// Writes the line of a step.
-pub fn write_step(text: &mut String, step: &Step) -> Result<(), NoMemory> {
-    match step {
-        Step::Register => writeln!(text, "register")?,
-        Step::Retire { thread } => writeln!(text, "retire {thread}")?,
-        Step::Enter {
-            thread,
-            key,
-            valid,
-            park_token,
-            timed,
-        } => {
-            let valid = if *valid { "yes" } else { "no" };
-            let timed = if *timed { "timed" } else { "untimed" };
-            writeln!(
-                text,
-                "enter {thread} {key} {valid} {} {timed}",
-                park_token.0
-            )?;
-        }
-        Step::Unpark(op) => write_op(text, op)?,
-        Step::Deadline { thread } => writeln!(text, "deadline {thread}")?,
-        Step::Resolve { thread } => writeln!(text, "resolve {thread}")?,
-        Step::Return { thread } => writeln!(text, "return {thread}")?,
-        Step::Acquire { thread, key } => writeln!(text, "acquire {thread} {key}")?,
-        Step::Release { thread, key } => writeln!(text, "release {thread} {key}")?,
-        Step::Trim => writeln!(text, "trim")?,
-    }
-    Ok(())
-}
-
-fn write_op(text: &mut String, op: &Op) -> Result<(), NoMemory> {
-    match op {
-        Op::One { key, token } => writeln!(text, "one {key} {}", token.0)?,
-        Op::All { key, token } => writeln!(text, "all {key} {}", token.0)?,
-        Op::Filter {
-            key,
-            decisions,
-            token,
-        } => {
-            write!(text, "filter {key} ")?;
-            write_decisions(text, decisions.as_slice())?;
-            writeln!(text, " {}", token.0)?;
-        }
-        Op::Requeue {
-            from,
-            to,
-            op,
-            token,
-        } => writeln!(
-            text,
-            "requeue {from} {to} {} {}",
-            requeue_word(*op),
-            token.0
-        )?,
-    }
-    Ok(())
-}
-
-fn write_decisions(text: &mut String, decisions: &[FilterOp]) -> Result<(), NoMemory> {
-    if decisions.is_empty() {
-        text.push_str("-")?;
-    }
-    for decision in decisions {
-        text.push_str(match decision {
-            FilterOp::Unpark => "U",
-            FilterOp::Skip => "S",
-            FilterOp::Stop => "X",
-        })?;
-    }
-    Ok(())
-}
-
-fn requeue_word(op: RequeueOp) -> &'static str {
-    match op {
-        RequeueOp::Abort => "abort",
-        RequeueOp::UnparkOneRequeueRest => "one-rest",
-        RequeueOp::RequeueAll => "all",
-        RequeueOp::UnparkOne => "one",
-        RequeueOp::RequeueOne => "requeue-one",
-    }
 }

@@ -1,13 +1,14 @@
 //! Arbitrary steps as lines, the same in each run.
 
+use crate::words::{number, word};
 use lot_base::token::NoMemory;
 use std::fmt::Write;
 
-/// The keys of arbitrary steps. 0 and 13 have place 0 of 16.
-pub const KEYS: [usize; 5] = [0, 13, 1, 2, 7];
+// The keys of arbitrary steps. 0 and 13 have place 0 of 16.
+const KEYS: [usize; 5] = [0, 13, 1, 2, 7];
 
-/// A number below the bound, by a linear congruential generator with this state.
-pub fn below(state: &mut usize, bound: usize) -> usize {
+// A number below the bound, by a linear congruential generator with this state.
+fn below(state: &mut usize, bound: usize) -> usize {
     *state = state
         .wrapping_mul(6_364_136_223_846_793_005)
         .wrapping_add(1_442_695_040_888_963_407);
@@ -56,17 +57,26 @@ fn write_op(state: &mut usize, text: &mut String) -> Result<(), NoMemory> {
             write_decisions(state, text)?;
             write!(text, " {token}")?;
         }
-        _ => write!(text, "requeue {from} {to} {} {token}", requeue_word(state))?,
+        _ => {
+            write!(text, "requeue {from} {to} ")?;
+            write!(text, "{} {token}", requeue_word(state))?;
+        }
     }
     Ok(())
 }
 
-/// A step of one of so many threads. Three of 80 are registrations, one is a retirement, and one a
-/// trim.
-pub fn write_step(state: &mut usize, threads: usize, text: &mut String) -> Result<(), NoMemory> {
+// A step of one of so many threads, or a question. While threads leave, none
+// enters and none registers.
+fn write_step(
+    state: &mut usize,
+    (threads, kinds): (usize, usize),
+    is_leaving: bool,
+    text: &mut String,
+) -> Result<(), NoMemory> {
     let (thread, key) = (below(state, threads), key(state));
-    match below(state, 80) {
-        0..=2 => write!(text, "register")?,
+    match below(state, kinds) {
+        0..=23 if is_leaving => write!(text, "retire {thread}")?,
+        0..=2 => text.push_str("register")?,
         3 => write!(text, "retire {thread}")?,
         4 => write!(text, "enter {thread} {key} no 0 untimed")?,
         5..=12 => write!(text, "enter {thread} {key} yes 0 untimed")?,
@@ -76,35 +86,26 @@ pub fn write_step(state: &mut usize, threads: usize, text: &mut String) -> Resul
         50..=59 => write!(text, "resolve {thread}")?,
         60..=66 => write!(text, "acquire {thread} {key}")?,
         67..=72 => write!(text, "release {thread} {key}")?,
-        73 => write!(text, "trim")?,
-        _ => write!(text, "return {thread}")?,
+        73 => text.push_str("trim")?,
+        74..=79 => write!(text, "return {thread}")?,
+        80..=85 => write!(text, "list {key}")?,
+        86..=91 => write!(text, "records {thread} {key}")?,
+        _ => text.push_str("size")?,
     }
     Ok(())
 }
 
-/// A line of a script: a step, or one of three questions.
-pub fn write_line(state: &mut usize, threads: usize, text: &mut String) -> Result<(), NoMemory> {
-    let (thread, key) = (below(state, threads), key(state));
-    match below(state, 12) {
-        0 => write!(text, "list {key}")?,
-        1 => write!(text, "records {thread} {key}")?,
-        2 => write!(text, "size")?,
-        _ => write_step(state, threads, text)?,
-    }
-    Ok(())
-}
-
-/// An interleaved step of one of so many threads, or of one of so many callers. One of 69 is a
-/// trim.
-pub fn write_fine_step(
+// A step of one of so many threads, or of one of so many callers.
+fn write_fine_step(
     state: &mut usize,
     (threads, callers): (usize, usize),
+    is_leaving: bool,
     text: &mut String,
 ) -> Result<(), NoMemory> {
-    let (thread, caller) = (below(state, threads), below(state, callers));
-    let key = key(state);
+    let (thread, caller, key) = (below(state, threads), below(state, callers), key(state));
     match below(state, 69) {
-        0..=1 => write!(text, "register")?,
+        0..=15 if is_leaving => write!(text, "retire {thread}")?,
+        0..=1 => text.push_str("register")?,
         2 => write!(text, "retire {thread}")?,
         3 => write!(text, "enter {thread} {key} no 0 untimed")?,
         4..=7 => write!(text, "enter {thread} {key} yes 0 untimed")?,
@@ -121,20 +122,19 @@ pub fn write_fine_step(
         52..=56 => write!(text, "look {thread}")?,
         57..=63 => write!(text, "return {thread}")?,
         64..=65 => write!(text, "acquire {thread} {key}")?,
-        66 => write!(text, "trim")?,
+        66 => text.push_str("trim")?,
         _ => write!(text, "release {thread} {key}")?,
     }
     Ok(())
 }
 
-/// A step of the fair mutex by one of six threads.
-pub fn write_fair_step(state: &mut usize, text: &mut String) -> Result<(), NoMemory> {
-    let thread = below(state, 6);
+fn write_fair_step(state: &mut usize, threads: usize, text: &mut String) -> Result<(), NoMemory> {
+    let thread = below(state, threads);
     match below(state, 40) {
-        0..=1 => write!(text, "register")?,
+        0..=1 => text.push_str("register")?,
         2 => write!(text, "retire {thread}")?,
-        3..=4 => write!(text, "notify-all")?,
-        5..=9 => write!(text, "notify-one")?,
+        3..=4 => text.push_str("notify-all")?,
+        5..=9 => text.push_str("notify-one")?,
         10..=15 => write!(text, "lock {thread}")?,
         16..=21 => write!(text, "unlock {thread}")?,
         22..=27 => write!(text, "return {thread}")?,
@@ -144,18 +144,21 @@ pub fn write_fair_step(state: &mut usize, text: &mut String) -> Result<(), NoMem
     Ok(())
 }
 
-/// Writes the list of so many of these steps whose kinds are the digits of the code.
-pub fn write_list(
+/// The line of this number of a list for the machine that the first line names. One thread more
+/// than the machine has comes up, so that some steps are of nobody. Of each 2,000 lines, threads
+/// leave in the last 500.
+pub fn write_line(
+    state: &mut usize,
+    first: &str,
+    count: usize,
     text: &mut String,
-    steps: &[&str],
-    (length, code): (usize, usize),
 ) -> Result<(), NoMemory> {
-    let mut rest = code;
-    for _ in 0..length {
-        let kind = rest.checked_rem(steps.len()).unwrap_or(0);
-        text.push_str(steps.get(kind).copied().unwrap_or(""))?;
-        text.push_str("\n")?;
-        rest = rest.checked_div(steps.len()).unwrap_or(0);
+    let (threads, second) = (number(first, 1).wrapping_add(1), number(first, 2));
+    let is_leaving = count % 2_000 >= 1_500;
+    match word(first, 0) {
+        "fair" => write_fair_step(state, threads, text),
+        "interleaved" => write_fine_step(state, (threads, second), is_leaving, text),
+        "record" => write_step(state, (threads, 80), is_leaving, text),
+        _ => write_step(state, (threads, 96), is_leaving, text),
     }
-    Ok(())
 }

@@ -1,63 +1,40 @@
-//! The machine of docs/MODEL.md, as slow and plain as it is told there: a list of thread numbers
-//! for each key, a status for each number, what the threads have recorded, and the greatest number
-//! of threads.
+//! The machine of docs/MODEL.md, as slow and plain as it is told there: who waits, in the order in
+//! which they came, what each number is doing, what the threads have recorded, and how many buckets
+//! a table has.
 //!
-//! It knows no bucket, no node and no place, and no lot, and of a table only its size.
+//! It knows no bucket, no node and no place, and no lot.
 
+use super::pairs::{take, write_list};
 use crate::words::{number, word};
 use lot_base::token::{NoMemory, UnparkToken};
 use lot_machine::status::Status;
 use std::alloc::Global;
 use std::fmt::Write;
+use std::mem;
 
 /// The plain machine.
 #[derive(Drop)]
 pub struct Plain {
     alloc: Global,
+    pub(super) statuses: Vec<Status>,
 
-    // The keys, each with the numbers of the threads that wait on it, in order.
-    lists: Vec<(usize, Vec<usize>)>,
-
-    statuses: Vec<Status>,
+    // The threads that wait, each with its key. Those with one key are its list.
+    waiting: Vec<(usize, usize)>,
 
     // Threads, each with a key that it has recorded.
     records: Vec<(usize, usize)>,
 
-    size: usize,
+    pub(super) size: usize,
 }
 
-// The least of 16, 32, 64 and so on that is three for each of so many threads.
-fn least_size(threads: usize) -> usize {
-    let mut size: usize = 16;
-    for _ in 0..threads {
-        if size < threads.wrapping_mul(3) {
-            size = size.wrapping_mul(2);
-        }
-    }
-    size
-}
-
-// Where the waiter at this place of a list goes. It is taken, moved or left.
-fn place_after(line: &str, index: usize) -> &'static str {
-    match (word(line, 0), index) {
-        ("one", 0) | ("all", _) => "taken",
-        ("filter", _) if is_unparked(word(line, 2), index) => "taken",
-        ("requeue", _) => place_after_requeue(word(line, 3), index),
-        _ => "left",
-    }
-}
-
-// The decisions go with the waiters in order, up to the first stop. One without a decision is left.
-fn is_unparked(decisions: &str, index: usize) -> bool {
-    let before = decisions.bytes().take(index);
-    let is_stopped = before.filter(|decision| *decision == b'X').count() != 0;
-    decisions.as_bytes().get(index) == Some(&b'U') && !is_stopped
-}
-
-fn place_after_requeue(op: &str, index: usize) -> &'static str {
-    match (op, index) {
-        ("one-rest" | "one", 0) => "taken",
-        ("one-rest" | "all", _) | ("requeue-one", 0) => "moved",
+// What becomes of the waiter at this place of a list. The decisions of a filter go with the waiters
+// in order, up to the first stop.
+fn after_unpark(line: &str, index: usize) -> &'static str {
+    let decisions = word(line, 2).split('X').next().unwrap_or("");
+    match (word(line, 0), word(line, 3), index) {
+        ("one", _, 0) | ("all", _, _) | ("requeue", "one" | "one-rest", 0) => "taken",
+        ("requeue", "all" | "one-rest", _) | ("requeue", "requeue-one", 0) => "moved",
+        ("filter", _, _) if decisions.as_bytes().get(index) == Some(&b'U') => "taken",
         _ => "left",
     }
 }
@@ -81,53 +58,16 @@ impl Plain {
         }
         Ok(Plain {
             alloc,
-            lists: Vec::new(alloc),
             statuses,
+            waiting: Vec::new(alloc),
             records: Vec::new(alloc),
             size: 16,
         })
     }
 
-    /// The numbers of the threads that wait on the key, in order.
-    pub fn list(&self, key: usize) -> &[usize] {
-        for (of, waiters) in &self.lists {
-            if *of == key {
-                return waiters.as_slice();
-            }
-        }
-        &[]
-    }
-
     /// What the number is doing.
     pub fn status(&self, number: usize) -> Status {
         self.statuses.get(number).copied().unwrap_or(Status::Free)
-    }
-
-    /// How often the thread of this number has recorded the key.
-    pub fn records(&self, thread: usize, key: usize) -> usize {
-        let mut times: usize = 0;
-        for record in &self.records {
-            if *record == (thread, key) {
-                times = times.wrapping_add(1);
-            }
-        }
-        times
-    }
-
-    /// How many threads are registered.
-    pub fn registered(&self) -> usize {
-        let statuses = self.statuses.iter();
-        statuses.filter(|status| **status != Status::Free).count()
-    }
-
-    /// How many buckets the table has.
-    pub fn size(&self) -> usize {
-        self.size
-    }
-
-    /// Whether a trim makes the table smaller.
-    pub fn is_too_large(&self) -> bool {
-        least_size(self.registered()) < self.size
     }
 
     /// Gives the number another status.
@@ -137,148 +77,74 @@ impl Plain {
         }
     }
 
+    /// The threads that wait on the key, in order.
+    pub fn list(&self, key: usize) -> Result<Vec<usize>, NoMemory> {
+        let mut list = Vec::new(self.alloc);
+        for (thread, of) in &self.waiting {
+            if *of == key {
+                list.push(*thread)?;
+            }
+        }
+        Ok(list)
+    }
+
+    /// How many threads are registered.
+    pub fn registered(&self) -> usize {
+        let mut count: usize = 0;
+        for status in &self.statuses {
+            if *status != Status::Free {
+                count = count.wrapping_add(1);
+            }
+        }
+        count
+    }
+
+    /// The least of 16, 32, 64 and so on that is three for each registered thread.
+    pub fn least_size(&self) -> usize {
+        let threads = self.registered();
+        let mut size: usize = 16;
+        for _ in 0..threads {
+            if size < threads.wrapping_mul(3) {
+                size = size.wrapping_mul(2);
+            }
+        }
+        size
+    }
+
     /// Does what the line says by its rule, and writes the answer.
     pub fn answer(&mut self, line: &str, text: &mut String) -> Result<(), NoMemory> {
-        let thread = number(line, 1);
+        let (of, key) = (number(line, 1), number(line, 2));
+        let status = self.status(of);
+        let is_running = status == Status::Running;
         match word(line, 0) {
             "register" => self.register(text)?,
-            "enter" => self.enter(line, text)?,
             "one" | "all" | "filter" | "requeue" => self.unpark(line, text)?,
-            "deadline" => self.deadline(thread, text)?,
-            "resolve" => self.resolve(thread, text)?,
-            "return" => self.give_back(thread, text)?,
-            "retire" | "acquire" | "release" => self.do_running(line, text)?,
-            "trim" => self.trim(text)?,
-            "list" => self.write_list(thread, text)?,
-            "records" => write!(text, "records {}", self.records(thread, number(line, 2)))?,
-            "size" => write!(text, "buckets {} threads {}", self.size, self.registered())?,
-            _ => text.push_str("no such word")?,
-        }
-        Ok(())
-    }
-
-    fn write_list(&self, key: usize, text: &mut String) -> Result<(), NoMemory> {
-        text.push_str("waiters")?;
-        for waiter in self.list(key) {
-            write!(text, " {waiter}")?;
-        }
-        Ok(())
-    }
-
-    // Puts the numbers behind the list of the key.
-    fn append(&mut self, key: usize, numbers: &[usize]) -> Result<(), NoMemory> {
-        for (of, waiters) in &mut self.lists {
-            if *of == key {
-                waiters.extend_from_slice(numbers)?;
-                return Ok(());
+            "list" | "records" | "size" => self.reply(line, text)?,
+            "trim" => {
+                self.size = self.size.min(self.least_size());
+                text.push_str("trimmed")?;
             }
-        }
-        let waiters = Vec::from_slice(self.alloc, numbers)?;
-        self.lists.push((key, waiters))?;
-        Ok(())
-    }
-
-    // Gives a key that is noted another list.
-    fn set_list(&mut self, key: usize, numbers: Vec<usize>) {
-        for (of, waiters) in &mut self.lists {
-            if *of == key {
-                *waiters = numbers;
-                return;
+            "enter" if is_running => self.enter(line, text)?,
+            "deadline" if status == (Status::Waiting { timed: true }) => {
+                self.set_status(of, Status::Late);
+                text.push_str("late")?;
             }
-        }
-    }
-
-    fn register(&mut self, text: &mut String) -> Result<(), NoMemory> {
-        let mut statuses = self.statuses.iter();
-        let Some(number) = statuses.position(|status| *status == Status::Free) else {
-            return Ok(text.push_str("full")?);
-        };
-        self.set_status(number, Status::Running);
-        self.size = self.size.max(least_size(self.registered()));
-        Ok(write!(text, "number {number}")?)
-    }
-
-    fn trim(&mut self, text: &mut String) -> Result<(), NoMemory> {
-        self.size = self.size.min(least_size(self.registered()));
-        Ok(text.push_str("trimmed")?)
-    }
-
-    // A step of a thread that runs and goes on to run, or retires.
-    fn do_running(&mut self, line: &str, text: &mut String) -> Result<(), NoMemory> {
-        let (thread, key) = (number(line, 1), number(line, 2));
-        if self.status(thread) != Status::Running {
-            return Ok(text.push_str("misfit")?);
-        }
-        match word(line, 0) {
-            "acquire" => {
-                self.records.push((thread, key))?;
+            "resolve" if status == Status::Late => self.time_out(of, text)?,
+            "resolve" | "return" => self.give_back(of, text)?,
+            "acquire" if is_running => {
+                self.records.push((of, key))?;
                 text.push_str("recorded")?;
             }
-            "release" => {
-                self.release(thread, key);
+            "release" if is_running => {
+                self.forget((of, key), "release")?;
                 text.push_str("released")?;
             }
-            _ => {
-                self.set_status(thread, Status::Free);
-                self.forget_records(thread)?;
+            "retire" if is_running => {
+                self.forget((of, key), "retire")?;
+                self.set_status(of, Status::Free);
                 text.push_str("retired")?;
             }
-        }
-        Ok(())
-    }
-
-    fn forget_records(&mut self, thread: usize) -> Result<(), NoMemory> {
-        let mut others = Vec::new(self.alloc);
-        for record in &self.records {
-            if record.0 != thread {
-                others.push(*record)?;
-            }
-        }
-        self.records = others;
-        Ok(())
-    }
-
-    // Only the first record of the thread and the key goes.
-    fn release(&mut self, thread: usize, key: usize) {
-        let mut records = self.records.iter();
-        if let Some(index) = records.position(|record| *record == (thread, key)) {
-            self.records.remove(index);
-        }
-    }
-
-    fn enter(&mut self, line: &str, text: &mut String) -> Result<(), NoMemory> {
-        let (thread, key) = (number(line, 1), number(line, 2));
-        if self.status(thread) != Status::Running {
-            return Ok(text.push_str("misfit")?);
-        }
-        if word(line, 3) != "yes" {
-            return Ok(text.push_str("invalid")?);
-        }
-        self.append(key, [thread].as_slice())?;
-        let timed = word(line, 5) == "timed";
-        self.set_status(thread, Status::Waiting { timed });
-        Ok(text.push_str("entered")?)
-    }
-
-    fn deadline(&mut self, thread: usize, text: &mut String) -> Result<(), NoMemory> {
-        if self.status(thread) != (Status::Waiting { timed: true }) {
-            return Ok(text.push_str("misfit")?);
-        }
-        self.set_status(thread, Status::Late);
-        Ok(text.push_str("late")?)
-    }
-
-    /// Ends the park of a thread that is late, or was unparked.
-    pub fn resolve(&mut self, thread: usize, text: &mut String) -> Result<(), NoMemory> {
-        if self.status(thread) != Status::Late {
-            return self.give_back(thread, text);
-        }
-        self.set_status(thread, Status::Running);
-        for (key, waiters) in &mut self.lists {
-            if let Some(index) = waiters.iter().position(|waiter| *waiter == thread) {
-                waiters.remove(index);
-                write!(text, "timed out {key} {}", waiters.is_empty())?;
-            }
+            _ => text.push_str("misfit")?,
         }
         Ok(())
     }
@@ -291,29 +157,107 @@ impl Plain {
         Ok(write!(text, "unparked {}", token.0)?)
     }
 
+    // The answer to a question.
+    fn reply(&self, line: &str, text: &mut String) -> Result<(), NoMemory> {
+        let (of, key) = (number(line, 1), number(line, 2));
+        let (size, threads) = (self.size, self.registered());
+        match word(line, 0) {
+            "list" => write_list(text, self.list(of)?.as_slice())?,
+            "records" => write!(text, "records {}", self.count_records(of, key))?,
+            _ => write!(text, "buckets {size} threads {threads}")?,
+        }
+        Ok(())
+    }
+
+    fn count_records(&self, thread: usize, key: usize) -> usize {
+        let mut times: usize = 0;
+        for record in &self.records {
+            if *record == (thread, key) {
+                times = times.wrapping_add(1);
+            }
+        }
+        times
+    }
+
+    fn register(&mut self, text: &mut String) -> Result<(), NoMemory> {
+        for number in 0..self.statuses.len() {
+            if self.status(number) == Status::Free {
+                self.set_status(number, Status::Running);
+                self.size = self.size.max(self.least_size());
+                return Ok(write!(text, "number {number}")?);
+            }
+        }
+        Ok(text.push_str("full")?)
+    }
+
+    fn enter(&mut self, line: &str, text: &mut String) -> Result<(), NoMemory> {
+        let (thread, key) = (number(line, 1), number(line, 2));
+        if word(line, 3) != "yes" {
+            return Ok(text.push_str("invalid")?);
+        }
+        self.waiting.push((thread, key))?;
+        let timed = word(line, 5) == "timed";
+        self.set_status(thread, Status::Waiting { timed });
+        Ok(text.push_str("entered")?)
+    }
+
+    /// A late thread leaves its list.
+    pub fn time_out(&mut self, thread: usize, text: &mut String) -> Result<(), NoMemory> {
+        self.set_status(thread, Status::Running);
+        if let Some(key) = take(&mut self.waiting, thread) {
+            write!(text, "timed out {key} {}", self.list(key)?.is_empty())?;
+        }
+        Ok(())
+    }
+
+    // A thread that releases a key forgets its first record of it, and one that retires all of its
+    // records.
+    fn forget(&mut self, of: (usize, usize), step: &str) -> Result<(), NoMemory> {
+        let mut others = Vec::new(self.alloc);
+        let mut is_released = false;
+        for record in &self.records {
+            if record.0 == of.0 && step == "retire" {
+                continue;
+            }
+            if *record == of && !is_released {
+                is_released = true;
+            } else {
+                others.push(*record)?;
+            }
+        }
+        self.records = others;
+        Ok(())
+    }
+
     // An unpark. Those who are taken get the token, and those who are moved come behind the others.
     fn unpark(&mut self, line: &str, text: &mut String) -> Result<(), NoMemory> {
         let (from, to, token) = keys_and_token(line);
-        let waiters = Vec::from_slice(self.alloc, self.list(from))?;
-        let (mut moved, mut left) = (Vec::new(self.alloc), Vec::new(self.alloc));
-        for (index, waiter) in waiters.iter().enumerate() {
-            match place_after(line, index) {
-                "taken" => self.set_status(*waiter, Status::Taken(UnparkToken(token))),
-                "moved" => moved.push(*waiter)?,
-                _ => left.push(*waiter)?,
+        let before = mem::replace(&mut self.waiting, Vec::new(self.alloc));
+        let (mut moved, mut taken, mut left) = (Vec::new(self.alloc), 0_usize, 0_usize);
+        for (thread, key) in &before {
+            let index = taken.wrapping_add(left).wrapping_add(moved.len());
+            match after_unpark(line, index) {
+                _ if *key != from => self.waiting.push((*thread, *key))?,
+                "taken" => {
+                    taken = taken.wrapping_add(1);
+                    self.set_status(*thread, Status::Taken(UnparkToken(token)));
+                }
+                "moved" => moved.push((*thread, to))?,
+                _ => {
+                    left = left.wrapping_add(1);
+                    self.waiting.push((*thread, *key))?;
+                }
             }
         }
-        let more = !left.is_empty() && word(line, 3) != "abort";
-        let taken = waiters
-            .len()
-            .wrapping_sub(moved.len())
-            .wrapping_sub(left.len());
-        self.set_list(from, left);
-        self.append(to, moved.as_slice())?;
+        self.waiting.extend_from_slice(moved.as_slice())?;
         if word(line, 0) == "all" {
             return Ok(write!(text, "count {taken}")?);
         }
-        let moved = moved.len();
-        Ok(write!(text, "unparked {taken} requeued {moved} more {more}")?)
+        let more = left != 0 && word(line, 3) != "abort";
+        Ok(write!(
+            text,
+            "unparked {taken} requeued {} more {more}",
+            moved.len()
+        )?)
     }
 }

@@ -1,6 +1,7 @@
 //! The machine of a fair mutex and its condition variable, as plain as docs/MODEL.md tells it. It
 //! knows no lot, and moves threads one by one.
 
+use super::pairs::write_list;
 use crate::words::{number, word};
 use lot_base::token::NoMemory;
 use lot_simulator::fair::FairStatus;
@@ -29,30 +30,9 @@ impl PlainFair {
         })
     }
 
-    /// Those who wait for the mutex, in order.
-    pub fn waiters(&self) -> &[usize] {
-        self.waiters.as_slice()
-    }
-
-    /// Those on the condition variable, in order.
-    pub fn sleepers(&self) -> &[usize] {
-        self.sleepers.as_slice()
-    }
-
-    /// What the number is doing.
-    pub fn status(&self, number: usize) -> FairStatus {
+    fn status(&self, number: usize) -> FairStatus {
         let status = self.statuses.get(number).copied();
         status.unwrap_or(FairStatus::Free)
-    }
-
-    /// Whether a thread holds the mutex.
-    pub fn is_locked(&self) -> bool {
-        for status in &self.statuses {
-            if let FairStatus::Holding | FairStatus::Leaving | FairStatus::Handed = *status {
-                return true;
-            }
-        }
-        false
     }
 
     fn set_status(&mut self, number: usize, status: FairStatus) {
@@ -61,11 +41,23 @@ impl PlainFair {
         }
     }
 
-    /// Does the step by its rule, and writes the answer.
+    // Whether a thread holds the mutex.
+    fn is_locked(&self) -> bool {
+        for status in &self.statuses {
+            if let FairStatus::Holding | FairStatus::Leaving | FairStatus::Handed = *status {
+                return true;
+            }
+        }
+        false
+    }
+
+    /// Does the step by its rule, and writes the answer; or that to a question.
     pub fn answer(&mut self, line: &str, text: &mut String) -> Result<(), NoMemory> {
-        let thread = number(line, 1);
-        let sleepers = self.sleepers.len();
+        let (thread, sleepers) = (number(line, 1), self.sleepers.len());
         match (word(line, 0), self.status(thread)) {
+            ("waiters", _) => write_list(text, self.waiters.as_slice())?,
+            ("sleepers", _) => write_list(text, self.sleepers.as_slice())?,
+            ("status", status) => write!(text, "{} {status:?}", self.is_locked())?,
             ("register", _) => self.register(text)?,
             ("notify-one", _) => self.notify(1, text)?,
             ("notify-all", _) => self.notify(sleepers, text)?,
@@ -73,10 +65,12 @@ impl PlainFair {
                 self.set_status(thread, FairStatus::Free);
                 text.push_str("retired")?;
             }
-            ("lock", FairStatus::Idle) => text.push_str(self.lock(thread)?)?,
-            ("unlock", FairStatus::Holding) => self.let_go(thread, FairStatus::Idle, text)?,
-            ("leave", FairStatus::Leaving) => self.let_go(thread, FairStatus::Queued, text)?,
-            ("return", FairStatus::Handed) => {
+            ("lock", FairStatus::Idle) if self.is_locked() => {
+                self.set_status(thread, FairStatus::Queued);
+                self.waiters.push(thread)?;
+                text.push_str("queued")?;
+            }
+            ("lock", FairStatus::Idle) | ("return", FairStatus::Handed) => {
                 self.set_status(thread, FairStatus::Holding);
                 text.push_str("locked")?;
             }
@@ -85,44 +79,37 @@ impl PlainFair {
                 self.sleepers.push(thread)?;
                 text.push_str("waiting")?;
             }
+            ("unlock", FairStatus::Holding) => {
+                self.set_status(thread, FairStatus::Idle);
+                text.push_str(self.hand_on())?;
+            }
+            ("leave", FairStatus::Leaving) => {
+                self.set_status(thread, FairStatus::Queued);
+                text.push_str(self.hand_on())?;
+            }
             _ => text.push_str("misfit")?,
         }
         Ok(())
     }
 
     fn register(&mut self, text: &mut String) -> Result<(), NoMemory> {
-        let mut statuses = self.statuses.iter();
-        let Some(number) = statuses.position(|status| *status == FairStatus::Free) else {
-            return Ok(text.push_str("full")?);
-        };
-        self.set_status(number, FairStatus::Idle);
-        Ok(write!(text, "number {number}")?)
-    }
-
-    fn lock(&mut self, thread: usize) -> Result<&'static str, NoMemory> {
-        if self.is_locked() {
-            self.set_status(thread, FairStatus::Queued);
-            self.waiters.push(thread)?;
-            return Ok("queued");
+        for number in 0..self.statuses.len() {
+            if self.status(number) == FairStatus::Free {
+                self.set_status(number, FairStatus::Idle);
+                return Ok(write!(text, "number {number}")?);
+            }
         }
-        self.set_status(thread, FairStatus::Holding);
-        Ok("locked")
+        Ok(text.push_str("full")?)
     }
 
-    // A thread lets the mutex go, which goes to the first who waits for it, and has the status.
-    fn let_go(
-        &mut self,
-        thread: usize,
-        after: FairStatus,
-        text: &mut String,
-    ) -> Result<(), NoMemory> {
-        self.set_status(thread, after);
+    // The mutex, which nobody holds now, goes to the first who waits for it.
+    fn hand_on(&mut self) -> &'static str {
         if self.waiters.is_empty() {
-            return Ok(text.push_str("freed")?);
+            return "freed";
         }
         let first = self.waiters.remove(0);
         self.set_status(first, FairStatus::Handed);
-        Ok(text.push_str("handed")?)
+        "handed"
     }
 
     // Moves so many threads off the condition variable, if there are so many.

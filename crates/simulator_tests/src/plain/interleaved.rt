@@ -4,36 +4,35 @@
 //! It knows no bucket and no node, and of a table only its size.
 
 use super::exclusive::{Plain, keys_and_token};
+use super::pairs::{beside, take};
 use crate::words::{behind_two, number, word};
 use lot_base::token::{NoMemory, UnparkToken};
 use lot_machine::status::Status;
 use std::alloc::Global;
 use std::fmt::Write;
 
-// A caller's section, if one is open: the places that it holds, those whom it has, and their token.
-#[derive(Drop)]
-struct Caller {
-    held: Option<[usize; 2]>,
-    taken: Vec<usize>,
-    token: usize,
-    wakes: usize,
-}
-
-#[derive(Copy, Clone)]
-struct Thread {
-    key_word: usize,
-    key_read: Option<usize>,
-    slot: Option<usize>,
-}
-
 /// The plain interleaved machine, and the sequential steps of all that was done, with their
-/// answers.
+/// answers. A number has no pair in a list, or one, but that a caller may have several.
 #[derive(Drop)]
 pub struct FinePlain {
     alloc: Global,
-    view: Plain,
-    threads: Vec<Thread>,
-    callers: Vec<Caller>,
+    pub view: Plain,
+    callers: usize,
+
+    // Threads, each with its key word, and late ones, each with the key that it has read.
+    key_words: Vec<(usize, usize)>,
+    keys_read: Vec<(usize, usize)>,
+
+    // Callers, each with a place that its section holds, and with a thread that its section has,
+    // whose token stands beside that.
+    held: Vec<(usize, usize)>,
+    taken: Vec<(usize, usize)>,
+    tokens: Vec<(usize, usize)>,
+
+    // Threads, each with the token in its slot, and callers, each with a thread to wake.
+    slots: Vec<(usize, usize)>,
+    wakes: Vec<(usize, usize)>,
+
     pub steps: String,
     pub answers: String,
 }
@@ -47,39 +46,21 @@ fn place(key: usize, size: usize) -> usize {
 
 impl FinePlain {
     /// A machine for so many threads and callers, with no registered thread and no open section.
-    pub fn new(
-        alloc: Global,
-        (max_threads, callers): (usize, usize),
-    ) -> Result<FinePlain, NoMemory> {
-        let mut plain = FinePlain {
+    pub fn new(alloc: Global, threads: usize, callers: usize) -> Result<FinePlain, NoMemory> {
+        Ok(FinePlain {
             alloc,
-            view: Plain::new(alloc, max_threads)?,
-            threads: Vec::new(alloc),
-            callers: Vec::new(alloc),
+            view: Plain::new(alloc, threads)?,
+            callers,
+            key_words: Vec::new(alloc),
+            keys_read: Vec::new(alloc),
+            held: Vec::new(alloc),
+            taken: Vec::new(alloc),
+            tokens: Vec::new(alloc),
+            slots: Vec::new(alloc),
+            wakes: Vec::new(alloc),
             steps: String::new(alloc),
             answers: String::new(alloc),
-        };
-        for _ in 0..max_threads {
-            plain.threads.push(Thread {
-                key_word: 0,
-                key_read: None,
-                slot: None,
-            })?;
-        }
-        for _ in 0..callers {
-            plain.callers.push(Caller {
-                held: None,
-                taken: Vec::new(alloc),
-                token: 0,
-                wakes: 0,
-            })?;
-        }
-        Ok(plain)
-    }
-
-    /// What is as in the machine with one list for each key: lists, records, threads and the size.
-    pub fn view(&self) -> &Plain {
-        &self.view
+        })
     }
 
     /// Does the step by its rule, writes the answer, and notes the sequential step.
@@ -94,236 +75,193 @@ impl FinePlain {
     }
 
     fn do_step(&mut self, line: &str, text: &mut String) -> Result<(), NoMemory> {
-        let of = number(line, 1);
-        match word(line, 0) {
-            "begin" => self.begin(of, behind_two(line), text)?,
-            "commit" => self.commit(of, text)?,
-            "end" => text.push_str(self.end(of))?,
-            "wake" => text.push_str(self.wake(of))?,
-            "deadline" if self.slot(of).is_some() => text.push_str("misfit")?,
-            "read" => self.read_key(of, text)?,
-            "look" => self.look(of, text)?,
-            "enter" => self.enter(line, text)?,
-            "return" => self.give_back(of, text)?,
-            "register" if self.is_growth_blocked() => text.push_str("blocked")?,
-            "trim" if self.view.is_too_large() && self.is_any_open() => {
+        let (of, key) = (number(line, 1), number(line, 2));
+        let slot = beside(self.slots.as_slice(), of);
+        match (word(line, 0), self.view.status(of), slot) {
+            ("begin", _, _) => self.begin(of, behind_two(line), text)?,
+            ("commit", _, _) => self.commit(of, text)?,
+            ("end" | "wake", _, _) => text.push_str(self.go_on(word(line, 0), of))?,
+            ("enter", Status::Running, _) if self.is_held(key) => text.push_str("blocked")?,
+            ("deadline", _, Some(_)) => text.push_str("misfit")?,
+            ("read", Status::Late, _) => {
+                let key = beside(self.key_words.as_slice(), of).unwrap_or(0);
+                take(&mut self.keys_read, of);
+                self.keys_read.push((of, key))?;
+                write!(text, "read {key}")?;
+            }
+            ("steps", _, _) => self.write_steps(text)?,
+            ("look", _, _) => self.look(of, text)?,
+            ("return", Status::Waiting { .. }, Some(_)) => self.take_slot(of, text)?,
+            ("read" | "return", _, _) => text.push_str("misfit")?,
+            ("register" | "trim", _, _) if self.is_blocked(word(line, 0)) => {
                 text.push_str("blocked")?;
             }
             _ => self.view.answer(line, text)?,
         }
+        if text.as_str().ends_with("entered") {
+            self.set_key_word(of, key)?;
+        }
+        Ok(())
+    }
+
+    fn set_key_word(&mut self, thread: usize, key: usize) -> Result<(), NoMemory> {
+        take(&mut self.key_words, thread);
+        self.key_words.push((thread, key))?;
         Ok(())
     }
 
     fn is_held(&self, key: usize) -> bool {
-        let place = place(key, self.view.size());
-        let mut callers = self.callers.iter();
-        callers.any(|caller| caller.held.is_some_and(|held| held.contains(&place)))
-    }
-
-    fn is_any_open(&self) -> bool {
-        self.callers.iter().any(|caller| caller.held.is_some())
-    }
-
-    fn slot(&self, number: usize) -> Option<usize> {
-        self.threads.get(number).and_then(|thread| thread.slot)
-    }
-
-    // Whether the caller has neither a section nor a wake to come.
-    fn can_begin(&self, caller: usize) -> bool {
-        let caller = self.callers.get(caller);
-        caller.is_some_and(|caller| caller.held.is_none() && caller.wakes == 0)
-    }
-
-    // The threads in the list of the key, each with its status.
-    fn statuses_on(&self, key: usize) -> Result<Vec<(usize, Status)>, NoMemory> {
-        let mut statuses = Vec::new(self.alloc);
-        for number in self.view.list(key) {
-            statuses.push((*number, self.view.status(*number)))?;
-        }
-        Ok(statuses)
-    }
-
-    // The threads that the machine's step has made taken. In the threads' view they get back the
-    // status that they had before.
-    fn taken_of(&mut self, before: &[(usize, Status)]) -> Result<Vec<usize>, NoMemory> {
-        let mut taken = Vec::new(self.alloc);
-        for (number, status) in before {
-            if let Status::Taken(_) = self.view.status(*number) {
-                taken.push(*number)?;
-                self.view.set_status(*number, *status);
+        let place = place(key, self.view.size);
+        for (_, held) in &self.held {
+            if *held == place {
+                return true;
             }
         }
-        Ok(taken)
+        false
     }
 
-    // Each thread in the list of the key notes that it waits there.
-    fn note_key(&mut self, key: usize) {
-        for number in self.view.list(key) {
-            if let Some(thread) = self.threads.get_mut(*number) {
-                thread.key_word = key;
-            }
-        }
+    // Whether the table is to change its size and a section holds a bucket.
+    fn is_blocked(&self, step: &str) -> bool {
+        let registered = self.view.registered();
+        let needed = registered.wrapping_add(1).wrapping_mul(3);
+        let is_changed = if step == "trim" {
+            self.view.least_size() < self.view.size
+        } else {
+            registered != self.view.statuses.len() && self.view.size < needed
+        };
+        is_changed && !self.held.is_empty()
     }
 
     fn begin(&mut self, caller: usize, op: &str, text: &mut String) -> Result<(), NoMemory> {
         let (from, to, token) = keys_and_token(op);
-        if !self.can_begin(caller) {
+        let has_section = beside(self.held.as_slice(), caller).is_some();
+        let is_to_wake = beside(self.wakes.as_slice(), caller).is_some();
+        if caller >= self.callers || has_section || is_to_wake {
             return Ok(text.push_str("misfit")?);
         }
         if self.is_held(from) || self.is_held(to) {
             return Ok(text.push_str("blocked")?);
         }
-        let before = self.statuses_on(from)?;
+        let size = self.view.size;
+        self.held.push((caller, place(from, size)))?;
+        self.held.push((caller, place(to, size)))?;
+        self.unpark(caller, op, (from, token), text)?;
+        let moved = self.view.list(to)?;
+        for thread in &moved {
+            self.set_key_word(*thread, to)?;
+        }
+        Ok(())
+    }
+
+    // The section has those whom the machine's step takes, who go on to wait in the threads' view.
+    fn unpark(
+        &mut self,
+        caller: usize,
+        op: &str,
+        (from, token): (usize, usize),
+        text: &mut String,
+    ) -> Result<(), NoMemory> {
+        let waiters = self.view.list(from)?;
+        let before = Vec::from_slice(self.alloc, self.view.statuses.as_slice())?;
         self.view.answer(op, text)?;
-        let taken = self.taken_of(before.as_slice())?;
-        self.note_key(to);
-        let size = self.view.size();
-        if let Some(caller) = self.callers.get_mut(caller) {
-            caller.held = Some([place(from, size), place(to, size)]);
-            caller.taken = taken;
-            caller.token = token;
+        for thread in &waiters {
+            if let (Status::Taken(_), Some(status)) = (
+                self.view.status(*thread),
+                before.get(*thread),
+            ) {
+                self.view.set_status(*thread, *status);
+                self.taken.push((caller, *thread))?;
+                self.tokens.push((*thread, token))?;
+            }
         }
         Ok(())
     }
 
     // The first thread that the section has gets its node, with its token.
     fn commit(&mut self, caller: usize, text: &mut String) -> Result<(), NoMemory> {
-        match self.callers.get_mut(caller) {
-            Some(caller) if !caller.taken.is_empty() => {
-                let first = caller.taken.remove(0);
-                caller.wakes = caller.wakes.wrapping_add(1);
-                if let Some(thread) = self.threads.get_mut(first) {
-                    thread.slot = Some(caller.token);
-                }
-                write!(text, "committed {first}")?;
-            }
-            _ => text.push_str("misfit")?,
-        }
-        Ok(())
+        let Some(first) = take(&mut self.taken, caller) else {
+            return Ok(text.push_str("misfit")?);
+        };
+        let token = take(&mut self.tokens, first).unwrap_or(0);
+        self.slots.push((first, token))?;
+        self.wakes.push((caller, first))?;
+        Ok(write!(text, "committed {first}")?)
     }
 
-    fn end(&mut self, caller: usize) -> &'static str {
-        match self.callers.get_mut(caller) {
-            Some(caller) if caller.held.is_some() && caller.taken.is_empty() => {
-                caller.held = None;
-                "ended"
-            }
-            _ => "misfit",
+    // Ends a section that has nobody left, or wakes a thread.
+    fn go_on(&mut self, step: &str, caller: usize) -> &'static str {
+        if step == "wake" {
+            let woken = take(&mut self.wakes, caller);
+            return if woken.is_some() { "woken" } else { "misfit" };
         }
-    }
-
-    fn wake(&mut self, caller: usize) -> &'static str {
-        match self.callers.get_mut(caller) {
-            Some(caller) if caller.wakes != 0 => {
-                caller.wakes = caller.wakes.wrapping_sub(1);
-                "woken"
-            }
-            _ => "misfit",
+        if beside(self.taken.as_slice(), caller).is_some() {
+            return "misfit";
         }
-    }
-
-    fn read_key(&mut self, number: usize, text: &mut String) -> Result<(), NoMemory> {
-        let status = self.view.status(number);
-        match self.threads.get_mut(number) {
-            Some(thread) if status == Status::Late => {
-                thread.key_read = Some(thread.key_word);
-                write!(text, "read {}", thread.key_word)?;
-            }
-            _ => text.push_str("misfit")?,
-        }
-        Ok(())
+        let first = take(&mut self.held, caller);
+        take(&mut self.held, caller);
+        if first.is_some() { "ended" } else { "misfit" }
     }
 
     // The thread takes its node, with the token, and runs.
-    fn take_slot(
-        &mut self,
-        number: usize,
-        token: usize,
-        text: &mut String,
-    ) -> Result<(), NoMemory> {
-        if let Some(thread) = self.threads.get_mut(number) {
-            thread.slot = None;
-        }
-        self.view.set_status(number, Status::Running);
+    fn take_slot(&mut self, thread: usize, text: &mut String) -> Result<(), NoMemory> {
+        let token = take(&mut self.slots, thread).unwrap_or(0);
+        self.view.set_status(thread, Status::Running);
         Ok(write!(text, "unparked {token}")?)
     }
 
-    fn look(&mut self, number: usize, text: &mut String) -> Result<(), NoMemory> {
-        let key_read = self.threads.get(number).and_then(|thread| thread.key_read);
-        let Some(key) = key_read else {
+    fn look(&mut self, thread: usize, text: &mut String) -> Result<(), NoMemory> {
+        let Some(key) = beside(self.keys_read.as_slice(), thread) else {
             return Ok(text.push_str("misfit")?);
         };
         if self.is_held(key) {
             return Ok(text.push_str("blocked")?);
         }
-        let Some(thread) = self.threads.get_mut(number) else {
-            return Ok(text.push_str("misfit")?);
-        };
-        thread.key_read = None;
-        if thread.key_word != key {
+        take(&mut self.keys_read, thread);
+        if beside(self.key_words.as_slice(), thread) != Some(key) {
             return Ok(text.push_str("retry")?);
         }
-        match thread.slot {
-            Some(token) => self.take_slot(number, token, text),
-            None => self.view.resolve(number, text),
+        if beside(self.slots.as_slice(), thread).is_some() {
+            return self.take_slot(thread, text);
         }
+        self.view.time_out(thread, text)
     }
 
-    fn enter(&mut self, line: &str, text: &mut String) -> Result<(), NoMemory> {
-        let (thread, key) = (number(line, 1), number(line, 2));
-        if self.view.status(thread) == Status::Running && self.is_held(key) {
-            return Ok(text.push_str("blocked")?);
-        }
-        self.view.answer(line, text)?;
-        if text.as_str().ends_with("entered")
-            && let Some(thread) = self.threads.get_mut(thread)
-        {
-            thread.key_word = key;
+    // The token of a thread that an open section has, or whose slot is full. Such a thread is taken
+    // in the sequential view.
+    fn token(&self, thread: usize) -> Option<usize> {
+        let in_section = beside(self.tokens.as_slice(), thread);
+        beside(self.slots.as_slice(), thread).or(in_section)
+    }
+
+    /// Writes the sequential steps of all that was done.
+    pub fn write_steps(&self, text: &mut String) -> Result<(), NoMemory> {
+        text.push_str("told")?;
+        for step in self.steps.lines() {
+            write!(text, " {step};")?;
         }
         Ok(())
     }
 
-    fn give_back(&mut self, number: usize, text: &mut String) -> Result<(), NoMemory> {
-        match (self.view.status(number), self.slot(number)) {
-            (Status::Waiting { .. }, Some(token)) => self.take_slot(number, token, text),
-            _ => Ok(text.push_str("misfit")?),
-        }
-    }
-
-    fn is_growth_blocked(&self) -> bool {
-        let registered = self.view.registered();
-        let needed = registered.wrapping_add(1).wrapping_mul(3);
-        registered != self.threads.len() && self.view.size() < needed && self.is_any_open()
-    }
-
-    // Whether the thread stands in the list of its key word.
-    fn is_in_list(&self, number: usize) -> bool {
-        let thread = self.threads.get(number);
-        thread.is_some_and(|thread| self.view.list(thread.key_word).contains(&number))
-    }
-
-    /// The status of the thread in the sequential view. One whom an open section has is taken.
-    pub fn sequential_status(&self, number: usize) -> Status {
-        if let Some(token) = self.slot(number) {
-            return Status::Taken(UnparkToken(token));
-        }
-        for caller in &self.callers {
-            if caller.taken.as_slice().contains(&number) {
-                return Status::Taken(UnparkToken(caller.token));
+    /// The view becomes the sequential one.
+    pub fn go_over(&mut self) {
+        for thread in 0..self.view.statuses.len() {
+            if let Some(token) = self.token(thread) {
+                let status = Status::Taken(UnparkToken(token));
+                self.view.set_status(thread, status);
             }
         }
-        self.view.status(number)
     }
 
-    // Notes the sequential step of a step that fits and was answered so, if there is one.
+    // Notes the sequential step of a step that fits and was answered so, if there is one. A
+    // deadline of a thread that is taken is none.
     fn note_sequential(&mut self, line: &str, given: &str) -> Result<(), NoMemory> {
-        let thread = number(line, 1);
+        let of = number(line, 1);
         match word(line, 0) {
             "begin" => writeln!(self.steps, "{}", behind_two(line))?,
-            "look" if given.starts_with("timed") => writeln!(self.steps, "resolve {thread}")?,
-            "look" => writeln!(self.steps, "return {thread}")?,
-            "commit" | "end" | "wake" | "read" => return Ok(()),
-            "deadline" if !self.is_in_list(thread) => return Ok(()),
+            "look" if given.starts_with("timed") => writeln!(self.steps, "resolve {of}")?,
+            "look" => writeln!(self.steps, "return {of}")?,
+            "commit" | "end" | "wake" | "read" | "list" | "size" | "steps" => return Ok(()),
+            "deadline" if self.token(of).is_some() => return Ok(()),
             _ => writeln!(self.steps, "{line}")?,
         }
         Ok(writeln!(self.answers, "{given}")?)

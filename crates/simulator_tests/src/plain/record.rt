@@ -1,45 +1,32 @@
 //! The plain machine, with a journal's count of entries and of those that are set aside.
 
 use super::exclusive::Plain;
+use super::pairs::take;
 use crate::words::{number, word};
 use lot_base::token::NoMemory;
 use lot_machine::status::Status;
 use std::alloc::Global;
 
-/// A plain machine, and how many entries its journal has, room for how many, and which are still to
-/// come.
+/// A plain machine, and how many entries its journal has, and room for how many.
 #[derive(Drop)]
 pub struct PlainRecord {
     plain: Plain,
     capacity: usize,
-    entries: usize,
+    pub entries: usize,
 
-    // For each thread, how many entries are set aside: one for the end of its park, and with a
-    // timeout first one for its deadline.
-    aside: Vec<usize>,
+    // For each entry that is set aside its thread, and nothing beside it: one for the end of a
+    // park, and with a timeout one for its deadline.
+    aside: Vec<(usize, usize)>,
 }
 
 impl PlainRecord {
-    pub fn new(
-        alloc: Global,
-        max_threads: usize,
-        capacity: usize,
-    ) -> Result<PlainRecord, NoMemory> {
-        let mut aside = Vec::new(alloc);
-        for _ in 0..max_threads {
-            aside.push(0)?;
-        }
+    pub fn new(alloc: Global, threads: usize, capacity: usize) -> Result<PlainRecord, NoMemory> {
         Ok(PlainRecord {
-            plain: Plain::new(alloc, max_threads)?,
+            plain: Plain::new(alloc, threads)?,
             capacity,
             entries: 0,
-            aside,
+            aside: Vec::new(alloc),
         })
-    }
-
-    /// How many entries the journal has.
-    pub fn entries(&self) -> usize {
-        self.entries
     }
 
     /// Does the step by its rule, unless the journal has no room for it, and writes the answer.
@@ -50,11 +37,12 @@ impl PlainRecord {
         let before = text.len();
         self.plain.answer(line, text)?;
         let given = text.as_str().get(before..).unwrap_or("");
-        if given != "misfit" {
-            self.entries = self.entries.wrapping_add(1);
-            self.note_park(line, given == "entered");
+        if given == "misfit" {
+            return Ok(());
         }
-        Ok(())
+        self.entries = self.entries.wrapping_add(1);
+        let is_entered = given == "entered";
+        self.set_aside(line, is_entered)
     }
 
     // Whether the step fits and needs more than there is. Those that end a park, or tell of its
@@ -68,23 +56,29 @@ impl PlainRecord {
             ("enter", "yes", _) => 2,
             _ => 1,
         };
-        let aside = self
-            .aside
-            .iter()
-            .fold(0_usize, |sum, aside| sum.wrapping_add(*aside));
-        self.entries.wrapping_add(aside).wrapping_add(needed) > self.capacity
+        let used = self.entries.wrapping_add(self.aside.len());
+        used.wrapping_add(needed) > self.capacity
     }
 
-    fn note_park(&mut self, line: &str, has_entered: bool) {
-        let aside = match (word(line, 0), word(line, 5)) {
-            ("enter", "timed") if has_entered => 2,
-            ("enter", _) if has_entered => 1,
-            ("deadline", _) => 1,
-            ("resolve" | "return", _) => 0,
-            _ => return,
-        };
-        if let Some(old) = self.aside.get_mut(number(line, 1)) {
-            *old = aside;
+    // What a step sets aside, or takes of that.
+    fn set_aside(&mut self, line: &str, is_entered: bool) -> Result<(), NoMemory> {
+        let thread = number(line, 1);
+        match word(line, 0) {
+            "enter" if is_entered => {
+                self.aside.push((thread, 0))?;
+                if word(line, 5) == "timed" {
+                    self.aside.push((thread, 0))?;
+                }
+            }
+            "deadline" => {
+                take(&mut self.aside, thread);
+            }
+            "resolve" | "return" => {
+                take(&mut self.aside, thread);
+                take(&mut self.aside, thread);
+            }
+            _ => {}
         }
+        Ok(())
     }
 }

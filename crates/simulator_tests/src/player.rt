@@ -1,0 +1,116 @@
+//! Plays lines of text on a machine and on its plain one: worked rows, all short lists of some
+//! lines, and long lists of arbitrary ones.
+
+use crate::plain::arbitrary::write_line;
+use crate::words::{expect_text, number, word};
+use crate::{fair, interleaved, record, script};
+use lot_base::token::NoMemory;
+use std::alloc::Global;
+use std::fmt::Write;
+use std::process::Abort;
+
+/// Plays the lines, the first of which names a machine and its size, and answers what both have
+/// answered, a line for each.
+pub fn play(rt: &impl Abort, alloc: Global, lines: &str) -> String {
+    match word(lines, 0) {
+        "interleaved" => interleaved::play(rt, alloc, lines),
+        "fair" => fair::play(rt, alloc, lines),
+        "record" => record::play(rt, alloc, lines),
+        _ => script::play(rt, alloc, lines),
+    }
+}
+
+// The same, and a script in each way that there is. Short lists are too many for that.
+fn play_each_way(rt: &impl Abort, alloc: Global, lines: &str) -> String {
+    let found = play(rt, alloc, lines);
+    if word(lines, 0) == "lot" {
+        script::expect_other_ways(rt, alloc, lines, found.as_str());
+    }
+    found
+}
+
+// A row is a line, and its answer behind an equals sign. The first line may have none.
+fn write_rows(rows: &str, (lines, expected): (&mut String, &mut String)) -> Result<(), NoMemory> {
+    for row in rows.lines() {
+        if let Some((asked, answer)) = row.split_once('=') {
+            writeln!(lines, "{}", asked.trim())?;
+            writeln!(expected, "{}", answer.trim())?;
+        } else {
+            writeln!(lines, "{}", row.trim())?;
+        }
+    }
+    Ok(())
+}
+
+/// Plays each text of rows behind those rows with which all begin, and compares the answers with
+/// those of the rows.
+pub fn expect_rows(rt: &impl Abort, alloc: Global, before: &str, texts: &[&str]) {
+    for rows in texts {
+        let (mut lines, mut expected) = (String::new(alloc), String::new(alloc));
+        write_rows(before, (&mut lines, &mut expected)).expect(rt, "memory");
+        write_rows(rows, (&mut lines, &mut expected)).expect(rt, "memory");
+        let found = play_each_way(rt, alloc, lines.as_str());
+        expect_text(rt, rows, found.as_str(), expected.as_str());
+    }
+}
+
+// The list of so many of these lines whose kinds are the digits of the code.
+fn write_list(
+    text: &mut String,
+    kinds: &[&str],
+    (length, code): (usize, usize),
+) -> Result<(), NoMemory> {
+    let mut rest = code;
+    for _ in 0..length {
+        let kind = rest.checked_rem(kinds.len()).unwrap_or(0);
+        writeln!(text, "{}", kinds.get(kind).copied().unwrap_or(""))?;
+        rest = rest.checked_div(kinds.len()).unwrap_or(0);
+    }
+    Ok(())
+}
+
+// How many lists of so many lines there are.
+fn lists_of(kinds: usize, length: usize) -> usize {
+    let mut lists: usize = 1;
+    for _ in 0..length {
+        lists = lists.wrapping_mul(kinds);
+    }
+    lists
+}
+
+/// Plays all lists of so many lines of these kinds, behind the lines before, and asks the
+/// questions. Shorter lists are the beginnings of those.
+pub fn play_short_lists(
+    rt: &impl Abort,
+    alloc: Global,
+    (before, questions): (&str, &str),
+    kinds: &[&str],
+    length: usize,
+) {
+    for code in 0..lists_of(kinds.len(), length) {
+        let mut text = String::new(alloc);
+        text.push_str(before).expect(rt, "memory");
+        write_list(&mut text, kinds, (length, code)).expect(rt, "memory");
+        text.push_str(questions).expect(rt, "memory");
+        play(rt, alloc, text.as_str());
+    }
+}
+
+/// Plays so many arbitrary lines behind the first, asks the questions, and answers what was
+/// answered.
+pub fn play_long_list(
+    rt: &impl Abort,
+    alloc: Global,
+    (first, questions): (&str, &str),
+    length: usize,
+) -> String {
+    let mut state = length.wrapping_add(number(first, 2));
+    let mut text = String::new(alloc);
+    text.push_str(first).expect(rt, "memory");
+    for count in 0..length {
+        write_line(&mut state, first, count, &mut text).expect(rt, "memory");
+        text.push_str("\n").expect(rt, "memory");
+    }
+    text.push_str(questions).expect(rt, "memory");
+    play_each_way(rt, alloc, text.as_str())
+}
