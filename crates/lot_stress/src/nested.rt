@@ -5,14 +5,11 @@
 //! each answer is that of the exclusive lot, which has a proof. What threads do at the same time is
 //! not seen here.
 
-ghost use Rattle.std.specs.Prelude.{◌<◌};
-
 mod walk;
 
 use crate::calls::park;
-use crate::draws::draw_below;
 use crate::fault::Fault;
-use lot_threads::{Member, ParkingLot, WordParker};
+use lot_threads::{MAX_THREADS, ParkingLot, WordParker};
 use std::alloc::Global;
 use std::sync::Wait;
 use std::time::{Clock, Instant};
@@ -24,16 +21,10 @@ const SOME: Shape = (60, 6, 2_000, 1);
 
 const MANY: Shape = (700, 40, 3_000, 30);
 
-// As many threads as there can be.
-const ALL: Shape = (16_384, 9, 40_000, 2_000);
+const ALL: Shape = (MAX_THREADS, 9, 40_000, 2_000);
 
-const MOST_PARKS: usize = 2;
-
-// One thread in so many parks more than once.
-const SELDOM: usize = 6;
-
-/// Walks twice, with few threads or with many. Since nobody sleeps, one parker does, and functions
-/// that call themselves are stated for it alone.
+/// Walks twice, with few threads or with many. Since nobody sleeps, one parker does, and a function
+/// that calls itself is stated for it alone.
 pub fn run<R: Print + Wait + Clock>(
     rt: &R,
     alloc: Global,
@@ -67,11 +58,10 @@ fn compare<R: Wait + Clock>(
     walk.judge()
 }
 
-// Makes some calls, and lets a thread park a few times. While it waits, other threads do the same,
-// as deep as this.
-#[cycle(nest)]
+// Lets a thread park. While it waits, other threads do the same once or twice, as deep as this; and
+// it is unparked before it sleeps, if it has no timeout and was not unparked yet.
 fn nest<R: Wait + Clock>(rt: &R, alloc: Global, walk: &mut Walk<'_, WordParker>, depth: usize) {
-    if depth == 0 || walk.parks_left == 0 {
+    if depth == 0 {
         walk.last_calls(rt, alloc);
         return;
     }
@@ -79,39 +69,17 @@ fn nest<R: Wait + Clock>(rt: &R, alloc: Global, walk: &mut Walk<'_, WordParker>,
         walk.last_calls(rt, alloc);
         return;
     };
-    for _ in 0..MOST_PARKS {
-        if walk.parks_left > 0 {
-            walk.parks_left -= 1;
-            park_beside(rt, alloc, walk, &mut thread, depth);
-            walk.calls(rt, alloc);
-        }
-        if draw_below(&mut walk.draws, SELDOM) != 0 {
-            break;
-        }
-    }
-    walk.give_thread(rt, thread);
-}
-
-// One that has no timeout is unparked before it sleeps, if it was not yet.
-#[cycle(nest)]
-fn park_beside<R: Wait + Clock>(
-    rt: &R,
-    alloc: Global,
-    walk: &mut Walk<'_, WordParker>,
-    thread: &mut Member<'_, WordParker>,
-    depth: usize,
-)
-    requires { 0 < depth }
-{
     let number = thread.number();
-    let entry = walk.entry();
-    walk.enter(number, entry);
+    let entry = walk.enter(number);
     let left = depth - 1;
-    let ended = park(rt, thread, entry, || {
+    let ended = park(rt, &mut thread, entry, || {
         nest(rt, alloc, walk, left);
-        if entry.3.is_none() {
-            walk.free(rt, number, entry);
+        if walk.goes_again() {
+            nest(rt, alloc, walk, left);
         }
+        walk.free(rt, number, entry);
     });
     walk.end(number, ended);
+    walk.calls(rt, alloc);
+    walk.give_thread(rt, thread);
 }

@@ -23,6 +23,9 @@ const MOST_CALLS: usize = 4;
 
 const MOST_COMING: usize = 12;
 
+// A thread that waits sees others park twice in one of so many cases.
+const SELDOM: usize = 6;
+
 // Where no thread comes any more, and most wait.
 const LAST_CALLS: usize = 24;
 
@@ -32,7 +35,7 @@ pub(super) struct Walk<'a, P: ThreadParkerT> {
     lot: &'a ParkingLot<P>,
     machine: Lot,
     idle: Vec<Member<'a, P>>,
-    pub(super) draws: u64,
+    draws: u64,
     shape: Shape,
     pub(super) parks_left: usize,
     past: Instant,
@@ -104,7 +107,7 @@ impl<'a, P: ThreadParkerT> Walk<'a, P> {
         key_at(draw_below(&mut self.draws, self.shape.1))
     }
 
-    pub(super) fn entry(&mut self) -> Entry {
+    fn entry(&mut self) -> Entry {
         let timeout = if draw_below(&mut self.draws, 3) == 0 {
             None
         } else {
@@ -119,8 +122,9 @@ impl<'a, P: ThreadParkerT> Walk<'a, P> {
         )
     }
 
-    /// Enters the exclusive lot.
-    pub(super) fn enter(&mut self, thread: usize, entry: Entry) {
+    /// Draws how the thread comes to park, and lets it enter the exclusive lot so.
+    pub(super) fn enter(&mut self, thread: usize) -> Entry {
+        let entry = self.entry();
         let (key, valid, park_token, timeout) = entry;
         let answer = if valid {
             Answer::Entered
@@ -135,6 +139,12 @@ impl<'a, P: ThreadParkerT> Walk<'a, P> {
             timed: timeout.is_some(),
         };
         self.expect(step, answer);
+        entry
+    }
+
+    /// Whether others park once more beside a thread that waits.
+    pub(super) fn goes_again(&mut self) -> bool {
+        self.parks_left > 0 && draw_below(&mut self.draws, SELDOM) == 0
     }
 
     /// Compares how a park ended with how it ends in the exclusive lot.
@@ -247,8 +257,13 @@ impl<'a, P: ThreadParkerT> Walk<'a, P> {
         self.trim(rt);
     }
 
-    /// A thread that is idle, or one that registers now, where there is one.
+    /// A thread for the next park, if there is to be one: one that is idle, or one that registers
+    /// now.
     pub(super) fn take_thread<R: Wait>(&mut self, rt: &R, alloc: Global) -> Option<Member<'a, P>> {
+        if self.parks_left == 0 {
+            return None;
+        }
+        self.parks_left -= 1;
         if draw_below(&mut self.draws, 2) == 0
             && let Some(thread) = self.idle.pop()
         {
@@ -287,8 +302,12 @@ impl<'a, P: ThreadParkerT> Walk<'a, P> {
         }
     }
 
-    /// Unparks this thread alone, which waits on this key or was requeued, by its token.
+    /// Unparks this thread alone, if it has no timeout and still waits, on this key or on one to
+    /// which it was requeued. Its token tells it from the others.
     pub(super) fn free<R: Wait>(&mut self, rt: &R, number: usize, entry: Entry) {
+        if entry.3.is_some() {
+            return;
+        }
         let token = UnparkToken(draw(&mut self.draws) as usize);
         let sieve = (Some(entry.2), 0, 0);
         if self.is_waiting(number) {
