@@ -7,3 +7,4 @@ pub mod EndLemmas
 pub mod GatheredLemmas
 pub mod TableLemmas
 mod TokenLemmas
+mod HeardLemmas

@@ -7,3 +7,4 @@ pub mod JobQueueSteps
 pub mod DoneJobs
 pub mod SortedEntries
 pub mod HandsOver
+pub mod Heard

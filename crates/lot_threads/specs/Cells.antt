@@ -3,7 +3,7 @@
 use Rattle.std.specs.Prelude.{◌≡◌, ◌≢◌, ℕ, ◌+◌, ◌*◌, ◌<◌, ◌≤◌, ◌^◌, All, ⊤, List, [], ◌∷◌, map, length, Option, Some, None}
 use Rattle.atomic_table.specs.Seated.{TableId}
 use Rattle.boxcar.specs.Slot.{Named}
-use Rattle.lot_base.specs.BucketState.{BucketState, IsBucketAt}
+use Rattle.lot_base.specs.BucketState.{BucketState, IsBucketAt, KeepsPlace}
 use Rattle.lot_base.specs.NodeFields.{NodeFields}
 use Rattle.lot_base.specs.Place.{IsTableSize, place_of}
 use Rattle.lot_word_lock.specs.WordLock.{key_of}
@@ -119,12 +119,24 @@ thread_taken node = Thread node.number (Taken node.unpark_token)
 abbrev pub threads_in : List NodeFields → List Piece
 threads_in taken = map thread_taken taken
 
+-- a bucket of the lot, of whose place the key is
+pub record IsCellFor (history : History) (key : ℕ) (cell : Cell) : Type 0 where
+  pub own : IsCell (id_of history) (max_threads_of history) cell
+  pub here : place_of key cell.bucket.size ≡ cell.bucket.place
+
+-- what taking threads out of a bucket leaves: the bucket in its place, and the pieces of those threads with the witness
+pub record TakesFrom (history : History) (old new : Cell) (taken : List NodeFields) (me : Witness) : Type 0 where
+  pub pieces : pieces_of me ≡ threads_in taken
+  pub cell : IsCell (id_of history) (max_threads_of history) new
+  pub place : KeepsPlace old.bucket new.bucket
+  pub below : All (IsBelow (max_threads_of history)) taken
+
 -- the letter beside the node of a thread that was taken has the thread's piece
 abbrev pub FitsLetter : Part → NodeFields → Letter → Type 0
 FitsLetter home node letter = Has (home_of home) (thread_taken node ∷ []) letter.part
 
 -- a witness that has added nothing and has no piece
-pub record IsIdle (home : TableId) (witness : Witness) : Type 0 where
+pub record IsFresh (home : TableId) (witness : Witness) : Type 0 where
   pub table : witness.seat.table_id ≡ home
   pub slots : witness.seat.me.1 ≡ []
   pub nothing_added : events_of witness ≡ []
@@ -143,7 +155,7 @@ pub record IsRegistry (home : TableId) (max_threads : ℕ) (registry : Registry)
   pub few : max_threads ≤ MAX_THREADS
   pub count : length registry.numbers ≡ max_threads
   pub part : Has home (numbers_in registry.numbers ∷ []) registry.part
-  pub witness : IsIdle home registry.witness
+  pub witness : IsFresh home registry.witness
   pub row : registry.row < 13
   pub room : 3 * count_registered registry.numbers ≤ size_in registry
 

@@ -3,6 +3,8 @@
 pub mod Rows
 -- Then the invariants of what lies behind the locks of a lot, and beside the node of a thread that was unparked.
 pub mod Cells
+-- Then witnesses between two calls.
+pub mod Idle
 -- Then sections, and the buckets that they have locked.
 pub mod Sections
 -- Then the two places of a place in a table of twice the size.

@@ -1,20 +1,15 @@
 -- Visitors of a lot, and what their calls add to its history.
-use Rattle.std.specs.Prelude.{◌≡◌, []}
+use Rattle.std.specs.Prelude.{◌≡◌}
 use Rattle.lot_machine.specs.declared.step.Answer.{Answer}
 use Rattle.lot_machine.specs.declared.step.Step.{Step}
 use Rattle.lot_history.specs.declared.history.History.{History}
 use Rattle.lot_history.specs.declared.history.Witness.{Witness}
-use Rattle.lot_history.specs.Witness.{Extends, IsStill, IsWitnessOf, pieces_of}
+use Rattle.lot_history.specs.Witness.{Extends, IsStill}
 
 -- a visitor: the history of its lot, and its witness, whose events its calls added
 pub record VisitorState : Type 0 where
   pub history : History
   pub witness : Witness
-
--- the witness is one of this history, and has no piece of the machine
-pub record IsVisitorOf (history : History) (witness : Witness) : Type 0 where
-  pub of_history : IsWitnessOf history witness
-  pub no_pieces : pieces_of witness ≡ []
 
 -- the same visitor
 pub record Visits (old new : VisitorState) : Type 0 where

@@ -1,6 +1,6 @@
 //! The buckets of a lot, each with its part of the history, behind a lock.
 
-ghost use Rattle.std.specs.Prelude.{◌≡◌, ◌∷◌, ◌+◌, ◌<◌, ◌≤◌, ◌^◌, [], length, IfOk, IfSome, None, Some};
+ghost use Rattle.std.specs.Prelude.{◌≡◌, ◌∷◌, ◌<◌, [], length, IfOk, IfSome, None, Some};
 ghost use Rattle.lot_base.specs.Place.{IsTableSize};
 ghost use Rattle.lot_history.specs.Views.{rest_of};
 ghost use Rattle.lot_history.specs.Witness.{IsPartOf, IsStill, IsWitnessOf, id_of, max_threads_of, pieces_of};

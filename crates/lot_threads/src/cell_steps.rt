@@ -13,8 +13,9 @@ ghost use Rattle.lot_machine.specs.declared.step.Step.{Step};
 ghost use Rattle.lot_base.specs.declared.token.UnparkResult.{UnparkResult};
 ghost use Rattle.lot_history.specs.Witness.{Adds, Extends, Found, IsStill, IsWitnessOf, events_of, id_of, max_threads_of, pieces_of, seen_by};
 ghost use Rattle.lot_history.specs.declared.view.Piece.TheVariants.{Thread};
-ghost use Rattle.lot_threads.specs.Cells.{Has, IsBelow, IsCell, lists_in, threads_in};
+ghost use Rattle.lot_threads.specs.Cells.{Has, IsBelow, IsCell, IsCellFor, TakesFrom, lists_in};
 ghost use Rattle.lot_threads.specs.Filters.{IsUnpark, MayFilter, Unparks};
+ghost use Rattle.lot_threads.specs.Idle.{IsIdle, StaysIdle};
 ghost use Rattle.lot_threads.specs.Members.{IsListed, Leaves, entry_of, entry_step};
 
 use crate::cell::Cell;
@@ -41,10 +42,8 @@ pub(crate) fn take_one_of<E: Told, C: FnOnce(UnparkResult) -> UnparkToken>(
     key: usize,
     callback: C,
 ) -> (UnparkResult, Queue)
-    requires witness { IsWitnessOf history.now me.old }
-    requires none { pieces_of me.old ≡ [] }
-    requires cell { IsCell (id_of history.now) (max_threads_of history.now) cell.old }
-    requires place { place_of key cell.old.bucket.size ≡ cell.old.bucket.place }
+    requires idle { IsIdle history.now me.old }
+    requires cell { IsCellFor history.now key cell.old }
     requires callable { C.pre callback
         (result_of (split_first (lists_of cell.old.bucket.nodes key))) }
     requires said { (answer : UnparkResult) (token : UnparkToken) → C.post callback answer token
@@ -53,10 +52,7 @@ pub(crate) fn take_one_of<E: Told, C: FnOnce(UnparkResult) -> UnparkToken>(
     ensures still { IsStill history.now me.old me.new }
     ensures adds { Adds history.now me.old
         (λ s a. E.said s a × (a ≡ Answer.Unpark result.0)) me.new }
-    ensures pieces { pieces_of me.new ≡ threads_in result.1 }
-    ensures cell { IsCell (id_of history.now) (max_threads_of history.now) cell.new }
-    ensures place { KeepsPlace cell.old.bucket cell.new.bucket }
-    ensures below { All (IsBelow (max_threads_of history.now)) result.1 }
+    ensures taken { TakesFrom history.now cell.old cell.new result.1 me.new }
     ensures one { length result.1 ≤ 1 }
 {
     let (result, taken) = cell.bucket.take_one(key, callback);
@@ -74,20 +70,15 @@ pub(crate) fn take_all_of<E: Told>(
     key: usize,
     token: UnparkToken,
 ) -> (usize, Queue)
-    requires witness { IsWitnessOf history.now me.old }
-    requires none { pieces_of me.old ≡ [] }
-    requires cell { IsCell (id_of history.now) (max_threads_of history.now) cell.old }
-    requires place { place_of key cell.old.bucket.size ≡ cell.old.bucket.place }
+    requires idle { IsIdle history.now me.old }
+    requires cell { IsCellFor history.now key cell.old }
     requires said { (count : ℕ)
         → E.said (Step.Unpark (Op.All key token)) (Answer.Count count) }
 
     ensures still { IsStill history.now me.old me.new }
     ensures adds { Adds history.now me.old
         (λ s a. E.said s a × (a ≡ Answer.Count result.0)) me.new }
-    ensures pieces { pieces_of me.new ≡ threads_in result.1 }
-    ensures cell { IsCell (id_of history.now) (max_threads_of history.now) cell.new }
-    ensures place { KeepsPlace cell.old.bucket cell.new.bucket }
-    ensures below { All (IsBelow (max_threads_of history.now)) result.1 }
+    ensures taken { TakesFrom history.now cell.old cell.new result.1 me.new }
 {
     let (count, taken) = cell.bucket.take_all(key, token);
     add_taking::<E>(history, me, licence, cell, &taken, Answer::Count(count));
@@ -108,20 +99,15 @@ pub(crate) fn take_filter_of<
     filter: F,
     callback: C,
 ) -> (UnparkResult, Queue)
-    requires witness { IsWitnessOf history.now me.old }
-    requires none { pieces_of me.old ≡ [] }
+    requires idle { IsIdle history.now me.old }
     requires few { max_threads_of history.now < 2 ^ 63 }
-    requires cell { IsCell (id_of history.now) (max_threads_of history.now) cell.old }
-    requires place { place_of key cell.old.bucket.size ≡ cell.old.bucket.place }
+    requires cell { IsCellFor history.now key cell.old }
     requires callable { MayFilter F.FnMut C.FnOnce filter callback key history.now me.old }
 
     ensures still { IsStill history.now me.old me.new }
     ensures unparked { Unparks F.FnMut C.FnOnce filter callback key history.now me.old result.0
         me.new }
-    ensures pieces { pieces_of me.new ≡ threads_in result.1 }
-    ensures cell { IsCell (id_of history.now) (max_threads_of history.now) cell.new }
-    ensures place { KeepsPlace cell.old.bucket cell.new.bucket }
-    ensures below { All (IsBelow (max_threads_of history.now)) result.1 }
+    ensures taken { TakesFrom history.now cell.old cell.new result.1 me.new }
 {
     let part = mem::replace(&mut cell.part, Part::none());
     history.take(me, part);
@@ -163,10 +149,7 @@ fn take_filter_with<
     ensures adds { Adds history.now me.old
         (λ s a. E.said s a × (a ≡ Answer.Unpark result.0)) me.new }
     ensures found { Found history.now me.old me.new }
-    ensures pieces { pieces_of me.new ≡ threads_in result.1 }
-    ensures cell { IsCell (id_of history.now) (max_threads_of history.now) cell.new }
-    ensures place { KeepsPlace cell.old.bucket cell.new.bucket }
-    ensures below { All (IsBelow (max_threads_of history.now)) result.1 }
+    ensures taken { TakesFrom history.now cell.old cell.new result.1 me.new }
 {
     let (result, taken) = cell.bucket.take_filter(key, filter, callback);
     add_taken::<E>(history, me, licence, cell, &taken, Answer::Unpark(result));
@@ -184,18 +167,14 @@ pub(crate) fn enter_in<V: FnOnce() -> bool>(
     node: Box<Node>,
     validate: V,
 ) -> Result<(), (Part, Box<Node>)>
-    requires witness { IsWitnessOf history.now me.old }
-    requires none { pieces_of me.old ≡ [] }
-    requires cell { IsCell (id_of history.now) (max_threads_of history.now) cell.old }
-    requires place { place_of (fields node.value).key cell.old.bucket.size
-        ≡ cell.old.bucket.place }
+    requires idle { IsIdle history.now me.old }
+    requires cell { IsCellFor history.now (fields node.value).key cell.old }
     requires below { IsBelow (max_threads_of history.now) (fields node.value) }
     requires thread { Has (id_of history.now)
         (Thread (fields node.value).number Status.Running ∷ []) thread }
     requires callable { V.pre validate }
 
-    ensures still { IsStill history.now me.old me.new }
-    ensures none { pieces_of me.new ≡ [] }
+    ensures idle { StaysIdle history.now me.old me.new }
     ensures cell { IsCell (id_of history.now) (max_threads_of history.now) cell.new }
     ensures place { KeepsPlace cell.old.bucket cell.new.bucket }
     ensures asked { V.post validate (is_ok result) }
@@ -229,14 +208,11 @@ pub(crate) fn leave_in<R: Wait, T: FnOnce(usize, bool)>(
     key: usize,
     timed_out: T,
 ) -> Option<(Part, Box<Node>)>
-    requires witness { IsWitnessOf history.now me.old }
-    requires none { pieces_of me.old ≡ [] }
-    requires cell { IsCell (id_of history.now) (max_threads_of history.now) cell.old }
-    requires place { place_of key cell.old.bucket.size ≡ cell.old.bucket.place }
+    requires idle { IsIdle history.now me.old }
+    requires cell { IsCellFor history.now key cell.old }
     requires callable { (last : _) → T.pre timed_out key last }
 
-    ensures still { IsStill history.now me.old me.new }
-    ensures none { pieces_of me.new ≡ [] }
+    ensures idle { StaysIdle history.now me.old me.new }
     ensures cell { IsCell (id_of history.now) (max_threads_of history.now) cell.new }
     ensures place { KeepsPlace cell.old.bucket cell.new.bucket }
     ensures left { IfSome result (λ back. (last : Bool) × T.post timed_out key last tt
@@ -268,13 +244,10 @@ pub(crate) fn list_in(
     alloc: Global,
     key: usize,
 ) -> Result<Vec<usize>, NoMemory>
-    requires witness { IsWitnessOf history.now me.old }
-    requires none { pieces_of me.old ≡ [] }
-    requires cell { IsCell (id_of history.now) (max_threads_of history.now) cell.old }
-    requires place { place_of key cell.old.bucket.size ≡ cell.old.bucket.place }
+    requires idle { IsIdle history.now me.old }
+    requires cell { IsCellFor history.now key cell.old }
 
-    ensures still { IsStill history.now me.old me.new }
-    ensures none { pieces_of me.new ≡ [] }
+    ensures idle { StaysIdle history.now me.old me.new }
     ensures cell { IsCell (id_of history.now) (max_threads_of history.now) cell.new }
     ensures place { KeepsPlace cell.old.bucket cell.new.bucket }
     ensures listed { IsListed history.now key me.old me.new result }

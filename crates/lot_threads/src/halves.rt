@@ -5,9 +5,10 @@ ghost use Rattle.std.specs.Prelude.{◌≡◌, ◌+◌, ◌*◌, ◌/◌, ◌<�
 ghost use Rattle.lot_base.specs.BucketState.{IsBucketAt, KeepsPlace};
 ghost use Rattle.lot_base.specs.Node.{fields};
 ghost use Rattle.lot_base.specs.Place.{place_of};
-ghost use Rattle.lot_history.specs.Witness.{IsStill, IsWitnessOf, events_of, id_of, max_threads_of, pieces_of};
+ghost use Rattle.lot_history.specs.Witness.{events_of, id_of, max_threads_of};
 ghost use Rattle.lot_threads.specs.Cells.{IsBelow, IsCell};
 ghost use Rattle.lot_threads.specs.Halves.{AreHalves, IsHalfSize};
+ghost use Rattle.lot_threads.specs.Idle.{IsIdle, StaysIdle};
 
 use crate::cell::Cell;
 use crate::told::{regroup_joined, regroup_split};
@@ -18,12 +19,10 @@ use lot_history::history::{History, Witness};
 // Cuts a bucket in two, those of its two places in a table of twice the size. Each takes the nodes
 // of its own keys, in order, and the piece that says so; to the history nothing is added.
 pub(crate) fn split(history: &History, me: &mut Witness, cell: Cell) -> (Cell, Cell)
-    requires witness { IsWitnessOf history.now me.old }
-    requires none { pieces_of me.old ≡ [] }
+    requires idle { IsIdle history.now me.old }
     requires size { IsHalfSize cell.bucket.size }
     requires cell { IsCell (id_of history.now) (max_threads_of history.now) cell }
-    ensures still { IsStill history.now me.old me.new }
-    ensures none { pieces_of me.new ≡ [] }
+    ensures idle { StaysIdle history.now me.old me.new }
     ensures nothing_added { events_of me.new ≡ events_of me.old }
     ensures low_place { IsBucketAt (2 * cell.bucket.place) (2 * cell.bucket.size)
         result.0.bucket }
@@ -63,16 +62,14 @@ pub(crate) fn join(
     low: Cell,
     high: Cell,
 ) -> Cell
-    requires witness { IsWitnessOf history.now me.old }
-    requires none { pieces_of me.old ≡ [] }
+    requires idle { IsIdle history.now me.old }
     requires size { IsHalfSize size }
     requires place { place < size }
     requires low_place { IsBucketAt (2 * place) (2 * size) low.bucket }
     requires high_place { IsBucketAt (2 * place + 1) (2 * size) high.bucket }
     requires low { IsCell (id_of history.now) (max_threads_of history.now) low }
     requires high { IsCell (id_of history.now) (max_threads_of history.now) high }
-    ensures still { IsStill history.now me.old me.new }
-    ensures none { pieces_of me.new ≡ [] }
+    ensures idle { StaysIdle history.now me.old me.new }
     ensures nothing_added { events_of me.new ≡ events_of me.old }
     ensures place { IsBucketAt place size result.bucket }
     ensures cell { IsCell (id_of history.now) (max_threads_of history.now) result }

@@ -6,6 +6,7 @@ ghost use Rattle.lot_machine.specs.Numbers.{IsLeastUnregistered, count_registere
 ghost use Rattle.lot_history.specs.Witness.{Extends, IsPartOf, IsStill, IsWitnessOf, id_of, max_threads_of, pieces_of};
 ghost use Rattle.lot_history.specs.declared.view.Piece.TheVariants.{Thread};
 ghost use Rattle.lot_threads.specs.Cells.{Has, HasRecords, IsBelow, IsRegistry, IsRegistryLock, numbers_in, size_in};
+ghost use Rattle.lot_threads.specs.Idle.{IsIdle, StaysIdle};
 ghost use Rattle.lot_threads.specs.Members.{IsRegistered, pieces_for};
 ghost use Rattle.lot_threads.specs.Rows.{free_numbers};
 
@@ -142,17 +143,15 @@ impl Registry {
         records: Part,
     )
         requires registry { IsRegistry (id_of history.now) (max_threads_of history.now) self.old }
-        requires witness { IsWitnessOf history.now me.old }
-        requires none { pieces_of me.old ≡ [] }
+        requires idle { IsIdle history.now me.old }
         requires below { IsBelow (max_threads_of history.now) (fields node.value) }
         requires thread { Has (id_of history.now)
             (Thread (fields node.value).number Status.Running ∷ []) thread }
         requires records { HasRecords (id_of history.now) (fields node.value).number records }
         ensures registry { IsRegistry (id_of history.now) (max_threads_of history.now) self.new }
-        ensures still { IsStill history.now me.old me.new }
+        ensures idle { StaysIdle history.now me.old me.new }
         ensures extends { Extends history.now me.old
             (Step.Retire (fields node.value).number) Answer.Retired me.new }
-        ensures none { pieces_of me.new ≡ [] }
     {
         let number = node.number;
         history.take(me, thread);

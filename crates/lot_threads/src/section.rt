@@ -7,11 +7,12 @@ ghost use Rattle.lot_base.specs.NodeFields.{NodeFields};
 ghost use Rattle.lot_base.specs.Waiting.{result_of, split_first};
 ghost use Rattle.lot_machine.specs.declared.step.Answer.{Answer};
 ghost use Rattle.lot_machine.specs.declared.step.Step.{Step};
-ghost use Rattle.lot_history.specs.Witness.{Extends, IsStill, IsWitnessOf, events_of, id_of, max_threads_of, pieces_of, seen_by};
+ghost use Rattle.lot_history.specs.Witness.{Extends, events_of, id_of, max_threads_of, seen_by};
 ghost use Rattle.lot_history.specs.declared.view.Piece.TheVariants.{Thread};
 ghost use Rattle.lot_word_lock.specs.WordLock.{IsClaimOn, key_of};
 ghost use Rattle.lot_threads.specs.Cells.{AreApart, FitsSlot, Has, IsBelow, IsLockFor};
 ghost use Rattle.lot_threads.specs.Filters.{MayFilter, Unparks};
+ghost use Rattle.lot_threads.specs.Idle.{IsIdle, StaysIdle};
 ghost use Rattle.lot_threads.specs.Members.{IsListed, Leaves, entry_of, entry_step};
 ghost use Rattle.lot_threads.specs.Requeues.{MayRequeue, Requeues};
 ghost use Rattle.lot_threads.specs.Sections.{HasBucket};
@@ -154,12 +155,10 @@ impl<'a, P: ThreadParkerT> Section<'a, P> {
         licence: Licence,
         callback: C,
     ) -> (UnparkResult, Option<P::UnparkHandle>)
-        requires witness { IsWitnessOf self.old.lot.now me.old }
-        requires none { pieces_of me.old ≡ [] }
+        requires idle { IsIdle self.old.lot.now me.old }
         requires callable { (waiters : List NodeFields)
             → C.pre callback (result_of (split_first waiters)) }
-        ensures still { IsStill self.old.lot.now me.old me.new }
-        ensures none { pieces_of me.new ≡ [] }
+        ensures idle { StaysIdle self.old.lot.now me.old me.new }
         ensures unparked { (token : UnparkToken) × C.post callback result.0 token
             × Extends self.old.lot.now me.old (Step.Unpark (Op.One self.old.key token))
             (Answer.Unpark result.0) me.new }
@@ -187,10 +186,8 @@ impl<'a, P: ThreadParkerT> Section<'a, P> {
         licence: Licence,
         token: UnparkToken,
     ) -> (usize, Handles<P::UnparkHandle>)
-        requires witness { IsWitnessOf self.old.lot.now me.old }
-        requires none { pieces_of me.old ≡ [] }
-        ensures still { IsStill self.old.lot.now me.old me.new }
-        ensures none { pieces_of me.new ≡ [] }
+        requires idle { IsIdle self.old.lot.now me.old }
+        ensures idle { StaysIdle self.old.lot.now me.old me.new }
         ensures unparked { Extends self.old.lot.now me.old
             (Step.Unpark (Op.All self.old.key token)) (Answer.Count result.0) me.new }
     {
@@ -216,12 +213,10 @@ impl<'a, P: ThreadParkerT> Section<'a, P> {
         filter: F,
         callback: C,
     ) -> (UnparkResult, Handles<P::UnparkHandle>)
-        requires witness { IsWitnessOf self.old.lot.now me.old }
-        requires none { pieces_of me.old ≡ [] }
+        requires idle { IsIdle self.old.lot.now me.old }
         requires callable { MayFilter F.FnMut C.FnOnce filter callback self.old.key
             self.old.lot.now me.old }
-        ensures still { IsStill self.old.lot.now me.old me.new }
-        ensures none { pieces_of me.new ≡ [] }
+        ensures idle { StaysIdle self.old.lot.now me.old me.new }
         ensures unparked { Unparks F.FnMut C.FnOnce filter callback self.old.key self.old.lot.now
             me.old result.0 me.new }
     {
@@ -256,12 +251,10 @@ impl<'a, P: ThreadParkerT> Section<'a, P> {
         validate: V,
         callback: C,
     ) -> (UnparkResult, Option<P::UnparkHandle>)
-        requires witness { IsWitnessOf self.old.lot.now me.old }
-        requires none { pieces_of me.old ≡ [] }
+        requires idle { IsIdle self.old.lot.now me.old }
         requires to { IsLockFor self.old.lot.now to self.old.lock.now }
         requires callable { MayRequeue V.FnOnce C.FnOnce validate callback }
-        ensures still { IsStill self.old.lot.now me.old me.new }
-        ensures none { pieces_of me.new ≡ [] }
+        ensures idle { StaysIdle self.old.lot.now me.old me.new }
         ensures requeued { Requeues V.FnOnce C.FnOnce validate callback self.old.key to
             self.old.lot.now me.old result.0 me.new }
     {
@@ -290,13 +283,11 @@ impl<'a, P: ThreadParkerT> Section<'a, P> {
         validate: V,
         callback: C,
     ) -> (UnparkResult, Option<P::UnparkHandle>)
-        requires witness { IsWitnessOf self.old.lot.now me.old }
-        requires none { pieces_of me.old ≡ [] }
+        requires idle { IsIdle self.old.lot.now me.old }
         requires lot { target.old.lot.now ≡ self.old.lot.now }
         requires apart { AreApart self.old.lock.now target.old.lock.now }
         requires callable { MayRequeue V.FnOnce C.FnOnce validate callback }
-        ensures still { IsStill self.old.lot.now me.old me.new }
-        ensures none { pieces_of me.new ≡ [] }
+        ensures idle { StaysIdle self.old.lot.now me.old me.new }
         ensures requeued { Requeues V.FnOnce C.FnOnce validate callback self.old.key target.old.key
             self.old.lot.now me.old result.0 me.new }
     {
@@ -324,15 +315,13 @@ impl<'a, P: ThreadParkerT> Section<'a, P> {
         node: Box<Node>,
         validate: V,
     ) -> Result<(), (Part, Box<Node>)>
-        requires witness { IsWitnessOf self.old.lot.now me.old }
-        requires none { pieces_of me.old ≡ [] }
+        requires idle { IsIdle self.old.lot.now me.old }
         requires key { (fields node.value).key ≡ self.old.key }
         requires below { IsBelow (max_threads_of self.old.lot.now) (fields node.value) }
         requires thread { Has (id_of self.old.lot.now)
             (Thread (fields node.value).number Status.Running ∷ []) thread }
         requires callable { V.pre validate }
-        ensures still { IsStill self.old.lot.now me.old me.new }
-        ensures none { pieces_of me.new ≡ [] }
+        ensures idle { StaysIdle self.old.lot.now me.old me.new }
         ensures asked { V.post validate (is_ok result) }
         ensures entered { OnOk result (Extends self.old.lot.now me.old
             (entry_step (entry_of (fields node.value)) true) Answer.Entered me.new) }
@@ -358,11 +347,9 @@ impl<'a, P: ThreadParkerT> Section<'a, P> {
         number: usize,
         timed_out: T,
     ) -> Option<(Part, Box<Node>)>
-        requires witness { IsWitnessOf self.old.lot.now me.old }
-        requires none { pieces_of me.old ≡ [] }
+        requires idle { IsIdle self.old.lot.now me.old }
         requires callable { (last : _) → T.pre timed_out self.old.key last }
-        ensures still { IsStill self.old.lot.now me.old me.new }
-        ensures none { pieces_of me.new ≡ [] }
+        ensures idle { StaysIdle self.old.lot.now me.old me.new }
         ensures left { IfSome result (λ back. (last : Bool) × T.post timed_out self.old.key last tt
             × Leaves self.old.lot.now number self.old.key last me.old me.new) }
         ensures returned { IfSome result (λ back. ((fields back.1.value).number ≡ number)
@@ -379,10 +366,8 @@ impl<'a, P: ThreadParkerT> Section<'a, P> {
 
     /// Sees the history with the bucket's part, and lists the threads of the key.
     pub(crate) fn list(&mut self, me: &mut Witness, alloc: Global) -> Result<Vec<usize>, NoMemory>
-        requires witness { IsWitnessOf self.old.lot.now me.old }
-        requires none { pieces_of me.old ≡ [] }
-        ensures still { IsStill self.old.lot.now me.old me.new }
-        ensures none { pieces_of me.new ≡ [] }
+        requires idle { IsIdle self.old.lot.now me.old }
+        ensures idle { StaysIdle self.old.lot.now me.old me.new }
         ensures listed { IsListed self.old.lot.now self.old.key me.old me.new result }
     {
         let history = self.lot.history();

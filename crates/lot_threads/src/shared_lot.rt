@@ -15,6 +15,7 @@ ghost use Rattle.lot_history.specs.Witness.{Adds, Extends, IsPartOf, IsStill, Is
 ghost use Rattle.lot_history.specs.declared.view.Piece.TheVariants.{Thread};
 ghost use Rattle.lot_threads.specs.Cells.{Has, HasRecords, IsBelow, IsCell, IsLockFor, IsRegistry, home_of, threads_in};
 ghost use Rattle.lot_threads.specs.Filters.{MayFilter, Unparks};
+ghost use Rattle.lot_threads.specs.Idle.{IsIdle, StaysIdle};
 ghost use Rattle.lot_threads.specs.Members.{EndsWait, IsListed, IsRegistered, Leaves, entry_of, entry_step, number_in};
 ghost use Rattle.lot_threads.specs.Rows.{EachAt};
 
@@ -251,8 +252,7 @@ impl<P: ThreadParkerT> ParkingLot<P> {
         thread: Part,
         records: Part,
     )
-        requires witness { IsWitnessOf self.now me.old }
-        requires none { pieces_of me.old ≡ [] }
+        requires idle { IsIdle self.now me.old }
         requires below { IsBelow (max_threads_of self.now) (fields node.value) }
         requires thread { Has (id_of self.now)
             (Thread (fields node.value).number Status.Running ∷ []) thread }

@@ -6,6 +6,7 @@ ghost use Rattle.lot_history.specs.Witness.{Adds, Extends, Found, IsPartOf, IsSt
 ghost use Rattle.lot_history.specs.declared.view.Piece.{Piece};
 ghost use Rattle.lot_history.specs.declared.view.Piece.TheVariants.{Records, Thread};
 ghost use Rattle.lot_threads.specs.Cells.{Has, lists_in, numbers_in, threads_in};
+ghost use Rattle.lot_threads.specs.Idle.{IsIdle, StaysIdle};
 ghost use Rattle.lot_threads.specs.Late.{late_pieces};
 ghost use Rattle.lot_threads.specs.Members.{Is, Leaves, entry_step};
 ghost use Rattle.lot_threads.specs.Rows.{empty_lists, free_numbers};
@@ -152,16 +153,14 @@ pub(crate) fn add_recording(
     number: usize,
     keys: &records::Records,
 )
-    requires witness { IsWitnessOf history.now me.old }
-    requires none { pieces_of me.old ≡ [] }
+    requires idle { IsIdle history.now me.old }
     requires thread { Has (id_of history.now) (Thread number Status.Running ∷ []) thread.old }
     requires records { IsPartOf (id_of history.now) records.old }
     requires moves { Moves (max_threads_of history.now) (Is step answer)
         (Thread number Status.Running ∷ pieces_in records.old)
         (Thread number Status.Running ∷ Records number keys.now ∷ []) }
-    ensures still { IsStill history.now me.old me.new }
+    ensures idle { StaysIdle history.now me.old me.new }
     ensures extends { Extends history.now me.old step answer me.new }
-    ensures none { pieces_of me.new ≡ [] }
     ensures thread { Has (id_of history.now) (Thread number Status.Running ∷ []) thread.new }
     ensures records { Has (id_of history.now) (Records number keys.now ∷ []) records.new }
 {
@@ -200,8 +199,7 @@ pub(crate) fn add_taking<E: Told>(
     taken: &Queue,
     answer: Answer,
 )
-    requires witness { IsWitnessOf history.now me.old }
-    requires none { pieces_of me.old ≡ [] }
+    requires idle { IsIdle history.now me.old }
     requires part { IsPartOf (id_of history.now) cell.old.part }
     requires moves { Moves (max_threads_of history.now) (λ s a. E.said s a × (a ≡ answer))
         (pieces_in cell.old.part) (lists_in cell.old.bucket ∷ threads_in taken.now) }
@@ -252,8 +250,7 @@ pub(crate) fn add_requeue<E: Told>(
     taken: &Queue,
     answer: Answer,
 )
-    requires witness { IsWitnessOf history.now me.old }
-    requires none { pieces_of me.old ≡ [] }
+    requires idle { IsIdle history.now me.old }
     requires source { IsPartOf (id_of history.now) source.old.part }
     requires target { IsPartOf (id_of history.now) target.old.part }
     requires moves { Moves (max_threads_of history.now) (λ s a. E.said s a × (a ≡ answer))
@@ -318,9 +315,8 @@ pub(crate) fn add_entered(
         (Is (entry_step entry true) Answer.Entered)
         (pieces_in cell.old.part ++ Thread entry.number Status.Running ∷ [])
         (lists_in cell.old.bucket ∷ []) }
-    ensures still { IsStill history.now me.old me.new }
+    ensures idle { StaysIdle history.now me.old me.new }
     ensures extends { Extends history.now me.old (entry_step entry true) Answer.Entered me.new }
-    ensures none { pieces_of me.new ≡ [] }
     ensures bucket { cell.new.bucket ≡ cell.old.bucket }
     ensures part { Has (id_of history.now) (lists_in cell.old.bucket ∷ []) cell.new.part }
 {
@@ -340,15 +336,13 @@ pub(crate) fn add_invalid(
     thread: Part,
     entry: Entry,
 ) -> Part
-    requires witness { IsWitnessOf history.now me.old }
-    requires none { pieces_of me.old ≡ [] }
+    requires idle { IsIdle history.now me.old }
     requires thread { Has (id_of history.now) (Thread entry.number Status.Running ∷ []) thread }
     requires moves { Moves (max_threads_of history.now)
         (Is (entry_step entry false) Answer.Invalid)
         (Thread entry.number Status.Running ∷ []) (Thread entry.number Status.Running ∷ []) }
-    ensures still { IsStill history.now me.old me.new }
+    ensures idle { StaysIdle history.now me.old me.new }
     ensures extends { Extends history.now me.old (entry_step entry false) Answer.Invalid me.new }
-    ensures none { pieces_of me.new ≡ [] }
     ensures thread { Has (id_of history.now) (Thread entry.number Status.Running ∷ []) result }
 {
     history.take(me, thread);
@@ -368,8 +362,7 @@ pub(crate) fn add_timeout(
     key: usize,
     last: bool,
 ) -> Part
-    requires witness { IsWitnessOf history.now me.old }
-    requires none { pieces_of me.old ≡ [] }
+    requires idle { IsIdle history.now me.old }
     requires part { IsPartOf (id_of history.now) cell.old.part }
     requires deadline { Moves (max_threads_of history.now)
         (Is (Step.Deadline number) Answer.Late)
@@ -378,9 +371,8 @@ pub(crate) fn add_timeout(
         (Is (Step.Resolve number) (Answer.TimedOut key last))
         (late_pieces number (pieces_in cell.old.part))
         (lists_in cell.old.bucket ∷ Thread number Status.Running ∷ []) }
-    ensures still { IsStill history.now me.old me.new }
+    ensures idle { StaysIdle history.now me.old me.new }
     ensures leaves { Leaves history.now number key last me.old me.new }
-    ensures none { pieces_of me.new ≡ [] }
     ensures bucket { cell.new.bucket ≡ cell.old.bucket }
     ensures part { Has (id_of history.now) (lists_in cell.old.bucket ∷ []) cell.new.part }
     ensures thread { Has (id_of history.now) (Thread number Status.Running ∷ []) result }
@@ -436,13 +428,11 @@ pub(crate) fn add_return(
     token: UnparkToken,
     taken: Part,
 ) -> Part
-    requires witness { IsWitnessOf history.now me.old }
-    requires none { pieces_of me.old ≡ [] }
+    requires idle { IsIdle history.now me.old }
     requires taken { Has (id_of history.now) (Thread number (Status.Taken token) ∷ []) taken }
-    ensures still { IsStill history.now me.old me.new }
+    ensures idle { StaysIdle history.now me.old me.new }
     ensures extends { Extends history.now me.old (Step.Return number)
         (Answer.Unparked token) me.new }
-    ensures none { pieces_of me.new ≡ [] }
     ensures thread { Has (id_of history.now) (Thread number Status.Running ∷ []) result }
 {
     history.take(me, taken);

@@ -7,11 +7,12 @@ ghost use Rattle.lot_base.specs.NodeFields.{NodeFields};
 ghost use Rattle.lot_base.specs.Waiting.{result_of, split_first};
 ghost use Rattle.lot_machine.specs.declared.step.Answer.{Answer};
 ghost use Rattle.lot_machine.specs.declared.step.Step.{Step};
-ghost use Rattle.lot_history.specs.Witness.{Extends, IsStill, IsWitnessOf, Looks, events_of, pieces_of, seen_by, view_of};
+ghost use Rattle.lot_history.specs.Witness.{IsStill, IsWitnessOf, Looks, events_of, pieces_of, seen_by, view_of};
 ghost use Rattle.lot_threads.specs.Filters.{MayFilter, Unparks};
+ghost use Rattle.lot_threads.specs.Idle.{IsIdle};
 ghost use Rattle.lot_threads.specs.Members.{IsListed};
 ghost use Rattle.lot_threads.specs.Requeues.{MayRequeue, Requeues};
-ghost use Rattle.lot_threads.specs.Visitors.{Does, IsVisitorOf, Visits};
+ghost use Rattle.lot_threads.specs.Visitors.{Does, Visits};
 
 use crate::parker::ThreadParkerT;
 use crate::shared_lot::ParkingLot;
@@ -38,7 +39,7 @@ use std::sync::Wait;
 pub struct Visitor<'a, P: ThreadParkerT> {
     lot: &'a ParkingLot<P>,
     witness: Witness,
-    ghost own: { IsVisitorOf lot.now witness },
+    ghost own: { IsIdle lot.now witness },
 }
 
 impl<'a, P: ThreadParkerT> Model for Visitor<'a, P> {

@@ -11,6 +11,8 @@ mod callers;
 #[cfg(test)]
 mod event;
 #[cfg(test)]
+mod heard;
+#[cfg(test)]
 mod player;
 #[cfg(test)]
 mod read_mostly_table;

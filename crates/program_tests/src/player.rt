@@ -11,9 +11,10 @@
 //! - `waiting OBJECT N`: waits until so many threads wait for it: `gate`, `mutex`, `event`,
 //!   `semaphore`, or `jobs` and `room` of the pool.
 //! - `gate`: parks at the gate until another thread unparks this one.
-//! - `mutex`, `event`, `semaphore`, `queue`, `table`, `pool`, `other` (another pool), `jobs` and
-//!   `token`, of which the modules with their names tell the calls.
+//! - `mutex`, `event`, `semaphore`, `queue`, `table`, `pool`, `other` (another pool), `jobs`, `token`
+//!   and `heard`, of which the modules with their names tell the calls.
 
+use crate::heard::woken_by_word;
 use crate::stage::{EVENT_KEY, MUTEX_KEY, POOL_KEYS, SEMAPHORE_KEY, Stage};
 use crate::token::token_passed;
 use lot_threads::{Member, ThreadParkerT, WordParker};
@@ -93,6 +94,8 @@ where
         stage.do_all_jobs(rt, alloc, member)
     } else if words.reads("token") {
         Some(token_passed(rt, alloc, &stage.lot))
+    } else if words.reads("heard") {
+        Some(woken_by_word(rt, alloc, &stage.lot))
     } else {
         stage.use_count(words)
     }

@@ -1,13 +1,14 @@
 //! How the table grows with the threads that are registered, and how it is trimmed.
 
-ghost use Rattle.std.specs.Prelude.{◌≡◌, ◌+◌, ◌*◌, ◌<◌, ◌≤◌, ◌^◌, [], length, IfOk, OnErr, OnOk};
+ghost use Rattle.std.specs.Prelude.{◌≡◌, ◌+◌, ◌*◌, ◌<◌, ◌≤◌, ◌^◌, length, IfOk, OnErr, OnOk};
 ghost use Rattle.lot_machine.specs.Size.{IsSizeFor, IsTrimmedSize};
 ghost use Rattle.lot_machine.specs.Numbers.{count_registered};
 ghost use Rattle.lot_machine.specs.declared.step.Answer.{Answer};
 ghost use Rattle.lot_machine.specs.declared.step.Step.{Step};
-ghost use Rattle.lot_history.specs.Witness.{Extends, IsStill, IsWitnessOf, id_of, max_threads_of, pieces_of};
-ghost use Rattle.lot_threads.specs.Cells.{IsIdle, IsRegistry, IsRow, size_in};
+ghost use Rattle.lot_history.specs.Witness.{Extends, id_of, max_threads_of};
+ghost use Rattle.lot_threads.specs.Cells.{IsFresh, IsRegistry, IsRow, size_in};
 ghost use Rattle.lot_threads.specs.Halves.{IsHalfSize};
+ghost use Rattle.lot_threads.specs.Idle.{IsIdle, StaysIdle};
 
 use super::ParkingLot;
 use crate::cell::{Slot, lock_at, new_row, put, take_away};
@@ -85,10 +86,10 @@ impl<P: ThreadParkerT> ParkingLot<P> {
         index: usize,
         size: usize,
     ) -> Result<&Vec<WordLock<Slot>>, NoMemory>
-        requires idle { IsIdle (id_of self.now) me.old }
+        requires fresh { IsFresh (id_of self.now) me.old }
         requires below { index < 13 }
         requires size { size ≡ 2 ^ (index + 4) }
-        ensures idle { IsIdle (id_of self.now) me.new }
+        ensures fresh { IsFresh (id_of self.now) me.new }
         ensures row { IfOk result (λ row. IsRow (id_of self.now) (max_threads_of self.now)
             size row.now.items) }
     {
@@ -103,11 +104,9 @@ impl<P: ThreadParkerT> ParkingLot<P> {
 
     // Makes the table as small as the registered threads allow, and tells the history.
     pub(crate) fn trim_and_tell<R: Wait>(&self, rt: &R, me: &mut Witness)
-        requires witness { IsWitnessOf self.now me.old }
-        requires none { pieces_of me.old ≡ [] }
-        ensures still { IsStill self.now me.old me.new }
+        requires idle { IsIdle self.now me.old }
+        ensures idle { StaysIdle self.now me.old me.new }
         ensures extends { Extends self.now me.old Step.Trim Answer.Trimmed me.new }
-        ensures none { pieces_of me.new ≡ [] }
     {
         let mut held = self.registry.lock(rt);
         self.give_up_room(rt, &mut held.value);
@@ -166,13 +165,13 @@ impl<P: ThreadParkerT> ParkingLot<P> {
         row: &Vec<WordLock<Slot>>,
         larger: &Vec<WordLock<Slot>>,
     )
-        requires idle { IsIdle (id_of self.now) me.old }
+        requires fresh { IsFresh (id_of self.now) me.old }
         requires half { IsHalfSize (length row.now.items) }
         requires row { IsRow (id_of self.now) (max_threads_of self.now)
             (length row.now.items) row.now.items }
         requires larger { IsRow (id_of self.now) (max_threads_of self.now)
             (2 * length row.now.items) larger.now.items }
-        ensures { IsIdle (id_of self.now) me.new }
+        ensures { IsFresh (id_of self.now) me.new }
     {
         for place in 0..row.len() {
             let cell = take_away(rt, lock_at(row, place));
@@ -191,13 +190,13 @@ impl<P: ThreadParkerT> ParkingLot<P> {
         row: &Vec<WordLock<Slot>>,
         larger: &Vec<WordLock<Slot>>,
     )
-        requires idle { IsIdle (id_of self.now) me.old }
+        requires fresh { IsFresh (id_of self.now) me.old }
         requires half { IsHalfSize (length row.now.items) }
         requires row { IsRow (id_of self.now) (max_threads_of self.now)
             (length row.now.items) row.now.items }
         requires larger { IsRow (id_of self.now) (max_threads_of self.now)
             (2 * length row.now.items) larger.now.items }
-        ensures { IsIdle (id_of self.now) me.new }
+        ensures { IsFresh (id_of self.now) me.new }
     {
         for place in 0..row.len() {
             let low = take_away(rt, lock_at(larger, 2 * place));

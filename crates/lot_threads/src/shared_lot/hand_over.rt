@@ -5,10 +5,11 @@ ghost use Rattle.std.specs.Prelude.{◌≡◌, ◌∷◌, ◌<◌, ◌≤◌, []
 ghost use Rattle.lot_base.specs.Node.{fields};
 ghost use Rattle.lot_machine.specs.declared.step.Answer.{Answer};
 ghost use Rattle.lot_machine.specs.declared.step.Step.{Step};
-ghost use Rattle.lot_history.specs.Witness.{Extends, IsStill, IsWitnessOf, events_of, id_of, max_threads_of, pieces_of, seen_by};
+ghost use Rattle.lot_history.specs.Witness.{Extends, IsWitnessOf, events_of, id_of, max_threads_of, pieces_of, seen_by};
 ghost use Rattle.lot_history.specs.declared.view.Piece.TheVariants.{Thread};
 ghost use Rattle.lot_threads.specs.Cells.{Has, IsBelow, thread_taken, threads_in};
 ghost use Rattle.lot_threads.specs.Handles.{handle_numbers, kept_handles};
+ghost use Rattle.lot_threads.specs.Idle.{IsIdle, StaysIdle};
 
 use super::ParkingLot;
 use super::handles::{HANDLES, Handles, Room};
@@ -34,10 +35,9 @@ impl<P: ThreadParkerT> ParkingLot<P> {
         requires witness { IsWitnessOf self.now me.old }
         requires pieces { pieces_of me.old ≡ threads_in taken }
         requires below { All (IsBelow (max_threads_of self.now)) taken }
-        ensures still { IsStill self.now me.old me.new }
+        ensures idle { StaysIdle self.now me.old me.new }
         ensures seen { seen_by me.new ≡ seen_by me.old }
         ensures nothing_added { events_of me.new ≡ events_of me.old }
-        ensures none { pieces_of me.new ≡ [] }
         ensures handles { min HANDLES (length taken) ≤ kept_handles result }
     {
         let mut handles: Handles<P::UnparkHandle> = Room::empty();
@@ -60,10 +60,9 @@ impl<P: ThreadParkerT> ParkingLot<P> {
         requires pieces { pieces_of me.old ≡ threads_in taken }
         requires below { All (IsBelow (max_threads_of self.now)) taken }
         requires one { length taken ≤ 1 }
-        ensures still { IsStill self.now me.old me.new }
+        ensures idle { StaysIdle self.now me.old me.new }
         ensures seen { seen_by me.new ≡ seen_by me.old }
         ensures nothing_added { events_of me.new ≡ events_of me.old }
-        ensures none { pieces_of me.new ≡ [] }
         ensures handle { handle_numbers P.UnparkHandle.number result
             ≡ map (λ node. node.number) taken }
     {
@@ -125,14 +124,12 @@ impl<P: ThreadParkerT> ParkingLot<P> {
         node: &Node,
         letter: Option<Letter>,
     ) -> Part
-        requires witness { IsWitnessOf self.now me.old }
-        requires none { pieces_of me.old ≡ [] }
+        requires idle { IsIdle self.now me.old }
         requires letter { IfSome letter (λ letter.
             Has (id_of self.now) (thread_taken (fields node.now) ∷ []) letter.part) }
-        ensures still { IsStill self.now me.old me.new }
+        ensures idle { StaysIdle self.now me.old me.new }
         ensures extends { Extends self.now me.old (Step.Return node.now.number)
             (Answer.Unparked node.now.unpark_token) me.new }
-        ensures none { pieces_of me.new ≡ [] }
         ensures thread { Has (id_of self.now)
             (Thread node.now.number Status.Running ∷ []) result }
     {

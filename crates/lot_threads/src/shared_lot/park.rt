@@ -5,9 +5,10 @@ ghost use Rattle.std.specs.Prelude.{◌≡◌, ◌≢◌, ◌∷◌, ◌<◌, �
 ghost use Rattle.std.specs.Option.{is_some};
 ghost use Rattle.lot_base.specs.Node.{fields};
 ghost use Rattle.lot_machine.specs.declared.step.Answer.{Answer};
-ghost use Rattle.lot_history.specs.Witness.{Extends, IsStill, IsWitnessOf, events_of, id_of, max_threads_of, pieces_of, seen_by};
+ghost use Rattle.lot_history.specs.Witness.{Extends, events_of, id_of, max_threads_of, seen_by};
 ghost use Rattle.lot_history.specs.declared.view.Piece.TheVariants.{Thread};
 ghost use Rattle.lot_threads.specs.Cells.{Has, IsBelow};
+ghost use Rattle.lot_threads.specs.Idle.{IsIdle, StaysIdle};
 ghost use Rattle.lot_threads.specs.Members.{EndsWait, Leaves, entry_of, entry_step};
 
 use super::ParkingLot;
@@ -32,15 +33,13 @@ impl<P: ThreadParkerT> ParkingLot<P> {
         node: Box<Node>,
         validate: V,
     ) -> Result<(), (Part, Box<Node>)>
-        requires witness { IsWitnessOf self.now me.old }
-        requires none { pieces_of me.old ≡ [] }
+        requires idle { IsIdle self.now me.old }
         requires below { IsBelow (max_threads_of self.now) (fields node.value) }
         requires thread { Has (id_of self.now)
             (Thread (fields node.value).number Status.Running ∷ []) thread }
         requires callable { V.pre validate }
 
-        ensures still { IsStill self.now me.old me.new }
-        ensures none { pieces_of me.new ≡ [] }
+        ensures idle { StaysIdle self.now me.old me.new }
         ensures asked { V.post validate (is_ok result) }
         ensures entered { OnOk result (Extends self.now me.old
             (entry_step (entry_of (fields node.value)) true) Answer.Entered me.new) }
@@ -76,12 +75,10 @@ impl<P: ThreadParkerT> ParkingLot<P> {
         timed_out: T,
         timeout: Option<Instant>,
     ) -> (ParkResult, Part, Box<Node>)
-        requires witness { IsWitnessOf self.now me.old }
-        requires none { pieces_of me.old ≡ [] }
+        requires idle { IsIdle self.now me.old }
         requires below { number < max_threads_of self.now }
         requires callable { timeout ≢ None → (key last : _) → T.pre timed_out key last }
-        ensures still { IsStill self.now me.old me.new }
-        ensures none { pieces_of me.new ≡ [] }
+        ensures idle { StaysIdle self.now me.old me.new }
         ensures ends { EndsWait self.now number (is_some timeout)
             (λ key last. T.post timed_out key last tt) result.0 me.old me.new }
         ensures thread { Has (id_of self.now) (Thread number Status.Running ∷ []) result.1 }
@@ -114,12 +111,10 @@ impl<P: ThreadParkerT> ParkingLot<P> {
         number: usize,
         timed_out: T,
     ) -> Option<(Part, Box<Node>)>
-        requires witness { IsWitnessOf self.now me.old }
-        requires none { pieces_of me.old ≡ [] }
+        requires idle { IsIdle self.now me.old }
         requires below { number < max_threads_of self.now }
         requires callable { (key last : _) → T.pre timed_out key last }
-        ensures still { IsStill self.now me.old me.new }
-        ensures none { pieces_of me.new ≡ [] }
+        ensures idle { StaysIdle self.now me.old me.new }
         ensures left { IfSome result (λ back. (key : ℕ) × (last : Bool)
             × T.post timed_out key last tt × Leaves self.now number key last me.old me.new) }
         ensures returned { IfSome result (λ back. ((fields back.1.value).number ≡ number)

@@ -1,15 +1,16 @@
 //! Requeues, from the list of one key to that of another: their buckets, which may be one or two,
 //! and what a section does to them.
 
-ghost use Rattle.std.specs.Prelude.{◌≡◌, ◌≢◌, ◌<◌, ◌≤◌, [], length, All, IfSome, MatchOption, Some};
+ghost use Rattle.std.specs.Prelude.{◌≡◌, ◌≢◌, ◌<◌, ◌≤◌, length, IfSome, MatchOption, Some};
 ghost use Rattle.lot_base.specs.BucketState.{KeepsPlace};
 ghost use Rattle.lot_base.specs.Place.{place_of};
 ghost use Rattle.lot_base.specs.declared.token.UnparkResult.{UnparkResult};
 ghost use Rattle.lot_machine.specs.declared.step.Answer.{Answer};
 ghost use Rattle.lot_machine.specs.declared.step.Step.{Step};
-ghost use Rattle.lot_history.specs.Witness.{Adds, IsStill, IsWitnessOf, id_of, max_threads_of, pieces_of};
+ghost use Rattle.lot_history.specs.Witness.{Adds, IsStill, id_of, max_threads_of};
 ghost use Rattle.lot_word_lock.specs.WordLock.{key_of};
-ghost use Rattle.lot_threads.specs.Cells.{AreApart, IsBelow, IsCell, IsLockAt, IsLockFor, threads_in};
+ghost use Rattle.lot_threads.specs.Cells.{AreApart, IsCell, IsCellFor, IsLockAt, IsLockFor, TakesFrom};
+ghost use Rattle.lot_threads.specs.Idle.{IsIdle, StaysIdle};
 ghost use Rattle.lot_threads.specs.Requeues.{IsRequeue, MayRequeue, Requeues};
 ghost use Rattle.lot_threads.specs.Sections.{AreLockedInOrder, IsKeyedLock};
 
@@ -51,11 +52,9 @@ impl<P: ThreadParkerT> ParkingLot<P> {
         validate: V,
         callback: C,
     ) -> UnparkResult
-        requires witness { IsWitnessOf self.now me.old }
-        requires none { pieces_of me.old ≡ [] }
+        requires idle { IsIdle self.now me.old }
         requires callable { MayRequeue V.FnOnce C.FnOnce validate callback }
-        ensures still { IsStill self.now me.old me.new }
-        ensures none { pieces_of me.new ≡ [] }
+        ensures idle { StaysIdle self.now me.old me.new }
         ensures requeued { Requeues V.FnOnce C.FnOnce validate callback from to self.now me.old
             result me.new }
     {
@@ -203,10 +202,8 @@ impl<P: ThreadParkerT> ParkingLot<P> {
         validate: V,
         callback: C,
     ) -> (UnparkResult, Queue)
-        requires witness { IsWitnessOf self.now me.old }
-        requires none { pieces_of me.old ≡ [] }
-        requires cell { IsCell (id_of self.now) (max_threads_of self.now) cell.old }
-        requires from { place_of from cell.old.bucket.size ≡ cell.old.bucket.place }
+        requires idle { IsIdle self.now me.old }
+        requires cell { IsCellFor self.now from cell.old }
         requires to { place_of to cell.old.bucket.size ≡ cell.old.bucket.place }
         requires callable { MayRequeue V.FnOnce C.FnOnce validate callback }
         requires said { (answer : UnparkResult) (s : Step) (a : Answer)
@@ -215,10 +212,7 @@ impl<P: ThreadParkerT> ParkingLot<P> {
         ensures still { IsStill self.now me.old me.new }
         ensures adds { Adds self.now me.old
             (λ s a. E.said s a × (a ≡ Answer.Unpark result.0)) me.new }
-        ensures pieces { pieces_of me.new ≡ threads_in result.1 }
-        ensures cell { IsCell (id_of self.now) (max_threads_of self.now) cell.new }
-        ensures place { KeepsPlace cell.old.bucket cell.new.bucket }
-        ensures below { All (IsBelow (max_threads_of self.now)) result.1 }
+        ensures taken { TakesFrom self.now cell.old cell.new result.1 me.new }
         ensures one { length result.1 ≤ 1 }
     {
         let mut moved = |number: usize, timed: bool| self.note_key(number, timed, to);
@@ -252,14 +246,11 @@ impl<P: ThreadParkerT> ParkingLot<P> {
         validate: V,
         callback: C,
     ) -> (UnparkResult, Queue)
-        requires witness { IsWitnessOf self.now me.old }
-        requires none { pieces_of me.old ≡ [] }
-        requires source { IsCell (id_of self.now) (max_threads_of self.now) source.old }
-        requires target { IsCell (id_of self.now) (max_threads_of self.now) target.old }
+        requires idle { IsIdle self.now me.old }
+        requires source { IsCellFor self.now from source.old }
+        requires target { IsCellFor self.now to target.old }
         requires size { target.old.bucket.size ≡ source.old.bucket.size }
         requires places { target.old.bucket.place ≢ source.old.bucket.place }
-        requires from { place_of from source.old.bucket.size ≡ source.old.bucket.place }
-        requires to { place_of to target.old.bucket.size ≡ target.old.bucket.place }
         requires callable { MayRequeue V.FnOnce C.FnOnce validate callback }
         requires said { (answer : UnparkResult) (s : Step) (a : Answer)
             → IsRequeue V.FnOnce C.FnOnce validate callback from to answer s a → E.said s a }
@@ -267,12 +258,9 @@ impl<P: ThreadParkerT> ParkingLot<P> {
         ensures still { IsStill self.now me.old me.new }
         ensures adds { Adds self.now me.old
             (λ s a. E.said s a × (a ≡ Answer.Unpark result.0)) me.new }
-        ensures pieces { pieces_of me.new ≡ threads_in result.1 }
-        ensures source { IsCell (id_of self.now) (max_threads_of self.now) source.new }
+        ensures taken { TakesFrom self.now source.old source.new result.1 me.new }
         ensures target { IsCell (id_of self.now) (max_threads_of self.now) target.new }
-        ensures places { KeepsPlace source.old.bucket source.new.bucket
-            × KeepsPlace target.old.bucket target.new.bucket }
-        ensures below { All (IsBelow (max_threads_of self.now)) result.1 }
+        ensures place { KeepsPlace target.old.bucket target.new.bucket }
         ensures one { length result.1 ≤ 1 }
     {
         let mut moved = |number: usize, timed: bool| self.note_key(number, timed, to);

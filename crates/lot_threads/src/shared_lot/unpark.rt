@@ -1,12 +1,13 @@
 //! Unparks, but for requeues, and lists.
 
-ghost use Rattle.std.specs.Prelude.{◌≡◌, List, []};
+ghost use Rattle.std.specs.Prelude.{List};
 ghost use Rattle.lot_base.specs.NodeFields.{NodeFields};
 ghost use Rattle.lot_base.specs.Waiting.{result_of, split_first};
 ghost use Rattle.lot_machine.specs.declared.step.Answer.{Answer};
 ghost use Rattle.lot_machine.specs.declared.step.Step.{Step};
-ghost use Rattle.lot_history.specs.Witness.{Extends, IsStill, IsWitnessOf, pieces_of};
+ghost use Rattle.lot_history.specs.Witness.{Extends};
 ghost use Rattle.lot_threads.specs.Filters.{MayFilter, Unparks};
+ghost use Rattle.lot_threads.specs.Idle.{IsIdle, StaysIdle};
 ghost use Rattle.lot_threads.specs.Members.{IsListed};
 
 use super::ParkingLot;
@@ -28,12 +29,10 @@ impl<P: ThreadParkerT> ParkingLot<P> {
         key: usize,
         callback: C,
     ) -> UnparkResult
-        requires witness { IsWitnessOf self.now me.old }
-        requires none { pieces_of me.old ≡ [] }
+        requires idle { IsIdle self.now me.old }
         requires callable { (waiters : List NodeFields)
             → C.pre callback (result_of (split_first waiters)) }
-        ensures still { IsStill self.now me.old me.new }
-        ensures none { pieces_of me.new ≡ [] }
+        ensures idle { StaysIdle self.now me.old me.new }
         ensures unparked { (token : UnparkToken) × C.post callback result token
             × Extends self.now me.old (Step.Unpark (Op.One key token))
             (Answer.Unpark result) me.new }
@@ -53,10 +52,8 @@ impl<P: ThreadParkerT> ParkingLot<P> {
         key: usize,
         token: UnparkToken,
     ) -> usize
-        requires witness { IsWitnessOf self.now me.old }
-        requires none { pieces_of me.old ≡ [] }
-        ensures still { IsStill self.now me.old me.new }
-        ensures none { pieces_of me.new ≡ [] }
+        requires idle { IsIdle self.now me.old }
+        ensures idle { StaysIdle self.now me.old me.new }
         ensures unparked { Extends self.now me.old (Step.Unpark (Op.All key token))
             (Answer.Count result) me.new }
     {
@@ -74,11 +71,9 @@ impl<P: ThreadParkerT> ParkingLot<P> {
         F: FnMut(ParkToken) -> FilterOp,
         C: FnOnce(UnparkResult) -> UnparkToken,
     >(&self, rt: &R, me: &mut Witness, key: usize, filter: F, callback: C) -> UnparkResult
-        requires witness { IsWitnessOf self.now me.old }
-        requires none { pieces_of me.old ≡ [] }
+        requires idle { IsIdle self.now me.old }
         requires callable { MayFilter F.FnMut C.FnOnce filter callback key self.now me.old }
-        ensures still { IsStill self.now me.old me.new }
-        ensures none { pieces_of me.new ≡ [] }
+        ensures idle { StaysIdle self.now me.old me.new }
         ensures unparked { Unparks F.FnMut C.FnOnce filter callback key self.now me.old result
             me.new }
     {
@@ -97,10 +92,8 @@ impl<P: ThreadParkerT> ParkingLot<P> {
         me: &mut Witness,
         key: usize,
     ) -> Result<Vec<usize>, NoMemory>
-        requires witness { IsWitnessOf self.now me.old }
-        requires none { pieces_of me.old ≡ [] }
-        ensures still { IsStill self.now me.old me.new }
-        ensures none { pieces_of me.new ≡ [] }
+        requires idle { IsIdle self.now me.old }
+        ensures idle { StaysIdle self.now me.old me.new }
         ensures listed { IsListed self.now key me.old me.new result }
     {
         let (mut section, licence) = Section::open(rt, self, key);

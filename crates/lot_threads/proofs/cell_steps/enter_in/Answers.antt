@@ -25,10 +25,10 @@ add_entered-requires-clause-moves g c =
     (sym same)
     (subst (λ (pieces : List Piece). Moves bound (Is (entry_step (entry_of node) true) answer.Entered)
     (pieces ++ Thread node.number Running ∷ []) (lists_in c.enter.new.self ∷ []))
-    (sym c.requires.cell.part.pieces)
+    (sym c.requires.cell.own.part.pieces)
     (subst (λ (new : BucketState). Moves bound (Is (entry_step (entry_of node) true) answer.Entered)
     (lists_in old ∷ Thread node.number Running ∷ []) (lists_in new ∷ []))
-    (sym c.in-Ok.ensures.entered) (enters_node bound old.size old.place old.nodes node [] c.requires.place)))
+    (sym c.in-Ok.ensures.entered) (enters_node bound old.size old.place old.nodes node [] c.requires.cell.here)))
 
 pub returns-in-Ok-clause-cell : goal.returns-in-Ok-clause-cell
 returns-in-Ok-clause-cell g c =
@@ -38,6 +38,6 @@ returns-in-Ok-clause-cell g c =
       part = subst (λ (bucket : BucketState). Has (id_of c.args.history.now) (lists_in bucket ∷ []) c.add_entered.new.cell.part)
           (sym same) c.add_entered.ensures.part;
       below = rw (same, c.in-Ok.ensures.entered)
-          (below-entered bound c.args.cell.now.bucket.nodes (fields c.args.node.value) c.requires.cell.below
+          (below-entered bound c.args.cell.now.bucket.nodes (fields c.args.node.value) c.requires.cell.own.below
           c.requires.below);
     }

@@ -29,8 +29,8 @@ add_timeout-thread-requires-clause-deadline g c =
     let node = fields c.in-Some.node.value in
     let is_timed : not node.timed ≡ false = search rules in
     subst (λ (pieces : List Piece). Moves bound (Is (step.Deadline c.args.number) answer.Late) pieces
-    (late_pieces c.args.number pieces)) (sym c.requires.cell.part.pieces)
-    (removes_late bound old.size old.place c.args.key c.args.number old.nodes node [] c.requires.place
+    (late_pieces c.args.number pieces)) (sym c.requires.cell.own.part.pieces)
+    (removes_late bound old.size old.place c.args.key c.args.number old.nodes node [] c.requires.cell.here
     c.in-Some.ensures.removed.0 (not_false node.timed is_timed))
 
 pub add_timeout-thread-requires-clause-resolve : goal.add_timeout-thread-requires-clause-resolve
@@ -43,9 +43,9 @@ add_timeout-thread-requires-clause-resolve g c =
     let told = c.remove.ensures in
     let last : c.in-Some.last ≡ not (has_any (without_first (has_number number) (lists_of old.nodes key))) = search rules in
     subst (λ (pieces : List Piece). Moves bound (Is (step.Resolve number) (answer.TimedOut key c.in-Some.last))
-    (late_pieces number pieces) (lists_in new ∷ Thread number status.Running ∷ [])) (sym c.requires.cell.part.pieces)
+    (late_pieces number pieces) (lists_in new ∷ Thread number status.Running ∷ [])) (sym c.requires.cell.own.part.pieces)
     (rw (told.place.place, told.place.size, last)
-    (removes bound old.size old.place key number old.nodes (fields c.in-Some.node.value) [] c.requires.place
+    (removes bound old.size old.place key number old.nodes (fields c.in-Some.node.value) [] c.requires.cell.here
     c.in-Some.ensures.removed.0 new.nodes told.lists))
 
 pub returns-clause-cell : goal.returns-clause-cell
@@ -59,7 +59,7 @@ returns-clause-cell g c =
           Has (id_of c.args.history.now) (lists_in bucket ∷ []) c.add_timeout-thread.new.cell.part)
           (sym same) c.add_timeout-thread.ensures.part;
       below = rw same (below-left bound c.args.key nodes (split_without c.args.number waiting)
-          (without_parts c.args.number waiting) c.requires.cell.below c.remove.new.self.nodes c.remove.ensures.lists);
+          (without_parts c.args.number waiting) c.requires.cell.own.below c.remove.new.self.nodes c.remove.ensures.lists);
     }
 
 pub returns-clause-returned : goal.returns-clause-returned

@@ -15,8 +15,8 @@ returns-clause-listed c =
     let looks = c.look.ensures.looks in
     let m = looks.machine in
     let taken : pieces_of c.take.new.me ≡ lists_in bucket ∷ [] =
-    c.take.ensures.pieces ∙ (ap (λ (ps : List Piece). ps ++ pieces_in c.replace-part.result) c.requires.none
-    ∙ (ap (λ part. pieces_in part) c.replace-part.ensures.value ∙ c.requires.cell.part.pieces)) in
+    c.take.ensures.pieces ∙ (ap (λ (ps : List Piece). ps ++ pieces_in c.replace-part.result) c.requires.idle.no_pieces
+    ∙ (ap (λ part. pieces_in part) c.replace-part.ensures.value ∙ c.requires.cell.own.part.pieces)) in
     let so : AllSo m (lists_in bucket ∷ []) =
     subst (λ (ps : List Piece). AllSo m ps) (looks.pieces ∙ taken) looks.so in
     record {
@@ -30,7 +30,7 @@ returns-clause-listed c =
         pieces = search rules;
       };
       numbers = subst (λ (numbers : List ℕ). IfOk given (λ list. list.items ≡ numbers))
-          (numbers_at m bucket.size bucket.place key bucket.nodes c.requires.place so) c.list.ensures.numbers;
+          (numbers_at m bucket.size bucket.place key bucket.nodes c.requires.cell.here so) c.list.ensures.numbers;
       refused = subst (λ (any : Bool). OnErr given (IsTrue any))
-          (any_at m bucket.size bucket.place key bucket.nodes c.requires.place so) c.list.ensures.refused;
+          (any_at m bucket.size bucket.place key bucket.nodes c.requires.cell.here so) c.list.ensures.refused;
     }

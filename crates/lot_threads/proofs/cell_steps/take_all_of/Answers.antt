@@ -1,4 +1,4 @@
-use Rattle.std.proofs.Common.{◌≡◌, List, [], ◌∷◌, length, refl, sym, subst}
+use Rattle.std.proofs.Common.{◌≡◌, List, [], ◌∷◌, length, refl, sym, subst, rules}
 use Rattle.lot_base.specs.BucketState.{BucketState}
 use Rattle.lot_base.specs.NodeLists.{lists_of, saturated}
 use Rattle.lot_base.specs.Waiting.{split_all}
@@ -24,28 +24,32 @@ add_taking-requires-clause-moves g c =
     let found = c.take_all-count.result.0 in
     let waiting = lists_of old.nodes key in
     subst (λ (pieces : List Piece). Moves bound (λ s a. g.E.Told.said s a × (a ≡ answer.Count found)) pieces
-    (lists_in new ∷ threads_in c.take_all-count.result.1)) (sym c.requires.cell.part.pieces)
+    (lists_in new ∷ threads_in c.take_all-count.result.1)) (sym c.requires.cell.own.part.pieces)
     (taking_moves bound old new token waiting c.take_all-count.result.1 told.place told.taken (op.All key token)
     (answer.Count (saturated (length waiting))) (λ s a. g.E.Told.said s a × (a ≡ answer.Count found))
     (c.requires.said (saturated (length waiting)), rw told.answer refl)
-    (takes_all bound old.size old.place key old.nodes new.nodes token [] c.requires.place told.lists))
+    (takes_all bound old.size old.place key old.nodes new.nodes token [] c.requires.cell.here told.lists))
 
-pub returns-clause-cell : goal.returns-clause-cell
-returns-clause-cell g c =
-    let bound = max_threads_of c.args.history.now in
-    let same = c.add_taking.ensures.bucket in
-    let nodes = c.args.cell.now.bucket.nodes in
-    record {
-      part = subst (λ (bucket : BucketState). Has (id_of c.args.history.now) (lists_in bucket ∷ []) c.add_taking.new.cell.part)
-          (sym same) c.add_taking.ensures.part;
-      below = rw same (below-left bound c.args.key nodes (split_all (lists_of nodes c.args.key))
-          (all_parts (lists_of nodes c.args.key)) c.requires.cell.below
-          c.take_all-count.new.self.nodes c.take_all-count.ensures.lists);
-    }
-
-pub returns-clause-below : goal.returns-clause-below
-returns-clause-below g c =
-    let nodes = c.args.cell.now.bucket.nodes in
-    below-taken (max_threads_of c.args.history.now) c.args.key nodes (split_all (lists_of nodes c.args.key))
-    (all_parts (lists_of nodes c.args.key)) c.requires.cell.below c.args.token c.take_all-count.result.1
-    c.take_all-count.ensures.taken
+pub returns-clause-taken : goal.returns-clause-taken
+returns-clause-taken g c = record {
+  pieces = search rules;
+  cell = (
+      let bound = max_threads_of c.args.history.now in
+      let same = c.add_taking.ensures.bucket in
+      let nodes = c.args.cell.now.bucket.nodes in
+      record {
+        part = subst (λ (bucket : BucketState). Has (id_of c.args.history.now) (lists_in bucket ∷ []) c.add_taking.new.cell.part)
+            (sym same) c.add_taking.ensures.part;
+        below = rw same (below-left bound c.args.key nodes (split_all (lists_of nodes c.args.key))
+            (all_parts (lists_of nodes c.args.key)) c.requires.cell.own.below
+            c.take_all-count.new.self.nodes c.take_all-count.ensures.lists);
+      }
+      );
+  place = search rules;
+  below = (
+      let nodes = c.args.cell.now.bucket.nodes in
+      below-taken (max_threads_of c.args.history.now) c.args.key nodes (split_all (lists_of nodes c.args.key))
+      (all_parts (lists_of nodes c.args.key)) c.requires.cell.own.below c.args.token c.take_all-count.result.1
+      c.take_all-count.ensures.taken
+      );
+}

@@ -28,14 +28,14 @@ take_filter_with-requires-clause-filter g c =
     let key = c.args.key in
     let took = c.take.new.me in
     let taken : pieces_of took ≡ lists_in bucket ∷ [] =
-    c.take.ensures.pieces ∙ (ap (λ (ps : List Piece). ps ++ pieces_in c.replace-part.result) c.requires.none
-    ∙ (ap (λ part. pieces_in part) c.replace-part.ensures.value ∙ c.requires.cell.part.pieces)) in
+    c.take.ensures.pieces ∙ (ap (λ (ps : List Piece). ps ++ pieces_in c.replace-part.result) c.requires.idle.no_pieces
+    ∙ (ap (λ part. pieces_in part) c.replace-part.ensures.value ∙ c.requires.cell.own.part.pieces)) in
     let looks = c.look.ensures.looks in
     subst (λ (tokens : List ParkToken). IsFilterCallable g.F.FnMut c.args.filter tokens)
-    (sym (same_tokens c.args.history.now c.args.me.now took c.look.new.me bucket key c.requires.place c.take.ensures.seen
+    (sym (same_tokens c.args.history.now c.args.me.now took c.look.new.me bucket key c.requires.cell.here c.take.ensures.seen
     taken looks))
     (c.requires.callable.may_filter looks.machine (finds c.args.history.now c.args.me.now took c.look.new.me bucket key
-    c.requires.place c.take.ensures.seen taken looks))
+    c.requires.cell.here c.take.ensures.seen taken looks))
 
 pub take_filter_with-requires-clause-callback : goal.take_filter_with-requires-clause-callback
 take_filter_with-requires-clause-callback g c =
@@ -43,13 +43,13 @@ take_filter_with-requires-clause-callback g c =
     let key = c.args.key in
     let took = c.take.new.me in
     let taken : pieces_of took ≡ lists_in bucket ∷ [] =
-    c.take.ensures.pieces ∙ (ap (λ (ps : List Piece). ps ++ pieces_in c.replace-part.result) c.requires.none
-    ∙ (ap (λ part. pieces_in part) c.replace-part.ensures.value ∙ c.requires.cell.part.pieces)) in
+    c.take.ensures.pieces ∙ (ap (λ (ps : List Piece). ps ++ pieces_in c.replace-part.result) c.requires.idle.no_pieces
+    ∙ (ap (λ part. pieces_in part) c.replace-part.ensures.value ∙ c.requires.cell.own.part.pieces)) in
     let looks = c.look.ensures.looks in
     λ decisions decided. c.requires.callable.may_call_back looks.machine
-    (finds c.args.history.now c.args.me.now took c.look.new.me bucket key c.requires.place c.take.ensures.seen taken looks)
+    (finds c.args.history.now c.args.me.now took c.look.new.me bucket key c.requires.cell.here c.take.ensures.seen taken looks)
     (lists_of bucket.nodes key)
-    (same_tokens c.args.history.now c.args.me.now took c.look.new.me bucket key c.requires.place c.take.ensures.seen
+    (same_tokens c.args.history.now c.args.me.now took c.look.new.me bucket key c.requires.cell.here c.take.ensures.seen
     taken looks) decisions decided
 
 -- the machine that the step found is as the bucket's part says, on whose park tokens the filter decided
@@ -68,8 +68,8 @@ returns-clause-unparked g c =
     let last = c.take_filter_with.new.me in
     let looks = c.look.ensures.looks in
     let taken : pieces_of took ≡ lists_in bucket ∷ [] =
-    c.take.ensures.pieces ∙ (ap (λ (ps : List Piece). ps ++ pieces_in c.replace-part.result) c.requires.none
-    ∙ (ap (λ part. pieces_in part) c.replace-part.ensures.value ∙ c.requires.cell.part.pieces)) in
+    c.take.ensures.pieces ∙ (ap (λ (ps : List Piece). ps ++ pieces_in c.replace-part.result) c.requires.idle.no_pieces
+    ∙ (ap (λ part. pieces_in part) c.replace-part.ensures.value ∙ c.requires.cell.own.part.pieces)) in
     let adds = c.take_filter_with.ensures.adds in
     let found = c.take_filter_with.ensures.found in
     let m = found.machine in
@@ -108,7 +108,7 @@ returns-clause-unparked g c =
       };
       calls = subst (λ (tokens : List ParkToken).
           AreCalled g.F.FnMut g.C.FnOnce filter callback tokens told.decisions.items result told.token)
-          (tokens_at m bucket.size bucket.place key bucket.nodes c.requires.place so)
+          (tokens_at m bucket.size bucket.place key bucket.nodes c.requires.cell.here so)
           (subst (λ (found : UnparkResult). AreCalled g.F.FnMut g.C.FnOnce filter callback
           (park_tokens (lists_of bucket.nodes key)) told.decisions.items found told.token) same told.calls);
     }

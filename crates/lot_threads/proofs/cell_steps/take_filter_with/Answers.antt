@@ -1,4 +1,4 @@
-use Rattle.std.proofs.Common.{◌≡◌, ◌≤◌, List, [], ◌∷◌, length, sym, ap, ◌∙◌, subst, arith}
+use Rattle.std.proofs.Common.{◌≡◌, ◌≤◌, List, [], ◌∷◌, length, sym, ap, ◌∙◌, subst, arith, rules}
 use Rattle.std.proofs.lemmas.List.{length-map}
 use Rattle.lot_base.specs.BucketState.{BucketState}
 use Rattle.lot_base.specs.Filter.{IsFiltered, park_tokens}
@@ -55,24 +55,28 @@ add_taken-requires-clause-moves g c =
     (takes_filter bound old.size old.place key old.nodes new.nodes token [] c.requires.place decisions c.requires.few
     short told.lists))
 
-pub returns-clause-cell : goal.returns-clause-cell
-returns-clause-cell g c =
-    let bound = max_threads_of c.args.history.now in
-    let same = c.add_taken.ensures.bucket in
-    let nodes = c.args.cell.now.bucket.nodes in
-    let told = c.take_filter-taken.ensures.filtered in
-    let waiting : List NodeFields = lists_of nodes c.args.key in
-    record {
-      part = subst (λ (bucket : BucketState). Has (id_of c.args.history.now) (lists_in bucket ∷ []) c.add_taken.new.cell.part)
-          (sym same) c.add_taken.ensures.part;
-      below = rw same (below-left bound c.args.key nodes (split_filter told.decisions waiting)
-          (filter_parts told.decisions waiting) c.requires.below c.take_filter-taken.new.self.nodes told.lists);
-    }
-
-pub returns-clause-below : goal.returns-clause-below
-returns-clause-below g c =
-    let told = c.take_filter-taken.ensures.filtered in
-    let nodes = c.args.cell.now.bucket.nodes in
-    let waiting : List NodeFields = lists_of nodes c.args.key in
-    below-taken (max_threads_of c.args.history.now) c.args.key nodes (split_filter told.decisions waiting)
-    (filter_parts told.decisions waiting) c.requires.below told.taken.0 c.take_filter-taken.result.1 told.taken.2
+pub returns-clause-taken : goal.returns-clause-taken
+returns-clause-taken g c = record {
+  pieces = search rules;
+  cell = (
+      let bound = max_threads_of c.args.history.now in
+      let same = c.add_taken.ensures.bucket in
+      let nodes = c.args.cell.now.bucket.nodes in
+      let told = c.take_filter-taken.ensures.filtered in
+      let waiting : List NodeFields = lists_of nodes c.args.key in
+      record {
+        part = subst (λ (bucket : BucketState). Has (id_of c.args.history.now) (lists_in bucket ∷ []) c.add_taken.new.cell.part)
+            (sym same) c.add_taken.ensures.part;
+        below = rw same (below-left bound c.args.key nodes (split_filter told.decisions waiting)
+            (filter_parts told.decisions waiting) c.requires.below c.take_filter-taken.new.self.nodes told.lists);
+      }
+      );
+  place = search rules;
+  below = (
+      let told = c.take_filter-taken.ensures.filtered in
+      let nodes = c.args.cell.now.bucket.nodes in
+      let waiting : List NodeFields = lists_of nodes c.args.key in
+      below-taken (max_threads_of c.args.history.now) c.args.key nodes (split_filter told.decisions waiting)
+      (filter_parts told.decisions waiting) c.requires.below told.taken.0 c.take_filter-taken.result.1 told.taken.2
+      );
+}

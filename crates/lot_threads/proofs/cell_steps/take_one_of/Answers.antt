@@ -1,4 +1,4 @@
-use Rattle.std.proofs.Common.{◌≡◌, List, [], ◌∷◌, refl, sym, subst}
+use Rattle.std.proofs.Common.{◌≡◌, List, [], ◌∷◌, refl, sym, subst, rules}
 use Rattle.lot_base.specs.BucketState.{BucketState}
 use Rattle.lot_base.specs.NodeLists.{lists_of}
 use Rattle.lot_base.specs.Waiting.{result_of, split_first}
@@ -24,31 +24,35 @@ add_taking-requires-clause-moves g c =
     let token = told.taken.0 in
     let found = c.take_one-taken.result.0 in
     subst (λ (pieces : List Piece). Moves bound (λ s a. g.E.Told.said s a × (a ≡ answer.Unpark found)) pieces
-    (lists_in new ∷ threads_in c.take_one-taken.result.1)) (sym c.requires.cell.part.pieces)
+    (lists_in new ∷ threads_in c.take_one-taken.result.1)) (sym c.requires.cell.own.part.pieces)
     (taking_moves bound old new token (split_first (lists_of old.nodes c.args.key)).taken c.take_one-taken.result.1
     told.place told.taken.2 (op.One c.args.key token)
     (answer.Unpark (result_of (split_first (lists_of old.nodes c.args.key))))
     (λ s a. g.E.Told.said s a × (a ≡ answer.Unpark found))
     (subst (λ (given : UnparkResult). g.E.Told.said (step.Unpark (op.One c.args.key token)) (answer.Unpark given)
     × (answer.Unpark given ≡ answer.Unpark found)) told.answer (c.requires.said found token told.taken.1, refl))
-    (takes_one bound old.size old.place c.args.key old.nodes new.nodes token [] c.requires.place told.lists))
+    (takes_one bound old.size old.place c.args.key old.nodes new.nodes token [] c.requires.cell.here told.lists))
 
-pub returns-clause-cell : goal.returns-clause-cell
-returns-clause-cell g c =
-    let bound = max_threads_of c.args.history.now in
-    let same = c.add_taking.ensures.bucket in
-    let nodes = c.args.cell.now.bucket.nodes in
-    record {
-      part = subst (λ (bucket : BucketState). Has (id_of c.args.history.now) (lists_in bucket ∷ []) c.add_taking.new.cell.part)
-          (sym same) c.add_taking.ensures.part;
-      below = rw same (below-left bound c.args.key nodes (split_first (lists_of nodes c.args.key))
-          (first_parts (lists_of nodes c.args.key)) c.requires.cell.below
-          c.take_one-taken.new.self.nodes c.take_one-taken.ensures.lists);
-    }
-
-pub returns-clause-below : goal.returns-clause-below
-returns-clause-below g c =
-    let told = c.take_one-taken.ensures.taken in
-    let nodes = c.args.cell.now.bucket.nodes in
-    below-taken (max_threads_of c.args.history.now) c.args.key nodes (split_first (lists_of nodes c.args.key))
-    (first_parts (lists_of nodes c.args.key)) c.requires.cell.below told.0 c.take_one-taken.result.1 told.2
+pub returns-clause-taken : goal.returns-clause-taken
+returns-clause-taken g c = record {
+  pieces = search rules;
+  cell = (
+      let bound = max_threads_of c.args.history.now in
+      let same = c.add_taking.ensures.bucket in
+      let nodes = c.args.cell.now.bucket.nodes in
+      record {
+        part = subst (λ (bucket : BucketState). Has (id_of c.args.history.now) (lists_in bucket ∷ []) c.add_taking.new.cell.part)
+            (sym same) c.add_taking.ensures.part;
+        below = rw same (below-left bound c.args.key nodes (split_first (lists_of nodes c.args.key))
+            (first_parts (lists_of nodes c.args.key)) c.requires.cell.own.below
+            c.take_one-taken.new.self.nodes c.take_one-taken.ensures.lists);
+      }
+      );
+  place = search rules;
+  below = (
+      let told = c.take_one-taken.ensures.taken in
+      let nodes = c.args.cell.now.bucket.nodes in
+      below-taken (max_threads_of c.args.history.now) c.args.key nodes (split_first (lists_of nodes c.args.key))
+      (first_parts (lists_of nodes c.args.key)) c.requires.cell.own.below told.0 c.take_one-taken.result.1 told.2
+      );
+}

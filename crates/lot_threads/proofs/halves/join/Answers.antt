@@ -18,7 +18,7 @@ regroup_joined-requires-clause-regroups c =
     let bucket = c.pour-2.new.into in
     let first : pieces_of c.take.new.me ≡ lists_in low.bucket ∷ [] =
     c.take.ensures.pieces
-    ∙ (ap (λ (ps : List Piece). ps ++ pieces_in low.part) c.requires.none ∙ c.requires.low.part.pieces) in
+    ∙ (ap (λ (ps : List Piece). ps ++ pieces_in low.part) c.requires.idle.no_pieces ∙ c.requires.low.part.pieces) in
     let before : pieces_of c.take-2.new.me ≡ lists_in low.bucket ∷ lists_in high.bucket ∷ [] =
     c.take-2.ensures.pieces
     ∙ (ap (λ (ps : List Piece). ps ++ pieces_in high.part) first

@@ -22,7 +22,7 @@ regroup_split-requires-clause-regroups c =
     let size = c.size-size.ensures.value in
     let before : pieces_of c.take.new.me ≡ lists_in bucket ∷ [] =
     c.take.ensures.pieces
-    ∙ (ap (λ (ps : List Piece). ps ++ pieces_in c.args.cell.part) c.requires.none ∙ c.requires.cell.part.pieces) in
+    ∙ (ap (λ (ps : List Piece). ps ++ pieces_in c.args.cell.part) c.requires.idle.no_pieces ∙ c.requires.cell.part.pieces) in
     let low_at : IsBucketAt (2 * bucket.place) (2 * bucket.size) low = record {
       place = c.spread.ensures.low.place
           ∙ (ap (λ (b : BucketState). b.place) c.new-low.ensures ∙ ap (λ n. 2 * n) first);

@@ -11,7 +11,7 @@ add_requeued-requires-clause-moves g c =
     let source = c.args.source.now in
     let target = c.args.target.now in
     let first : pieces_of c.take.new.me ≡ pieces_in source.part =
-    c.take.ensures.pieces ∙ (ap (λ (ps : List Piece). ps ++ pieces_in c.replace-part.result) c.requires.none
+    c.take.ensures.pieces ∙ (ap (λ (ps : List Piece). ps ++ pieces_in c.replace-part.result) c.requires.idle.no_pieces
     ∙ ap (λ part. pieces_in part) c.replace-part.ensures.value) in
     let before : pieces_of c.take-2.new.me ≡ pieces_in source.part ++ pieces_in target.part =
     c.take-2.ensures.pieces ∙ (ap (λ (ps : List Piece). ps ++ pieces_in c.replace-other.result) first

@@ -27,7 +27,7 @@ add_retired-requires-clause-moves c =
     let uses : List Bool = map is_in_use numbers in
     let keys = c.requires.records.keys in
     let own : List Piece = Thread number Running ∷ Records number keys ∷ Numbers uses ∷ [] in
-    let none : pieces_of c.args.me.now ≡ [] = c.requires.none in
+    let none : pieces_of c.args.me.now ≡ [] = c.requires.idle.no_pieces in
     let thread : pieces_of c.take.new.me ≡ Thread number Running ∷ [] =
     c.take.ensures.pieces ∙ (ap (λ (ps : List Piece). ps ++ pieces_in c.args.thread) none ∙ c.requires.thread.pieces) in
     let records : pieces_of c.take-2.new.me ≡ Thread number Running ∷ Records number keys ∷ [] =

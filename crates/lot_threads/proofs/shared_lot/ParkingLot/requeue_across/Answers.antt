@@ -1,4 +1,4 @@
-use Rattle.std.proofs.Common.{◌≡◌, List, [], ◌∷◌, ◌++◌, refl, sym, subst}
+use Rattle.std.proofs.Common.{◌≡◌, List, [], ◌∷◌, ◌++◌, refl, sym, subst, rules}
 use Rattle.lot_base.specs.BucketState.{BucketState}
 use Rattle.lot_base.specs.NodeFields.{NodeFields}
 use Rattle.lot_base.specs.NodeLists.{lists_of}
@@ -32,12 +32,12 @@ add_requeue-requires-clause-moves g c =
     let found = c.requeue_two-taken.result.0 in
     subst (λ (pieces : List Piece). Moves bound (λ s a. g.E.Told.said s a × (a ≡ answer.Unpark found))
     (pieces ++ pieces_in c.args.target.now.part) (lists_in source_new ∷ lists_in target_new ∷ threads_in taken))
-    (sym c.requires.source.part.pieces)
+    (sym c.requires.source.own.part.pieces)
     (subst (λ (pieces : List Piece). Moves bound (λ s a. g.E.Told.said s a × (a ≡ answer.Unpark found))
     (lists_in source ∷ pieces) (lists_in source_new ∷ lists_in target_new ∷ threads_in taken))
-    (sym c.requires.target.part.pieces)
+    (sym c.requires.target.own.part.pieces)
     (across_moves bound from to told.op token source target source_new target_new keeps.0 keeps.1 c.requires.size
-    c.requires.places c.requires.from c.requires.to taken
+    c.requires.places c.requires.source.here c.requires.target.here taken
     (λ s a. g.E.Told.said s a × (a ≡ answer.Unpark found)) told.called.takes
     (subst (λ (given : UnparkResult).
     g.E.Told.said (step.Unpark (op.Requeue from to told.op token)) (answer.Unpark given)
@@ -52,22 +52,35 @@ add_requeue-requires-clause-moves g c =
       refl,
     )) told.lists told.targets))
 
-pub returns-clause-source : goal.returns-clause-source
-returns-clause-source g c =
-    let told = c.requeue_two-taken.ensures.requeued in
-    let same = c.add_requeue.ensures.buckets.0 in
-    let part = c.add_requeue.new.source.part in
-    let bound = max_threads_of c.args.self.now in
-    let nodes = c.args.source.now.bucket.nodes in
-    let waiting : List NodeFields = lists_of nodes c.args.from in
-    record {
-      part = subst (λ (history : History). Has (id_of history) (lists_in c.add_requeue.new.source.bucket ∷ []) part)
-          c.self.view_is
-          (subst (λ (bucket : BucketState). Has (id_of c.self.inside.history) (lists_in bucket ∷ []) part) (sym same)
-          c.add_requeue.ensures.source);
-      below = rw same (below-left bound c.args.from nodes (split_by told.op waiting) (requeue_parts told.op waiting)
-          c.requires.source.below c.requeue_two-taken.new.self.nodes told.lists);
-    }
+pub returns-clause-taken : goal.returns-clause-taken
+returns-clause-taken g c = record {
+  pieces = search rules;
+  cell = (
+      let told = c.requeue_two-taken.ensures.requeued in
+      let same = c.add_requeue.ensures.buckets.0 in
+      let part = c.add_requeue.new.source.part in
+      let bound = max_threads_of c.args.self.now in
+      let nodes = c.args.source.now.bucket.nodes in
+      let waiting : List NodeFields = lists_of nodes c.args.from in
+      record {
+        part = subst (λ (history : History). Has (id_of history) (lists_in c.add_requeue.new.source.bucket ∷ []) part)
+            c.self.view_is
+            (subst (λ (bucket : BucketState). Has (id_of c.self.inside.history) (lists_in bucket ∷ []) part) (sym same)
+            c.add_requeue.ensures.source);
+        below = rw same (below-left bound c.args.from nodes (split_by told.op waiting) (requeue_parts told.op waiting)
+            c.requires.source.own.below c.requeue_two-taken.new.self.nodes told.lists);
+      }
+      );
+  place = search rules;
+  below = (
+      let told = c.requeue_two-taken.ensures.requeued in
+      let nodes = c.args.source.now.bucket.nodes in
+      let waiting : List NodeFields = lists_of nodes c.args.from in
+      below-taken (max_threads_of c.args.self.now) c.args.from nodes (split_by told.op waiting)
+      (requeue_parts told.op waiting) c.requires.source.own.below told.called.token c.requeue_two-taken.result.1
+      told.called.takes
+      );
+}
 
 pub returns-clause-target : goal.returns-clause-target
 returns-clause-target g c =
@@ -81,18 +94,9 @@ returns-clause-target g c =
           (subst (λ (bucket : BucketState). Has (id_of c.self.inside.history) (lists_in bucket ∷ []) part) (sym same)
           c.add_requeue.ensures.target);
       below = rw same (below-target bound c.args.from c.args.to told.op c.args.source.now.bucket.nodes
-          c.requires.source.below c.args.target.now.bucket.nodes c.requeue_two-taken.new.target.nodes
-          c.requires.target.below told.targets);
+          c.requires.source.own.below c.args.target.now.bucket.nodes c.requeue_two-taken.new.target.nodes
+          c.requires.target.own.below told.targets);
     }
-
-pub returns-clause-below : goal.returns-clause-below
-returns-clause-below g c =
-    let told = c.requeue_two-taken.ensures.requeued in
-    let nodes = c.args.source.now.bucket.nodes in
-    let waiting : List NodeFields = lists_of nodes c.args.from in
-    below-taken (max_threads_of c.args.self.now) c.args.from nodes (split_by told.op waiting)
-    (requeue_parts told.op waiting) c.requires.source.below told.called.token c.requeue_two-taken.result.1
-    told.called.takes
 
 pub returns-clause-one : goal.returns-clause-one
 returns-clause-one g c =

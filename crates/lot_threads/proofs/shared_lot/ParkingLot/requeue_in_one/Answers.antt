@@ -1,4 +1,4 @@
-use Rattle.std.proofs.Common.{◌≡◌, List, [], ◌∷◌, refl, sym, subst}
+use Rattle.std.proofs.Common.{◌≡◌, List, [], ◌∷◌, refl, sym, subst, rules}
 use Rattle.lot_base.specs.BucketState.{BucketState}
 use Rattle.lot_base.specs.NodeFields.{NodeFields}
 use Rattle.lot_base.specs.NodeLists.{lists_of, with_saturated_counts}
@@ -30,7 +30,7 @@ add_taking-requires-clause-moves g c =
     let found = c.requeue_one-taken.result.0 in
     let split = split_by told.op (lists_of old.nodes from) in
     subst (λ (pieces : List Piece). Moves bound (λ s a. g.E.Told.said s a × (a ≡ answer.Unpark found)) pieces
-    (lists_in new ∷ threads_in c.requeue_one-taken.result.1)) (sym c.requires.cell.part.pieces)
+    (lists_in new ∷ threads_in c.requeue_one-taken.result.1)) (sym c.requires.cell.own.part.pieces)
     (taking_moves bound old new token split.taken c.requeue_one-taken.result.1 c.requeue_one-taken.ensures.place
     told.called.takes (op.Requeue from to told.op token)
     (answer.Unpark (with_saturated_counts (requeue_result told.op split)))
@@ -47,32 +47,36 @@ add_taking-requires-clause-moves g c =
       }),
       refl,
     ))
-    (requeues_one bound old.size old.place from to old.nodes new.nodes told.op token [] c.requires.from c.requires.to
+    (requeues_one bound old.size old.place from to old.nodes new.nodes told.op token [] c.requires.cell.here c.requires.to
     told.lists))
 
-pub returns-clause-cell : goal.returns-clause-cell
-returns-clause-cell g c =
-    let told = c.requeue_one-taken.ensures.requeued in
-    let same = c.add_taking.ensures.bucket in
-    let part = c.add_taking.new.cell.part in
-    let bound = max_threads_of c.args.self.now in
-    record {
-      part = subst (λ (history : History). Has (id_of history) (lists_in c.add_taking.new.cell.bucket ∷ []) part)
-          c.self.view_is
-          (subst (λ (bucket : BucketState). Has (id_of c.self.inside.history) (lists_in bucket ∷ []) part) (sym same)
-          c.add_taking.ensures.part);
-      below = rw same (below-requeued bound c.args.from c.args.to told.op c.args.cell.now.bucket.nodes
-          c.requires.cell.below c.requeue_one-taken.new.self.nodes told.lists);
-    }
-
-pub returns-clause-below : goal.returns-clause-below
-returns-clause-below g c =
-    let told = c.requeue_one-taken.ensures.requeued in
-    let nodes = c.args.cell.now.bucket.nodes in
-    let waiting : List NodeFields = lists_of nodes c.args.from in
-    below-taken (max_threads_of c.args.self.now) c.args.from nodes (split_by told.op waiting)
-    (requeue_parts told.op waiting) c.requires.cell.below told.called.token c.requeue_one-taken.result.1
-    told.called.takes
+pub returns-clause-taken : goal.returns-clause-taken
+returns-clause-taken g c = record {
+  pieces = search rules;
+  cell = (
+      let told = c.requeue_one-taken.ensures.requeued in
+      let same = c.add_taking.ensures.bucket in
+      let part = c.add_taking.new.cell.part in
+      let bound = max_threads_of c.args.self.now in
+      record {
+        part = subst (λ (history : History). Has (id_of history) (lists_in c.add_taking.new.cell.bucket ∷ []) part)
+            c.self.view_is
+            (subst (λ (bucket : BucketState). Has (id_of c.self.inside.history) (lists_in bucket ∷ []) part) (sym same)
+            c.add_taking.ensures.part);
+        below = rw same (below-requeued bound c.args.from c.args.to told.op c.args.cell.now.bucket.nodes
+            c.requires.cell.own.below c.requeue_one-taken.new.self.nodes told.lists);
+      }
+      );
+  place = search rules;
+  below = (
+      let told = c.requeue_one-taken.ensures.requeued in
+      let nodes = c.args.cell.now.bucket.nodes in
+      let waiting : List NodeFields = lists_of nodes c.args.from in
+      below-taken (max_threads_of c.args.self.now) c.args.from nodes (split_by told.op waiting)
+      (requeue_parts told.op waiting) c.requires.cell.own.below told.called.token c.requeue_one-taken.result.1
+      told.called.takes
+      );
+}
 
 pub returns-clause-one : goal.returns-clause-one
 returns-clause-one g c =
