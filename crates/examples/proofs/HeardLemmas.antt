@@ -20,7 +20,7 @@ use Rattle.lot_history.proofs.RunLemmas.{joined}
 use Rattle.examples.specs.Heard.{HasHeard, TookAfter}
 
 -- the first of some numbers, and the only one
-first_of : List ℕ → ℕ
+abbrev pub first_of : List ℕ → ℕ
 first_of [] = 0
 first_of (n ∷ _) = n
 
@@ -57,7 +57,7 @@ took history key thread old new hears token result seen after step =
     let last = event (number_of new) (Unpark (One key token)) (answer.Unpark result) ∷ [] in
     let is : after ≡ after_unpark m key (split_first (m.lists key)) token = step.1 in (
       ap (λ (n : Machine). n.status thread) is
-      ∙ statuses_with_taken-among token (take 1 (m.lists key)) m.status thread (alone_first (m.lists key) thread hears.alone),
+          ∙ statuses_with_taken-among token (take 1 (m.lists key)) m.status thread (alone_first (m.lists key) thread hears.alone),
       subst (λ (events : List Event). LeadsTo bound events after) (sym seen)
-      (joined (new_machine bound) hears.heard last m after hears.leads (after, step, refl)),
+          (joined (new_machine bound) hears.heard last m after hears.leads (after, step, refl)),
     )

@@ -43,9 +43,12 @@ pub record IsMessage (subject : Subject) (message : Message) (history : History)
   pub of_history : IsWitnessOf history message.witness
   pub hears : HasHeard history subject.key message.thread message.witness
 
+abbrev pub IsMessageAbout : Subject → Message → Type 0
+IsMessageAbout subject message = (history : History) → IsWitnessOf history subject.witness
+    → max_threads_of history ≡ subject.max_threads → IsMessage subject message history
+
 abbrev pub FitsSubject : Subject → Mailbox → Type 0
-FitsSubject subject mailbox = IfSome mailbox.message (λ message. (history : History) → IsWitnessOf history subject.witness
-    → max_threads_of history ≡ subject.max_threads → IsMessage subject message history)
+FitsSubject subject mailbox = IfSome mailbox.message (λ message. IsMessageAbout subject message)
 
 -- the mailbox is one for messages of this history and this key
 pub record IsMailboxOf (history : History) (key : ℕ) (mailbox : WordLock Mailbox Subject) : Type 0 where

@@ -1,10 +1,10 @@
 //! One thread tells another whom it has seen waiting, through a word lock. The other unparks then,
 //! and knows whom it took.
 
-ghost use Rattle.std.specs.Prelude.{◌≡◌, ℕ, IfOk, IfSome};
-ghost use Rattle.lot_history.specs.Witness.{IsWitnessOf};
+ghost use Rattle.std.specs.Prelude.{◌≡◌, ℕ, IfNone, IfOk, IfSome};
+ghost use Rattle.lot_word_lock.specs.WordLock.{key_of};
 ghost use Rattle.lot_threads.specs.Visitors.{Does, Visits};
-ghost use Rattle.examples.specs.Heard.{HasHeard, IsMailboxOf, TookAfter};
+ghost use Rattle.examples.specs.Heard.{HasHeard, IsMailboxOf, IsMessageAbout, TookAfter};
 
 use lot_history::history::Witness;
 use lot_machine::step::{Answer, Op, Step};
@@ -95,19 +95,28 @@ pub fn receive<P: ThreadParkerT, R: Wait>(
     key: usize,
 ) -> Option<usize>
     requires { IsMailboxOf visitor.old.history key mailbox.now }
-    ensures visits { Visits visitor.old visitor.new }
+    ensures none { IfNone result (visitor.new ≡ visitor.old) }
+    ensures visits { IfSome result (λ thread. Visits visitor.old visitor.new) }
     ensures heard { IfSome result (λ thread.
         HasHeard visitor.old.history key thread visitor.new.witness) }
+{
+    let message = take_message(rt, mailbox)?;
+    let Message {
+        thread,
+        mut witness,
+    } = message;
+    visitor.hear_witness(&mut witness);
+    Some(thread)
+}
+
+// Takes the message out, if there is one.
+fn take_message<R: Wait>(rt: &R, mailbox: &WordLock<Mailbox>) -> Option<Message>
+    ensures { IfSome result (λ message. IsMessageAbout (key_of mailbox.now) message) }
 {
     let mut held = mailbox.lock(rt);
     let message = held.value.message.take();
     mailbox.unlock(held);
-    let Message {
-        thread,
-        mut witness,
-    } = message?;
-    visitor.hear_witness(&mut witness);
-    Some(thread)
+    message
 }
 
 /// Unparks one thread of the key. Whichever thread the visitor had heard of as the only one there,
@@ -146,8 +155,12 @@ pub fn tell_and_wake<P: ThreadParkerT + Send + Sync, R: Threads + Wait + Sync>(
 {
     let ((), woken) = join(
         rt,
-        || tell(rt, alloc, lot, mailbox, key),
-        || wake_heard(rt, lot, mailbox, key, token),
+        ||
+            requires { IsMailboxOf lot.now key mailbox.now }
+        { tell(rt, alloc, lot, mailbox, key) },
+        ||
+            requires { IsMailboxOf lot.now key mailbox.now }
+        { wake_heard(rt, lot, mailbox, key, token) },
     );
     woken
 }
