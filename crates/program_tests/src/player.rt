@@ -11,8 +11,8 @@
 //! - `waiting OBJECT N`: waits until so many threads wait for it: `gate`, `mutex`, `event`,
 //!   `semaphore`, or `jobs` and `room` of the pool.
 //! - `gate`: parks at the gate until another thread unparks this one.
-//! - `mutex`, `event`, `semaphore`, `queue`, `table`, `pool`, `other` (another pool), `jobs`, `token`
-//!   and `heard`, of which the modules with their names tell the calls.
+//! - `mutex`, `event`, `semaphore`, `queue`, `table`, `pool`, `other` (another pool), `jobs`,
+//!   `token` and `heard`, of which the modules with their names tell the calls.
 
 use crate::heard::woken_by_word;
 use crate::stage::{EVENT_KEY, MUTEX_KEY, POOL_KEYS, SEMAPHORE_KEY, Stage};
