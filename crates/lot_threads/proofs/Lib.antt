@@ -6,6 +6,7 @@ pub mod NumberLemmas
 pub mod RetireLemmas
 pub mod ListLemmas
 pub mod LookLemmas
+pub mod WithinLemmas
 pub mod RecordingLemmas
 pub mod AnswerLemmas
 pub mod RequeueLemmas

@@ -11,10 +11,8 @@ use Rattle.lot_base.specs.declared.token.FilterOp.{FilterOp}
 use Rattle.lot_base.specs.declared.token.ParkToken.{ParkToken}
 use Rattle.lot_base.specs.declared.token.UnparkResult.{UnparkResult}
 use Rattle.lot_base.specs.declared.token.UnparkToken.{UnparkToken}
-use Rattle.lot_machine.specs.declared.step.Answer.{Answer}
 use Rattle.lot_machine.specs.declared.step.Answer.TheVariants as answer
 use Rattle.lot_machine.specs.declared.step.Op.TheVariants.{Filter}
-use Rattle.lot_machine.specs.declared.step.Step.{Step}
 use Rattle.lot_machine.specs.declared.step.Step.TheVariants.{Unpark}
 use Rattle.lot_machine.specs.Machine.{Machine}
 use Rattle.lot_history.specs.declared.history.History.{History}
@@ -63,15 +61,6 @@ module _ {F C : Type 0} (f : Mut F (ParkToken × Unit {0}) FilterOp) (c : Once C
       pub decisions : List FilterOp
       pub token : UnparkToken
       pub calls : AreCalled filter callback tokens decisions result token
-
-    -- the step is the unpark by the decisions on these park tokens, with this token, and answers this result
-    pub record IsUnpark (filter : F) (callback : C) (key : ℕ) (tokens : List ParkToken) (result : UnparkResult) (s : Step)
-        (a : Answer) : Type 0 where
-      pub decisions : Vec FilterOp Global
-      pub token : UnparkToken
-      pub calls : AreCalled filter callback tokens decisions.items result token
-      pub step : s ≡ Unpark (Filter key decisions token)
-      pub answer : a ≡ answer.Unpark result
 
     -- the step was added, and the filter decided on the park tokens of the threads that stand in the list of the key, in
     -- order, in the machine that it found

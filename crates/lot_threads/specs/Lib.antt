@@ -17,6 +17,8 @@ pub mod Members
 pub mod Visitors
 -- Then unparks by a filter.
 pub mod Filters
+-- Then critical sections, as closures are lent them.
+pub mod Within
 -- Then requeues.
 pub mod Requeues
 -- Then the handles of threads that are to be woken.

@@ -165,11 +165,3 @@ module _ (asked : Bool → Type 0) (called : Type 0) (told : ℕ → Bool → Ty
   IsParked (result.Unparked token) new = asked true × called × ComesBack old key park_token timed token new
   IsParked result.TimedOut new = (timed ≡ true) × asked true × called
       × ((left : ℕ) × (last : Bool) × told left last × TimesOut old key park_token left last new)
-
--- how the wait of a thread ends that was let in
-module _ (history : History) (number : ℕ) (timed : Bool) (told : ℕ → Bool → Type 0) where
-  abbrev pub EndsWait : ParkResult → Witness → Witness → Type 0
-  EndsWait result.Invalid old new = ⊥
-  EndsWait (result.Unparked token) old new = Extends history old (Return number) (Unparked token) new
-  EndsWait result.TimedOut old new =
-      (timed ≡ true) × ((left : ℕ) × (last : Bool) × told left last × Leaves history number left last old new)

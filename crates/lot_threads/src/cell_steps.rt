@@ -1,7 +1,8 @@
 //! What each call does to a bucket and its part, while it has them: the step, and what it tells the
 //! history.
 
-ghost use Rattle.std.specs.Prelude.{◌≡◌, ◌∷◌, ◌<◌, ◌≤◌, ◌^◌, ℕ, [], true, false, length, Bool, All, IfErr, IfNone, IfSome, OnOk, is_ok};
+ghost use denote.Ref.{Bor};
+ghost use Rattle.std.specs.Prelude.{◌≡◌, ◌∷◌, ◌<◌, ◌≤◌, ◌^◌, ℕ, [], true, length, Bool, All, IfErr, IfNone, IfSome, OnOk};
 ghost use Rattle.lot_base.specs.BucketState.{KeepsPlace};
 ghost use Rattle.lot_base.specs.Filter.{IsFilterCallable, IsFiltered, park_tokens};
 ghost use Rattle.lot_base.specs.Node.{fields};
@@ -11,14 +12,15 @@ ghost use Rattle.lot_base.specs.Waiting.{result_of, split_filter, split_first};
 ghost use Rattle.lot_machine.specs.declared.step.Answer.{Answer};
 ghost use Rattle.lot_machine.specs.declared.step.Step.{Step};
 ghost use Rattle.lot_base.specs.declared.token.UnparkResult.{UnparkResult};
-ghost use Rattle.lot_history.specs.Witness.{Adds, Extends, Found, IsStill, IsWitnessOf, events_of, id_of, max_threads_of, pieces_of, seen_by};
+ghost use Rattle.lot_history.specs.Witness.{Adds, Found, IsStill, IsWitnessOf, events_of, id_of, max_threads_of, pieces_of, seen_by};
 ghost use Rattle.lot_history.specs.declared.view.Piece.TheVariants.{Thread};
 ghost use Rattle.lot_threads.specs.Cells.{Has, IsBelow, IsCell, IsCellFor, TakesFrom, lists_in};
-ghost use Rattle.lot_threads.specs.Filters.{IsUnpark, MayFilter, Unparks};
 ghost use Rattle.lot_threads.specs.Idle.{IsIdle, StaysIdle};
-ghost use Rattle.lot_threads.specs.Members.{IsListed, Leaves, entry_of, entry_step};
+ghost use Rattle.lot_threads.specs.Members.{IsListed, entry_of};
+ghost use Rattle.lot_threads.specs.Within.{Enters, FindsPieces, IsUnparkWithin, MayCallBack, MayFilterWithin, MayTellTimeout, MayValidate, Refuses, TellsTimeout, UnparksOne, UnparksWithin};
 
 use crate::cell::Cell;
+use crate::critical_section::CriticalSection;
 use crate::section::Licence;
 use crate::told::{Entry, add_entered, add_invalid, add_taken, add_taking, add_timeout};
 use lot_base::queue::{Node, Queue};
@@ -34,7 +36,8 @@ use std::{mem, thread};
 
 // Takes the first waiter of the key out of its bucket, and tells so. The witness has the pieces of
 // those that were taken, one at most.
-pub(crate) fn take_one_of<E: Told, C: FnOnce(UnparkResult) -> UnparkToken>(
+#[inline]
+pub(crate) fn take_one_of<C: FnOnce(&CriticalSection, UnparkResult) -> UnparkToken>(
     history: &History,
     me: &mut Witness,
     licence: Licence,
@@ -44,19 +47,55 @@ pub(crate) fn take_one_of<E: Told, C: FnOnce(UnparkResult) -> UnparkToken>(
 ) -> (UnparkResult, Queue)
     requires idle { IsIdle history.now me.old }
     requires cell { IsCellFor history.now key cell.old }
-    requires callable { C.pre callback
-        (result_of (split_first (lists_of cell.old.bucket.nodes key))) }
-    requires said { (answer : UnparkResult) (token : UnparkToken) → C.post callback answer token
+    requires callable { MayCallBack C.FnOnce callback history.now key }
+
+    ensures still { IsStill history.now me.old me.new }
+    ensures unparked { UnparksOne C.FnOnce callback key history.now me.old result.0 me.new }
+    ensures taken { TakesFrom history.now cell.old cell.new result.1 me.new }
+    ensures one { length result.1 ≤ 1 }
+{
+    take_one_with::<Brand, C>(history, me, licence, cell, key, callback)
+}
+
+// The same, in a section in which the bucket is as its part says.
+#[inline]
+fn take_one_with<E: Told, C: FnOnce(&CriticalSection, UnparkResult) -> UnparkToken>(
+    history: &History,
+    me: &mut Witness,
+    licence: Licence,
+    cell: &mut Cell,
+    key: usize,
+    callback: C,
+) -> (UnparkResult, Queue)
+    requires idle { IsIdle history.now me.old }
+    requires cell { IsCellFor history.now key cell.old }
+    requires callable { (section : Bor CriticalSection)
+        → Has (id_of history.now) (lists_in cell.old.bucket ∷ []) section.now.part
+        → C.pre callback section (result_of (split_first (lists_of cell.old.bucket.nodes key))) }
+    requires said { (section : Bor CriticalSection) (answer : UnparkResult) (token : UnparkToken)
+        → Has (id_of history.now) (lists_in cell.old.bucket ∷ []) section.now.part
+        → C.post callback section answer token
         → E.said (Step.Unpark (Op.One key token)) (Answer.Unpark answer) }
 
     ensures still { IsStill history.now me.old me.new }
     ensures adds { Adds history.now me.old
         (λ s a. E.said s a × (a ≡ Answer.Unpark result.0)) me.new }
+    ensures found { FindsPieces history.now (lists_in cell.old.bucket ∷ []) me.old me.new }
     ensures taken { TakesFrom history.now cell.old cell.new result.1 me.new }
     ensures one { length result.1 ≤ 1 }
 {
-    let (result, taken) = cell.bucket.take_one(key, callback);
-    add_taking::<E>(history, me, licence, cell, &taken, Answer::Unpark(result));
+    let section = CriticalSection::of(mem::replace(&mut cell.part, Part::none()));
+    let (result, taken) = cell.bucket.take_one(
+        key,
+        |found|
+            requires { (lent : Bor CriticalSection) → lent.now ≡ section
+                → C.pre callback lent found }
+            ensures { (lent : Bor CriticalSection) × (lent.now ≡ section)
+                × C.post callback lent found result }
+        { callback(&section, found) },
+    );
+    history.take(me, section.into_part());
+    add_taken::<E>(history, me, licence, cell, &taken, Answer::Unpark(result));
     (result, taken)
 }
 
@@ -89,7 +128,7 @@ pub(crate) fn take_all_of<E: Told>(
 // witness has the pieces of those that were taken.
 pub(crate) fn take_filter_of<
     F: FnMut(ParkToken) -> FilterOp,
-    C: FnOnce(UnparkResult) -> UnparkToken,
+    C: FnOnce(&CriticalSection, UnparkResult) -> UnparkToken,
 >(
     history: &History,
     me: &mut Witness,
@@ -102,11 +141,11 @@ pub(crate) fn take_filter_of<
     requires idle { IsIdle history.now me.old }
     requires few { max_threads_of history.now < 2 ^ 63 }
     requires cell { IsCellFor history.now key cell.old }
-    requires callable { MayFilter F.FnMut C.FnOnce filter callback key history.now me.old }
+    requires callable { MayFilterWithin F.FnMut C.FnOnce filter callback key history.now me.old }
 
     ensures still { IsStill history.now me.old me.new }
-    ensures unparked { Unparks F.FnMut C.FnOnce filter callback key history.now me.old result.0
-        me.new }
+    ensures unparked { UnparksWithin F.FnMut C.FnOnce filter callback key history.now me.old
+        result.0 me.new }
     ensures taken { TakesFrom history.now cell.old cell.new result.1 me.new }
 {
     let part = mem::replace(&mut cell.part, Part::none());
@@ -120,7 +159,7 @@ pub(crate) fn take_filter_of<
 fn take_filter_with<
     E: Told,
     F: FnMut(ParkToken) -> FilterOp,
-    C: FnOnce(UnparkResult) -> UnparkToken,
+    C: FnOnce(&CriticalSection, UnparkResult) -> UnparkToken,
 >(
     history: &History,
     me: &mut Witness,
@@ -139,11 +178,13 @@ fn take_filter_with<
         (park_tokens (lists_of cell.old.bucket.nodes key)) }
     requires callback { (decisions : _)
         → IsFiltered F.FnMut filter (park_tokens (lists_of cell.old.bucket.nodes key)) decisions
-        → C.pre callback (with_saturated_counts
+        → (section : Bor CriticalSection)
+        → Has (id_of history.now) (lists_in cell.old.bucket ∷ []) section.now.part
+        → C.pre callback section (with_saturated_counts
         (result_of (split_filter decisions (lists_of cell.old.bucket.nodes key)))) }
     requires said { (answer : UnparkResult) (s : Step) (a : Answer)
-        → IsUnpark F.FnMut C.FnOnce filter callback key
-        (park_tokens (lists_of cell.old.bucket.nodes key)) answer s a → E.said s a }
+        → IsUnparkWithin F.FnMut C.FnOnce filter callback history.now cell.old.bucket key answer
+        s a → E.said s a }
 
     ensures still { IsStill history.now me.old me.new }
     ensures adds { Adds history.now me.old
@@ -151,14 +192,25 @@ fn take_filter_with<
     ensures found { Found history.now me.old me.new }
     ensures taken { TakesFrom history.now cell.old cell.new result.1 me.new }
 {
-    let (result, taken) = cell.bucket.take_filter(key, filter, callback);
+    let section = CriticalSection::of(history.give(me));
+    let (result, taken) = cell.bucket.take_filter(
+        key,
+        filter,
+        |found|
+            requires { (lent : Bor CriticalSection) → lent.now ≡ section
+                → C.pre callback lent found }
+            ensures { (lent : Bor CriticalSection) × (lent.now ≡ section)
+                × C.post callback lent found result }
+        { callback(&section, found) },
+    );
+    history.take(me, section.into_part());
     add_taken::<E>(history, me, licence, cell, &taken, Answer::Unpark(result));
     (result, taken)
 }
 
 // Puts a thread last in the list of its key, if `validate` answers true, and tells so; or gives
 // back its piece and its node.
-pub(crate) fn enter_in<V: FnOnce() -> bool>(
+pub(crate) fn enter_in<V: FnOnce(&CriticalSection) -> bool>(
     history: &History,
     me: &mut Witness,
     licence: Licence,
@@ -172,22 +224,31 @@ pub(crate) fn enter_in<V: FnOnce() -> bool>(
     requires below { IsBelow (max_threads_of history.now) (fields node.value) }
     requires thread { Has (id_of history.now)
         (Thread (fields node.value).number Status.Running ∷ []) thread }
-    requires callable { V.pre validate }
+    requires callable { MayValidate V.FnOnce validate history.now (fields node.value).key }
 
     ensures idle { StaysIdle history.now me.old me.new }
     ensures cell { IsCell (id_of history.now) (max_threads_of history.now) cell.new }
     ensures place { KeepsPlace cell.old.bucket cell.new.bucket }
-    ensures asked { V.post validate (is_ok result) }
-    ensures entered { OnOk result (Extends history.now me.old
-        (entry_step (entry_of (fields node.value)) true) Answer.Entered me.new) }
-    ensures refused { IfErr result (λ back. Extends history.now me.old
-        (entry_step (entry_of (fields node.value)) false) Answer.Invalid me.new) }
+    ensures entered { OnOk result (Enters V.FnOnce validate history.now
+        (entry_of (fields node.value)) me.old me.new) }
+    ensures refused { IfErr result (λ back. Refuses V.FnOnce validate history.now
+        (entry_of (fields node.value)) me.old me.new) }
     ensures returned { IfErr result (λ back. (back.1.value ≡ node.value)
         × Has (id_of history.now)
         (Thread (fields node.value).number Status.Running ∷ []) back.0) }
 {
     let entry = entry_for(&node);
-    match cell.bucket.enter(node, validate) {
+    let section = CriticalSection::of(mem::replace(&mut cell.part, Part::none()));
+    let entered = cell.bucket.enter(
+        node,
+        ||
+            requires { (lent : Bor CriticalSection) → lent.now ≡ section → V.pre validate lent }
+            ensures { (lent : Bor CriticalSection) × (lent.now ≡ section)
+                × V.post validate lent result }
+        { validate(&section) },
+    );
+    cell.part = section.into_part();
+    match entered {
         Ok(()) => {
             add_entered(history, me, licence, cell, thread, entry);
             Ok(())
@@ -198,7 +259,7 @@ pub(crate) fn enter_in<V: FnOnce() -> bool>(
 
 // Takes the node of a thread whose deadline has passed out of the bucket of its key, calls
 // `timed_out` and tells so; or answers `None` if the node is not there, since an unpark took it.
-pub(crate) fn leave_in<R: Wait, T: FnOnce(usize, bool)>(
+pub(crate) fn leave_in<R: Wait, T: FnOnce(&CriticalSection, usize, bool)>(
     rt: &R,
     history: &History,
     me: &mut Witness,
@@ -210,13 +271,13 @@ pub(crate) fn leave_in<R: Wait, T: FnOnce(usize, bool)>(
 ) -> Option<(Part, Box<Node>)>
     requires idle { IsIdle history.now me.old }
     requires cell { IsCellFor history.now key cell.old }
-    requires callable { (last : _) → T.pre timed_out key last }
+    requires callable { MayTellTimeout T.FnOnce timed_out history.now }
 
     ensures idle { StaysIdle history.now me.old me.new }
     ensures cell { IsCell (id_of history.now) (max_threads_of history.now) cell.new }
     ensures place { KeepsPlace cell.old.bucket cell.new.bucket }
-    ensures left { IfSome result (λ back. (last : Bool) × T.post timed_out key last tt
-        × Leaves history.now number key last me.old me.new) }
+    ensures left { IfSome result (λ back. (last : Bool)
+        × TellsTimeout T.FnOnce timed_out history.now number key last me.old me.new) }
     ensures returned { IfSome result (λ back. ((fields back.1.value).number ≡ number)
         × Has (id_of history.now) (Thread number Status.Running ∷ []) back.0) }
     ensures unchanged { IfNone result ((seen_by me.new ≡ seen_by me.old)
@@ -231,7 +292,9 @@ pub(crate) fn leave_in<R: Wait, T: FnOnce(usize, bool)>(
     if !node.timed {
         never(rt);
     }
-    timed_out(key, last);
+    let section = CriticalSection::of(mem::replace(&mut cell.part, Part::none()));
+    timed_out(&section, key, last);
+    cell.part = section.into_part();
     let thread = add_timeout(history, me, licence, cell, number, key, last);
     Some((thread, node))
 }

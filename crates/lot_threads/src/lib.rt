@@ -5,6 +5,7 @@
 
 mod cell;
 mod cell_steps;
+pub mod critical_section;
 pub mod deadlock;
 mod halves;
 pub mod history_laws;
@@ -18,6 +19,7 @@ mod shared_lot;
 mod told;
 pub mod visitor;
 
+pub use critical_section::CriticalSection;
 pub use lot_base::bucket::{Bucket, BucketPlace, place};
 pub use lot_base::laws::{
     abort_changes_nothing, filter_covers_unparks, requeue_to_itself_changes_nothing,
@@ -41,7 +43,7 @@ pub use lot_machine::numbers::MAX_THREADS;
 pub use member::Member;
 pub use parker::{Letter, ThreadParker, ThreadParkerT, WordParker, YieldParker};
 pub use parking_lot::{
-    ParkingLot, ThreadData, park, unpark_all, unpark_chosen, unpark_filter, unpark_one,
-    unpark_requeue,
+    ParkingLot, ThreadData, park, park_within, unpark_all, unpark_chosen, unpark_filter,
+    unpark_one, unpark_requeue,
 };
 pub use visitor::Visitor;

@@ -3,17 +3,19 @@
 ghost use Rattle.std.specs.Prelude.{◌≡◌, ◌≢◌, List, [], true, Err, IfOk, None, OnErr, OnOk};
 ghost use Rattle.std.specs.Option.{is_some};
 ghost use mathlib.Core.List.{IsPrefix};
-ghost use Rattle.lot_base.specs.NodeFields.{NodeFields};
+ghost use Rattle.lot_machine.specs.Machine.{Waiter};
 ghost use Rattle.lot_base.specs.Waiting.{result_of, split_first};
 ghost use Rattle.lot_machine.specs.Records.{one_less, one_more, times_recorded};
 ghost use Rattle.lot_history.specs.Witness.{Extends, IsStill, IsWitnessOf, Looks, events_of, id_of, pieces_of, seen_by, view_of};
 ghost use Rattle.lot_threads.specs.Filters.{MayFilter, Unparks};
 ghost use Rattle.lot_threads.specs.Members.{Begins, IsDataOf, IsListed, IsParked, IsSame, Makes, Stays, member_of};
 ghost use Rattle.lot_threads.specs.Requeues.{MayRequeue, Requeues};
+ghost use Rattle.lot_threads.specs.Within.{IsParkedWithin, MayCallBack, MayFilterWithin, MayPark, UnparksOne, UnparksWithin};
 
+use crate::critical_section::CriticalSection;
 use crate::deadlock::{acquire_resource, release_resource};
 use crate::parker::ThreadParkerT;
-use crate::parking_lot::{ThreadData, park};
+use crate::parking_lot::{ThreadData, park, park_within};
 use crate::shared_lot::ParkingLot;
 use lot_base::token::{
     FilterOp, LotError, NoMemory, ParkResult, ParkToken, RequeueOp, UnparkResult, UnparkToken,
@@ -175,6 +177,42 @@ impl<'a, P: ThreadParkerT> Member<'a, P> {
         )
     }
 
+    /// Parks the thread, as the function `park_within` does.
+    pub fn park_within<
+        R: Wait + Clock,
+        V: FnOnce(&CriticalSection) -> bool,
+        B: FnOnce(&Witness),
+        T: FnOnce(&CriticalSection, usize, bool),
+    >(
+        &mut self,
+        rt: &R,
+        key: usize,
+        validate: V,
+        before_sleep: B,
+        timed_out: T,
+        park_token: ParkToken,
+        timeout: Option<Instant>,
+    ) -> ParkResult
+        requires { MayPark V.FnOnce B.FnOnce T.FnOnce validate before_sleep timed_out
+            self.old.history key (is_some timeout) }
+
+        ensures stays { Stays self.old self.new }
+        ensures parked { IsParkedWithin V.FnOnce B.FnOnce T.FnOnce validate before_sleep timed_out
+            self.old key park_token (is_some timeout) result self.new }
+    {
+        park_within(
+            rt,
+            self.lot,
+            &mut self.thread,
+            key,
+            validate,
+            before_sleep,
+            timed_out,
+            park_token,
+            timeout,
+        )
+    }
+
     /// Unparks the first thread in the list of the key, if there is one, and hands it the token
     /// that `callback` answers.
     ///
@@ -190,12 +228,41 @@ impl<'a, P: ThreadParkerT> Member<'a, P> {
         key: usize,
         callback: C,
     ) -> UnparkResult
-        requires { (waiters : List NodeFields) → C.pre callback (result_of (split_first waiters)) }
+        requires { (waiters : List Waiter) → C.pre callback (result_of (split_first waiters)) }
 
         ensures stays { Stays self.old self.new }
         ensures unparked { (token : UnparkToken) × C.post callback result token
             × Extends self.old.history self.old.witness
             (Step.Unpark (Op.One key token)) (Answer.Unpark result) self.new.witness }
+    {
+        self.unpark_one_within(
+            rt,
+            key,
+            |_, found|
+                requires { C.pre callback found }
+                ensures { C.post callback found result }
+            { callback(found) },
+        )
+    }
+
+    /// Does what `unpark_one` does, and lends the callback the critical section in which it is
+    /// called.
+    ///
+    /// A body that called it before the bucket is locked, or after, would have none to lend. So the
+    /// contract says which threads waited on the key as the callback was called: those that the
+    /// unpark found.
+    ///
+    /// Upstream has no such call.
+    pub fn unpark_one_within<R: Wait, C: FnOnce(&CriticalSection, UnparkResult) -> UnparkToken>(
+        &mut self,
+        rt: &R,
+        key: usize,
+        callback: C,
+    ) -> UnparkResult
+        requires { MayCallBack C.FnOnce callback self.old.history key }
+        ensures stays { Stays self.old self.new }
+        ensures unparked { UnparksOne C.FnOnce callback key self.old.history self.old.witness
+            result self.new.witness }
     {
         self.lot
             .unpark_one(rt, &mut self.thread.witness, key, callback)
@@ -235,6 +302,32 @@ impl<'a, P: ThreadParkerT> Member<'a, P> {
             self.old.witness }
         ensures stays { Stays self.old self.new }
         ensures unparked { Unparks F.FnMut C.FnOnce filter callback key self.old.history
+            self.old.witness result self.new.witness }
+    {
+        self.unpark_filter_within(
+            rt,
+            key,
+            filter,
+            |_, found|
+                requires { C.pre callback found }
+                ensures { C.post callback found result }
+            { callback(found) },
+        )
+    }
+
+    /// Does what `unpark_filter` does, and lends the callback the critical section in which it is
+    /// called, as `unpark_one_within` does.
+    ///
+    /// Upstream has no such call.
+    pub fn unpark_filter_within<
+        R: Wait,
+        F: FnMut(ParkToken) -> FilterOp,
+        C: FnOnce(&CriticalSection, UnparkResult) -> UnparkToken,
+    >(&mut self, rt: &R, key: usize, filter: F, callback: C) -> UnparkResult
+        requires callable { MayFilterWithin F.FnMut C.FnOnce filter callback key self.old.history
+            self.old.witness }
+        ensures stays { Stays self.old self.new }
+        ensures unparked { UnparksWithin F.FnMut C.FnOnce filter callback key self.old.history
             self.old.witness result self.new.witness }
     {
         self.lot

@@ -3,14 +3,16 @@
 
 ghost use Rattle.std.specs.Prelude.{◌≡◌, ◌≢◌, List, [], true, Err, IfOk, None};
 ghost use Rattle.std.specs.Option.{is_some};
-ghost use Rattle.lot_base.specs.NodeFields.{NodeFields};
+ghost use Rattle.lot_machine.specs.Machine.{Waiter};
 ghost use Rattle.lot_base.specs.Waiting.{result_of, split_first};
 ghost use Rattle.lot_machine.specs.Records.{times_recorded};
 ghost use Rattle.lot_history.specs.Witness.{Extends, IsStill, events_of, seen_by};
 ghost use Rattle.lot_threads.specs.Filters.{AreCallable, WereCalled};
 ghost use Rattle.lot_threads.specs.Members.{Begins, IsDataOf, IsParked, Stays, member_of};
 ghost use Rattle.lot_threads.specs.Requeues.{ChoseRequeue, MayRequeue};
+ghost use Rattle.lot_threads.specs.Within.{IsParkedWithin, MayPark};
 
+use crate::critical_section::CriticalSection;
 use crate::parker::ThreadParkerT;
 pub use crate::shared_lot::ParkingLot;
 use crate::visitor::Visitor;
@@ -234,6 +236,63 @@ pub fn park<
         (λ left last. T.post timed_out left last tt) (member_of lot.now thread_data.old) key
         park_token (is_some timeout) result (member_of lot.now thread_data.new) }
 {
+    park_within(
+        rt,
+        lot,
+        thread_data,
+        key,
+        |_|
+            requires { V.pre validate }
+            ensures { V.post validate result }
+        { validate() },
+        |_|
+            requires { B.pre before_sleep }
+            ensures { B.post before_sleep result }
+        { before_sleep() },
+        |_, left, last|
+            requires { T.pre timed_out left last }
+            ensures { T.post timed_out left last result }
+        { timed_out(left, last) },
+        park_token,
+        timeout,
+    )
+}
+
+/// Parks the thread of this data as `park` does, and lends each closure what exists only when it is
+/// to be called: `validate` and `timed_out` the critical section, and `before_sleep` the thread's
+/// witness, which has seen the thread enter the list.
+///
+/// A body that called a closure at another moment would have nothing to lend. So the contract says
+/// that `validate` was asked while the threads waited on the key that the entry found, and
+/// `before_sleep` once the thread stood in the list.
+///
+/// Upstream has no such call.
+pub fn park_within<
+    P: ThreadParkerT,
+    R: Wait + Clock,
+    V: FnOnce(&CriticalSection) -> bool,
+    B: FnOnce(&Witness),
+    T: FnOnce(&CriticalSection, usize, bool),
+>(
+    rt: &R,
+    lot: &ParkingLot<P>,
+    thread_data: &mut ThreadData,
+    key: usize,
+    validate: V,
+    before_sleep: B,
+    timed_out: T,
+    park_token: ParkToken,
+    timeout: Option<Instant>,
+) -> ParkResult
+    requires own { IsDataOf lot.now thread_data.old }
+    requires callable { MayPark V.FnOnce B.FnOnce T.FnOnce validate before_sleep timed_out lot.now
+        key (is_some timeout) }
+
+    ensures stays { Stays (member_of lot.now thread_data.old) (member_of lot.now thread_data.new) }
+    ensures parked { IsParkedWithin V.FnOnce B.FnOnce T.FnOnce validate before_sleep timed_out
+        (member_of lot.now thread_data.old) key park_token (is_some timeout) result
+        (member_of lot.now thread_data.new) }
+{
     let number = thread_data.number;
     // The data of a thread that does not wait has its node: its type keeps that.
     let mut node = thread_data.node.take().unwrap();
@@ -250,7 +309,7 @@ pub fn park<
     }
 
     // Sleep, and a second look after the deadline.
-    before_sleep();
+    before_sleep(me);
     let (result, thread, node) = lot.wait(rt, me, number, timed_out, timeout);
     thread_data.thread = thread;
     thread_data.node = Some(node);
@@ -269,7 +328,7 @@ pub fn unpark_one<P: ThreadParkerT, R: Wait, C: FnOnce(UnparkResult) -> UnparkTo
     key: usize,
     callback: C,
 ) -> UnparkResult
-    requires callable { (waiters : List NodeFields)
+    requires callable { (waiters : List Waiter)
         → C.pre callback (result_of (split_first waiters)) }
     ensures called { (token : UnparkToken) × C.post callback result token }
 {

@@ -1,24 +1,23 @@
 //! A section: what a call does while it has the bucket of a key locked.
 
-ghost use Rattle.std.specs.Prelude.{◌≡◌, ◌<◌, ◌∷◌, List, [], true, false, Bool, IfErr, IfNone, IfSome, IsFalse, IsTrue, OnOk, Some, is_ok};
+ghost use Rattle.std.specs.Prelude.{◌≡◌, ◌<◌, ◌∷◌, [], true, Bool, IfErr, IfNone, IfSome, IsFalse, IsTrue, OnOk, Some};
 ghost use Rattle.std.proofs.Props.{props};
 ghost use Rattle.lot_base.specs.Node.{fields};
-ghost use Rattle.lot_base.specs.NodeFields.{NodeFields};
-ghost use Rattle.lot_base.specs.Waiting.{result_of, split_first};
 ghost use Rattle.lot_machine.specs.declared.step.Answer.{Answer};
 ghost use Rattle.lot_machine.specs.declared.step.Step.{Step};
 ghost use Rattle.lot_history.specs.Witness.{Extends, events_of, id_of, max_threads_of, seen_by};
 ghost use Rattle.lot_history.specs.declared.view.Piece.TheVariants.{Thread};
 ghost use Rattle.lot_word_lock.specs.WordLock.{IsClaimOn, key_of};
 ghost use Rattle.lot_threads.specs.Cells.{AreApart, FitsSlot, Has, IsBelow, IsLockFor};
-ghost use Rattle.lot_threads.specs.Filters.{MayFilter, Unparks};
 ghost use Rattle.lot_threads.specs.Idle.{IsIdle, StaysIdle};
-ghost use Rattle.lot_threads.specs.Members.{IsListed, Leaves, entry_of, entry_step};
+ghost use Rattle.lot_threads.specs.Members.{IsListed, entry_of};
 ghost use Rattle.lot_threads.specs.Requeues.{MayRequeue, Requeues};
 ghost use Rattle.lot_threads.specs.Sections.{HasBucket};
+ghost use Rattle.lot_threads.specs.Within.{Enters, MayCallBack, MayFilterWithin, MayTellTimeout, MayValidate, Refuses, TellsTimeout, UnparksOne, UnparksWithin};
 
 use crate::cell::Slot;
 use crate::cell_steps::{enter_in, leave_in, list_in, take_all_of, take_filter_of, take_one_of};
+use crate::critical_section::CriticalSection;
 use crate::parker::ThreadParkerT;
 use crate::shared_lot::ParkingLot;
 use crate::shared_lot::handles::Handles;
@@ -148,7 +147,7 @@ impl<'a, P: ThreadParkerT> Section<'a, P> {
 
     /// Unparks the first thread of the key, if there is one, and answers its handle too.
     #[inline]
-    pub(crate) fn take_one<R: Wait, C: FnOnce(UnparkResult) -> UnparkToken>(
+    pub(crate) fn take_one<R: Wait, C: FnOnce(&CriticalSection, UnparkResult) -> UnparkToken>(
         &mut self,
         rt: &R,
         me: &mut Witness,
@@ -156,25 +155,16 @@ impl<'a, P: ThreadParkerT> Section<'a, P> {
         callback: C,
     ) -> (UnparkResult, Option<P::UnparkHandle>)
         requires idle { IsIdle self.old.lot.now me.old }
-        requires callable { (waiters : List NodeFields)
-            → C.pre callback (result_of (split_first waiters)) }
+        requires callable { MayCallBack C.FnOnce callback self.old.lot.now self.old.key }
         ensures idle { StaysIdle self.old.lot.now me.old me.new }
-        ensures unparked { (token : UnparkToken) × C.post callback result.0 token
-            × Extends self.old.lot.now me.old (Step.Unpark (Op.One self.old.key token))
-            (Answer.Unpark result.0) me.new }
+        ensures unparked { UnparksOne C.FnOnce callback self.old.key self.old.lot.now me.old
+            result.0 me.new }
     {
         let lot = self.lot;
         let key = self.key;
         let slot = self.claim.value_mut(self.lock).as_mut().unwrap();
         let cell = slot.cell.as_mut().unwrap();
-        let (result, taken) = take_one_of::<Brand, C>(
-            lot.history(),
-            me,
-            licence,
-            cell,
-            key,
-            callback,
-        );
+        let (result, taken) = take_one_of(lot.history(), me, licence, cell, key, callback);
         (result, lot.commit_one(rt, me, taken))
     }
 
@@ -204,7 +194,7 @@ impl<'a, P: ThreadParkerT> Section<'a, P> {
     pub(crate) fn take_filter<
         R: Wait,
         F: FnMut(ParkToken) -> FilterOp,
-        C: FnOnce(UnparkResult) -> UnparkToken,
+        C: FnOnce(&CriticalSection, UnparkResult) -> UnparkToken,
     >(
         &mut self,
         rt: &R,
@@ -214,11 +204,11 @@ impl<'a, P: ThreadParkerT> Section<'a, P> {
         callback: C,
     ) -> (UnparkResult, Handles<P::UnparkHandle>)
         requires idle { IsIdle self.old.lot.now me.old }
-        requires callable { MayFilter F.FnMut C.FnOnce filter callback self.old.key
+        requires callable { MayFilterWithin F.FnMut C.FnOnce filter callback self.old.key
             self.old.lot.now me.old }
         ensures idle { StaysIdle self.old.lot.now me.old me.new }
-        ensures unparked { Unparks F.FnMut C.FnOnce filter callback self.old.key self.old.lot.now
-            me.old result.0 me.new }
+        ensures unparked { UnparksWithin F.FnMut C.FnOnce filter callback self.old.key
+            self.old.lot.now me.old result.0 me.new }
     {
         let lot = self.lot;
         let key = self.key;
@@ -307,7 +297,7 @@ impl<'a, P: ThreadParkerT> Section<'a, P> {
     /// Puts a thread last in the list of the key, if `validate` answers true, or gives its piece
     /// and its node back.
     #[inline]
-    pub(crate) fn enter<V: FnOnce() -> bool>(
+    pub(crate) fn enter<V: FnOnce(&CriticalSection) -> bool>(
         &mut self,
         me: &mut Witness,
         licence: Licence,
@@ -320,13 +310,12 @@ impl<'a, P: ThreadParkerT> Section<'a, P> {
         requires below { IsBelow (max_threads_of self.old.lot.now) (fields node.value) }
         requires thread { Has (id_of self.old.lot.now)
             (Thread (fields node.value).number Status.Running ∷ []) thread }
-        requires callable { V.pre validate }
+        requires callable { MayValidate V.FnOnce validate self.old.lot.now self.old.key }
         ensures idle { StaysIdle self.old.lot.now me.old me.new }
-        ensures asked { V.post validate (is_ok result) }
-        ensures entered { OnOk result (Extends self.old.lot.now me.old
-            (entry_step (entry_of (fields node.value)) true) Answer.Entered me.new) }
-        ensures refused { IfErr result (λ back. Extends self.old.lot.now me.old
-            (entry_step (entry_of (fields node.value)) false) Answer.Invalid me.new) }
+        ensures entered { OnOk result (Enters V.FnOnce validate self.old.lot.now
+            (entry_of (fields node.value)) me.old me.new) }
+        ensures refused { IfErr result (λ back. Refuses V.FnOnce validate self.old.lot.now
+            (entry_of (fields node.value)) me.old me.new) }
         ensures returned { IfErr result (λ back. (back.1.value ≡ node.value)
             × Has (id_of self.old.lot.now)
             (Thread (fields node.value).number Status.Running ∷ []) back.0) }
@@ -339,7 +328,7 @@ impl<'a, P: ThreadParkerT> Section<'a, P> {
 
     /// Takes a thread whose deadline has passed out of the list of the key and calls `timed_out`,
     /// or answers `None` if it does not stand there, since an unpark took it.
-    pub(crate) fn leave<R: Wait, T: FnOnce(usize, bool)>(
+    pub(crate) fn leave<R: Wait, T: FnOnce(&CriticalSection, usize, bool)>(
         &mut self,
         rt: &R,
         me: &mut Witness,
@@ -348,10 +337,11 @@ impl<'a, P: ThreadParkerT> Section<'a, P> {
         timed_out: T,
     ) -> Option<(Part, Box<Node>)>
         requires idle { IsIdle self.old.lot.now me.old }
-        requires callable { (last : _) → T.pre timed_out self.old.key last }
+        requires callable { MayTellTimeout T.FnOnce timed_out self.old.lot.now }
         ensures idle { StaysIdle self.old.lot.now me.old me.new }
-        ensures left { IfSome result (λ back. (last : Bool) × T.post timed_out self.old.key last tt
-            × Leaves self.old.lot.now number self.old.key last me.old me.new) }
+        ensures left { IfSome result (λ back. (last : Bool)
+            × TellsTimeout T.FnOnce timed_out self.old.lot.now number self.old.key last me.old
+            me.new) }
         ensures returned { IfSome result (λ back. ((fields back.1.value).number ≡ number)
             × Has (id_of self.old.lot.now) (Thread number Status.Running ∷ []) back.0) }
         ensures unchanged { IfNone result ((seen_by me.new ≡ seen_by me.old)

@@ -16,7 +16,7 @@ ghost use Rattle.lot_history.specs.declared.view.Piece.TheVariants.{Thread};
 ghost use Rattle.lot_threads.specs.Cells.{Has, HasRecords, IsBelow, IsCell, IsLockFor, IsRegistry, home_of, threads_in};
 ghost use Rattle.lot_threads.specs.Filters.{MayFilter, Unparks};
 ghost use Rattle.lot_threads.specs.Idle.{IsIdle, StaysIdle};
-ghost use Rattle.lot_threads.specs.Members.{EndsWait, IsListed, IsRegistered, Leaves, entry_of, entry_step, number_in};
+ghost use Rattle.lot_threads.specs.Members.{IsListed, IsRegistered, Leaves, entry_of, entry_step, number_in};
 ghost use Rattle.lot_threads.specs.Rows.{EachAt};
 
 mod growth;

@@ -8,8 +8,9 @@ ghost use Rattle.lot_history.specs.declared.view.Piece.TheVariants.{Records, Thr
 ghost use Rattle.lot_threads.specs.Cells.{Has, lists_in, numbers_in, threads_in};
 ghost use Rattle.lot_threads.specs.Idle.{IsIdle, StaysIdle};
 ghost use Rattle.lot_threads.specs.Late.{late_pieces};
-ghost use Rattle.lot_threads.specs.Members.{Is, Leaves, entry_step};
+ghost use Rattle.lot_threads.specs.Members.{Is, entry_step};
 ghost use Rattle.lot_threads.specs.Rows.{empty_lists, free_numbers};
+ghost use Rattle.lot_threads.specs.Within.{FindsPieces, LeavesFrom};
 
 use crate::cell::Cell;
 use crate::numbered_nodes::NumberedNodes;
@@ -317,6 +318,8 @@ pub(crate) fn add_entered(
         (lists_in cell.old.bucket ∷ []) }
     ensures idle { StaysIdle history.now me.old me.new }
     ensures extends { Extends history.now me.old (entry_step entry true) Answer.Entered me.new }
+    ensures found { FindsPieces history.now
+        (pieces_in cell.old.part ++ Thread entry.number Status.Running ∷ []) me.old me.new }
     ensures bucket { cell.new.bucket ≡ cell.old.bucket }
     ensures part { Has (id_of history.now) (lists_in cell.old.bucket ∷ []) cell.new.part }
 {
@@ -372,7 +375,7 @@ pub(crate) fn add_timeout(
         (late_pieces number (pieces_in cell.old.part))
         (lists_in cell.old.bucket ∷ Thread number Status.Running ∷ []) }
     ensures idle { StaysIdle history.now me.old me.new }
-    ensures leaves { Leaves history.now number key last me.old me.new }
+    ensures leaves { LeavesFrom history.now (pieces_in cell.old.part) number key last me.old me.new }
     ensures bucket { cell.new.bucket ≡ cell.old.bucket }
     ensures part { Has (id_of history.now) (lists_in cell.old.bucket ∷ []) cell.new.part }
     ensures thread { Has (id_of history.now) (Thread number Status.Running ∷ []) result }
@@ -414,6 +417,7 @@ fn add_resolved(
     ensures still { IsStill history.now me.old me.new }
     ensures extends { Extends history.now me.old (Step.Resolve number)
         (Answer.TimedOut key last) me.new }
+    ensures found { Found history.now me.old me.new }
     ensures pieces { pieces_of me.new ≡ lists_in bucket.now ∷ Thread number Status.Running ∷ [] }
 {
     add_with::<Brand, (&Bucket, usize, usize, bool)>(history, me, &(bucket, number, key, last));

@@ -3,8 +3,8 @@
 
 ghost use Rattle.std.specs.Prelude.{◌≡◌, List, []};
 ghost use mathlib.Core.List.{IsPrefix};
-ghost use Rattle.lot_base.specs.NodeFields.{NodeFields};
 ghost use Rattle.lot_base.specs.Waiting.{result_of, split_first};
+ghost use Rattle.lot_machine.specs.Machine.{Waiter};
 ghost use Rattle.lot_machine.specs.declared.step.Answer.{Answer};
 ghost use Rattle.lot_machine.specs.declared.step.Step.{Step};
 ghost use Rattle.lot_history.specs.Witness.{IsStill, IsWitnessOf, Looks, events_of, pieces_of, seen_by, view_of};
@@ -13,7 +13,9 @@ ghost use Rattle.lot_threads.specs.Idle.{IsIdle};
 ghost use Rattle.lot_threads.specs.Members.{IsListed};
 ghost use Rattle.lot_threads.specs.Requeues.{MayRequeue, Requeues};
 ghost use Rattle.lot_threads.specs.Visitors.{Does, Visits};
+ghost use Rattle.lot_threads.specs.Within.{MayCallBack, MayFilterWithin, UnparksOne, UnparksWithin};
 
+use crate::critical_section::CriticalSection;
 use crate::parker::ThreadParkerT;
 use crate::shared_lot::ParkingLot;
 use lot_base::token::{FilterOp, NoMemory, ParkToken, RequeueOp, UnparkResult, UnparkToken};
@@ -114,10 +116,39 @@ impl<'a, P: ThreadParkerT> Visitor<'a, P> {
         key: usize,
         callback: C,
     ) -> UnparkResult
-        requires { (waiters : List NodeFields) → C.pre callback (result_of (split_first waiters)) }
+        requires { (waiters : List Waiter) → C.pre callback (result_of (split_first waiters)) }
         ensures visits { Visits self.old self.new }
         ensures unparked { (token : UnparkToken) × C.post callback result token
             × Does self.old (Step.Unpark (Op.One key token)) (Answer.Unpark result) self.new }
+    {
+        self.unpark_one_within(
+            rt,
+            key,
+            |_, found|
+                requires { C.pre callback found }
+                ensures { C.post callback found result }
+            { callback(found) },
+        )
+    }
+
+    /// Does what `unpark_one` does, and lends the callback the critical section in which it is
+    /// called.
+    ///
+    /// A body that called it before the bucket is locked, or after, would have none to lend. So the
+    /// contract says which threads waited on the key as the callback was called: those that the
+    /// unpark found.
+    ///
+    /// Upstream has no such call.
+    pub fn unpark_one_within<R: Wait, C: FnOnce(&CriticalSection, UnparkResult) -> UnparkToken>(
+        &mut self,
+        rt: &R,
+        key: usize,
+        callback: C,
+    ) -> UnparkResult
+        requires { MayCallBack C.FnOnce callback self.old.history key }
+        ensures visits { Visits self.old self.new }
+        ensures unparked { UnparksOne C.FnOnce callback key self.old.history self.old.witness
+            result self.new.witness }
     {
         self.lot.unpark_one(rt, &mut self.witness, key, callback)
     }
@@ -142,6 +173,32 @@ impl<'a, P: ThreadParkerT> Visitor<'a, P> {
             self.old.witness }
         ensures visits { Visits self.old self.new }
         ensures unparked { Unparks F.FnMut C.FnOnce filter callback key self.old.history
+            self.old.witness result self.new.witness }
+    {
+        self.unpark_filter_within(
+            rt,
+            key,
+            filter,
+            |_, found|
+                requires { C.pre callback found }
+                ensures { C.post callback found result }
+            { callback(found) },
+        )
+    }
+
+    /// Does what `unpark_filter` does, and lends the callback the critical section in which it is
+    /// called, as `unpark_one_within` does.
+    ///
+    /// Upstream has no such call.
+    pub fn unpark_filter_within<
+        R: Wait,
+        F: FnMut(ParkToken) -> FilterOp,
+        C: FnOnce(&CriticalSection, UnparkResult) -> UnparkToken,
+    >(&mut self, rt: &R, key: usize, filter: F, callback: C) -> UnparkResult
+        requires callable { MayFilterWithin F.FnMut C.FnOnce filter callback key self.old.history
+            self.old.witness }
+        ensures visits { Visits self.old self.new }
+        ensures unparked { UnparksWithin F.FnMut C.FnOnce filter callback key self.old.history
             self.old.witness result self.new.witness }
     {
         self.lot

@@ -3,13 +3,14 @@
 use crate::expect;
 use crate::played::goes_well;
 use lot_threads::{
-    FilterOp, Member, ParkingLot, RequeueOp, ThreadParkerT, UnparkResult, UnparkToken, WordParker,
+    FilterOp, Member, ParkResult, ParkingLot, RequeueOp, ThreadParkerT, UnparkResult, UnparkToken,
+    Witness, WordParker,
 };
 use std::alloc::Global;
 use std::process::Abort;
 use std::sync::Wait;
 use std::time::Clock;
-use test_support::calls::{KEY, TOKEN, new_lot, park_and};
+use test_support::calls::{KEY, PARK_TOKEN, TOKEN, new_lot, park_and};
 
 // Another key than that of most tests, in another bucket.
 const OTHER_KEY: usize = 8;
@@ -119,6 +120,32 @@ fn make_each_call<P: ThreadParkerT, R: Wait + Clock + Abort>(
     expect(rt, ended.is_unparked(), "it comes back again");
 }
 
+// The first parks, and is unparked in the closure before its sleep, where the closures are lent what
+// exists only when they are called.
+fn make_calls_within<P: ThreadParkerT, R: Wait + Clock + Abort>(
+    rt: &R,
+    one: &mut Member<'_, P>,
+    two: &mut Member<'_, P>,
+) {
+    let lot = two.lot();
+    let before_sleep = |_: &Witness| {
+        let nobody = lot.visitor().unpark_one_within(rt, OTHER_KEY, |_, _| TOKEN);
+        let answer = two.unpark_one_within(rt, KEY, |_, _| TOKEN);
+        let threads = (nobody.unparked_threads, answer.unparked_threads);
+        expect(rt, threads == (0, 1), "it is unparked within");
+    };
+    let ended = one.park_within(
+        rt,
+        KEY,
+        |_| true,
+        before_sleep,
+        |_, _, _| (),
+        PARK_TOKEN,
+        None,
+    );
+    expect(rt, ended == ParkResult::Unparked(TOKEN), "it comes back");
+}
+
 // Two members of the lot make each call, of which one went through its data and hears of the other.
 fn two_members_call<P: ThreadParkerT, R: Wait + Clock + Abort>(
     rt: &R,
@@ -130,6 +157,7 @@ fn two_members_call<P: ThreadParkerT, R: Wait + Clock + Abort>(
     let mut one = Member::of(lot, one.into_data());
     one.hear(&mut two);
     make_each_call(rt, alloc, &mut one, &mut two);
+    make_calls_within(rt, &mut one, &mut two);
 }
 
 // It refuses a call that gives up, a list that misses a thread that waits or names another, a

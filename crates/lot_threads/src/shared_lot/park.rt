@@ -1,17 +1,18 @@
 //! How a thread comes to park: it enters the list of a key, waits, and comes back, or leaves the
 //! list in which it stands then.
 
-ghost use Rattle.std.specs.Prelude.{◌≡◌, ◌≢◌, ◌∷◌, ◌<◌, ℕ, [], true, false, Bool, IfErr, IfNone, IfSome, None, OnOk, is_ok};
+ghost use Rattle.std.specs.Prelude.{◌≡◌, ◌≢◌, ◌∷◌, ◌<◌, ℕ, [], false, Bool, IfErr, IfNone, IfSome, None, OnOk, is_ok};
 ghost use Rattle.std.specs.Option.{is_some};
 ghost use Rattle.lot_base.specs.Node.{fields};
-ghost use Rattle.lot_machine.specs.declared.step.Answer.{Answer};
-ghost use Rattle.lot_history.specs.Witness.{Extends, events_of, id_of, max_threads_of, seen_by};
+ghost use Rattle.lot_history.specs.Witness.{events_of, id_of, max_threads_of, seen_by};
 ghost use Rattle.lot_history.specs.declared.view.Piece.TheVariants.{Thread};
 ghost use Rattle.lot_threads.specs.Cells.{Has, IsBelow};
 ghost use Rattle.lot_threads.specs.Idle.{IsIdle, StaysIdle};
-ghost use Rattle.lot_threads.specs.Members.{EndsWait, Leaves, entry_of, entry_step};
+ghost use Rattle.lot_threads.specs.Members.{entry_of};
+ghost use Rattle.lot_threads.specs.Within.{EndsWithin, Enters, MayTellTimeout, MayValidate, Refuses, TellsTimeout};
 
 use super::ParkingLot;
+use crate::critical_section::CriticalSection;
 use crate::parker::ThreadParkerT;
 use crate::section::{Licence, Section};
 use lot_base::queue::Node;
@@ -25,7 +26,7 @@ use std::time::{Clock, Instant};
 impl<P: ThreadParkerT> ParkingLot<P> {
     // The section in which a thread comes to park: puts it last in the list of its node's key, or
     // gives its piece and its node back if `validate` answers false.
-    pub(crate) fn enter<R: Wait, V: FnOnce() -> bool>(
+    pub(crate) fn enter<R: Wait, V: FnOnce(&CriticalSection) -> bool>(
         &self,
         rt: &R,
         me: &mut Witness,
@@ -37,14 +38,13 @@ impl<P: ThreadParkerT> ParkingLot<P> {
         requires below { IsBelow (max_threads_of self.now) (fields node.value) }
         requires thread { Has (id_of self.now)
             (Thread (fields node.value).number Status.Running ∷ []) thread }
-        requires callable { V.pre validate }
+        requires callable { MayValidate V.FnOnce validate self.now (fields node.value).key }
 
         ensures idle { StaysIdle self.now me.old me.new }
-        ensures asked { V.post validate (is_ok result) }
-        ensures entered { OnOk result (Extends self.now me.old
-            (entry_step (entry_of (fields node.value)) true) Answer.Entered me.new) }
-        ensures refused { IfErr result (λ back. Extends self.now me.old
-            (entry_step (entry_of (fields node.value)) false) Answer.Invalid me.new) }
+        ensures entered { OnOk result (Enters V.FnOnce validate self.now
+            (entry_of (fields node.value)) me.old me.new) }
+        ensures refused { IfErr result (λ back. Refuses V.FnOnce validate self.now
+            (entry_of (fields node.value)) me.old me.new) }
         ensures returned { IfErr result (λ back. (back.1.value ≡ node.value)
             × Has (id_of self.now)
             (Thread (fields node.value).number Status.Running ∷ []) back.0) }
@@ -67,7 +67,7 @@ impl<P: ThreadParkerT> ParkingLot<P> {
     // The wait of a thread that entered a list: sleeps until an unpark of it was committed, or
     // until the deadline, and then leaves the list in which it stands, unless an unpark took it
     // meanwhile.
-    pub(crate) fn wait<R: Wait + Clock, T: FnOnce(usize, bool)>(
+    pub(crate) fn wait<R: Wait + Clock, T: FnOnce(&CriticalSection, usize, bool)>(
         &self,
         rt: &R,
         me: &mut Witness,
@@ -77,10 +77,10 @@ impl<P: ThreadParkerT> ParkingLot<P> {
     ) -> (ParkResult, Part, Box<Node>)
         requires idle { IsIdle self.now me.old }
         requires below { number < max_threads_of self.now }
-        requires callable { timeout ≢ None → (key last : _) → T.pre timed_out key last }
+        requires callable { timeout ≢ None → MayTellTimeout T.FnOnce timed_out self.now }
         ensures idle { StaysIdle self.now me.old me.new }
-        ensures ends { EndsWait self.now number (is_some timeout)
-            (λ key last. T.post timed_out key last tt) result.0 me.old me.new }
+        ensures ends { EndsWithin T.FnOnce timed_out self.now number (is_some timeout) result.0
+            me.old me.new }
         ensures thread { Has (id_of self.now) (Thread number Status.Running ∷ []) result.1 }
         ensures number { (fields result.2.value).number ≡ number }
     {
@@ -104,7 +104,7 @@ impl<P: ThreadParkerT> ParkingLot<P> {
 
     // The section in which a thread whose deadline has passed leaves the list in which it stands,
     // or answers `None` if an unpark took it.
-    fn leave<R: Wait, T: FnOnce(usize, bool)>(
+    fn leave<R: Wait, T: FnOnce(&CriticalSection, usize, bool)>(
         &self,
         rt: &R,
         me: &mut Witness,
@@ -113,10 +113,10 @@ impl<P: ThreadParkerT> ParkingLot<P> {
     ) -> Option<(Part, Box<Node>)>
         requires idle { IsIdle self.now me.old }
         requires below { number < max_threads_of self.now }
-        requires callable { (key last : _) → T.pre timed_out key last }
+        requires callable { MayTellTimeout T.FnOnce timed_out self.now }
         ensures idle { StaysIdle self.now me.old me.new }
         ensures left { IfSome result (λ back. (key : ℕ) × (last : Bool)
-            × T.post timed_out key last tt × Leaves self.now number key last me.old me.new) }
+            × TellsTimeout T.FnOnce timed_out self.now number key last me.old me.new) }
         ensures returned { IfSome result (λ back. ((fields back.1.value).number ≡ number)
             × Has (id_of self.now) (Thread number Status.Running ∷ []) back.0) }
         ensures unchanged { IfNone result ((seen_by me.new ≡ seen_by me.old)

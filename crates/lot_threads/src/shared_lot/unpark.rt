@@ -1,16 +1,14 @@
 //! Unparks, but for requeues, and lists.
 
-ghost use Rattle.std.specs.Prelude.{List};
-ghost use Rattle.lot_base.specs.NodeFields.{NodeFields};
-ghost use Rattle.lot_base.specs.Waiting.{result_of, split_first};
 ghost use Rattle.lot_machine.specs.declared.step.Answer.{Answer};
 ghost use Rattle.lot_machine.specs.declared.step.Step.{Step};
 ghost use Rattle.lot_history.specs.Witness.{Extends};
-ghost use Rattle.lot_threads.specs.Filters.{MayFilter, Unparks};
 ghost use Rattle.lot_threads.specs.Idle.{IsIdle, StaysIdle};
 ghost use Rattle.lot_threads.specs.Members.{IsListed};
+ghost use Rattle.lot_threads.specs.Within.{MayCallBack, MayFilterWithin, UnparksOne, UnparksWithin};
 
 use super::ParkingLot;
+use crate::critical_section::CriticalSection;
 use crate::parker::ThreadParkerT;
 use crate::section::Section;
 use lot_base::token::{FilterOp, NoMemory, ParkToken, UnparkResult, UnparkToken};
@@ -22,7 +20,7 @@ use std::sync::Wait;
 impl<P: ThreadParkerT> ParkingLot<P> {
     // Unparks the first thread of the key, if there is one, and wakes it once the bucket was let
     // go.
-    pub(crate) fn unpark_one<R: Wait, C: FnOnce(UnparkResult) -> UnparkToken>(
+    pub(crate) fn unpark_one<R: Wait, C: FnOnce(&CriticalSection, UnparkResult) -> UnparkToken>(
         &self,
         rt: &R,
         me: &mut Witness,
@@ -30,12 +28,9 @@ impl<P: ThreadParkerT> ParkingLot<P> {
         callback: C,
     ) -> UnparkResult
         requires idle { IsIdle self.now me.old }
-        requires callable { (waiters : List NodeFields)
-            → C.pre callback (result_of (split_first waiters)) }
+        requires callable { MayCallBack C.FnOnce callback self.now key }
         ensures idle { StaysIdle self.now me.old me.new }
-        ensures unparked { (token : UnparkToken) × C.post callback result token
-            × Extends self.now me.old (Step.Unpark (Op.One key token))
-            (Answer.Unpark result) me.new }
+        ensures unparked { UnparksOne C.FnOnce callback key self.now me.old result me.new }
     {
         let (mut section, licence) = Section::open(rt, self, key);
         let (result, handle) = section.take_one(rt, me, licence, callback);
@@ -69,13 +64,13 @@ impl<P: ThreadParkerT> ParkingLot<P> {
     pub(crate) fn unpark_filter<
         R: Wait,
         F: FnMut(ParkToken) -> FilterOp,
-        C: FnOnce(UnparkResult) -> UnparkToken,
+        C: FnOnce(&CriticalSection, UnparkResult) -> UnparkToken,
     >(&self, rt: &R, me: &mut Witness, key: usize, filter: F, callback: C) -> UnparkResult
         requires idle { IsIdle self.now me.old }
-        requires callable { MayFilter F.FnMut C.FnOnce filter callback key self.now me.old }
+        requires callable { MayFilterWithin F.FnMut C.FnOnce filter callback key self.now me.old }
         ensures idle { StaysIdle self.now me.old me.new }
-        ensures unparked { Unparks F.FnMut C.FnOnce filter callback key self.now me.old result
-            me.new }
+        ensures unparked { UnparksWithin F.FnMut C.FnOnce filter callback key self.now me.old
+            result me.new }
     {
         let (mut section, licence) = Section::open(rt, self, key);
         let (result, handles) = section.take_filter(rt, me, licence, filter, callback);

@@ -1,10 +1,11 @@
-use Rattle.std.proofs.Common.{◌≡◌, List, [], ◌∷◌, ◌++◌, true, rules, sym, subst}
+use Rattle.std.proofs.Common.{◌≡◌, List, [], ◌∷◌, ◌++◌, true, rules, sym, ap, ◌∙◌, subst}
 use Rattle.lot_base.specs.BucketState.{BucketState}
 use Rattle.lot_base.specs.Node.{fields}
 use Rattle.lot_machine.specs.declared.status.Status.TheVariants.{Running}
 use Rattle.lot_machine.specs.declared.step.Answer.TheVariants as answer
 use Rattle.lot_history.specs.Moves.{Moves}
-use Rattle.lot_history.specs.Witness.{id_of, max_threads_of, pieces_in}
+use Rattle.lot_history.specs.Pieces.{AllSo}
+use Rattle.lot_history.specs.Witness.{Extends, id_of, max_threads_of, pieces_in}
 use Rattle.lot_history.specs.declared.view.Piece.{Piece}
 use Rattle.lot_history.specs.declared.view.Piece.TheVariants.{Thread}
 use Rattle.lot_history.proofs.NodeLemmas.{enters_node}
@@ -12,6 +13,7 @@ use Rattle.lot_threads.specs.declared.told.Entry.{Entry}
 use Rattle.lot_threads.specs.Cells.{Has, lists_in}
 use Rattle.lot_threads.specs.Members.{Is, entry_of, entry_step}
 use Rattle.lot_threads.proofs.BelowLemmas.{below-entered}
+use Rattle.lot_threads.proofs.WithinLemmas.{finds, is_section}
 use Rattle.lot_threads.proofs.cell_steps.enter_in.Goals as goal
 
 pub add_entered-requires-clause-moves : goal.add_entered-requires-clause-moves
@@ -20,12 +22,14 @@ add_entered-requires-clause-moves g c =
     let node = fields c.args.node.value in
     let old = c.args.cell.now.bucket in
     let same : c.entry_for-entry.result ≡ entry_of node = search rules in
+    let part_pieces : pieces_in c.into_part.result ≡ pieces_in c.args.cell.now.part =
+    ap pieces_in (c.into_part.ensures ∙ (c.of-section.ensures ∙ c.replace.ensures.value)) in
     subst (λ (entry : Entry). Moves bound (Is (entry_step entry true) answer.Entered)
-    (pieces_in c.args.cell.now.part ++ Thread entry.number Running ∷ []) (lists_in c.enter.new.self ∷ []))
+    (pieces_in c.into_part.result ++ Thread entry.number Running ∷ []) (lists_in c.enter-entered.new.self ∷ []))
     (sym same)
     (subst (λ (pieces : List Piece). Moves bound (Is (entry_step (entry_of node) true) answer.Entered)
-    (pieces ++ Thread node.number Running ∷ []) (lists_in c.enter.new.self ∷ []))
-    (sym c.requires.cell.own.part.pieces)
+    (pieces ++ Thread node.number Running ∷ []) (lists_in c.enter-entered.new.self ∷ []))
+    (sym (part_pieces ∙ c.requires.cell.own.part.pieces))
     (subst (λ (new : BucketState). Moves bound (Is (entry_step (entry_of node) true) answer.Entered)
     (lists_in old ∷ Thread node.number Running ∷ []) (lists_in new ∷ []))
     (sym c.in-Ok.ensures.entered) (enters_node bound old.size old.place old.nodes node [] c.requires.cell.here)))
@@ -40,4 +44,38 @@ returns-in-Ok-clause-cell g c =
       below = rw (same, c.in-Ok.ensures.entered)
           (below-entered bound c.args.cell.now.bucket.nodes (fields c.args.node.value) c.requires.cell.own.below
           c.requires.below);
+    }
+
+-- the section in which `validate` was asked has the bucket as the entry found it
+pub returns-in-Ok-clause-entered : goal.returns-in-Ok-clause-entered
+returns-in-Ok-clause-entered g c =
+    let history = c.args.history.now in
+    let bucket = c.args.cell.now.bucket in
+    let node = fields c.args.node.value in
+    let here = c.requires.cell.here in
+    let asked = c.in-Ok.ensures.asked in
+    let section = asked.0 in
+    let found = c.add_entered.ensures.found in
+    let m = found.found.machine in
+    let same : c.entry_for-entry.result ≡ entry_of node = search rules in
+    let part : c.into_part.result ≡ c.args.cell.now.part =
+    c.into_part.ensures ∙ (c.of-section.ensures ∙ c.replace.ensures.value) in
+    let has : Has (id_of history) (lists_in bucket ∷ []) section.now.part =
+    rw (asked.1, c.of-section.ensures, c.replace.ensures.value) c.requires.cell.own.part in
+    let so : AllSo m (lists_in bucket ∷ Thread c.entry_for-entry.result.number Running ∷ []) =
+    subst (λ (pieces : List Piece). AllSo m (pieces ++ Thread c.entry_for-entry.result.number Running ∷ []))
+    (ap pieces_in part ∙ c.requires.cell.own.part.pieces) found.so in
+    record {
+      asks = record {
+        section = section;
+        within = is_section history bucket node.key here section.now has;
+        answers = asked.2;
+      };
+      finds = record {
+        found = found.found;
+        waiters = finds history bucket node.key here section.now has m (so.0, tt);
+      };
+      extends = subst (λ (entry : Entry).
+          Extends history c.args.me.now (entry_step entry true) answer.Entered c.add_entered.new.me) same
+          c.add_entered.ensures.extends;
     }

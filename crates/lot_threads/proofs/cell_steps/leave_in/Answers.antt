@@ -1,4 +1,5 @@
-use Rattle.std.proofs.Common.{◌≡◌, Bool, true, false, not, List, [], ◌∷◌, refl, rules, sym, subst}
+use denote.Ref.{Bor}
+use Rattle.std.proofs.Common.{◌≡◌, Bool, true, false, not, List, [], ◌∷◌, refl, rules, sym, ap, ◌∙◌, subst}
 use Rattle.lot_base.specs.BucketState.{BucketState}
 use Rattle.lot_base.specs.Node.{fields}
 use Rattle.lot_base.specs.NodeLists.{has_number, lists_of}
@@ -8,13 +9,16 @@ use Rattle.lot_machine.specs.declared.step.Answer.TheVariants as answer
 use Rattle.lot_machine.specs.declared.step.Step.TheVariants as step
 use Rattle.lot_base.proofs.RemoveLemmas.{find-number}
 use Rattle.lot_history.specs.Moves.{Moves}
-use Rattle.lot_history.specs.Witness.{id_of, max_threads_of}
+use Rattle.lot_history.specs.Witness.{id_of, max_threads_of, pieces_in}
 use Rattle.lot_history.specs.declared.view.Piece.{Piece}
 use Rattle.lot_history.specs.declared.view.Piece.TheVariants.{Thread}
 use Rattle.lot_history.proofs.RemoveLemmas.{removes, removes_late}
 use Rattle.lot_threads.specs.Cells.{Has, lists_in}
 use Rattle.lot_threads.specs.Late.{late_pieces}
 use Rattle.lot_threads.specs.Members.{Is}
+use Rattle.lot_history.specs.Pieces.{AllSo}
+use Rattle.lot_threads.specs.declared.critical_section.CriticalSection.{CriticalSection}
+use Rattle.lot_threads.proofs.WithinLemmas.{finds_late, is_section}
 use Rattle.lot_threads.proofs.BelowLemmas.{below-left, split_without, without_parts}
 use Rattle.lot_threads.proofs.cell_steps.leave_in.Goals as goal
 
@@ -29,7 +33,8 @@ add_timeout-thread-requires-clause-deadline g c =
     let node = fields c.in-Some.node.value in
     let is_timed : not node.timed ≡ false = search rules in
     subst (λ (pieces : List Piece). Moves bound (Is (step.Deadline c.args.number) answer.Late) pieces
-    (late_pieces c.args.number pieces)) (sym c.requires.cell.own.part.pieces)
+    (late_pieces c.args.number pieces)) (sym (ap pieces_in (c.into_part.ensures ∙ (c.of-section.ensures ∙ c.replace.ensures.value))
+    ∙ c.requires.cell.own.part.pieces))
     (removes_late bound old.size old.place c.args.key c.args.number old.nodes node [] c.requires.cell.here
     c.in-Some.ensures.removed.0 (not_false node.timed is_timed))
 
@@ -43,7 +48,8 @@ add_timeout-thread-requires-clause-resolve g c =
     let told = c.remove.ensures in
     let last : c.in-Some.last ≡ not (has_any (without_first (has_number number) (lists_of old.nodes key))) = search rules in
     subst (λ (pieces : List Piece). Moves bound (Is (step.Resolve number) (answer.TimedOut key c.in-Some.last))
-    (late_pieces number pieces) (lists_in new ∷ Thread number status.Running ∷ [])) (sym c.requires.cell.own.part.pieces)
+    (late_pieces number pieces) (lists_in new ∷ Thread number status.Running ∷ [])) (sym (ap pieces_in (c.into_part.ensures ∙ (c.of-section.ensures ∙ c.replace.ensures.value))
+    ∙ c.requires.cell.own.part.pieces))
     (rw (told.place.place, told.place.size, last)
     (removes bound old.size old.place key number old.nodes (fields c.in-Some.node.value) [] c.requires.cell.here
     c.in-Some.ensures.removed.0 new.nodes told.lists))
@@ -61,6 +67,38 @@ returns-clause-cell g c =
       below = rw same (below-left bound c.args.key nodes (split_without c.args.number waiting)
           (without_parts c.args.number waiting) c.requires.cell.own.below c.remove.new.self.nodes c.remove.ensures.lists);
     }
+
+-- the section in which `timed_out` was told has the bucket as the step found it
+pub returns-clause-left : goal.returns-clause-left
+returns-clause-left g c =
+    let history = c.args.history.now in
+    let bucket = c.args.cell.now.bucket in
+    let key = c.args.key in
+    let here = c.requires.cell.here in
+    let left = c.add_timeout-thread.ensures.leaves in
+    let m = left.finds.found.machine in
+    let part : c.into_part.result ≡ c.args.cell.now.part =
+    c.into_part.ensures ∙ (c.of-section.ensures ∙ c.replace.ensures.value) in
+    let told : (section : Bor CriticalSection) × (section.now ≡ c.of-section.result)
+    × g.T.FnOnce.post c.args.timed_out (section, (key, (c.in-Some.last, tt))) tt = (_, refl, c.timed_out.ensures) in
+    let section = told.0 in
+    let has : Has (id_of history) (lists_in bucket ∷ []) section.now.part =
+    rw (told.1, c.of-section.ensures, c.replace.ensures.value) c.requires.cell.own.part in
+    let so : AllSo m (late_pieces c.args.number (lists_in bucket ∷ [])) =
+    subst (λ (pieces : List Piece). AllSo m (late_pieces c.args.number pieces))
+    (ap pieces_in part ∙ c.requires.cell.own.part.pieces) left.finds.so in (
+      c.in-Some.last,
+      record {
+        section = section;
+        within = is_section history bucket key here section.now has;
+        told = told.2;
+        leaves = left.leaves;
+        finds = record {
+          found = left.finds.found;
+          waiters = finds_late history bucket key here section.now has c.args.number m so;
+        };
+      },
+    )
 
 pub returns-clause-returned : goal.returns-clause-returned
 returns-clause-returned g c = (

@@ -1,6 +1,6 @@
 use Rattle.std.proofs.Common.{◌≡◌, ℕ, List, [], ◌∷◌, ◌++◌, rules, sym, ap, ◌∙◌, subst}
 use mathlib.Core.List.{IsPrefix}
-use Rattle.lot_base.specs.Filter.{IsFilterCallable, park_tokens}
+use Rattle.lot_base.specs.Filter.{IsFilterCallable, IsFiltered}
 use Rattle.lot_base.specs.NodeLists.{lists_of}
 use Rattle.lot_base.specs.declared.token.ParkToken.{ParkToken}
 use Rattle.lot_base.specs.declared.token.UnparkResult.{UnparkResult}
@@ -15,10 +15,10 @@ use Rattle.lot_history.specs.Pieces.{AllSo}
 use Rattle.lot_history.specs.Tells as tells
 use Rattle.lot_history.specs.Witness.{Extends, max_threads_of, number_of, pieces_in, pieces_of, seen_by, view_of}
 use Rattle.lot_threads.specs.Cells.{lists_in}
-use Rattle.lot_threads.specs.Filters.{AreCalled}
 use Rattle.lot_threads.proofs.AnswerLemmas.{same_result}
 use Rattle.lot_threads.proofs.ListLemmas.{tokens_at}
 use Rattle.lot_threads.proofs.LookLemmas.{extends_after, finds, prefix_trans, same_tokens}
+use Rattle.lot_threads.proofs.WithinLemmas.{finds as finds_waiters, is_section}
 use Rattle.lot_threads.proofs.cell_steps.take_filter_of.Goals as goal
 
 -- the machine that was seen is as the bucket's part says, on whose park tokens the filter is called
@@ -46,11 +46,11 @@ take_filter_with-requires-clause-callback g c =
     c.take.ensures.pieces ∙ (ap (λ (ps : List Piece). ps ++ pieces_in c.replace-part.result) c.requires.idle.no_pieces
     ∙ (ap (λ part. pieces_in part) c.replace-part.ensures.value ∙ c.requires.cell.own.part.pieces)) in
     let looks = c.look.ensures.looks in
-    λ decisions decided. c.requires.callable.may_call_back looks.machine
+    λ decisions decided section has. c.requires.callable.may_call_back looks.machine
     (finds c.args.history.now c.args.me.now took c.look.new.me bucket key c.requires.cell.here c.take.ensures.seen taken looks)
     (lists_of bucket.nodes key)
     (same_tokens c.args.history.now c.args.me.now took c.look.new.me bucket key c.requires.cell.here c.take.ensures.seen
-    taken looks) decisions decided
+    taken looks) decisions decided section (is_section c.args.history.now bucket key c.requires.cell.here section.now has)
 
 -- the machine that the step found is as the bucket's part says, on whose park tokens the filter decided
 pub returns-clause-unparked : goal.returns-clause-unparked
@@ -60,6 +60,7 @@ returns-clause-unparked g c =
     let filter = c.args.filter in
     let callback = c.args.callback in
     let history = c.args.history.now in
+    let here = c.requires.cell.here in
     let bound = max_threads_of history in
     let number = number_of c.take.new.me in
     let result = c.take_filter_with.result.0 in
@@ -106,9 +107,13 @@ returns-clause-unparked g c =
         leads = found.leads;
         so = search rules;
       };
-      calls = subst (λ (tokens : List ParkToken).
-          AreCalled g.F.FnMut g.C.FnOnce filter callback tokens told.decisions.items result told.token)
-          (tokens_at m bucket.size bucket.place key bucket.nodes c.requires.cell.here so)
-          (subst (λ (found : UnparkResult). AreCalled g.F.FnMut g.C.FnOnce filter callback
-          (park_tokens (lists_of bucket.nodes key)) told.decisions.items found told.token) same told.calls);
+      calls = record {
+        decided = subst (λ (tokens : List ParkToken). IsFiltered g.F.FnMut filter tokens told.decisions.items)
+            (tokens_at m bucket.size bucket.place key bucket.nodes here so) told.decided;
+        section = told.section;
+        within = is_section history bucket key here told.section.now told.has;
+        finds = finds_waiters history bucket key here told.section.now told.has m so;
+        called = subst (λ (found : UnparkResult). g.C.FnOnce.post callback (told.section, (found, tt)) told.token) same
+            told.called;
+      };
     }

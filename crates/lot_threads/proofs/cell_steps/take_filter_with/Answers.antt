@@ -8,7 +8,9 @@ use Rattle.lot_base.specs.Waiting.{result_of, split_filter}
 use Rattle.lot_base.specs.declared.token.FilterOp.{FilterOp}
 use Rattle.lot_machine.specs.declared.step.Answer.TheVariants as answer
 use Rattle.lot_history.specs.Moves.{IsFilter, Moves}
-use Rattle.lot_history.specs.Witness.{id_of, max_threads_of}
+use Rattle.lot_history.specs.Pieces.{AllSo}
+use Rattle.lot_history.specs.Views.{first_of}
+use Rattle.lot_history.specs.Witness.{id_of, max_threads_of, pieces_of}
 use Rattle.lot_history.specs.declared.view.Piece.{Piece}
 use Rattle.lot_history.proofs.NodeLemmas.{filtered_length, takes_filter}
 use Rattle.lot_threads.specs.Cells.{Has, lists_in, threads_in}
@@ -30,30 +32,63 @@ add_taken-requires-clause-moves g c =
     let decisions : List FilterOp = told.decisions in
     let all = length-map waiting (λ (node : NodeFields). node.park_token) in
     let asked = filtered_length g.F.FnMut filter (park_tokens waiting) decisions told.decided in
+    let called = told.taken.1.1 in
+    let given = c.give.ensures in
+    let part : Has (id_of c.args.history.now) (lists_in old ∷ []) c.give.result =
+    record { of_history = given.part; pieces = given.first ∙ ap first_of c.requires.piece } in
+    let pieces : pieces_of c.take.new.me ≡ lists_in old ∷ [] =
+    rw (c.take.ensures.pieces, given.rest, c.requires.piece, c.into_part.ensures, c.of-section.ensures) part.pieces in
+    let has : Has (id_of c.args.history.now) (lists_in old ∷ []) called.0.now.part =
+    rw (called.1, c.of-section.ensures) part in
     let short : length decisions ≤ length waiting = omega (arith, asked, all) in
     subst (λ (pieces : List Piece). Moves bound (λ s a. g.E.Told.said s a × (a ≡ answer.Unpark found)) pieces
-    (lists_in new ∷ threads_in c.take_filter-taken.result.1)) (sym c.requires.piece)
+    (lists_in new ∷ threads_in c.take_filter-taken.result.1)) (sym pieces)
     (taking_said bound old new token (split_filter decisions waiting).taken c.take_filter-taken.result.1
     c.take_filter-taken.ensures.place told.taken.2
     (IsFilter key decisions token (with_saturated_counts (result_of (split_filter decisions waiting))))
     (λ s a. g.E.Told.said s a × (a ≡ answer.Unpark found))
     (λ s a is.
-    let given : a ≡ answer.Unpark found = is.3 ∙ ap answer.Unpark (sym told.answer) in (
+    let given_answer : a ≡ answer.Unpark found = is.3 ∙ ap answer.Unpark (sym told.answer) in (
       c.requires.said found s a (record {
         decisions = is.0;
         token = token;
-        calls = record {
-          decided = subst (λ (made : List FilterOp). IsFiltered g.F.FnMut filter (park_tokens waiting) made) (sym is.1)
-              told.decided;
-          called = told.taken.1;
-        };
+        decided = subst (λ (made : List FilterOp). IsFiltered g.F.FnMut filter (park_tokens waiting) made) (sym is.1)
+            told.decided;
+        section = called.0;
+        has = has;
+        called = called.2;
         step = is.2;
-        answer = given;
+        answer = given_answer;
       }),
-      given,
+      given_answer,
     ))
     (takes_filter bound old.size old.place key old.nodes new.nodes token [] c.requires.place decisions c.requires.few
     short told.lists))
+
+-- the filter's callback may be called in the section that has the bucket's part
+pub take_filter-taken-requires-clause-callback : goal.take_filter-taken-requires-clause-callback
+take_filter-taken-requires-clause-callback g c =
+    let given = c.give.ensures in
+    let part : Has (id_of c.args.history.now) (lists_in c.args.cell.now.bucket ∷ []) c.give.result =
+    record { of_history = given.part; pieces = given.first ∙ ap first_of c.requires.piece } in
+    λ decisions decided lent is. c.requires.callback decisions decided lent (rw (is, c.of-section.ensures) part)
+
+pub returns-clause-found : goal.returns-clause-found
+returns-clause-found g c =
+    let found = c.add_taken.ensures.found in
+    let given = c.give.ensures in
+    let pieces : pieces_of c.take.new.me ≡ pieces_of c.args.me.now =
+    rw (c.take.ensures.pieces, given.rest, c.requires.piece, c.into_part.ensures, c.of-section.ensures)
+    (given.first ∙ ap first_of c.requires.piece) in
+    record {
+      before = found.before;
+      last = found.last;
+      machine = found.machine;
+      begins = search rules;
+      seen = search rules;
+      leads = search rules;
+      so = subst (λ (ps : List Piece). AllSo found.machine ps) pieces found.so;
+    }
 
 pub returns-clause-taken : goal.returns-clause-taken
 returns-clause-taken g c = record {

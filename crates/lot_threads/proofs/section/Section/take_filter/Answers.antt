@@ -1,11 +1,11 @@
 use Rattle.std.proofs.Common.{◌∙◌, rules}
-use Rattle.lot_threads.specs.Filters.{Unparks}
+use Rattle.lot_threads.specs.Within.{UnparksWithin}
 use Rattle.lot_threads.proofs.section.Section.take_filter.Goals as goal
 
 -- the commits add nothing
 pub returns-clause-unparked : goal.returns-clause-unparked
 returns-clause-unparked g c =
-    let told : Unparks g.F.FnMut g.C.FnOnce c.args.filter c.args.callback c.args.self.now.key c.args.self.now.lot.now
+    let told : UnparksWithin g.F.FnMut g.C.FnOnce c.args.filter c.args.callback c.args.self.now.key c.args.self.now.lot.now
     c.args.me.now c.take_filter_of-taken.result.0 c.take_filter_of-taken.new.me = search rules in
     let extends = told.extends in
     record {
