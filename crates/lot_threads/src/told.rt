@@ -375,7 +375,8 @@ pub(crate) fn add_timeout(
         (late_pieces number (pieces_in cell.old.part))
         (lists_in cell.old.bucket ∷ Thread number Status.Running ∷ []) }
     ensures idle { StaysIdle history.now me.old me.new }
-    ensures leaves { LeavesFrom history.now (pieces_in cell.old.part) number key last me.old me.new }
+    ensures leaves { LeavesFrom history.now (pieces_in cell.old.part) number key last me.old
+        me.new }
     ensures bucket { cell.new.bucket ≡ cell.old.bucket }
     ensures part { Has (id_of history.now) (lists_in cell.old.bucket ∷ []) cell.new.part }
     ensures thread { Has (id_of history.now) (Thread number Status.Running ∷ []) result }

@@ -120,7 +120,7 @@ fn make_each_call<P: ThreadParkerT, R: Wait + Clock + Abort>(
     expect(rt, ended.is_unparked(), "it comes back again");
 }
 
-// The first parks, and is unparked in the closure before its sleep, where the closures are lent what
+// The first parks, and is unparked in the closure before its sleep. The closures are lent what
 // exists only when they are called.
 fn make_calls_within<P: ThreadParkerT, R: Wait + Clock + Abort>(
     rt: &R,

@@ -48,8 +48,8 @@ add_timeout-thread-requires-clause-resolve g c =
     let told = c.remove.ensures in
     let last : c.in-Some.last ≡ not (has_any (without_first (has_number number) (lists_of old.nodes key))) = search rules in
     subst (λ (pieces : List Piece). Moves bound (Is (step.Resolve number) (answer.TimedOut key c.in-Some.last))
-    (late_pieces number pieces) (lists_in new ∷ Thread number status.Running ∷ [])) (sym (ap pieces_in (c.into_part.ensures ∙ (c.of-section.ensures ∙ c.replace.ensures.value))
-    ∙ c.requires.cell.own.part.pieces))
+    (late_pieces number pieces) (lists_in new ∷ Thread number status.Running ∷ [])) (sym (ap pieces_in (c.into_part.ensures
+    ∙ (c.of-section.ensures ∙ c.replace.ensures.value)) ∙ c.requires.cell.own.part.pieces))
     (rw (told.place.place, told.place.size, last)
     (removes bound old.size old.place key number old.nodes (fields c.in-Some.node.value) [] c.requires.cell.here
     c.in-Some.ensures.removed.0 new.nodes told.lists))
