@@ -79,7 +79,7 @@ fn write_replies(rt: &impl Abort, core: &FairCore, lines: &str, text: &mut Strin
 pub fn play(rt: &impl Abort, alloc: Global, lines: &str) -> String {
     let threads = number(lines, 1);
     let mut core = FairCore::new(alloc, threads).expect(rt, "memory");
-    let mut plain = PlainFair::new(alloc, threads).expect(rt, "memory");
+    let mut plain = PlainFair::new(alloc, threads);
     let (mut steps, mut answers) = (Vec::new(alloc), Vec::new(alloc));
     let (mut found, mut expected) = (String::new(alloc), String::new(alloc));
     for line in lines.lines().skip(1) {

@@ -8,7 +8,7 @@ use crate::plain::interleaved::FinePlain;
 use crate::plain::pairs::write_list;
 use crate::script::answers_of;
 use crate::words;
-use crate::words::{behind_two, expect, expect_text, number, step, word};
+use crate::words::{behind, expect, expect_text, number, step, word};
 use lot_base::token::ParkToken;
 use lot_machine::step::Step;
 use lot_simulator::interleaved::{FineAnswer, FineLot, FineStep, run_fine};
@@ -20,7 +20,7 @@ use std::process::Abort;
 fn fine_step(rt: &impl Abort, alloc: Global, line: &str) -> Option<FineStep> {
     let (of, key) = (number(line, 1), number(line, 2));
     Some(match word(line, 0) {
-        "begin" => match step(rt, alloc, behind_two(line)) {
+        "begin" => match step(rt, alloc, behind(behind(line))) {
             Step::Unpark(op) => FineStep::Begin { caller: of, op },
             _ => return None,
         },
@@ -106,12 +106,12 @@ fn expect_sequential(rt: &impl Abort, alloc: Global, threads: usize, plain: &mut
     let (mut lines, mut expected) = (String::new(alloc), String::new(alloc));
     write!(lines, "lot {threads}\n{}{QUESTIONS}", plain.steps).expect(rt, "memory");
     write!(expected, "ok\n{}", plain.answers).expect(rt, "memory");
-    plain.go_over();
+    plain.go_over().expect(rt, "memory");
     for line in QUESTIONS.lines() {
         plain.view.answer(line, &mut expected).expect(rt, "memory");
         expected.push_str("\n").expect(rt, "memory");
     }
-    let found = answers_of(rt, alloc, lines.as_str().as_bytes());
+    let found = answers_of(rt, alloc, lines.as_str().as_bytes(), false);
     expect_text(rt, lines.as_str(), found.as_str(), expected.as_str());
 }
 
@@ -119,7 +119,7 @@ fn expect_sequential(rt: &impl Abort, alloc: Global, threads: usize, plain: &mut
 pub fn play(rt: &impl Abort, alloc: Global, lines: &str) -> String {
     let (threads, callers) = (number(lines, 1), number(lines, 2));
     let mut lot = FineLot::new(alloc, threads, callers).expect(rt, "memory");
-    let mut plain = FinePlain::new(alloc, threads, callers).expect(rt, "memory");
+    let mut plain = FinePlain::new(alloc, threads, callers);
     let (mut steps, mut answers, mut told) = (Vec::new(alloc), Vec::new(alloc), Vec::new(alloc));
     let (mut found, mut expected) = (String::new(alloc), String::new(alloc));
     for line in lines.lines().skip(1) {

@@ -109,7 +109,6 @@ pub fn play_long_list(
     text.push_str(first).expect(rt, "memory");
     for count in 0..length {
         write_line(&mut state, first, count, &mut text).expect(rt, "memory");
-        text.push_str("\n").expect(rt, "memory");
     }
     text.push_str(questions).expect(rt, "memory");
     play_each_way(rt, alloc, text.as_str())

@@ -1,6 +1,7 @@
 //! Records: worked rows, and records beside the plain machine.
 
-use crate::plain::record::PlainRecord;
+use crate::plain::exclusive::Plain;
+use crate::plain::record::answer;
 use crate::player::{expect_rows, play_long_list};
 use crate::words::{expect, expect_text, number, step, write_answer};
 use lot_machine::step::Answer;
@@ -37,17 +38,18 @@ pub fn expect_replay(rt: &impl Abort, alloc: Global, record: &Record, threads: u
 pub fn play(rt: &impl Abort, alloc: Global, lines: &str) -> String {
     let (threads, room) = (number(lines, 1), number(lines, 2).min(MAX_JOURNAL));
     let mut record = Record::new(alloc, threads, room).expect(rt, "memory");
-    let mut plain = PlainRecord::new(alloc, threads, room).expect(rt, "memory");
+    let (mut plain, mut aside, mut entries) = (Plain::new(alloc, threads), Vec::new(alloc), 0);
     let (mut found, mut expected) = (String::new(alloc), String::new(alloc));
     for line in lines.lines().skip(1) {
         let told = record.step(step(rt, alloc, line));
         write_told(rt, alloc, told, &mut found);
-        plain.answer(line, &mut expected).expect(rt, "memory");
+        let (machine, journal) = ((&mut plain, &mut aside), (&mut entries, room));
+        answer(machine, journal, line, &mut expected).expect(rt, "memory");
         found.push_str("\n").expect(rt, "memory");
         expected.push_str("\n").expect(rt, "memory");
     }
     expect_text(rt, lines, found.as_str(), expected.as_str());
-    let is_as_long = record.journal().len() == plain.entries;
+    let is_as_long = record.journal().len() == entries;
     expect(rt, is_as_long && record.max_threads() == threads, lines);
     expect_replay(rt, alloc, &record, threads);
     found

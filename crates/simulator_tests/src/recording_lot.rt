@@ -6,6 +6,7 @@ use crate::record::expect_replay;
 use crate::words::expect;
 use lot_base::token::{DEFAULT_PARK_TOKEN, UnparkToken};
 use lot_machine::step::{Answer, Op, Step};
+use lot_simulator::record::Record;
 use lot_simulator::recording_lot::{RecordingLot, Ticket};
 use std::alloc::Global;
 use std::marker::Brand;
@@ -69,8 +70,41 @@ where
     );
 }
 
-// The last step is taken once the threads have ended. It refuses a lot whose journal is not what
-// its threads were told.
+// The last step is taken once the threads have ended. Answers how many entries, tokens and wakes
+// the tickets count.
+fn end_of<C: Ledger, W: Ledger, U: Ledger, R: Wait + Abort>(
+    rt: &R,
+    lot: &RecordingLot<C, W, U>,
+    tickets: &mut [Ticket<C, W, U>],
+) -> (usize, usize, usize) {
+    let last = tickets.first_mut().expect(rt, "a ticket");
+    let is_told = lot.step(rt, last, Step::Trim) == Ok(Answer::Trimmed);
+    expect(rt, is_told, "the last step");
+    let (mut entries, mut taken, mut woken) = (0_usize, 0_usize, 0_usize);
+    for ticket in tickets {
+        entries = entries.wrapping_add(ticket.count());
+        taken = taken.wrapping_add(ticket.unparked());
+        woken = woken.wrapping_add(ticket.woken());
+    }
+    (entries, taken, woken)
+}
+
+fn expect_recorded(
+    rt: &impl Abort,
+    alloc: Global,
+    recorded: &Record,
+    (entries, taken, woken): (usize, usize, usize),
+) {
+    let journal = recorded.journal();
+    let is_last = matches!(journal.last(), Some((Step::Trim, Answer::Trimmed)));
+    expect(rt, is_last, "the last entry");
+    let is_counted = entries > CALLS && journal.len() == entries;
+    let are_woken = taken >= woken && woken > 0;
+    expect(rt, is_counted && are_woken, "what the tickets count");
+    expect_replay(rt, alloc, recorded, 6);
+}
+
+// It refuses a lot whose journal is not what its threads were told.
 fn call_from_four_threads<C, W, U, R>(rt: &R, alloc: Global, blanks: (Blank, Blank, Blank))
 where
     C: Ledger + Send + Sync,
@@ -94,25 +128,9 @@ where
         unparked,
     ).expect(rt, "memory");
     call_from_each(rt, &lot, tickets.as_mut_slice());
-    let last = tickets.first_mut().expect(rt, "a ticket");
-    let is_told = lot.step(rt, last, Step::Trim) == Ok(Answer::Trimmed);
-    let (mut entries, mut taken, mut woken) = (0_usize, 0_usize, 0_usize);
-    for ticket in &tickets {
-        entries = entries.wrapping_add(ticket.count());
-        taken = taken.wrapping_add(ticket.unparked());
-        woken = woken.wrapping_add(ticket.woken());
-    }
+    let counted = end_of(rt, &lot, tickets.as_mut_slice());
     let recorded = lot.close(tickets);
-    let journal = recorded.journal();
-    let is_last = matches!(journal.last(), Some((Step::Trim, Answer::Trimmed)));
-    expect(rt, is_told && is_last, "the last entry");
-    let is_counted = entries > CALLS && journal.len() == entries;
-    expect(
-        rt,
-        is_counted && taken >= woken && woken > 0,
-        "what the tickets count",
-    );
-    expect_replay(rt, alloc, &recorded, 6);
+    expect_recorded(rt, alloc, &recorded, counted);
 }
 
 #[test]

@@ -16,11 +16,10 @@ pub fn number(line: &str, index: usize) -> usize {
     word(line, index).parse::<usize>().unwrap_or(usize::MAX - 1)
 }
 
-/// The line behind its first two words, which have one blank behind each.
-pub fn behind_two(line: &str) -> &str {
+/// The line behind its first word, which has one blank behind it.
+pub fn behind(line: &str) -> &str {
     let (_, rest) = line.split_once(' ').unwrap_or(("", ""));
-    let (_, behind) = rest.split_once(' ').unwrap_or(("", ""));
-    behind
+    rest
 }
 
 /// The step of a lot that the line is.
@@ -34,12 +33,17 @@ pub fn step(rt: &impl Abort, alloc: Global, line: &str) -> Step {
     }
 }
 
+/// Adds what was written to the text.
+pub fn push_written(rt: &impl Abort, written: &[u8], text: &mut String) {
+    let given = str::from_utf8(written).unwrap_or("no text");
+    text.push_str(given).expect(rt, "memory");
+}
+
 /// Writes what a script answers where a step of the lot answers this.
 pub fn write_answer(rt: &impl Abort, alloc: Global, answer: Answer, text: &mut String) {
     let mut written = Vec::new(alloc);
     script::write_answer(&mut written, answer).expect(rt, "memory");
-    let given = str::from_utf8(written.as_slice()).unwrap_or("no text");
-    text.push_str(given).expect(rt, "memory");
+    push_written(rt, written.as_slice(), text);
 }
 
 /// Compares two texts.

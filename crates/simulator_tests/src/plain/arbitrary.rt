@@ -1,11 +1,8 @@
 //! Arbitrary steps as lines, the same in each run.
 
-use crate::words::{number, word};
+use crate::words::{behind, number, word};
 use lot_base::token::NoMemory;
 use std::fmt::Write;
-
-// The keys of arbitrary steps. 0 and 13 have place 0 of 16.
-const KEYS: [usize; 5] = [0, 13, 1, 2, 7];
 
 // A number below the bound, by a linear congruential generator with this state.
 fn below(state: &mut usize, bound: usize) -> usize {
@@ -15,150 +12,94 @@ fn below(state: &mut usize, bound: usize) -> usize {
     (*state >> 33).checked_rem(bound).unwrap_or(0)
 }
 
-// One of the keys.
-fn key(state: &mut usize) -> usize {
-    KEYS.get(below(state, 5)).copied().unwrap_or(0)
-}
+// The steps of a lot, of which there are 80, and the 16 questions to it: how often each form comes
+// up, and the form. T stands for a thread, C for a caller, K for a key, U for a token, DS for the
+// decisions of a filter and R for what a requeue does.
+const STEPS: &str = "3 register\n1 retire T\n1 enter T K no 0 untimed\n8 enter T K yes 0 untimed\n\
+    11 enter T K yes 5 timed\n4 one K U\n1 all K U\n3 filter K DS U\n8 requeue K K R U\n\
+    10 deadline T\n10 resolve T\n7 acquire T K\n6 release T K\n1 trim\n6 return T\n6 list K\n\
+    6 records T K\n4 size";
 
-// Up to seven decisions of a filter.
-fn write_decisions(state: &mut usize, text: &mut String) -> Result<(), NoMemory> {
-    let count = below(state, 8);
-    if count == 0 {
-        text.push_str("-")?;
-    }
-    for _ in 0..count {
-        text.push_str(match below(state, 8) {
-            0 => "X",
-            1..=4 => "S",
-            _ => "U",
-        })?;
-    }
-    Ok(())
-}
+// The 69 steps of an interleaved lot.
+const FINE_STEPS: &str = "2 register\n1 retire T\n1 enter T K no 0 untimed\n\
+    4 enter T K yes 0 untimed\n8 enter T K yes 5 timed\n2 begin C one K U\n1 begin C all K U\n\
+    1 begin C filter K DS U\n3 begin C requeue K K R U\n6 commit C\n7 end C\n6 wake C\n\
+    5 deadline T\n5 read T\n5 look T\n7 return T\n2 acquire T K\n1 trim\n2 release T K";
 
-fn requeue_word(state: &mut usize) -> &'static str {
-    match below(state, 5) {
-        0 => "abort",
-        1 => "one-rest",
-        2 => "all",
-        3 => "one",
-        _ => "requeue-one",
-    }
-}
+// The 40 steps of a fair mutex and its condition variable.
+const FAIR_STEPS: &str =
+    "2 register\n1 retire T\n2 notify-all\n5 notify-one\n6 lock T\n6 unlock T\n\
+    6 return T\n6 wait T\n6 leave T";
 
-// An unpark.
-fn write_op(state: &mut usize, text: &mut String) -> Result<(), NoMemory> {
-    let (from, to, token) = (key(state), key(state), below(state, 1_000));
-    match below(state, 16) {
-        0..=3 => write!(text, "one {from} {token}")?,
-        4 => write!(text, "all {from} {token}")?,
-        5..=7 => {
-            write!(text, "filter {from} ")?;
-            write_decisions(state, text)?;
-            write!(text, " {token}")?;
+// The keys, of which 0 and 13 have place 0 of 16, decisions, and what a requeue does.
+const KEYS: &str = "0 13 1 2 7";
+
+const DECISIONS: &str = "- U S X UU US SU SS UX SX SSU SUS USU UUS SSX SUX USX XUU SSSU SUSU UUUU \
+    USSUS SSUSX USUSUS SSSSSU SSUSUUS UUUUUUU";
+
+const REQUEUES: &str = "abort one-rest all one requeue-one";
+
+// The form that comes at this place, where each stands as often as it comes up.
+fn form_at(forms: &str, place: usize) -> &str {
+    let mut left = place;
+    for form in forms.lines() {
+        let often = number(form, 0);
+        if left < often {
+            return behind(form);
         }
-        _ => {
-            write!(text, "requeue {from} {to} ")?;
-            write!(text, "{} {token}", requeue_word(state))?;
-        }
+        left = left.wrapping_sub(often);
     }
-    Ok(())
+    ""
 }
 
-// A step of one of so many threads, or a question. While threads leave, none
-// enters and none registers.
-fn write_step(
+// Writes the word of a form, or what it stands for. One thread more than the machine has comes up,
+// so that some steps are of nobody.
+fn write_word(
     state: &mut usize,
-    (threads, kinds): (usize, usize),
-    is_leaving: bool,
+    first: &str,
+    wanted: &str,
     text: &mut String,
 ) -> Result<(), NoMemory> {
-    let (thread, key) = (below(state, threads), key(state));
-    match below(state, kinds) {
-        0..=23 if is_leaving => write!(text, "retire {thread}")?,
-        0..=2 => text.push_str("register")?,
-        3 => write!(text, "retire {thread}")?,
-        4 => write!(text, "enter {thread} {key} no 0 untimed")?,
-        5..=12 => write!(text, "enter {thread} {key} yes 0 untimed")?,
-        13..=23 => write!(text, "enter {thread} {key} yes 5 timed")?,
-        24..=39 => write_op(state, text)?,
-        40..=49 => write!(text, "deadline {thread}")?,
-        50..=59 => write!(text, "resolve {thread}")?,
-        60..=66 => write!(text, "acquire {thread} {key}")?,
-        67..=72 => write!(text, "release {thread} {key}")?,
-        73 => text.push_str("trim")?,
-        74..=79 => write!(text, "return {thread}")?,
-        80..=85 => write!(text, "list {key}")?,
-        86..=91 => write!(text, "records {thread} {key}")?,
-        _ => text.push_str("size")?,
+    let bound = match wanted {
+        "T" => number(first, 1).wrapping_add(1),
+        "C" => number(first, 2),
+        _ => 1_000,
+    };
+    match wanted {
+        "T" | "C" | "U" => write!(text, "{}", below(state, bound))?,
+        "K" => text.push_str(word(KEYS, below(state, 5)))?,
+        "DS" => text.push_str(word(DECISIONS, below(state, 27)))?,
+        "R" => text.push_str(word(REQUEUES, below(state, 5)))?,
+        _ => text.push_str(wanted)?,
     }
     Ok(())
 }
 
-// A step of one of so many threads, or of one of so many callers.
-fn write_fine_step(
-    state: &mut usize,
-    (threads, callers): (usize, usize),
-    is_leaving: bool,
-    text: &mut String,
-) -> Result<(), NoMemory> {
-    let (thread, caller, key) = (below(state, threads), below(state, callers), key(state));
-    match below(state, 69) {
-        0..=15 if is_leaving => write!(text, "retire {thread}")?,
-        0..=1 => text.push_str("register")?,
-        2 => write!(text, "retire {thread}")?,
-        3 => write!(text, "enter {thread} {key} no 0 untimed")?,
-        4..=7 => write!(text, "enter {thread} {key} yes 0 untimed")?,
-        8..=15 => write!(text, "enter {thread} {key} yes 5 timed")?,
-        16..=22 => {
-            write!(text, "begin {caller} ")?;
-            write_op(state, text)?;
-        }
-        23..=28 => write!(text, "commit {caller}")?,
-        29..=35 => write!(text, "end {caller}")?,
-        36..=41 => write!(text, "wake {caller}")?,
-        42..=46 => write!(text, "deadline {thread}")?,
-        47..=51 => write!(text, "read {thread}")?,
-        52..=56 => write!(text, "look {thread}")?,
-        57..=63 => write!(text, "return {thread}")?,
-        64..=65 => write!(text, "acquire {thread} {key}")?,
-        66 => text.push_str("trim")?,
-        _ => write!(text, "release {thread} {key}")?,
-    }
-    Ok(())
-}
-
-fn write_fair_step(state: &mut usize, threads: usize, text: &mut String) -> Result<(), NoMemory> {
-    let thread = below(state, threads);
-    match below(state, 40) {
-        0..=1 => text.push_str("register")?,
-        2 => write!(text, "retire {thread}")?,
-        3..=4 => text.push_str("notify-all")?,
-        5..=9 => text.push_str("notify-one")?,
-        10..=15 => write!(text, "lock {thread}")?,
-        16..=21 => write!(text, "unlock {thread}")?,
-        22..=27 => write!(text, "return {thread}")?,
-        28..=33 => write!(text, "wait {thread}")?,
-        _ => write!(text, "leave {thread}")?,
-    }
-    Ok(())
-}
-
-/// The line of this number of a list for the machine that the first line names. One thread more
-/// than the machine has comes up, so that some steps are of nobody. Of each 2,000 lines, threads
-/// leave in the last 500.
+/// The line of this number of a list for the machine that the first line names. Of each 2,000
+/// lines, threads leave in the last 500: none enters then, and none registers.
 pub fn write_line(
     state: &mut usize,
     first: &str,
     count: usize,
     text: &mut String,
 ) -> Result<(), NoMemory> {
-    let (threads, second) = (number(first, 1).wrapping_add(1), number(first, 2));
-    let is_leaving = count % 2_000 >= 1_500;
-    match word(first, 0) {
-        "fair" => write_fair_step(state, threads, text),
-        "interleaved" => write_fine_step(state, (threads, second), is_leaving, text),
-        "record" => write_step(state, (threads, 80), is_leaving, text),
-        _ => write_step(state, (threads, 96), is_leaving, text),
+    let (forms, places) = match word(first, 0) {
+        "fair" => (FAIR_STEPS, 40),
+        "interleaved" => (FINE_STEPS, 69),
+        "record" => (STEPS, 80),
+        _ => (STEPS, 96),
+    };
+    let chosen = form_at(forms, below(state, places));
+    let stays = count % 2_000 < 1_500 || !matches!(word(chosen, 0), "register" | "enter");
+    let form = if stays { chosen } else { "retire T" };
+    let mut is_first = true;
+    for wanted in form.split(' ') {
+        if !is_first {
+            text.push_str(" ")?;
+        }
+        write_word(state, first, wanted, text)?;
+        is_first = false;
     }
+    text.push_str("\n")?;
+    Ok(())
 }

@@ -4,7 +4,7 @@
 //!
 //! It knows no bucket, no node and no place, and no lot.
 
-use super::pairs::{take, write_list};
+use super::pairs::{beside, put, say, take, write_list};
 use crate::words::{number, word};
 use lot_base::token::{NoMemory, UnparkToken};
 use lot_machine::status::Status;
@@ -16,7 +16,10 @@ use std::mem;
 #[derive(Drop)]
 pub struct Plain {
     alloc: Global,
-    pub(super) statuses: Vec<Status>,
+    pub(super) max_threads: usize,
+
+    // The threads that are registered.
+    pub(super) statuses: Vec<(usize, Status)>,
 
     // The threads that wait, each with its key. Those with one key are its list.
     waiting: Vec<(usize, usize)>,
@@ -51,30 +54,25 @@ pub fn keys_and_token(line: &str) -> (usize, usize, usize) {
 
 impl Plain {
     /// A machine for this many threads, with no registered thread and no waiter.
-    pub fn new(alloc: Global, max_threads: usize) -> Result<Plain, NoMemory> {
-        let mut statuses = Vec::new(alloc);
-        for _ in 0..max_threads {
-            statuses.push(Status::Free)?;
-        }
-        Ok(Plain {
+    pub fn new(alloc: Global, max_threads: usize) -> Plain {
+        Plain {
             alloc,
-            statuses,
+            max_threads,
+            statuses: Vec::new(alloc),
             waiting: Vec::new(alloc),
             records: Vec::new(alloc),
             size: 16,
-        })
+        }
     }
 
     /// What the number is doing.
     pub fn status(&self, number: usize) -> Status {
-        self.statuses.get(number).copied().unwrap_or(Status::Free)
+        beside(self.statuses.as_slice(), number).unwrap_or(Status::Free)
     }
 
-    /// Gives the number another status.
-    pub fn set_status(&mut self, number: usize, status: Status) {
-        if let Some(old) = self.statuses.get_mut(number) {
-            *old = status;
-        }
+    /// Gives the number another status than `Free`.
+    pub fn set_status(&mut self, number: usize, status: Status) -> Result<(), NoMemory> {
+        put(&mut self.statuses, number, status)
     }
 
     /// The threads that wait on the key, in order.
@@ -88,20 +86,9 @@ impl Plain {
         Ok(list)
     }
 
-    /// How many threads are registered.
-    pub fn registered(&self) -> usize {
-        let mut count: usize = 0;
-        for status in &self.statuses {
-            if *status != Status::Free {
-                count = count.wrapping_add(1);
-            }
-        }
-        count
-    }
-
     /// The least of 16, 32, 64 and so on that is three for each registered thread.
     pub fn least_size(&self) -> usize {
-        let threads = self.registered();
+        let threads = self.statuses.len();
         let mut size: usize = 16;
         for _ in 0..threads {
             if size < threads.wrapping_mul(3) {
@@ -117,50 +104,49 @@ impl Plain {
         let status = self.status(of);
         let is_running = status == Status::Running;
         match word(line, 0) {
-            "register" => self.register(text)?,
-            "one" | "all" | "filter" | "requeue" => self.unpark(line, text)?,
-            "list" | "records" | "size" => self.reply(line, text)?,
+            "register" => self.register(text),
+            "one" | "all" | "filter" | "requeue" => self.unpark(line, text),
+            "list" | "records" | "size" => self.reply(line, text),
             "trim" => {
                 self.size = self.size.min(self.least_size());
-                text.push_str("trimmed")?;
+                say(text, "trimmed")
             }
-            "enter" if is_running => self.enter(line, text)?,
+            "enter" if is_running => self.enter(line, text),
             "deadline" if status == (Status::Waiting { timed: true }) => {
-                self.set_status(of, Status::Late);
-                text.push_str("late")?;
+                self.set_status(of, Status::Late)?;
+                say(text, "late")
             }
-            "resolve" if status == Status::Late => self.time_out(of, text)?,
-            "resolve" | "return" => self.give_back(of, text)?,
+            "resolve" if status == Status::Late => self.time_out(of, text),
+            "resolve" | "return" => self.give_back(of, text),
             "acquire" if is_running => {
                 self.records.push((of, key))?;
-                text.push_str("recorded")?;
+                say(text, "recorded")
             }
             "release" if is_running => {
                 self.forget((of, key), "release")?;
-                text.push_str("released")?;
+                say(text, "released")
             }
             "retire" if is_running => {
                 self.forget((of, key), "retire")?;
-                self.set_status(of, Status::Free);
-                text.push_str("retired")?;
+                take(&mut self.statuses, of);
+                say(text, "retired")
             }
-            _ => text.push_str("misfit")?,
+            _ => say(text, "misfit"),
         }
-        Ok(())
     }
 
     fn give_back(&mut self, thread: usize, text: &mut String) -> Result<(), NoMemory> {
         let Status::Taken(token) = self.status(thread) else {
             return Ok(text.push_str("misfit")?);
         };
-        self.set_status(thread, Status::Running);
+        self.set_status(thread, Status::Running)?;
         Ok(write!(text, "unparked {}", token.0)?)
     }
 
     // The answer to a question.
     fn reply(&self, line: &str, text: &mut String) -> Result<(), NoMemory> {
         let (of, key) = (number(line, 1), number(line, 2));
-        let (size, threads) = (self.size, self.registered());
+        let (size, threads) = (self.size, self.statuses.len());
         match word(line, 0) {
             "list" => write_list(text, self.list(of)?.as_slice())?,
             "records" => write!(text, "records {}", self.count_records(of, key))?,
@@ -180,9 +166,9 @@ impl Plain {
     }
 
     fn register(&mut self, text: &mut String) -> Result<(), NoMemory> {
-        for number in 0..self.statuses.len() {
+        for number in 0..self.max_threads {
             if self.status(number) == Status::Free {
-                self.set_status(number, Status::Running);
+                self.set_status(number, Status::Running)?;
                 self.size = self.size.max(self.least_size());
                 return Ok(write!(text, "number {number}")?);
             }
@@ -197,13 +183,13 @@ impl Plain {
         }
         self.waiting.push((thread, key))?;
         let timed = word(line, 5) == "timed";
-        self.set_status(thread, Status::Waiting { timed });
+        self.set_status(thread, Status::Waiting { timed })?;
         Ok(text.push_str("entered")?)
     }
 
     /// A late thread leaves its list.
     pub fn time_out(&mut self, thread: usize, text: &mut String) -> Result<(), NoMemory> {
-        self.set_status(thread, Status::Running);
+        self.set_status(thread, Status::Running)?;
         if let Some(key) = take(&mut self.waiting, thread) {
             write!(text, "timed out {key} {}", self.list(key)?.is_empty())?;
         }
@@ -231,16 +217,33 @@ impl Plain {
 
     // An unpark. Those who are taken get the token, and those who are moved come behind the others.
     fn unpark(&mut self, line: &str, text: &mut String) -> Result<(), NoMemory> {
-        let (from, to, token) = keys_and_token(line);
         let before = mem::replace(&mut self.waiting, Vec::new(self.alloc));
-        let (mut moved, mut taken, mut left) = (Vec::new(self.alloc), 0_usize, 0_usize);
-        for (thread, key) in &before {
+        let mut moved = Vec::new(self.alloc);
+        let (taken, left) = self.part(line, before.as_slice(), &mut moved)?;
+        self.waiting.extend_from_slice(moved.as_slice())?;
+        if word(line, 0) == "all" {
+            return Ok(write!(text, "count {taken}")?);
+        }
+        let (requeued, more) = (moved.len(), left != 0 && word(line, 3) != "abort");
+        Ok(write!(text, "unparked {taken} requeued {requeued} more {more}")?)
+    }
+
+    // Counts whom an unpark takes and whom it leaves of those who waited before it.
+    fn part(
+        &mut self,
+        line: &str,
+        before: &[(usize, usize)],
+        moved: &mut Vec<(usize, usize)>,
+    ) -> Result<(usize, usize), NoMemory> {
+        let (from, to, token) = keys_and_token(line);
+        let (mut taken, mut left) = (0_usize, 0_usize);
+        for (thread, key) in before {
             let index = taken.wrapping_add(left).wrapping_add(moved.len());
             match after_unpark(line, index) {
                 _ if *key != from => self.waiting.push((*thread, *key))?,
                 "taken" => {
                     taken = taken.wrapping_add(1);
-                    self.set_status(*thread, Status::Taken(UnparkToken(token)));
+                    self.set_status(*thread, Status::Taken(UnparkToken(token)))?;
                 }
                 "moved" => moved.push((*thread, to))?,
                 _ => {
@@ -249,15 +252,6 @@ impl Plain {
                 }
             }
         }
-        self.waiting.extend_from_slice(moved.as_slice())?;
-        if word(line, 0) == "all" {
-            return Ok(write!(text, "count {taken}")?);
-        }
-        let more = left != 0 && word(line, 3) != "abort";
-        Ok(write!(
-            text,
-            "unparked {taken} requeued {} more {more}",
-            moved.len()
-        )?)
+        Ok((taken, left))
     }
 }

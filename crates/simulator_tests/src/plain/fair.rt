@@ -1,7 +1,7 @@
 //! The machine of a fair mutex and its condition variable, as plain as docs/MODEL.md tells it. It
 //! knows no lot, and moves threads one by one.
 
-use super::pairs::write_list;
+use super::pairs::{beside, put, say, take, write_list};
 use crate::words::{number, word};
 use lot_base::token::NoMemory;
 use lot_simulator::fair::FairStatus;
@@ -11,39 +11,34 @@ use std::fmt::Write;
 /// The plain machine.
 #[derive(Drop)]
 pub struct PlainFair {
+    max_threads: usize,
+
+    // Who waits for the mutex, and who on the condition variable, each in order.
     waiters: Vec<usize>,
     sleepers: Vec<usize>,
-    statuses: Vec<FairStatus>,
+
+    // The threads that are registered.
+    statuses: Vec<(usize, FairStatus)>,
 }
 
 impl PlainFair {
     /// A machine for this many threads, none of which is registered.
-    pub fn new(alloc: Global, max_threads: usize) -> Result<PlainFair, NoMemory> {
-        let mut statuses = Vec::new(alloc);
-        for _ in 0..max_threads {
-            statuses.push(FairStatus::Free)?;
-        }
-        Ok(PlainFair {
+    pub fn new(alloc: Global, max_threads: usize) -> PlainFair {
+        PlainFair {
+            max_threads,
             waiters: Vec::new(alloc),
             sleepers: Vec::new(alloc),
-            statuses,
-        })
+            statuses: Vec::new(alloc),
+        }
     }
 
     fn status(&self, number: usize) -> FairStatus {
-        let status = self.statuses.get(number).copied();
-        status.unwrap_or(FairStatus::Free)
-    }
-
-    fn set_status(&mut self, number: usize, status: FairStatus) {
-        if let Some(old) = self.statuses.get_mut(number) {
-            *old = status;
-        }
+        beside(self.statuses.as_slice(), number).unwrap_or(FairStatus::Free)
     }
 
     // Whether a thread holds the mutex.
     fn is_locked(&self) -> bool {
-        for status in &self.statuses {
+        for (_, status) in &self.statuses {
             if let FairStatus::Holding | FairStatus::Leaving | FairStatus::Handed = *status {
                 return true;
             }
@@ -55,47 +50,46 @@ impl PlainFair {
     pub fn answer(&mut self, line: &str, text: &mut String) -> Result<(), NoMemory> {
         let (thread, sleepers) = (number(line, 1), self.sleepers.len());
         match (word(line, 0), self.status(thread)) {
-            ("waiters", _) => write_list(text, self.waiters.as_slice())?,
-            ("sleepers", _) => write_list(text, self.sleepers.as_slice())?,
-            ("status", status) => write!(text, "{} {status:?}", self.is_locked())?,
-            ("register", _) => self.register(text)?,
-            ("notify-one", _) => self.notify(1, text)?,
-            ("notify-all", _) => self.notify(sleepers, text)?,
+            ("waiters", _) => write_list(text, self.waiters.as_slice()),
+            ("sleepers", _) => write_list(text, self.sleepers.as_slice()),
+            ("status", status) => Ok(write!(text, "{} {status:?}", self.is_locked())?),
+            ("register", _) => self.register(text),
+            ("notify-one", _) => self.notify(1, text),
+            ("notify-all", _) => self.notify(sleepers, text),
             ("retire", FairStatus::Idle) => {
-                self.set_status(thread, FairStatus::Free);
-                text.push_str("retired")?;
+                take(&mut self.statuses, thread);
+                say(text, "retired")
             }
             ("lock", FairStatus::Idle) if self.is_locked() => {
-                self.set_status(thread, FairStatus::Queued);
+                put(&mut self.statuses, thread, FairStatus::Queued)?;
                 self.waiters.push(thread)?;
-                text.push_str("queued")?;
+                say(text, "queued")
             }
             ("lock", FairStatus::Idle) | ("return", FairStatus::Handed) => {
-                self.set_status(thread, FairStatus::Holding);
-                text.push_str("locked")?;
+                put(&mut self.statuses, thread, FairStatus::Holding)?;
+                say(text, "locked")
             }
             ("wait", FairStatus::Holding) => {
-                self.set_status(thread, FairStatus::Leaving);
+                put(&mut self.statuses, thread, FairStatus::Leaving)?;
                 self.sleepers.push(thread)?;
-                text.push_str("waiting")?;
+                say(text, "waiting")
             }
             ("unlock", FairStatus::Holding) => {
-                self.set_status(thread, FairStatus::Idle);
-                text.push_str(self.hand_on())?;
+                put(&mut self.statuses, thread, FairStatus::Idle)?;
+                self.hand_on(text)
             }
             ("leave", FairStatus::Leaving) => {
-                self.set_status(thread, FairStatus::Queued);
-                text.push_str(self.hand_on())?;
+                put(&mut self.statuses, thread, FairStatus::Queued)?;
+                self.hand_on(text)
             }
-            _ => text.push_str("misfit")?,
+            _ => say(text, "misfit"),
         }
-        Ok(())
     }
 
     fn register(&mut self, text: &mut String) -> Result<(), NoMemory> {
-        for number in 0..self.statuses.len() {
+        for number in 0..self.max_threads {
             if self.status(number) == FairStatus::Free {
-                self.set_status(number, FairStatus::Idle);
+                put(&mut self.statuses, number, FairStatus::Idle)?;
                 return Ok(write!(text, "number {number}")?);
             }
         }
@@ -103,13 +97,13 @@ impl PlainFair {
     }
 
     // The mutex, which nobody holds now, goes to the first who waits for it.
-    fn hand_on(&mut self) -> &'static str {
+    fn hand_on(&mut self, text: &mut String) -> Result<(), NoMemory> {
         if self.waiters.is_empty() {
-            return "freed";
+            return Ok(text.push_str("freed")?);
         }
         let first = self.waiters.remove(0);
-        self.set_status(first, FairStatus::Handed);
-        "handed"
+        put(&mut self.statuses, first, FairStatus::Handed)?;
+        Ok(text.push_str("handed")?)
     }
 
     // Moves so many threads off the condition variable, if there are so many.
@@ -124,7 +118,7 @@ impl PlainFair {
                 self.waiters.push(thread)?;
                 requeued = requeued.wrapping_add(1);
             } else {
-                self.set_status(thread, FairStatus::Handed);
+                put(&mut self.statuses, thread, FairStatus::Handed)?;
                 unparked = unparked.wrapping_add(1);
             }
         }

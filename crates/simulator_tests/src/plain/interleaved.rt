@@ -4,8 +4,8 @@
 //! It knows no bucket and no node, and of a table only its size.
 
 use super::exclusive::{Plain, keys_and_token};
-use super::pairs::{beside, take};
-use crate::words::{behind_two, number, word};
+use super::pairs::{beside, put, say, take};
+use crate::words::{behind, number, word};
 use lot_base::token::{NoMemory, UnparkToken};
 use lot_machine::status::Status;
 use std::alloc::Global;
@@ -46,10 +46,10 @@ fn place(key: usize, size: usize) -> usize {
 
 impl FinePlain {
     /// A machine for so many threads and callers, with no registered thread and no open section.
-    pub fn new(alloc: Global, threads: usize, callers: usize) -> Result<FinePlain, NoMemory> {
-        Ok(FinePlain {
+    pub fn new(alloc: Global, threads: usize, callers: usize) -> FinePlain {
+        FinePlain {
             alloc,
-            view: Plain::new(alloc, threads)?,
+            view: Plain::new(alloc, threads),
             callers,
             key_words: Vec::new(alloc),
             keys_read: Vec::new(alloc),
@@ -60,7 +60,7 @@ impl FinePlain {
             wakes: Vec::new(alloc),
             steps: String::new(alloc),
             answers: String::new(alloc),
-        })
+        }
     }
 
     /// Does the step by its rule, writes the answer, and notes the sequential step.
@@ -75,39 +75,46 @@ impl FinePlain {
     }
 
     fn do_step(&mut self, line: &str, text: &mut String) -> Result<(), NoMemory> {
-        let (of, key) = (number(line, 1), number(line, 2));
+        let (step, of) = (word(line, 0), number(line, 1));
         let slot = beside(self.slots.as_slice(), of);
-        match (word(line, 0), self.view.status(of), slot) {
-            ("begin", _, _) => self.begin(of, behind_two(line), text)?,
-            ("commit", _, _) => self.commit(of, text)?,
-            ("end" | "wake", _, _) => text.push_str(self.go_on(word(line, 0), of))?,
-            ("enter", Status::Running, _) if self.is_held(key) => text.push_str("blocked")?,
-            ("deadline", _, Some(_)) => text.push_str("misfit")?,
-            ("read", Status::Late, _) => {
-                let key = beside(self.key_words.as_slice(), of).unwrap_or(0);
-                take(&mut self.keys_read, of);
-                self.keys_read.push((of, key))?;
-                write!(text, "read {key}")?;
+        match step {
+            "begin" => self.begin(of, behind(behind(line)), text),
+            "commit" => self.commit(of, text),
+            "end" | "wake" => say(text, self.go_on(step, of)),
+            "enter" => self.enter(line, text),
+            "deadline" if slot.is_some() => say(text, "misfit"),
+            "read" => self.read(of, text),
+            "steps" => self.write_steps(text),
+            "look" => self.look(of, text),
+            "return" if slot.is_some() && self.view.status(of) != Status::Late => {
+                self.take_slot(of, text)
             }
-            ("steps", _, _) => self.write_steps(text)?,
-            ("look", _, _) => self.look(of, text)?,
-            ("return", Status::Waiting { .. }, Some(_)) => self.take_slot(of, text)?,
-            ("read" | "return", _, _) => text.push_str("misfit")?,
-            ("register" | "trim", _, _) if self.is_blocked(word(line, 0)) => {
-                text.push_str("blocked")?;
-            }
-            _ => self.view.answer(line, text)?,
+            "return" => say(text, "misfit"),
+            "register" | "trim" if self.is_blocked(step) => say(text, "blocked"),
+            _ => self.view.answer(line, text),
         }
+    }
+
+    fn enter(&mut self, line: &str, text: &mut String) -> Result<(), NoMemory> {
+        let (of, key) = (number(line, 1), number(line, 2));
+        if self.view.status(of) == Status::Running && self.is_held(key) {
+            return say(text, "blocked");
+        }
+        self.view.answer(line, text)?;
         if text.as_str().ends_with("entered") {
-            self.set_key_word(of, key)?;
+            put(&mut self.key_words, of, key)?;
         }
         Ok(())
     }
 
-    fn set_key_word(&mut self, thread: usize, key: usize) -> Result<(), NoMemory> {
-        take(&mut self.key_words, thread);
-        self.key_words.push((thread, key))?;
-        Ok(())
+    // A late thread reads its key word.
+    fn read(&mut self, thread: usize, text: &mut String) -> Result<(), NoMemory> {
+        if self.view.status(thread) != Status::Late {
+            return say(text, "misfit");
+        }
+        let key = beside(self.key_words.as_slice(), thread).unwrap_or(0);
+        put(&mut self.keys_read, thread, key)?;
+        Ok(write!(text, "read {key}")?)
     }
 
     fn is_held(&self, key: usize) -> bool {
@@ -122,12 +129,12 @@ impl FinePlain {
 
     // Whether the table is to change its size and a section holds a bucket.
     fn is_blocked(&self, step: &str) -> bool {
-        let registered = self.view.registered();
+        let registered = self.view.statuses.len();
         let needed = registered.wrapping_add(1).wrapping_mul(3);
         let is_changed = if step == "trim" {
             self.view.least_size() < self.view.size
         } else {
-            registered != self.view.statuses.len() && self.view.size < needed
+            registered != self.view.max_threads && self.view.size < needed
         };
         is_changed && !self.held.is_empty()
     }
@@ -148,7 +155,7 @@ impl FinePlain {
         self.unpark(caller, op, (from, token), text)?;
         let moved = self.view.list(to)?;
         for thread in &moved {
-            self.set_key_word(*thread, to)?;
+            put(&mut self.key_words, *thread, to)?;
         }
         Ok(())
     }
@@ -164,12 +171,21 @@ impl FinePlain {
         let waiters = self.view.list(from)?;
         let before = Vec::from_slice(self.alloc, self.view.statuses.as_slice())?;
         self.view.answer(op, text)?;
-        for thread in &waiters {
+        self.take_back((caller, token), waiters.as_slice(), before.as_slice())
+    }
+
+    fn take_back(
+        &mut self,
+        (caller, token): (usize, usize),
+        waiters: &[usize],
+        before: &[(usize, Status)],
+    ) -> Result<(), NoMemory> {
+        for thread in waiters {
             if let (Status::Taken(_), Some(status)) = (
                 self.view.status(*thread),
-                before.get(*thread),
+                beside(before, *thread),
             ) {
-                self.view.set_status(*thread, *status);
+                self.view.set_status(*thread, status)?;
                 self.taken.push((caller, *thread))?;
                 self.tokens.push((*thread, token))?;
             }
@@ -205,7 +221,7 @@ impl FinePlain {
     // The thread takes its node, with the token, and runs.
     fn take_slot(&mut self, thread: usize, text: &mut String) -> Result<(), NoMemory> {
         let token = take(&mut self.slots, thread).unwrap_or(0);
-        self.view.set_status(thread, Status::Running);
+        self.view.set_status(thread, Status::Running)?;
         Ok(write!(text, "unparked {token}")?)
     }
 
@@ -229,8 +245,10 @@ impl FinePlain {
     // The token of a thread that an open section has, or whose slot is full. Such a thread is taken
     // in the sequential view.
     fn token(&self, thread: usize) -> Option<usize> {
-        let in_section = beside(self.tokens.as_slice(), thread);
-        beside(self.slots.as_slice(), thread).or(in_section)
+        match beside(self.slots.as_slice(), thread) {
+            Some(token) => Some(token),
+            None => beside(self.tokens.as_slice(), thread),
+        }
     }
 
     /// Writes the sequential steps of all that was done.
@@ -243,13 +261,14 @@ impl FinePlain {
     }
 
     /// The view becomes the sequential one.
-    pub fn go_over(&mut self) {
-        for thread in 0..self.view.statuses.len() {
+    pub fn go_over(&mut self) -> Result<(), NoMemory> {
+        for thread in 0..self.view.max_threads {
             if let Some(token) = self.token(thread) {
                 let status = Status::Taken(UnparkToken(token));
-                self.view.set_status(thread, status);
+                self.view.set_status(thread, status)?;
             }
         }
+        Ok(())
     }
 
     // Notes the sequential step of a step that fits and was answered so, if there is one. A
@@ -257,7 +276,7 @@ impl FinePlain {
     fn note_sequential(&mut self, line: &str, given: &str) -> Result<(), NoMemory> {
         let of = number(line, 1);
         match word(line, 0) {
-            "begin" => writeln!(self.steps, "{}", behind_two(line))?,
+            "begin" => writeln!(self.steps, "{}", behind(behind(line)))?,
             "look" if given.starts_with("timed") => writeln!(self.steps, "resolve {of}")?,
             "look" => writeln!(self.steps, "return {of}")?,
             "commit" | "end" | "wake" | "read" | "list" | "size" | "steps" => return Ok(()),

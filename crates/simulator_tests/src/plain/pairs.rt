@@ -1,10 +1,11 @@
-//! Lists of pairs of numbers, of which the plain machines are made, and lists of numbers.
+//! Lists of numbers, each with what stands beside it, of which the plain machines are made, and
+//! lists of numbers.
 
 use lot_base::token::NoMemory;
 use std::fmt::Write;
 
 /// What stands beside the number, where it comes first.
-pub fn beside(pairs: &[(usize, usize)], number: usize) -> Option<usize> {
+pub fn beside<T: Copy>(pairs: &[(usize, T)], number: usize) -> Option<T> {
     for (first, second) in pairs {
         if *first == number {
             return Some(*second);
@@ -14,7 +15,7 @@ pub fn beside(pairs: &[(usize, usize)], number: usize) -> Option<usize> {
 }
 
 /// Takes out the first pair of the number, and answers what stood beside it.
-pub fn take(pairs: &mut Vec<(usize, usize)>, number: usize) -> Option<usize> {
+pub fn take<T: Copy>(pairs: &mut Vec<(usize, T)>, number: usize) -> Option<T> {
     for index in 0..pairs.len() {
         if let Some((first, second)) = pairs.get(index).copied()
             && first == number
@@ -24,6 +25,19 @@ pub fn take(pairs: &mut Vec<(usize, usize)>, number: usize) -> Option<usize> {
         }
     }
     None
+}
+
+/// Puts this beside the number, in place of what stood beside it where it came first.
+pub fn put<T: Copy>(pairs: &mut Vec<(usize, T)>, number: usize, second: T) -> Result<(), NoMemory> {
+    take(pairs, number);
+    pairs.push((number, second))?;
+    Ok(())
+}
+
+/// Writes an answer of these words.
+pub fn say(text: &mut String, words: &str) -> Result<(), NoMemory> {
+    text.push_str(words)?;
+    Ok(())
 }
 
 /// Writes the answer that tells a list.

@@ -1,84 +1,69 @@
-//! The plain machine, with a journal's count of entries and of those that are set aside.
+//! The plain machine with a journal: how many entries it has, and how many are set aside.
 
 use super::exclusive::Plain;
-use super::pairs::take;
+use super::pairs::{say, take};
 use crate::words::{number, word};
 use lot_base::token::NoMemory;
 use lot_machine::status::Status;
-use std::alloc::Global;
 
-/// A plain machine, and how many entries its journal has, and room for how many.
-#[derive(Drop)]
-pub struct PlainRecord {
-    plain: Plain,
-    capacity: usize,
-    pub entries: usize,
-
-    // For each entry that is set aside its thread, and nothing beside it: one for the end of a
-    // park, and with a timeout one for its deadline.
-    aside: Vec<(usize, usize)>,
+// Whether the step fits and needs more entries than these. Those that end a park, or tell of its
+// deadline, have their entries set aside.
+fn is_full_for(plain: &Plain, line: &str, left: usize) -> bool {
+    let is_running = plain.status(number(line, 1)) == Status::Running;
+    match (word(line, 0), word(line, 3), word(line, 5)) {
+        ("deadline" | "resolve" | "return", _, _) => false,
+        ("retire" | "enter" | "acquire" | "release", _, _) if !is_running => false,
+        ("enter", "yes", "timed") => left < 3,
+        ("enter", "yes", _) => left < 2,
+        _ => left < 1,
+    }
 }
 
-impl PlainRecord {
-    pub fn new(alloc: Global, threads: usize, capacity: usize) -> Result<PlainRecord, NoMemory> {
-        Ok(PlainRecord {
-            plain: Plain::new(alloc, threads)?,
-            capacity,
-            entries: 0,
-            aside: Vec::new(alloc),
-        })
-    }
-
-    /// Does the step by its rule, unless the journal has no room for it, and writes the answer.
-    pub fn answer(&mut self, line: &str, text: &mut String) -> Result<(), NoMemory> {
-        if self.is_full_for(line) {
-            return Ok(text.push_str("journal is full")?);
-        }
-        let before = text.len();
-        self.plain.answer(line, text)?;
-        let given = text.as_str().get(before..).unwrap_or("");
-        if given == "misfit" {
-            return Ok(());
-        }
-        self.entries = self.entries.wrapping_add(1);
-        let is_entered = given == "entered";
-        self.set_aside(line, is_entered)
-    }
-
-    // Whether the step fits and needs more than there is. Those that end a park, or tell of its
-    // deadline, have their entries set aside.
-    fn is_full_for(&self, line: &str) -> bool {
-        let is_running = self.plain.status(number(line, 1)) == Status::Running;
-        let needed: usize = match (word(line, 0), word(line, 3), word(line, 5)) {
-            ("deadline" | "resolve" | "return", _, _) => return false,
-            ("retire" | "enter" | "acquire" | "release", _, _) if !is_running => return false,
-            ("enter", "yes", "timed") => 3,
-            ("enter", "yes", _) => 2,
-            _ => 1,
-        };
-        let used = self.entries.wrapping_add(self.aside.len());
-        used.wrapping_add(needed) > self.capacity
-    }
-
-    // What a step sets aside, or takes of that.
-    fn set_aside(&mut self, line: &str, is_entered: bool) -> Result<(), NoMemory> {
-        let thread = number(line, 1);
-        match word(line, 0) {
-            "enter" if is_entered => {
-                self.aside.push((thread, 0))?;
-                if word(line, 5) == "timed" {
-                    self.aside.push((thread, 0))?;
-                }
+// What a step sets aside, or takes of that.
+fn set_aside(
+    aside: &mut Vec<(usize, usize)>,
+    line: &str,
+    is_entered: bool,
+) -> Result<(), NoMemory> {
+    let thread = number(line, 1);
+    match word(line, 0) {
+        "enter" if is_entered => {
+            if word(line, 5) == "timed" {
+                aside.push((thread, 0))?;
             }
-            "deadline" => {
-                take(&mut self.aside, thread);
-            }
-            "resolve" | "return" => {
-                take(&mut self.aside, thread);
-                take(&mut self.aside, thread);
-            }
-            _ => {}
+            aside.push((thread, 0))?;
         }
-        Ok(())
+        "deadline" => {
+            take(aside, thread);
+        }
+        "resolve" | "return" => {
+            take(aside, thread);
+            take(aside, thread);
+        }
+        _ => {}
     }
+    Ok(())
+}
+
+/// Does the step by its rule, unless a journal of so many entries has no room for it, and writes
+/// the answer. For each entry that is set aside stands its thread, and nothing beside it: one for
+/// the end of a park, and with a timeout one for its deadline.
+pub fn answer(
+    (plain, aside): (&mut Plain, &mut Vec<(usize, usize)>),
+    (entries, capacity): (&mut usize, usize),
+    line: &str,
+    text: &mut String,
+) -> Result<(), NoMemory> {
+    let left = capacity.wrapping_sub(*entries).wrapping_sub(aside.len());
+    if is_full_for(plain, line, left) {
+        return say(text, "journal is full");
+    }
+    let before = text.len();
+    plain.answer(line, text)?;
+    let given = text.as_str().get(before..).unwrap_or("");
+    if given == "misfit" {
+        return Ok(());
+    }
+    *entries = entries.wrapping_add(1);
+    set_aside(aside, line, given == "entered")
 }

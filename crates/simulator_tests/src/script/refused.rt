@@ -33,7 +33,7 @@ fn expect_refused(rt: &impl Abort, alloc: Global, (before, lines): (&str, &str),
     for line in lines.split(';') {
         let mut input = String::new(alloc);
         write!(input, "{before}{line}").expect(rt, "memory");
-        let found = answers_of(rt, alloc, input.as_str().as_bytes());
+        let found = answers_of(rt, alloc, input.as_str().as_bytes(), false);
         expect_text(rt, line, found.as_str(), expected);
     }
 }
@@ -48,7 +48,7 @@ fn a_line_without_a_form_ends_a_script(rt: HostRuntime) {
         "ok\nline 2: bad step\n",
     );
     for (input, expected) in INPUTS {
-        let found = answers_of(&rt, rt.alloc(), input);
+        let found = answers_of(&rt, rt.alloc(), input, false);
         expect_text(&rt, "an input", found.as_str(), expected);
     }
 }
