@@ -1,6 +1,5 @@
 //! What a line asks of the program.
 
-use crate::forms::{Taker, form_of};
 use crate::words::{first_word, number};
 
 /// What a line asks for.
@@ -50,13 +49,6 @@ impl<'a> Command<'a> {
             return Command::Pass;
         }
         let (word, rest) = first_word(line);
-        match form_of(word) {
-            Some(form) if form.taker == Taker::Explorer => Command::of_explorer(word, rest),
-            _ => Command::Step(line),
-        }
-    }
-
-    fn of_explorer(word: &str, rest: &'a str) -> Command<'a> {
         match word {
             "status" => match number(rest) {
                 Some(thread) => Command::Status(thread),
@@ -70,7 +62,8 @@ impl<'a> Command<'a> {
             "help" if rest.is_empty() => Command::Help,
             "help" => Command::HelpOn(rest),
             "quit" if rest.is_empty() => Command::Quit,
-            _ => Command::Unfit,
+            "show" | "undo" | "story" | "record" | "replay" | "quit" => Command::Unfit,
+            _ => Command::Step(line),
         }
     }
 }

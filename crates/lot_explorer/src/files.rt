@@ -1,6 +1,6 @@
 //! Sessions written into files, and done once more.
 
-use crate::journal::{Replayed, journal_of, replay};
+use crate::journal::{journal_of, replay};
 use crate::page::Page;
 use crate::refusal::refuse_journal;
 use crate::session::Session;
@@ -16,8 +16,8 @@ pub fn record_into<R: Files + AllocGlobal>(
 ) -> anyhow::Result<()> {
     let text = journal_of(rt.alloc(), session.entries())?;
     match fs::write(rt, file, text.as_str()) {
-        Ok(()) => page.counted("steps recorded", session.entries().len())?,
-        Err(error) => page.failure(file, &error)?,
+        Ok(()) => page.labelled("steps recorded", &session.entries().len())?,
+        Err(error) => page.labelled(file, &error)?,
     }
     Ok(())
 }
@@ -32,22 +32,16 @@ pub fn replay_from<R: Files + AllocGlobal>(
 ) -> anyhow::Result<()> {
     let text = match fs::read_to_string(rt, file) {
         Ok(text) => text,
-        Err(error) => return Ok(page.failure(file, &error)?),
+        Err(error) => return Ok(page.labelled(file, &error)?),
     };
-    match replay(rt.alloc(), text.as_str()) {
-        Ok(Replayed::Same(other)) => {
-            page.counted(
-                "steps replayed, with the same answers",
-                other.entries().len(),
-            )?;
+    match replay(rt.alloc(), text.as_str(), page) {
+        Ok(Some(other)) => {
+            let count = other.entries().len();
+            page.labelled("steps replayed, with the same answers", &count)?;
             session.turn_to(other)?;
             session.show_changes(page)?;
         }
-        Ok(Replayed::Differs { recorded, now }) => {
-            page.labelled("step", recorded.line.as_str())?;
-            page.labelled("recorded", recorded.answer.as_str())?;
-            page.labelled("answered now", now.as_str())?;
-        }
+        Ok(None) => {}
         Err(cause) => refuse_journal(&cause, page)?,
     }
     Ok(())

@@ -40,10 +40,10 @@ pub fn help_all(page: &mut Page) -> Result<(), AllocError> {
 
 /// The form of the lines with this first word, an example and what it answers.
 pub fn help_form(page: &mut Page, form: Form) -> Result<(), AllocError> {
-    page.labelled("line", form.form)?;
-    page.labelled("does", form.meaning)?;
+    page.labelled("line", &form.form)?;
+    page.labelled("does", &form.meaning)?;
     if !form.answers.is_empty() {
-        page.labelled("answers", form.answers)?;
+        page.labelled("answers", &form.answers)?;
     }
-    page.labelled("example", form.example)
+    page.labelled("example", &form.example)
 }

@@ -1,7 +1,6 @@
 //! What was done in a session.
 
 use crate::words::first_word;
-use std::alloc::{AllocError, Global};
 
 /// A step as a line of the grammar, and what it answered.
 #[derive(Drop)]
@@ -14,14 +13,6 @@ pub struct Entry {
 }
 
 impl Entry {
-    /// An entry of this line and this answer.
-    pub fn new(alloc: Global, line: &str, answer: &str) -> Result<Entry, AllocError> {
-        Ok(Entry {
-            line: String::from_str(alloc, line)?,
-            answer: String::from_str(alloc, answer)?,
-        })
-    }
-
     /// Whether the lot may be another since. Questions leave it as it was, and so do steps that do
     /// not fit or find no memory.
     pub fn may_change(&self) -> bool {

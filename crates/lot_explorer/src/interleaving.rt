@@ -91,11 +91,21 @@ fn fine_step(alloc: Global, line: &str) -> Option<FineStep> {
     let (word, rest) = first_word(line);
     match word {
         "begin" => begin_step(alloc, rest),
-        "commit" => number(rest).map(|caller| FineStep::Commit { caller }),
-        "end" => number(rest).map(|caller| FineStep::End { caller }),
-        "wake" => number(rest).map(|caller| FineStep::Wake { caller }),
-        "read-key" => number(rest).map(|thread| FineStep::ReadKey { thread }),
-        "look" => number(rest).map(|thread| FineStep::Look { thread }),
+        "commit" => Some(FineStep::Commit {
+            caller: number(rest)?,
+        }),
+        "end" => Some(FineStep::End {
+            caller: number(rest)?,
+        }),
+        "wake" => Some(FineStep::Wake {
+            caller: number(rest)?,
+        }),
+        "read-key" => Some(FineStep::ReadKey {
+            thread: number(rest)?,
+        }),
+        "look" => Some(FineStep::Look {
+            thread: number(rest)?,
+        }),
         _ => same_step(script_step(alloc, line)?),
     }
 }

@@ -2,6 +2,7 @@
 
 use crate::command::is_passed_by;
 use crate::history::Entry;
+use crate::page::Page;
 use crate::session::Session;
 use lot_script::script::Cause;
 use std::alloc::{AllocError, Global};
@@ -24,28 +25,14 @@ pub fn journal_of(alloc: Global, entries: &[Entry]) -> Result<String, AllocError
     Ok(text)
 }
 
-/// How a replay ended.
-#[derive(Drop)]
-pub enum Replayed {
-    /// Each line was answered as the journal tells. This is the session that did them.
-    Same(Session),
-
-    /// This is the first line whose answer is another now.
-    Differs {
-        /// What the journal tells.
-        recorded: Entry,
-        /// What is answered now.
-        now: String,
-    },
-}
-
-/// Does the steps of a journal in a new session, and compares the answers.
+/// Does the steps of a journal in a new session, and compares the answers. The page tells the first
+/// line whose answer is another now, and there is no session then.
 ///
 /// # Errors
 ///
 /// The cause for which a step is refused; `BadStep` too if the text is no journal: a line has no
 /// answer, or there is none.
-pub fn replay(alloc: Global, text: &str) -> Result<Replayed, Cause> {
+pub fn replay(alloc: Global, text: &str, page: &mut Page) -> Result<Option<Session>, Cause> {
     let mut session = Session::new(alloc);
     for line in text.lines() {
         if is_passed_by(line) {
@@ -55,12 +42,14 @@ pub fn replay(alloc: Global, text: &str) -> Result<Replayed, Cause> {
             return Err(Cause::BadStep);
         };
         if let Some(now) = session.repeat(step, answer)? {
-            let recorded = Entry::new(alloc, step, answer)?;
-            return Ok(Replayed::Differs { recorded, now });
+            page.labelled("step", &step)?;
+            page.labelled("recorded", &answer)?;
+            page.labelled("answered now", &now.as_str())?;
+            return Ok(None);
         }
     }
     if session.lot().is_none() {
         return Err(Cause::BadStep);
     }
-    Ok(Replayed::Same(session))
+    Ok(Some(session))
 }

@@ -30,27 +30,14 @@ impl Known {
 
     /// Notes what the step speaks of.
     pub fn note(&mut self, line: &str) -> Result<(), AllocError> {
-        match first_word(line).0 {
-            "enter" | "requeue" => self.note_key(number_at(line, 2)),
-            "acquire" => self.note_record(number_at(line, 1), number_at(line, 2)),
+        match (first_word(line).0, number_at(line, 1), number_at(line, 2)) {
+            ("enter" | "requeue", _, Some(key)) => insert_once(&mut self.keys, key),
+            ("acquire", Some(thread), Some(key)) if !self.records.contains(&(thread, key)) => {
+                self.records.push((thread, key))?;
+                Ok(())
+            }
             _ => Ok(()),
         }
-    }
-
-    fn note_key(&mut self, key: Option<usize>) -> Result<(), AllocError> {
-        match key {
-            Some(key) => insert_once(&mut self.keys, key),
-            None => Ok(()),
-        }
-    }
-
-    fn note_record(&mut self, thread: Option<usize>, key: Option<usize>) -> Result<(), AllocError> {
-        if let (Some(thread), Some(key)) = (thread, key)
-            && !self.records.contains(&(thread, key))
-        {
-            self.records.push((thread, key))?;
-        }
-        Ok(())
     }
 }
 

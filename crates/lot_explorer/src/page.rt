@@ -3,10 +3,10 @@
 use lot_script::script::Cause;
 use lot_simulator::schedule::Step;
 use std::alloc::{AllocError, Global};
-use std::{fmt, io};
+use std::fmt;
 
 /// For whom the program writes.
-#[derive(Copy, Clone, Eq, PartialEq)]
+#[derive(Copy, Clone)]
 pub enum Look {
     /// A person: with a prompt, and what changed in bold.
     Terminal,
@@ -41,19 +41,14 @@ impl Page {
         writeln!(self.text, "{line}")
     }
 
-    /// Adds a line of what `label` says.
-    pub fn labelled(&mut self, label: &str, text: &str) -> Result<(), AllocError> {
-        writeln!(self.text, "{label}: {text}")
+    /// Adds a line of what `label` says: what the value displays.
+    pub fn labelled<D: fmt::Display>(&mut self, label: &str, value: &D) -> Result<(), AllocError> {
+        writeln!(self.text, "{label}: {value}")
     }
 
     /// Adds a line of three columns.
     pub fn columns(&mut self, first: &str, second: &str, third: &str) -> Result<(), AllocError> {
         writeln!(self.text, "{first:<16} {second:<24} {third}")
-    }
-
-    /// Adds a line with what the value displays.
-    pub fn shown<D: fmt::Display>(&mut self, value: &D) -> Result<(), AllocError> {
-        writeln!(self.text, "{value}")
     }
 
     /// Adds a line that tells the step of a lot to which an interleaved step amounts.
@@ -66,34 +61,18 @@ impl Page {
         writeln!(self.text, "{cause}, expected: {expected}")
     }
 
-    /// Adds a line of how many `label` counts.
-    pub fn counted(&mut self, label: &str, count: usize) -> Result<(), AllocError> {
-        writeln!(self.text, "{label}: {count}")
-    }
-
-    /// Adds a line that tells what went wrong with a file.
-    pub fn failure(&mut self, file: &str, error: &io::Error) -> Result<(), AllocError> {
-        writeln!(self.text, "{file}: {error}")
-    }
-
     /// Adds a row of a picture that is as it was before the last step.
     pub fn row(&mut self, row: &str) -> Result<(), AllocError> {
         writeln!(self.text, "  {row}")
     }
 
-    /// Adds a row of a picture that the last step changed, and marks it.
-    pub fn changed_row(&mut self, row: &str) -> Result<(), AllocError> {
-        match self.look {
-            Look::Terminal => writeln!(self.text, "\x1b[1m* {row}\x1b[0m"),
-            Look::Plain => writeln!(self.text, "* {row}"),
-        }
-    }
-
-    /// Adds a marked line that tells that a row of a picture is gone.
-    pub fn gone_row(&mut self, head: &str) -> Result<(), AllocError> {
-        match self.look {
-            Look::Terminal => writeln!(self.text, "\x1b[1m* {head}: gone\x1b[0m"),
-            Look::Plain => writeln!(self.text, "* {head}: gone"),
-        }
+    /// Adds a row of a picture that the last step changed, or what is left of it and what became of
+    /// it, and marks that.
+    pub fn changed_row(&mut self, row: &str, became: &str) -> Result<(), AllocError> {
+        let (mark, end) = match self.look {
+            Look::Terminal => ("\x1b[1m* ", "\x1b[0m"),
+            Look::Plain => ("* ", ""),
+        };
+        writeln!(self.text, "{mark}{row}{became}{end}")
     }
 }

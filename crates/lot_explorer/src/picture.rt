@@ -4,7 +4,7 @@ ghost use Rattle.lot_base.specs.Place.{IsTableSize};
 
 use crate::known::{Known, insert_once};
 use crate::page::Page;
-use crate::state::{Doing, Queue, all_doing, queues_of};
+use crate::state::{Queue, key_of, queues_of, registered};
 use lot_base::bucket::place;
 use lot_base::token::{LotError, UnparkToken};
 use lot_simulator::lot::{Lot, Status};
@@ -29,14 +29,15 @@ impl Picture {
     pub fn of(alloc: Global, lot: &Lot, known: &Known) -> Result<Picture, LotError> {
         let size = lot.size();
         let queues = queues_of(alloc, lot, known.keys.as_slice())?;
-        let threads = all_doing(alloc, lot, queues.as_slice())?;
+        let threads = registered(alloc, lot)?;
         let mut rows = Vec::new(alloc);
         rows.push(format!(in alloc; "size: buckets {size} threads {}", threads.len())?)?;
         for queue in &queues {
             rows.push(queue_row(alloc, queue)?)?;
         }
-        for group in Group::all() {
-            rows.push(group_row(alloc, group, threads.as_slice())?)?;
+        for group in GROUPS {
+            let of = (queues.as_slice(), threads.as_slice());
+            rows.push(group_row(alloc, group, lot, of)?)?;
         }
         for (thread, key) in &known.records {
             let count = lot.records(*thread, *key);
@@ -64,7 +65,7 @@ impl Picture {
             if before.has(row.as_str()) {
                 page.row(row.as_str())?;
             } else {
-                page.changed_row(row.as_str())?;
+                page.changed_row(row.as_str(), "")?;
             }
         }
         self.show_gone(before, page)
@@ -74,7 +75,7 @@ impl Picture {
     pub fn show_changes(&self, before: &Picture, page: &mut Page) -> Result<(), AllocError> {
         for row in &self.rows {
             if !before.has(row.as_str()) {
-                page.changed_row(row.as_str())?;
+                page.changed_row(row.as_str(), "")?;
             }
         }
         self.show_gone(before, page)
@@ -83,63 +84,58 @@ impl Picture {
     fn show_gone(&self, before: &Picture, page: &mut Page) -> Result<(), AllocError> {
         for row in &before.rows {
             let head = head_of(row.as_str());
-            if !self.rows.iter().any(|row| head_of(row.as_str()) == head) {
-                page.gone_row(head)?;
+            if !self.has_head(head) {
+                page.changed_row(head, ": gone")?;
             }
         }
         Ok(())
     }
 
     fn has(&self, wanted: &str) -> bool {
-        self.rows.iter().any(|row| row.as_str() == wanted)
+        for row in &self.rows {
+            if row.as_str() == wanted {
+                return true;
+            }
+        }
+        false
+    }
+
+    fn has_head(&self, head: &str) -> bool {
+        for row in &self.rows {
+            if head_of(row.as_str()) == head {
+                return true;
+            }
+        }
+        false
     }
 }
 
 // What the row tells of: what stands before its colon.
 fn head_of(row: &str) -> &str {
-    row.split_once(':').map_or(row, |(head, _)| head)
+    match row.split_once(':') {
+        Some((head, _)) => head,
+        None => row,
+    }
 }
 
-// What several threads are doing at a time.
-#[derive(Copy, Clone, Eq, PartialEq)]
-enum Group {
-    Running,
-    WaitingTimed,
-    WaitingUntimed,
-    Late,
-    Taken,
-}
+// What several threads may be doing at a time.
+const GROUPS: [&str; 5] = [
+    "running",
+    "waiting timed",
+    "waiting untimed",
+    "late",
+    "taken",
+];
 
-impl Group {
-    fn all() -> [Group; 5] {
-        [
-            Group::Running,
-            Group::WaitingTimed,
-            Group::WaitingUntimed,
-            Group::Late,
-            Group::Taken,
-        ]
-    }
-
-    fn of(status: Status) -> Option<Group> {
-        match status {
-            Status::Free => None,
-            Status::Running => Some(Group::Running),
-            Status::Waiting { timed: true } => Some(Group::WaitingTimed),
-            Status::Waiting { timed: false } => Some(Group::WaitingUntimed),
-            Status::Late => Some(Group::Late),
-            Status::Taken(_) => Some(Group::Taken),
-        }
-    }
-
-    fn name(self) -> &'static str {
-        match self {
-            Group::Running => "running:",
-            Group::WaitingTimed => "waiting timed:",
-            Group::WaitingUntimed => "waiting untimed:",
-            Group::Late => "late:",
-            Group::Taken => "taken:",
-        }
+// The group of the threads with this status. A number that is free is of none of them.
+fn group_of(status: Status) -> &'static str {
+    match status {
+        Status::Free => "free",
+        Status::Running => "running",
+        Status::Waiting { timed: true } => "waiting timed",
+        Status::Waiting { timed: false } => "waiting untimed",
+        Status::Late => "late",
+        Status::Taken(_) => "taken",
     }
 }
 
@@ -160,27 +156,35 @@ fn push_threads(row: &mut String, queue: &Queue) -> Result<(), AllocError> {
     Ok(())
 }
 
-fn group_row(alloc: Global, group: Group, threads: &[Doing]) -> Result<String, AllocError> {
-    let mut row = String::from_str(alloc, group.name())?;
-    let mut separator = "";
-    for doing in threads {
-        if Group::of(doing.status) == Some(group) {
-            write!(row, "{separator} {}", doing.thread)?;
-            push_detail(&mut row, doing)?;
-            separator = ",";
+// The threads of a group, with what there is to tell of each.
+fn group_row(
+    alloc: Global,
+    group: &str,
+    lot: &Lot,
+    (queues, threads): (&[Queue], &[usize]),
+) -> Result<String, AllocError> {
+    let mut row = format!(in alloc; "{group}:")?;
+    let mut is_empty = true;
+    for thread in threads {
+        let status = lot.status(*thread);
+        if group_of(status) == group {
+            row.push_str(if is_empty { " " } else { ", " })?;
+            write!(row, "{thread}")?;
+            push_detail(&mut row, status, key_of(queues, *thread))?;
+            is_empty = false;
         }
     }
-    if separator.is_empty() {
+    if is_empty {
         row.push_str(" nobody")?;
     }
     Ok(row)
 }
 
 // On which key the thread waits, or which token it was handed.
-fn push_detail(row: &mut String, doing: &Doing) -> Result<(), AllocError> {
-    match doing.status {
+fn push_detail(row: &mut String, status: Status, key: usize) -> Result<(), AllocError> {
+    match status {
         Status::Free | Status::Running => Ok(()),
-        Status::Waiting { .. } | Status::Late => write!(row, " on {}", doing.key),
+        Status::Waiting { .. } | Status::Late => write!(row, " on {key}"),
         Status::Taken(UnparkToken(token)) => write!(row, " with {token}"),
     }
 }

@@ -9,21 +9,15 @@ use std::rt::{Env, Files};
 
 const USAGE_STATUS: u8 = 2;
 
-enum Task {
-    Session(Look),
-    Help,
-    Version,
-}
-
 /// Does what the arguments ask for. Any other words are answered by the usage line on the error
 /// output and the status 2.
 pub fn run<R: Env + Files + Input + Print + Eprint + AllocGlobal>(rt: &R) -> ExitCode {
-    let Some(task) = chosen_task(rt) else {
-        let _ = eprintln!(rt; "{USAGE}");
-        return ExitCode::from(USAGE_STATUS);
-    };
-    match run_task(rt, task) {
-        Ok(()) => ExitCode::SUCCESS,
+    match run_task(rt) {
+        Ok(true) => ExitCode::SUCCESS,
+        Ok(false) => {
+            let _ = eprintln!(rt; "{USAGE}");
+            ExitCode::from(USAGE_STATUS)
+        }
         Err(error) => {
             let _ = eprintln!(rt; "lot_explorer: {error}");
             ExitCode::FAILURE
@@ -31,32 +25,28 @@ pub fn run<R: Env + Files + Input + Print + Eprint + AllocGlobal>(rt: &R) -> Exi
     }
 }
 
-// The task that the arguments name. Arguments that cannot be read name none.
-fn chosen_task<R: Env + AllocGlobal>(rt: &R) -> Option<Task> {
-    let mut words = env::args(rt).ok()?.skip(1);
-    let Some(word) = words.next() else {
-        return Some(Task::Session(Look::Terminal));
+// Whether the arguments name a task, which is done then. Arguments that cannot be read name none.
+fn run_task<R: Env + Files + Input + Print + AllocGlobal>(rt: &R) -> anyhow::Result<bool> {
+    let Ok(mut words) = env::args(rt) else {
+        return Ok(false);
     };
+    words.next();
+    let word = words.next();
     if words.next().is_some() {
-        return None;
+        return Ok(false);
     }
-    match word.as_str() {
-        "--plain" => Some(Task::Session(Look::Plain)),
-        "help" | "--help" => Some(Task::Help),
-        "--version" => Some(Task::Version),
-        _ => None,
+    match word {
+        None => turns::run(rt, Look::Terminal)?,
+        Some(word) => match word.as_str() {
+            "--plain" => turns::run(rt, Look::Plain)?,
+            "help" | "--help" => {
+                let mut page = Page::new(rt.alloc(), Look::Plain);
+                help_outside(&mut page)?;
+                rt.print(page.as_str())?;
+            }
+            "--version" => rt.println(VERSION)?,
+            _ => return Ok(false),
+        },
     }
-}
-
-fn run_task<R: Files + Input + Print + AllocGlobal>(rt: &R, task: Task) -> anyhow::Result<()> {
-    match task {
-        Task::Session(look) => turns::run(rt, look)?,
-        Task::Help => {
-            let mut page = Page::new(rt.alloc(), Look::Plain);
-            help_outside(&mut page)?;
-            rt.print(page.as_str())?;
-        }
-        Task::Version => rt.println(VERSION)?,
-    }
-    Ok(())
+    Ok(true)
 }

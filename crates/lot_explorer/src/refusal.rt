@@ -28,10 +28,16 @@ pub fn refuse_step(
     cause: &Cause,
     page: &mut Page,
 ) -> Result<(), AllocError> {
+    let word = first_word(line).0;
     match cause {
-        Cause::BadStep => refuse_bad_step(alloc, session, line, page),
+        Cause::BadStep if session.lot().is_none() && form_of(word).is_some() => {
+            refuse(page, "lot M")
+        }
+        Cause::BadStep if word == "lot" => refuse(page, "any other step, as there is a lot"),
+        Cause::BadStep => refuse_line(alloc, line, page),
         Cause::TooManyThreads => page.refusal(cause, "lot M, M at most 16384"),
-        _ => tell_no_memory(page),
+        // Nothing else stops a script that is read and answered in memory.
+        _ => page.line("no memory"),
     }
 }
 
@@ -41,36 +47,16 @@ pub fn refuse_journal(cause: &Cause, page: &mut Page) -> Result<(), AllocError> 
         Cause::BadStep | Cause::TooManyThreads => {
             page.refusal(cause, "a journal, as record writes it")
         }
-        _ => tell_no_memory(page),
+        _ => page.line("no memory"),
     }
-}
-
-fn refuse_bad_step(
-    alloc: Global,
-    session: &Session,
-    line: &str,
-    page: &mut Page,
-) -> Result<(), AllocError> {
-    let word = first_word(line).0;
-    if session.lot().is_none() && form_of(word).is_some() {
-        return refuse(page, "lot M");
-    }
-    if word == "lot" {
-        return refuse(page, "any other step, as there is a lot");
-    }
-    refuse_line(alloc, line, page)
-}
-
-// Nothing else stops a script that is read and answered in memory.
-fn tell_no_memory(page: &mut Page) -> Result<(), AllocError> {
-    page.line("no memory")
 }
 
 // The first words of all forms.
 fn all_words(alloc: Global) -> Result<String, AllocError> {
     let mut words = String::from_str(alloc, "one of")?;
     for form in all_forms() {
-        write!(words, " {}", form.word)?;
+        words.push_str(" ")?;
+        words.push_str(form.word())?;
     }
     Ok(words)
 }

@@ -4,7 +4,7 @@ use crate::history::Entry;
 use crate::known::Known;
 use crate::page::Page;
 use crate::picture::Picture;
-use crate::state::{Doing, doing_of, queues_of};
+use crate::state::{doing_of, queues_of};
 use crate::words::text_of;
 use lot_base::token::LotError;
 use lot_script::script::{Cause, ScriptedLot};
@@ -144,7 +144,11 @@ impl Session {
     fn picture(&self) -> Result<Picture, Cause> {
         match self.lot() {
             None => Ok(Picture::empty(self.alloc)),
-            Some(lot) => Picture::of(self.alloc, lot, &self.known).map_err(no_memory),
+            Some(lot) => match Picture::of(self.alloc, lot, &self.known) {
+                Ok(picture) => Ok(picture),
+                // A picture is refused for nothing else.
+                Err(_) => Err(Cause::NoMemory),
+            },
         }
     }
 
@@ -153,9 +157,9 @@ impl Session {
     /// # Errors
     ///
     /// `NoMemory` if memory cannot be had.
-    pub fn doing(&self, lot: &Lot, thread: usize) -> Result<Doing, LotError> {
+    pub fn doing(&self, lot: &Lot, number: usize) -> Result<String, LotError> {
         let queues = queues_of(self.alloc, lot, self.known.keys.as_slice())?;
-        Ok(doing_of(lot, queues.as_slice(), thread))
+        Ok(doing_of(self.alloc, lot, queues.as_slice(), number)?)
     }
 
     /// Shows the lot, and marks what the last step changed.
@@ -167,9 +171,4 @@ impl Session {
     pub fn show_changes(&self, page: &mut Page) -> Result<(), AllocError> {
         self.now.show_changes(&self.before, page)
     }
-}
-
-// A picture is refused for nothing else.
-fn no_memory(_error: LotError) -> Cause {
-    Cause::NoMemory
 }

@@ -3,8 +3,7 @@
 use lot_base::token::{LotError, UnparkToken};
 use lot_simulator::lot::{Lot, Status};
 use lot_simulator::table::MAX_THREADS;
-use std::alloc::Global;
-use std::fmt;
+use std::alloc::{AllocError, Global};
 
 /// A key and who waits there, in order.
 #[derive(Drop)]
@@ -14,32 +13,6 @@ pub struct Queue {
 
     /// The numbers of the threads.
     pub threads: Vec<usize>,
-}
-
-/// What a thread is doing.
-#[derive(Copy, Clone)]
-pub struct Doing {
-    /// The number of the thread.
-    pub thread: usize,
-
-    /// What the lot tells of it.
-    pub status: Status,
-
-    /// The key in whose queue it stands, if it does.
-    pub key: usize,
-}
-
-impl fmt::Display for Doing {
-    fn fmt<W: fmt::Write>(&self, f: &mut fmt::Formatter<W>) -> fmt::Result {
-        match self.status {
-            Status::Free => write!(f, "free"),
-            Status::Running => write!(f, "running"),
-            Status::Waiting { timed: true } => write!(f, "waiting {} timed", self.key),
-            Status::Waiting { timed: false } => write!(f, "waiting {} untimed", self.key),
-            Status::Late => write!(f, "late {}", self.key),
-            Status::Taken(UnparkToken(token)) => write!(f, "taken {token}"),
-        }
-    }
 }
 
 /// Who waits on each of these keys.
@@ -52,16 +25,8 @@ pub fn queues_of(alloc: Global, lot: &Lot, keys: &[usize]) -> Result<Vec<Queue>,
     Ok(queues)
 }
 
-/// What the thread is doing, which waits in one of these queues if it waits.
-pub fn doing_of(lot: &Lot, queues: &[Queue], thread: usize) -> Doing {
-    Doing {
-        thread,
-        status: lot.status(thread),
-        key: key_of(queues, thread),
-    }
-}
-
-fn key_of(queues: &[Queue], thread: usize) -> usize {
+/// The key in whose queue the thread stands, if it does.
+pub fn key_of(queues: &[Queue], thread: usize) -> usize {
     for queue in queues {
         if queue.threads.contains(&thread) {
             return queue.key;
@@ -70,15 +35,33 @@ fn key_of(queues: &[Queue], thread: usize) -> usize {
     0
 }
 
-/// What each registered thread is doing, in order of the numbers.
-pub fn all_doing(alloc: Global, lot: &Lot, queues: &[Queue]) -> Result<Vec<Doing>, LotError> {
+/// What the number is doing, which stands in one of these queues if it waits.
+pub fn doing_of(
+    alloc: Global,
+    lot: &Lot,
+    queues: &[Queue],
+    number: usize,
+) -> Result<String, AllocError> {
+    let key = key_of(queues, number);
+    match lot.status(number) {
+        Status::Free => String::from_str(alloc, "free"),
+        Status::Running => String::from_str(alloc, "running"),
+        Status::Waiting { timed: true } => format!(in alloc; "waiting {key} timed"),
+        Status::Waiting { timed: false } => format!(in alloc; "waiting {key} untimed"),
+        Status::Late => format!(in alloc; "late {key}"),
+        Status::Taken(UnparkToken(token)) => format!(in alloc; "taken {token}"),
+    }
+}
+
+/// The registered threads, in order of their numbers.
+pub fn registered(alloc: Global, lot: &Lot) -> Result<Vec<usize>, LotError> {
     let mut threads = Vec::new(alloc);
     for thread in 0..MAX_THREADS {
         if threads.len() == lot.registered() {
             break;
         }
         if lot.status(thread) != Status::Free {
-            threads.push(doing_of(lot, queues, thread))?;
+            threads.push(thread)?;
         }
     }
     Ok(threads)

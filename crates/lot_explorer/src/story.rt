@@ -2,12 +2,10 @@
 
 use crate::command::is_passed_by;
 use crate::interleaving::Interleaving;
-use crate::page::{Look, Page};
+use crate::page::Look;
 use crate::session::Session;
 use crate::terminal::Terminal;
 use crate::words::{number_at, word_at};
-use anyhow::anyhow;
-use std::alloc::Global;
 use std::rt::Files;
 use std::{env, fs, io};
 
@@ -16,55 +14,26 @@ pub const EXPECTED: &str = "story NAME, NAME one of timeout requeue growth inter
 
 const PROMPT: &str = "-- Enter: the next step, quit: leave the story -- ";
 
-// The lot of a story.
-#[derive(Drop)]
-enum Stage {
-    Exclusive(Session),
-    Interleaved(Interleaving),
-}
-
-impl Stage {
-    // The stage that the first step sets: `lot M`, or `lot M callers C` for an interleaved lot.
-    fn set(alloc: Global, line: &str) -> anyhow::Result<Stage> {
-        if word_at(line, 2) != Some("callers") {
-            return Ok(Stage::Exclusive(Session::new(alloc)));
-        }
-        let threads = number_at(line, 1).unwrap_or(0);
-        let callers = number_at(line, 3).unwrap_or(0);
-        Ok(Stage::Interleaved(Interleaving::new(alloc, threads, callers)?))
-    }
-
-    // Does a step, and shows its answer and what changed.
-    fn step(&mut self, line: &str, page: &mut Page) -> anyhow::Result<()> {
-        match self {
-            Stage::Exclusive(session) => session.step(line, page)?,
-            Stage::Interleaved(interleaving) => interleaving.step(line, page)?,
-        }
-        Ok(())
-    }
-}
-
 /// Whether a story has this name.
 pub fn is_name(name: &str) -> bool {
     matches!(name, "timeout" | "requeue" | "growth" | "interleaving")
 }
 
-/// The text of a story: a file of the folder `data` beside the folder in which the program lies, or
-/// else of the folder in which it was started.
-pub fn text_of<R: Files + AllocGlobal>(rt: &R, name: &str) -> anyhow::Result<String> {
-    let file = format!(in rt.alloc(); "{name}.story")?;
-    if let Ok(text) = text_beside_program(rt, file.as_str()) {
-        return Ok(text);
-    }
-    match fs::read_to_string(rt, file.as_str()) {
+/// The text of a story's file, which lies in the folder `data` beside the folder in which the
+/// program lies, or else in the folder in which it was started.
+pub fn text_of<R: Files + AllocGlobal>(rt: &R, file: &str) -> io::Result<String> {
+    match text_beside_program(rt, file) {
         Ok(text) => Ok(text),
-        Err(error) => Err(anyhow!("{file} cannot be read: {error}")),
+        Err(_) => fs::read_to_string(rt, file),
     }
 }
 
 fn text_beside_program<R: Files + AllocGlobal>(rt: &R, file: &str) -> io::Result<String> {
     let program = env::current_exe(rt)?;
-    let folder = program.parent().and_then(|folder| folder.parent());
+    let folder = match program.parent() {
+        Some(folder) => folder.parent(),
+        None => None,
+    };
     match folder {
         Some(folder) => {
             let folder = folder.join(rt.alloc(), "data")?;
@@ -79,16 +48,17 @@ pub fn tell<R: Input + Print + AllocGlobal>(
     terminal: &mut Terminal<'_, R>,
     text: &str,
 ) -> anyhow::Result<()> {
-    let mut stage = None;
+    let mut session = Session::new(terminal.alloc());
+    let mut interleaving = None;
     for line in text.lines() {
         if is_passed_by(line) {
             tell_comment(terminal, line)?;
             continue;
         }
-        if let Pace::Leave = pause(terminal)? {
+        if !pause(terminal)? {
             return Ok(());
         }
-        tell_step(terminal, &mut stage, line)?;
+        tell_step(terminal, (&mut session, &mut interleaving), line)?;
     }
     Ok(())
 }
@@ -104,40 +74,34 @@ fn tell_comment<R: Input + Print + AllocGlobal>(
     Ok(())
 }
 
+// The first step makes the lot: `lot M`, or `lot M callers C` an interleaved one.
 fn tell_step<R: Input + Print + AllocGlobal>(
     terminal: &Terminal<'_, R>,
-    stage: &mut Option<Stage>,
+    (session, interleaving): (&mut Session, &mut Option<Interleaving>),
     line: &str,
 ) -> anyhow::Result<()> {
     let mut page = terminal.page();
-    page.labelled("step", line)?;
-    match stage {
-        Some(stage) => stage.step(line, &mut page)?,
-        None => {
-            let mut first = Stage::set(terminal.alloc(), line)?;
-            if let Stage::Exclusive(_) = first {
-                first.step(line, &mut page)?;
-            }
-            *stage = Some(first);
-        }
+    page.labelled("step", &line)?;
+    if let Some(interleaving) = interleaving {
+        interleaving.step(line, &mut page)?;
+    } else if session.lot().is_none() && word_at(line, 2) == Some("callers") {
+        let threads = number_at(line, 1).unwrap_or(0);
+        let callers = number_at(line, 3).unwrap_or(0);
+        *interleaving = Some(Interleaving::new(terminal.alloc(), threads, callers)?);
+    } else {
+        session.step(line, &mut page)?;
     }
     terminal.show(&page)?;
     Ok(())
 }
 
 // Whether the story goes on.
-#[derive(Copy, Clone)]
-enum Pace {
-    GoOn,
-    Leave,
-}
-
-fn pause<R: Input + Print + AllocGlobal>(terminal: &mut Terminal<'_, R>) -> anyhow::Result<Pace> {
-    if terminal.look() == Look::Plain {
-        return Ok(Pace::GoOn);
+fn pause<R: Input + Print + AllocGlobal>(terminal: &mut Terminal<'_, R>) -> anyhow::Result<bool> {
+    if let Look::Plain = terminal.look() {
+        return Ok(true);
     }
     match terminal.read_line(PROMPT)? {
-        Some(line) if line.as_str() != "quit" => Ok(Pace::GoOn),
-        _ => Ok(Pace::Leave),
+        Some(line) if line.as_str() != "quit" => Ok(true),
+        _ => Ok(false),
     }
 }

@@ -52,12 +52,12 @@ impl<'a, R: Input + Print + AllocGlobal> Terminal<'a, R> {
     /// Asks for a line, and reads it, without its line feed. At the end of the input there is none.
     /// Bytes that are no text become such as no form of lines has.
     pub fn read_line(&mut self, prompt: &str) -> io::Result<Option<String>> {
-        if self.look == Look::Terminal {
+        if let Look::Terminal = self.look {
             self.rt.print(prompt)?;
         }
         let mut line = Vec::new(self.alloc);
         if self.input.read_until(b'\n', &mut line)? == 0 {
-            if self.look == Look::Terminal {
+            if let Look::Terminal = self.look {
                 self.rt.print("\n")?;
             }
             return Ok(None);

@@ -18,46 +18,39 @@ const PROMPT: &str = "lot> ";
 
 const NO_LOT: &str = "no lot yet, expected: lot M";
 
-// Whether a session goes on.
-#[derive(Copy, Clone)]
-enum Next {
-    Line,
-    End,
-}
-
 /// A session from its first line to `quit` or the end of the input.
 pub fn run<R: Input + Print + Files + AllocGlobal>(rt: &R, look: Look) -> anyhow::Result<()> {
     let mut terminal = Terminal::new(rt, look)?;
     let mut session = Session::new(rt.alloc());
-    if look == Look::Terminal {
+    if let Look::Terminal = look {
         rt.println(GREETING)?;
     }
     // No input has so many lines.
     for _ in 0..u64::MAX {
-        if let Next::End = turn(rt, &mut terminal, &mut session)? {
+        if !turn(rt, &mut terminal, &mut session)? {
             break;
         }
     }
     Ok(())
 }
 
-// Reads a line, does what it asks for, and shows the answer.
+// Reads a line, does what it asks for, and shows the answer. Answers whether the session goes on.
 fn turn<R: Input + Print + Files + AllocGlobal>(
     rt: &R,
     terminal: &mut Terminal<'_, R>,
     session: &mut Session,
-) -> anyhow::Result<Next> {
+) -> anyhow::Result<bool> {
     let Some(line) = terminal.read_line(PROMPT)? else {
-        return Ok(Next::End);
+        return Ok(false);
     };
     let mut page = terminal.page();
     match Command::of(line.as_str()) {
         Command::Pass => {}
-        Command::Quit => return Ok(Next::End),
+        Command::Quit => return Ok(false),
         Command::Step(line) => step(rt.alloc(), session, line, &mut page)?,
         Command::Show | Command::Record(_) if session.lot().is_none() => page.line(NO_LOT)?,
         Command::Status(thread) => match session.lot() {
-            Some(lot) => page.shown(&session.doing(lot, thread)?)?,
+            Some(lot) => page.line(session.doing(lot, thread)?.as_str())?,
             None => page.line(NO_LOT)?,
         },
         Command::Show => session.show(&mut page)?,
@@ -70,7 +63,7 @@ fn turn<R: Input + Print + Files + AllocGlobal>(
         Command::Unfit => refuse_line(rt.alloc(), line.as_str(), &mut page)?,
     }
     terminal.show(&page)?;
-    Ok(Next::Line)
+    Ok(true)
 }
 
 // Does a line of the lot's grammar, or tells why it is refused.
@@ -84,7 +77,7 @@ fn step(alloc: Global, session: &mut Session, line: &str, page: &mut Page) -> an
 fn undo(session: &mut Session, page: &mut Page) -> anyhow::Result<()> {
     match session.undo()? {
         Some(entry) => {
-            page.labelled("undone", entry.line.as_str())?;
+            page.labelled("undone", &entry.line.as_str())?;
             session.show_changes(page)?;
         }
         None => page.line("nothing to undo")?,
@@ -110,9 +103,13 @@ fn tell_story<R: Input + Print + Files + AllocGlobal>(
         refuse(page, story::EXPECTED)?;
         return Ok(());
     }
-    match story::text_of(rt, name) {
+    let file = format!(in rt.alloc(); "{name}.story")?;
+    match story::text_of(rt, file.as_str()) {
         Ok(text) => story::tell(terminal, text.as_str())?,
-        Err(error) => page.shown(&error)?,
+        Err(error) => {
+            let label = format!(in rt.alloc(); "{file} cannot be read")?;
+            page.labelled(label.as_str(), &error)?;
+        }
     }
     Ok(())
 }
