@@ -36,15 +36,6 @@ pub fn new_lot<P: ThreadParkerT>(alloc: Global, threads: usize) -> Result<Parkin
     ParkingLot::new(alloc, threads)
 }
 
-/// Registers the calling thread.
-pub fn register<'a, P: ThreadParkerT, R: Wait>(
-    rt: &R,
-    alloc: Global,
-    lot: &'a ParkingLot<P>,
-) -> Result<Member<'a, P>, LotError> {
-    Member::register(rt, alloc, lot)
-}
-
 /// Registers so many threads.
 pub fn register_all<'a, P: ThreadParkerT, R: Wait>(
     rt: &R,

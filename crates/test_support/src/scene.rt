@@ -32,10 +32,10 @@ use std::sync::atomic::{AtomicUsize, Ordering};
 use std::thread::Threads;
 use std::time::Clock;
 use std::{hint, thread};
-use text::{begins_thread, head, is_action, part_of, threads};
+use text::{begun, is_about_closure, is_action, sizes};
 
 // A count has the name of its first letter.
-const LETTERS: usize = 26;
+const LETTERS: usize = 32;
 
 // Who waits for a count or for waiters looks so often before it yields.
 const LOOKS: usize = 1_000;
@@ -52,11 +52,10 @@ struct Stage<'t, P: ThreadParkerT> {
     answered: AtomicUsize,
     received: AtomicUsize,
 
-    // How many threads there are, how many of them register first, how many have registered, and
-    // whether they may begin.
+    // How many threads there are, how many of them have had their turn to register, and whether
+    // they may begin.
     all: usize,
-    registering: usize,
-    registered: AtomicUsize,
+    entered: AtomicUsize,
     begun: AtomicUsize,
 
     // The number of a line that went otherwise than it says. 0 says that there is none.
@@ -65,7 +64,7 @@ struct Stage<'t, P: ThreadParkerT> {
 
 impl<'t, P: ThreadParkerT> Stage<'t, P> {
     fn new(alloc: Global, text: &'t str, values: &'t [usize]) -> Result<Stage<'t, P>, LotError> {
-        let (registering, all, room) = threads(text, values);
+        let (all, room) = sizes(text, values);
         Ok(Stage {
             lot: ParkingLot::new(alloc, room)?,
             text,
@@ -74,8 +73,7 @@ impl<'t, P: ThreadParkerT> Stage<'t, P> {
             answered: AtomicUsize::new(0),
             received: AtomicUsize::new(0),
             all,
-            registering,
-            registered: AtomicUsize::new(0),
+            entered: AtomicUsize::new(0),
             begun: AtomicUsize::new(0),
             fault: AtomicUsize::new(0),
         })
@@ -85,10 +83,6 @@ impl<'t, P: ThreadParkerT> Stage<'t, P> {
         let _ = self
             .fault
             .compare_exchange(0, line, Ordering::SeqCst, Ordering::SeqCst);
-    }
-
-    fn add_answered(&self, threads: usize) {
-        self.answered.fetch_add(threads, Ordering::SeqCst);
     }
 
     // Waits a little, as one does who has looked so often. False says that there is a fault.
@@ -115,120 +109,121 @@ impl<'t, P: ThreadParkerT> Stage<'t, P> {
         false
     }
 
-    // Plays the thread at this place. The first is who does what goes before all threads.
+    // Plays the thread at this place. The first, at 0, is who does what goes before all threads.
     fn play_place<R: Wait + Clock>(&self, rt: &R, alloc: Global, place: usize) {
-        let (block, number) = part_of(self.text, self.values, place);
         let mut member = None;
-        if let Some(number) = number {
-            member = self.register_in_turn(rt, alloc, number);
+        let (mut next, mut first) = (1_usize, 0);
+        let mut is_own = place == 0;
+        if is_own {
+            self.comes_to(&self.entered, self.all);
         }
-        self.begin(block);
-        self.play_block(rt, alloc, &mut member, block);
-        if block == 0 {
+        for (index, line) in self.text.lines().enumerate() {
+            let registering = begun(line, self.values, "thread");
+            let threads = registering.wrapping_add(begun(line, self.values, "caller"));
+            if threads > 0 {
+                is_own = place.wrapping_sub(next) < threads;
+                next = next.wrapping_add(threads);
+                if is_own {
+                    member = self.enter(rt, alloc, place, registering > 0);
+                }
+            } else if !is_about_closure(line) {
+                if is_own && is_action(line) {
+                    let call = Call {
+                        first,
+                        line: index.wrapping_add(1),
+                    };
+                    self.play_line(rt, alloc, &mut member, call, line);
+                }
+                first = index.wrapping_add(1);
+            }
+        }
+        if place == 0 {
             self.begun.fetch_add(1, Ordering::SeqCst);
         }
     }
 
-    // Does the lines of a block: 0 is what stands before all threads, 1 the first of them.
-    fn play_block<'s, R: Wait + Clock>(
-        &'s self,
-        rt: &R,
-        alloc: Global,
-        member: &mut Option<Member<'s, P>>,
-        block: usize,
-    ) {
-        let mut call = Call::new(0, 0);
-        let mut current = 0_usize;
-        for (index, line) in self.text.lines().enumerate() {
-            if begins_thread(line) {
-                current = current.wrapping_add(1);
-            } else if current == block && is_action(line) {
-                call.line = index.wrapping_add(1);
-                if self.does_line(rt, alloc, member, &mut call, line) != Some(true) {
-                    self.note(call.line);
-                }
-            }
-        }
-    }
-
-    // Registers the thread once all of lower numbers are registered.
-    fn register_in_turn<R: Wait>(
+    // Registers the thread at this place, if it is to have a number, once those at lower places
+    // have theirs, and waits until what goes before all threads is done.
+    fn enter<R: Wait>(
         &self,
         rt: &R,
         alloc: Global,
-        number: usize,
+        place: usize,
+        registers: bool,
     ) -> Option<Member<'_, P>> {
-        self.comes_to(&self.registered, number);
-        let member = Member::register(rt, alloc, &self.lot).ok();
-        self.registered.fetch_add(1, Ordering::SeqCst);
+        self.comes_to(&self.entered, place.wrapping_sub(1));
+        let mut member = None;
+        if registers {
+            member = Member::register(rt, alloc, &self.lot).ok();
+        }
+        self.entered.fetch_add(1, Ordering::SeqCst);
+        self.comes_to(&self.begun, 1);
         member
     }
 
-    // Waits until the thread may begin: who does what goes before all threads once they have
-    // registered, and they once that is done.
-    fn begin(&self, block: usize) {
-        if block == 0 {
-            self.comes_to(&self.registered, self.registering);
-        } else {
-            self.comes_to(&self.begun, 1);
-        }
-    }
-
-    // Does a line, or sets a closure of the next call. `None` says that it has no form.
-    fn does_line<'s, 'c, R: Wait + Clock>(
+    // Does a line, and notes it if that goes otherwise.
+    fn play_line<'s, R: Wait + Clock>(
         &'s self,
         rt: &R,
         alloc: Global,
         member: &mut Option<Member<'s, P>>,
-        call: &mut Call<'c>,
-        line: &'c str,
-    ) -> Option<bool> {
-        if let Some((name, deeds)) = line.split_once(':') {
-            return Some(call.set(name.trim(), deeds));
+        call: Call,
+        line: &str,
+    ) {
+        if self.act_often(rt, alloc, member, call, line) != Some(true) {
+            self.note(call.line);
         }
-        let mut this = *call;
-        *call = Call::new(this.line, 0);
-        this.mine = member.as_ref().map_or(0, |member| member.number());
-        match head(line) {
-            "come" => *member = self.come_by_turns(rt, alloc),
-            "retire" => drop(member.take()?.retire(rt)),
-            _ => {
-                let words = Words::of(line, self.values, this.mine);
-                return self.act_often(rt, alloc, member, this, words);
+    }
+
+    // Does a line so often as it says, once if it does not: `repeat 20 ..`, and `until done 3 ..`,
+    // which ends once the count is so high. `None` says that it has no form.
+    fn act_often<'s, R: Wait + Clock>(
+        &'s self,
+        rt: &R,
+        alloc: Global,
+        member: &mut Option<Member<'s, P>>,
+        call: Call,
+        line: &str,
+    ) -> Option<bool> {
+        let mine = match member {
+            Some(member) => member.number(),
+            None => 0,
+        };
+        let mut words = Words::of(line, self.values, mine);
+        let (mut times, mut count, mut least) = (1, &self.begun, usize::MAX);
+        if words.reads("repeat") {
+            times = words.number()?;
+        } else if words.reads("until") {
+            count = self.count(&mut words)?;
+            least = words.number()?;
+            times = TURNS;
+        }
+        for _ in 0..times {
+            if count.load(Ordering::SeqCst) >= least {
+                break;
+            }
+            let mut words = words;
+            if self.act(rt, alloc, member, call, &mut words) != Some(true) {
+                return None;
             }
         }
         Some(true)
     }
 
-    // Registers the thread as soon as a number is free.
-    fn come_by_turns<R: Wait>(&self, rt: &R, alloc: Global) -> Option<Member<'_, P>> {
-        for _ in 0..TURNS {
-            match Member::register(rt, alloc, &self.lot) {
-                Err(LotError::Full) => thread::yield_now(),
-                registered => return registered.ok(),
-            }
-        }
-        None
-    }
-
-    // Whether all threads could play.
-    fn play_all<R>(&self, rt: &R, alloc: Global) -> bool
+    // Plays all threads. It answers a line that went otherwise, or 0 where the lines went well, but
+    // not as many parks ended by an unpark as the unparks answered.
+    fn play_all<R>(&self, rt: &R, alloc: Global) -> Option<usize>
     where
         P: Send + Sync,
         R: Threads + Wait + Clock + Sync,
     {
         let threads = self.all.wrapping_add(1);
         let play = |place| self.play_place(rt, alloc, place);
-        thread::map_indices(rt, alloc, threads, &play).is_ok()
-    }
-
-    // A line that went otherwise, or 0 where the lines went well, but not as many parks ended by an
-    // unpark as the unparks answered.
-    fn fault(&self) -> Option<usize> {
+        let is_played = thread::map_indices(rt, alloc, threads, &play).is_ok();
         let line = self.fault.load(Ordering::SeqCst);
         let answered = self.answered.load(Ordering::SeqCst);
         let are_as_many = answered == self.received.load(Ordering::SeqCst);
-        (line != 0 || !are_as_many).then_some(line)
+        (line != 0 || !are_as_many || !is_played).then_some(line)
     }
 }
 
@@ -240,8 +235,8 @@ where
     P: ThreadParkerT + Send + Sync,
     R: Threads + Wait + Clock + Sync,
 {
-    match Stage::<P>::new(alloc, text, values) {
-        Ok(stage) if stage.play_all(rt, alloc) => stage.fault(),
-        _ => Some(0),
-    }
+    let Ok(stage) = Stage::<P>::new(alloc, text, values) else {
+        return Some(0);
+    };
+    stage.play_all(rt, alloc)
 }

@@ -26,6 +26,20 @@ pub fn comes_within(turns: usize, count: &AtomicUsize, least: usize) -> bool {
     false
 }
 
+/// Whether so many threads wait on the key.
+pub fn are_waiting<P: ThreadParkerT, R: Wait>(
+    rt: &R,
+    alloc: Global,
+    lot: &ParkingLot<P>,
+    key: usize,
+    threads: usize,
+) -> bool {
+    match waiting(rt, alloc, lot, key) {
+        Ok(numbers) => numbers.len() == threads,
+        Err(_) => false,
+    }
+}
+
 /// Waits until so many threads wait on the key, and tells whether they did.
 pub fn come_by_turns<P: ThreadParkerT, R: Wait>(
     rt: &R,
@@ -35,7 +49,7 @@ pub fn come_by_turns<P: ThreadParkerT, R: Wait>(
     threads: usize,
 ) -> bool {
     for _ in 0..TURNS {
-        if waiting(rt, alloc, lot, key).is_ok_and(|numbers| numbers.len() == threads) {
+        if are_waiting(rt, alloc, lot, key, threads) {
             return true;
         }
         thread::yield_now();

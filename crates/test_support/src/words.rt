@@ -3,10 +3,7 @@
 /// The words of a line, or of a part of it, that are still to be read.
 #[derive(Copy, Clone)]
 pub struct Words<'t> {
-    text: &'t str,
-
-    // How many words of the text were read.
-    read: usize,
+    rest: &'t str,
     values: &'t [usize],
     mine: usize,
 }
@@ -16,32 +13,23 @@ impl<'t> Words<'t> {
     /// for the number of the thread that reads it.
     pub fn of(text: &'t str, values: &'t [usize], mine: usize) -> Words<'t> {
         Words {
-            text,
-            read: 0,
+            rest: text,
             values,
             mine,
         }
     }
 
-    // The next word, which is not read by this.
-    fn ahead(&self) -> Option<&'t str> {
-        self.text.split_whitespace().nth(self.read)
-    }
-
     /// The next word. `None` says that there is none.
     pub fn word(&mut self) -> Option<&'t str> {
-        let word = self.ahead();
-        self.read = self.read.wrapping_add(1);
-        word
+        let text = self.rest.trim_start();
+        let (word, rest) = text.split_once(' ').unwrap_or((text, ""));
+        self.rest = rest;
+        if word.is_empty() { None } else { Some(word) }
     }
 
     // The value for which the word stands, by its digit.
     fn value(&self, word: &str) -> Option<usize> {
-        let (sign, digit) = (word.as_bytes().first()?, word.as_bytes().get(1)?);
-        if *sign != b'$' {
-            return None;
-        }
-        let place = usize::from(digit.checked_sub(b'0')?);
+        let place: usize = word.strip_prefix('$')?.parse().ok()?;
         self.values.get(place).copied()
     }
 
@@ -59,7 +47,7 @@ impl<'t> Words<'t> {
 
     /// The next word, as a number, or else this one where there is none.
     pub fn number_or(&mut self, default: usize) -> Option<usize> {
-        if self.ahead().is_none() {
+        if self.rest.trim_start().is_empty() {
             Some(default)
         } else {
             self.number()
@@ -68,27 +56,20 @@ impl<'t> Words<'t> {
 
     /// Whether the next word is this one, which is read then.
     pub fn reads(&mut self, wanted: &str) -> bool {
-        let is_next = self.ahead().unwrap_or("") == wanted;
+        let mut ahead = *self;
+        let is_next = ahead.word().unwrap_or("") == wanted;
         if is_next {
-            self.read = self.read.wrapping_add(1);
+            *self = ahead;
         }
         is_next
     }
 
     /// What was found, once all words were read. `None` says that there are more.
     pub fn end(&mut self, found: bool) -> Option<bool> {
-        if self.ahead().is_some() {
-            return None;
+        if self.rest.trim_start().is_empty() {
+            Some(found)
+        } else {
+            None
         }
-        Some(found)
-    }
-
-    /// Whether the numbers up to the end of the line are these.
-    pub fn are(&mut self, numbers: &[usize]) -> Option<bool> {
-        let mut are_same = true;
-        for number in numbers {
-            are_same = self.number_or(usize::MAX)? == *number && are_same;
-        }
-        Some(are_same && self.ahead().is_none())
     }
 }

@@ -9,79 +9,66 @@ use crate::faults::faults_of;
 use crate::waits::TURNS;
 use crate::words::Words;
 use lot_threads::{
-    Member, ParkToken, RequeueOp, ThreadParkerT, UnparkToken, unpark_all, unpark_chosen,
-    unpark_one, unpark_requeue,
+    LotError, Member, ParkToken, RequeueOp, ThreadParkerT, UnparkResult, UnparkToken,
+    unpark_chosen, unpark_one, unpark_requeue,
 };
 use std::alloc::Global;
 use std::sync::Wait;
 use std::sync::atomic::Ordering;
+use std::thread;
 use std::time::Clock;
 
-/// A call: the number of its line, that of its thread, and what its closures do.
+/// Where a call stands in its scene.
 #[derive(Copy, Clone)]
-pub(super) struct Call<'t> {
+pub(super) struct Call {
+    // The place of the first line that may be about its closures.
+    pub(super) first: usize,
+
+    // The number of its own line.
     pub(super) line: usize,
-    pub(super) mine: usize,
-    validate: &'t str,
-    before_sleep: &'t str,
-    timed_out: &'t str,
-    filter: &'t str,
-    callback: &'t str,
 }
 
-impl<'t> Call<'t> {
-    /// A call whose closures do nothing.
-    pub(super) fn new(line: usize, mine: usize) -> Call<'t> {
-        Call {
-            line,
-            mine,
-            validate: "",
-            before_sleep: "",
-            timed_out: "",
-            filter: "",
-            callback: "",
+// Lets the thread hold a key or let it go, or asks how often it is in the thread's records.
+fn record<P: ThreadParkerT>(
+    member: &mut Member<'_, P>,
+    action: &str,
+    words: &mut Words<'_>,
+) -> Option<bool> {
+    let key = words.number()?;
+    match action {
+        "acquire" => words.end(member.acquire_resource(key).is_ok()),
+        "release" => {
+            member.release_resource(key);
+            words.end(true)
         }
+        "records" => count_answered(words, member.records(key)),
+        _ => None,
     }
-
-    /// Lets the closure of this name do this. False says that there is none.
-    pub(super) fn set(&mut self, name: &str, deeds: &'t str) -> bool {
-        match name {
-            "validate" => self.validate = deeds,
-            "before_sleep" => self.before_sleep = deeds,
-            "timed_out" => self.timed_out = deeds,
-            "filter" => self.filter = deeds,
-            "callback" => self.callback = deeds,
-            _ => return false,
-        }
-        true
-    }
-}
-
-fn acquire<P: ThreadParkerT>(member: &mut Member<'_, P>, words: &mut Words<'_>) -> Option<bool> {
-    let key = words.number()?;
-    words.end(member.acquire_resource(key).is_ok())
-}
-
-fn release<P: ThreadParkerT>(member: &mut Member<'_, P>, words: &mut Words<'_>) -> Option<bool> {
-    let key = words.number()?;
-    member.release_resource(key);
-    words.end(true)
-}
-
-// Whether a key is as often in the thread's records as the words say.
-fn has_records<P: ThreadParkerT>(member: &Member<'_, P>, words: &mut Words<'_>) -> Option<bool> {
-    let key = words.number()?;
-    count_answered(words, member.records(key))
 }
 
 impl<P: ThreadParkerT> Stage<'_, P> {
     // Does what a closure is to do, and notes the call's line if that goes otherwise.
-    fn do_deeds<R: Wait + Clock>(&self, rt: &R, alloc: Global, call: Call<'_>, deeds: &str) {
+    fn do_deeds<R: Wait + Clock>(&self, rt: &R, alloc: Global, call: usize, deeds: &str) {
         for deed in deeds.split(';') {
-            let mut words = Words::of(deed, self.values, call.mine);
+            let mut words = Words::of(deed, self.values, 0);
             let head = words.word().unwrap_or("");
             if !head.is_empty() && self.do_deed(rt, alloc, head, &mut words) != Some(true) {
-                self.note(call.line);
+                self.note(call);
+            }
+        }
+    }
+
+    // Does what the lines above a call say of this closure, as far as the next one above that is no
+    // closure's.
+    fn call_back<R: Wait + Clock>(&self, rt: &R, alloc: Global, call: Call, closure: &str) {
+        let Call { first, line } = call;
+        for (index, text) in self.text.lines().enumerate() {
+            if first <= index
+                && index < line
+                && let Some((name, deeds)) = text.split_once(':')
+                && name.trim() == closure
+            {
+                self.do_deeds(rt, alloc, line, deeds);
             }
         }
     }
@@ -92,7 +79,7 @@ impl<P: ThreadParkerT> Stage<'_, P> {
         rt: &R,
         alloc: Global,
         member: &mut Member<'_, P>,
-        call: Call<'_>,
+        call: Call,
         is_valid: bool,
         words: &mut Words<'_>,
     ) -> Option<bool> {
@@ -103,13 +90,13 @@ impl<P: ThreadParkerT> Stage<'_, P> {
             rt,
             key,
             || {
-                self.do_deeds(rt, alloc, call, call.validate);
+                self.call_back(rt, alloc, call, "validate");
                 is_valid
             },
-            || self.do_deeds(rt, alloc, call, call.before_sleep),
+            || self.call_back(rt, alloc, call, "before_sleep"),
             |key, last| {
                 told = Some((key, last));
-                self.do_deeds(rt, alloc, call, call.timed_out);
+                self.call_back(rt, alloc, call, "timed_out");
             },
             PARK_TOKEN,
             deadline,
@@ -120,11 +107,18 @@ impl<P: ThreadParkerT> Stage<'_, P> {
         park_ended(words, ended, told)
     }
 
+    // Counts what an unpark answered, and tells whether it is as the words say.
+    fn note_answer(&self, words: &mut Words<'_>, answer: UnparkResult) -> Option<bool> {
+        self.answered
+            .fetch_add(answer.unparked_threads, Ordering::SeqCst);
+        unpark_answered(words, answer)
+    }
+
     fn unpark_one<R: Wait + Clock>(
         &self,
         rt: &R,
         alloc: Global,
-        call: Call<'_>,
+        call: Call,
         words: &mut Words<'_>,
     ) -> Option<bool> {
         let key = words.number()?;
@@ -132,26 +126,17 @@ impl<P: ThreadParkerT> Stage<'_, P> {
         let mut told = None;
         let answer = unpark_one(rt, &self.lot, key, |answer| {
             told = Some(answer);
-            self.do_deeds(rt, alloc, call, call.callback);
+            self.call_back(rt, alloc, call, "callback");
             token
         });
-        self.add_answered(answer.unparked_threads);
-        Some(unpark_answered(words, answer)? && told == Some(answer))
-    }
-
-    fn unpark_all<R: Wait>(&self, rt: &R, words: &mut Words<'_>) -> Option<bool> {
-        let key = words.number()?;
-        let token = UnparkToken(words.number()?);
-        let unparked = unpark_all(rt, &self.lot, key, token);
-        self.add_answered(unparked);
-        count_answered(words, unparked)
+        Some(self.note_answer(words, answer)? && told == Some(answer))
     }
 
     fn unpark_chosen<R: Wait + Clock>(
         &self,
         rt: &R,
         alloc: Global,
-        call: Call<'_>,
+        call: Call,
         words: &mut Words<'_>,
     ) -> Option<bool> {
         let key = words.number()?;
@@ -162,25 +147,24 @@ impl<P: ThreadParkerT> Stage<'_, P> {
             if shown != PARK_TOKEN {
                 self.note(call.line);
             }
-            self.do_deeds(rt, alloc, call, call.filter);
+            self.call_back(rt, alloc, call, "filter");
             let decision = decision_of(letters, place);
             place = place.wrapping_add(1);
             decision
         };
         let answer = unpark_chosen(rt, &self.lot, key, filter, |answer| {
             told = Some(answer);
-            self.do_deeds(rt, alloc, call, call.callback);
+            self.call_back(rt, alloc, call, "callback");
             token
         });
-        self.add_answered(answer.unparked_threads);
-        Some(unpark_answered(words, answer)? && told == Some(answer))
+        Some(self.note_answer(words, answer)? && told == Some(answer))
     }
 
     fn requeue<R: Wait + Clock>(
         &self,
         rt: &R,
         alloc: Global,
-        call: Call<'_>,
+        call: Call,
         words: &mut Words<'_>,
     ) -> Option<bool> {
         let from = words.number()?;
@@ -189,79 +173,78 @@ impl<P: ThreadParkerT> Stage<'_, P> {
         let token = UnparkToken(words.number()?);
         let mut told = None;
         let validate = || {
-            self.do_deeds(rt, alloc, call, call.validate);
+            self.call_back(rt, alloc, call, "validate");
             op
         };
         let answer = unpark_requeue(rt, &self.lot, from, to, validate, |op, answer| {
             told = Some((op, answer));
-            self.do_deeds(rt, alloc, call, call.callback);
+            self.call_back(rt, alloc, call, "callback");
             token
         });
-        self.add_answered(answer.unparked_threads);
         let expected = (op != RequeueOp::Abort).then_some((op, answer));
-        Some(unpark_answered(words, answer)? && told == expected)
+        Some(self.note_answer(words, answer)? && told == expected)
     }
 
     // Has the number of the thread alone, or lets it go. Nobody else has it meanwhile.
-    fn has_alone(&self, call: Call<'_>, has_it: bool) -> Option<bool> {
-        let users = self.counts.get(call.mine)?;
-        let (before, after) = if has_it { (0, 1) } else { (1, 0) };
-        let swapped = users.compare_exchange(before, after, Ordering::SeqCst, Ordering::SeqCst);
-        Some(swapped.is_ok())
+    fn has_alone(&self, number: usize, has_it: bool) -> Option<bool> {
+        let users = self.counts.get(number)?;
+        let before = usize::from(!has_it);
+        Some(users.swap(usize::from(has_it), Ordering::SeqCst) == before)
+    }
+
+    // Registers the thread as soon as a number is free.
+    fn come_by_turns<R: Wait>(&self, rt: &R, alloc: Global) -> Option<Member<'_, P>> {
+        for _ in 0..TURNS {
+            match Member::register(rt, alloc, &self.lot) {
+                Err(LotError::Full) => thread::yield_now(),
+                registered => return registered.ok(),
+            }
+        }
+        None
+    }
+
+    // Does what a line says of a member. `None` says that it has no form.
+    fn act_as<R: Wait + Clock>(
+        &self,
+        rt: &R,
+        alloc: Global,
+        member: &mut Member<'_, P>,
+        call: Call,
+        action: &str,
+        words: &mut Words<'_>,
+    ) -> Option<bool> {
+        match action {
+            "park" => self.park(rt, alloc, member, call, true, words),
+            "park_in_vain" => self.park(rt, alloc, member, call, false, words),
+            "no_faults" => words.end(faults_of(rt, member) == Some(0)),
+            "have_alone" => self.has_alone(member.number(), true),
+            "let_go" => self.has_alone(member.number(), false),
+            _ => record(member, action, words),
+        }
     }
 
     // Does what a line says. `None` says that it has no form.
-    fn act<R: Wait + Clock>(
-        &self,
+    pub(super) fn act<'s, R: Wait + Clock>(
+        &'s self,
         rt: &R,
         alloc: Global,
-        member: &mut Option<Member<'_, P>>,
-        call: Call<'_>,
+        member: &mut Option<Member<'s, P>>,
+        call: Call,
         words: &mut Words<'_>,
     ) -> Option<bool> {
         match words.word()? {
-            "park" => self.park(rt, alloc, member.as_mut()?, call, true, words),
-            "park_in_vain" => self.park(rt, alloc, member.as_mut()?, call, false, words),
-            "no_faults" => words.end(faults_of(rt, member.as_mut()?) == Some(0)),
-            "acquire" => acquire(member.as_mut()?, words),
-            "release" => release(member.as_mut()?, words),
-            "records" => has_records(member.as_ref()?, words),
-            "have_alone" => self.has_alone(call, true),
-            "let_go" => self.has_alone(call, false),
-            "unpark_one" => self.unpark_one(rt, alloc, call, words),
-            "unpark_all" => self.unpark_all(rt, words),
-            "unpark_chosen" => self.unpark_chosen(rt, alloc, call, words),
-            "requeue" => self.requeue(rt, alloc, call, words),
-            deed => self.do_deed(rt, alloc, deed, words),
-        }
-    }
-
-    // Does a line so often as it says, once if it does not: `repeat 20 ..`, and `until done 3 ..`,
-    // which ends once the count is so high.
-    pub(super) fn act_often<R: Wait + Clock>(
-        &self,
-        rt: &R,
-        alloc: Global,
-        member: &mut Option<Member<'_, P>>,
-        call: Call<'_>,
-        mut words: Words<'_>,
-    ) -> Option<bool> {
-        let mut times = 1;
-        let mut end = None;
-        if words.reads("repeat") {
-            times = words.number()?;
-        } else if words.reads("until") {
-            end = Some((self.count(&mut words)?, words.number()?));
-            times = TURNS;
-        }
-        let mut is_well = true;
-        for _ in 0..times {
-            if !is_well || end.is_some_and(|(count, least)| count.load(Ordering::SeqCst) >= least) {
-                break;
+            "come" => *member = self.come_by_turns(rt, alloc),
+            "retire" => drop(member.take()?.retire(rt)),
+            "unpark_one" => return self.unpark_one(rt, alloc, call, words),
+            "unpark_chosen" => return self.unpark_chosen(rt, alloc, call, words),
+            "requeue" => return self.requeue(rt, alloc, call, words),
+            action => {
+                return match self.do_deed(rt, alloc, action, words) {
+                    None => self.act_as(rt, alloc, member.as_mut()?, call, action, words),
+                    done => done,
+                };
             }
-            let mut words = words;
-            is_well = self.act(rt, alloc, member, call, &mut words)?;
         }
-        Some(is_well)
+        words.end(true)
     }
 }

@@ -2,8 +2,8 @@
 
 use super::Stage;
 use super::outcomes::{count_answered, way_of};
-use crate::calls::{come_and_go, move_all, unpark};
-use crate::waits::TURNS;
+use crate::calls::{Way, come_and_go, move_all, unpark};
+use crate::waits::{TURNS, are_waiting};
 use crate::words::Words;
 use lot_threads::{LotError, ThreadParkerT, UnparkToken};
 use std::alloc::Global;
@@ -16,46 +16,41 @@ use std::{hint, thread};
 const TURNS_INSIDE: usize = 2_000;
 
 impl<P: ThreadParkerT> Stage<'_, P> {
+    /// The count of the next word.
     pub(super) fn count(&self, words: &mut Words<'_>) -> Option<&AtomicUsize> {
-        let letter = words.word()?.as_bytes().first()?.checked_sub(b'a')?;
-        self.counts.get(usize::from(letter))
-    }
-
-    fn raise(&self, words: &mut Words<'_>) -> Option<bool> {
-        self.count(words)?.fetch_add(1, Ordering::SeqCst);
-        words.end(true)
-    }
-
-    // Whether a count is just so high.
-    fn is_at(&self, words: &mut Words<'_>) -> Option<bool> {
-        let found = self.count(words)?.load(Ordering::SeqCst);
-        let expected = words.number()?;
-        words.end(found == expected)
-    }
-
-    // Waits until a count was raised so often.
-    fn await_count(&self, words: &mut Words<'_>) -> Option<bool> {
-        let count = self.count(words)?;
-        let least = words.number_or(1)?;
-        let has_come = self.comes_to(count, least);
-        words.end(has_come)
+        let letter = words.word()?.as_bytes().first().copied()?;
+        self.counts.get(usize::from(letter % 32))
     }
 
     // Whether a count stays at 0 for a while.
-    fn stays_low(&self, words: &mut Words<'_>) -> Option<bool> {
-        let count = self.count(words)?;
+    fn stays_low(&self, count: &AtomicUsize) -> bool {
         for _ in 0..TURNS_INSIDE {
             if count.load(Ordering::SeqCst) != 0 {
-                return Some(false);
+                return false;
             }
             thread::yield_now();
         }
-        words.end(true)
+        true
     }
 
-    fn has_waiters<R: Wait>(&self, rt: &R, alloc: Global, key: usize, threads: usize) -> bool {
-        let numbers = self.lot.list(rt, alloc, key);
-        numbers.is_ok_and(|numbers| numbers.len() == threads)
+    // Raises a count, waits until it was raised so often, or looks how high it is.
+    fn do_count(&self, deed: &str, words: &mut Words<'_>) -> Option<bool> {
+        let count = self.count(words)?;
+        match deed {
+            "raise" => {
+                count.fetch_add(1, Ordering::SeqCst);
+                words.end(true)
+            }
+            "await" => {
+                let has_come = self.comes_to(count, words.number_or(1)?);
+                words.end(has_come)
+            }
+            "is" => {
+                let expected = words.number()?;
+                words.end(count.load(Ordering::SeqCst) == expected)
+            }
+            _ => words.end(self.stays_low(count)),
+        }
     }
 
     // Waits until so many threads wait on a key.
@@ -63,7 +58,7 @@ impl<P: ThreadParkerT> Stage<'_, P> {
         let key = words.number()?;
         let threads = words.number()?;
         for turn in 0..TURNS {
-            if self.has_waiters(rt, alloc, key, threads) {
+            if are_waiting(rt, alloc, &self.lot, key, threads) {
                 return words.end(true);
             }
             if !self.waits_a_turn(turn) {
@@ -80,83 +75,76 @@ impl<P: ThreadParkerT> Stage<'_, P> {
         if !words.reads("->") {
             return words.end(true);
         }
-        words.are(numbers.as_slice())
+        let mut are_same = true;
+        for number in numbers {
+            are_same = words.number_or(usize::MAX)? == number && are_same;
+        }
+        words.end(are_same)
     }
 
     // Registers so many threads, which keep their numbers. The words may tell the first of these,
     // behind which the others come one by one.
     fn register<R: Wait>(&self, rt: &R, alloc: Global, words: &mut Words<'_>) -> Option<bool> {
         let threads = words.number()?;
-        let mut first = None;
-        if words.reads("->") {
-            first = Some(words.number()?);
-        }
+        let is_told = words.reads("->");
+        let first = words.number_or(0)?;
         let mut is_well = words.end(true)?;
         for place in 0..threads {
-            let number = self.register_one(rt, alloc)?;
-            is_well = first.is_none_or(|first| number == first.wrapping_add(place)) && is_well;
+            let number = self.register_one(rt, alloc).ok()?;
+            is_well = (!is_told || number == first.wrapping_add(place)) && is_well;
         }
         Some(is_well)
     }
 
     // The number of a thread that is registered and keeps it.
-    fn register_one<R: Wait>(&self, rt: &R, alloc: Global) -> Option<usize> {
+    fn register_one<R: Wait>(&self, rt: &R, alloc: Global) -> Result<usize, LotError> {
         match self.lot.thread_data(rt, alloc) {
-            Ok(data) => Some(data.number()),
-            Err(_) => None,
+            Ok(data) => Ok(data.number()),
+            Err(error) => Err(error),
         }
     }
 
     // Whether no number is left.
     fn is_full<R: Wait>(&self, rt: &R, alloc: Global, words: &mut Words<'_>) -> Option<bool> {
-        let refused = self.lot.thread_data(rt, alloc);
-        words.end(matches!(&refused, Err(LotError::Full)))
+        words.end(matches!(self.register_one(rt, alloc), Err(LotError::Full)))
     }
 
-    // Registers so many threads, for which the table may grow, and frees their numbers.
-    fn come_and_go<R: Wait>(&self, rt: &R, alloc: Global, words: &mut Words<'_>) -> Option<bool> {
-        let threads = words.number()?;
-        let are_well = come_and_go(rt, alloc, &self.lot, threads);
-        words.end(are_well)
-    }
-
-    fn trim<R: Wait>(&self, rt: &R, words: &mut Words<'_>) -> Option<bool> {
-        self.lot.trim(rt);
-        words.end(true)
-    }
-
-    // Unparks the first waiter of a key, or all, in one of the ways to do it.
-    fn unpark<R: Wait>(&self, rt: &R, words: &mut Words<'_>) -> Option<bool> {
-        let way = way_of(words)?;
+    // Unparks the first waiter of a key, or all, or moves all to another key, and counts them.
+    fn wake_or_move<R: Wait>(&self, rt: &R, deed: &str, words: &mut Words<'_>) -> Option<bool> {
+        let way = match deed {
+            "unpark" => way_of(words)?,
+            _ => Way::All,
+        };
         let key = words.number()?;
-        let token = UnparkToken(words.number()?);
-        let unparked = unpark(rt, &self.lot, way, key, token);
-        self.add_answered(unparked);
+        let number = words.number()?;
+        if deed == "move" {
+            return count_answered(words, move_all(rt, &self.lot, key, number));
+        }
+        let unparked = unpark(rt, &self.lot, way, key, UnparkToken(number));
+        self.answered.fetch_add(unparked, Ordering::SeqCst);
         count_answered(words, unparked)
     }
 
-    // Moves all waiters of a key to another.
-    fn move_waiters<R: Wait>(&self, rt: &R, words: &mut Words<'_>) -> Option<bool> {
-        let from = words.number()?;
-        let to = words.number()?;
-        count_answered(words, move_all(rt, &self.lot, from, to))
-    }
-
-    // Sleeps for so many microseconds.
-    fn sleep<R: Clock>(&self, rt: &R, words: &mut Words<'_>) -> Option<bool> {
-        let microseconds = u64::try_from(words.number()?).ok()?;
-        thread::sleep(rt, Duration::from_micros(microseconds));
-        words.end(true)
-    }
-
-    fn spin(&self, words: &mut Words<'_>) -> Option<bool> {
-        for _ in 0..words.number()? {
-            hint::spin_loop();
+    // Sleeps for so many microseconds, spins so often, or registers so many threads, for which the
+    // table may grow, and frees their numbers.
+    fn pass<R: Wait + Clock>(
+        &self,
+        rt: &R,
+        alloc: Global,
+        deed: &str,
+        words: &mut Words<'_>,
+    ) -> Option<bool> {
+        let number = words.number()?;
+        let mut is_well = true;
+        match deed {
+            "sleep" => thread::sleep(rt, Duration::from_micros(u64::try_from(number).ok()?)),
+            "spin" => spin(number),
+            _ => is_well = come_and_go(rt, alloc, &self.lot, number),
         }
-        words.end(true)
+        words.end(is_well)
     }
 
-    // Does what needs no closure. A closure does it too.
+    /// Does what needs no closure. A closure does it too.
     pub(super) fn do_deed<R: Wait + Clock>(
         &self,
         rt: &R,
@@ -165,21 +153,24 @@ impl<P: ThreadParkerT> Stage<'_, P> {
         words: &mut Words<'_>,
     ) -> Option<bool> {
         match deed {
-            "raise" => self.raise(words),
-            "await" => self.await_count(words),
-            "never" => self.stays_low(words),
-            "is" => self.is_at(words),
+            "raise" | "await" | "never" | "is" => self.do_count(deed, words),
             "waiting" => self.await_waiters(rt, alloc, words),
             "list" => self.lists(rt, alloc, words),
             "register" => self.register(rt, alloc, words),
             "full" => self.is_full(rt, alloc, words),
-            "come_and_go" => self.come_and_go(rt, alloc, words),
-            "trim" => self.trim(rt, words),
-            "unpark" => self.unpark(rt, words),
-            "move" => self.move_waiters(rt, words),
-            "sleep" => self.sleep(rt, words),
-            "spin" => self.spin(words),
+            "unpark" | "unpark_all" | "move" => self.wake_or_move(rt, deed, words),
+            "come_and_go" | "sleep" | "spin" => self.pass(rt, alloc, deed, words),
+            "trim" => {
+                self.lot.trim(rt);
+                words.end(true)
+            }
             _ => None,
         }
+    }
+}
+
+fn spin(times: usize) {
+    for _ in 0..times {
+        hint::spin_loop();
     }
 }

@@ -22,8 +22,6 @@ pub(super) fn deadline_of<R: Clock>(rt: &R, word: &str) -> Option<Option<Instant
 pub(super) fn requeue_op_of(word: &str) -> Option<RequeueOp> {
     match word {
         "abort" => Some(RequeueOp::Abort),
-        "unpark_one" => Some(RequeueOp::UnparkOne),
-        "requeue_one" => Some(RequeueOp::RequeueOne),
         "requeue_all" => Some(RequeueOp::RequeueAll),
         "unpark_one_requeue_rest" => Some(RequeueOp::UnparkOneRequeueRest),
         _ => None,
@@ -33,33 +31,34 @@ pub(super) fn requeue_op_of(word: &str) -> Option<RequeueOp> {
 /// The way of this name, or at the place that a value tells.
 pub(super) fn way_of(words: &mut Words<'_>) -> Option<Way> {
     let mut ahead = *words;
-    if let Some(place) = ahead.number() {
-        *words = ahead;
-        return WAYS.get(place).copied();
-    }
-    match words.word()? {
-        "one" => Some(Way::One),
-        "all" => Some(Way::All),
-        "filter" => Some(Way::Filter),
-        "requeue" => Some(Way::Requeue),
-        _ => None,
-    }
+    let place = match ahead.word()? {
+        "one" => 0,
+        "all" => 1,
+        "filter" => 2,
+        "requeue" => 3,
+        _ => {
+            ahead = *words;
+            ahead.number()?
+        }
+    };
+    *words = ahead;
+    WAYS.get(place).copied()
 }
 
-/// What a filter decides of the thread at this place: `u` unparks it, `s` skips it, `x` stops.
+/// What a filter decides of the thread at this place: `s` skips it, and another letter unparks it.
 pub(super) fn decision_of(letters: &str, place: usize) -> FilterOp {
-    match letters.as_bytes().get(place) {
-        Some(b's') => FilterOp::Skip,
-        Some(b'x') => FilterOp::Stop,
-        _ => FilterOp::Unpark,
+    let letter = letters.as_bytes().get(place).copied().unwrap_or(b'u');
+    if letter == b's' {
+        FilterOp::Skip
+    } else {
+        FilterOp::Unpark
     }
 }
 
-// Whether a late thread was to be the last on its key: `last`, `more`, or `any`, as it was told.
+// Whether a late thread was to be the last on its key: `last`, or `any`, as it was told.
 fn was_last(words: &mut Words<'_>, told: Option<(usize, bool)>) -> Option<bool> {
     match words.word()? {
         "last" => Some(true),
-        "more" => Some(false),
         "any" => Some(told?.1),
         _ => None,
     }
@@ -93,12 +92,9 @@ pub(super) fn unpark_answered(words: &mut Words<'_>, answer: UnparkResult) -> Op
     }
     let unparked = words.number()?;
     let requeued = words.number()?;
-    let expected = UnparkResult {
-        unparked_threads: unparked,
-        requeued_threads: requeued,
-        have_more_threads: words.reads("more"),
-    };
-    words.end(answer == expected)
+    let have_more = words.reads("more");
+    let are_so_many = unparked == answer.unparked_threads && requeued == answer.requeued_threads;
+    words.end(are_so_many && have_more == answer.have_more_threads)
 }
 
 /// Whether a call answered the number that the words say, if they say one.
