@@ -92,13 +92,13 @@ fn consumers_take_what_producers_put_in_its_order(rt: HostRuntime) {
         rt.alloc(),
         &[1, 3, 3000],
         "thread 3
-            queue put 5000
+            queue put 2000
             raise a
         thread 3
-            queue take 5000 -> any
+            queue take 2000 -> any
             raise a
         thread
             await a 6
-            tell first -> 37507500",
+            tell first -> 6003000",
     );
 }
