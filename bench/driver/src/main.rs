@@ -27,11 +27,15 @@ type Row = (&'static str, fn() -> Option<f64>);
 
 const ROWS: [Row; 50] = [
     ("unpark_one_nobody", unpark_one_nobody),
-    ("unpark_one_two_keys", || unpark_one_on_each(&KEYS[..2])),
-    ("unpark_one_four_keys", || unpark_one_on_each(&KEYS)),
-    ("unpark_one_one_key", || unpark_one_on_each(&[KEYS[0]; 4])),
+    ("unpark_one_two_keys", || {
+        unpark_one_on_each(&KEYS[..2], 3_000_000)
+    }),
+    ("unpark_one_four_keys", || unpark_one_on_each(&KEYS, 3_000_000)),
+    ("unpark_one_one_key", || {
+        unpark_one_on_each(&[KEYS[0]; 4], 300_000)
+    }),
     ("unpark_one_one_key_sixteen", || {
-        unpark_one_on_each(&[KEYS[0]; 16])
+        unpark_one_on_each(&[KEYS[0]; 16], 300_000)
     }),
     ("park_invalid", park_invalid),
     ("park_past_deadline", park_past_deadline),
@@ -240,13 +244,12 @@ fn together(threads: usize, work: impl Fn(usize) -> bool + Sync) -> Option<Durat
 }
 
 /// A thread for each of the keys.
-fn unpark_one_on_each(keys: &[usize]) -> Option<f64> {
-    const CALLS: u64 = 300_000;
+fn unpark_one_on_each(keys: &[usize], calls: u64) -> Option<f64> {
     median_of(7, || {
         let spent = together(keys.len(), |thread| {
-            unparked_in_vain(keys[thread], CALLS) == 0
+            unparked_in_vain(keys[thread], calls) == 0
         })?;
-        Some(spent.as_nanos() as f64 / CALLS as f64)
+        Some(spent.as_nanos() as f64 / calls as f64)
     })
 }
 

@@ -4,8 +4,8 @@
 /// `Row`, which are 0 where there are no more.
 pub const ROWS: &str = "\
 unpark_one_nobody          unpark          7 1    1     0 1000000 1000000
-unpark_one_two_keys        unpark_apart    7 1    2     0  300000  300000
-unpark_one_four_keys       unpark_apart    7 1    4     0  300000  300000
+unpark_one_two_keys        unpark_apart    7 1    2     0 3000000 3000000
+unpark_one_four_keys       unpark_apart    7 1    4     0 3000000 3000000
 unpark_one_one_key         unpark          7 1    4     0  300000  300000
 unpark_one_one_key_sixteen unpark          7 1   16     0  300000  300000
 park_invalid               park_invalid    7 1    1     0 1000000 1000000
