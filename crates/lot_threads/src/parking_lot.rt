@@ -262,9 +262,9 @@ pub fn park<
 /// to be called: `validate` and `timed_out` the critical section, and `before_sleep` the thread's
 /// witness, which has seen the thread enter the list.
 ///
-/// A body that called a closure at another moment would have nothing to lend. So the contract says
-/// that `validate` was asked while the threads waited on the key that the entry found, and
-/// `before_sleep` once the thread stood in the list.
+/// Where the thread was let in, the contract says that `validate` was asked while the threads
+/// waited on the key that the entry found, and `before_sleep` called once the thread stood in the
+/// list. Of a refusal it says only that `validate` was asked in a section of the key's bucket.
 ///
 /// Upstream has no such call.
 pub fn park_within<
