@@ -1,7 +1,7 @@
-//! Tests of the threaded lot by its public calls alone: what they do and answer, step by step, and
-//! what threads do to one another that meet in an order which no clause of a contract sees. Most
-//! are scenes, texts that `test_support::scene` plays. The comment of a test tells which wrong
-//! bodies it refuses, which every contract lets through.
+//! Tests of the threaded lot and its word locks by their public calls alone: what they do and
+//! answer, step by step, and what threads do to one another that meet in an order which no clause
+//! of a contract sees. Most are scenes, texts that `test_support::scene` plays. The comment of a
+//! test tells which wrong bodies it refuses, which every contract lets through.
 #![tactic(auto)]
 
 #[cfg(test)]
@@ -32,6 +32,8 @@ mod sizes;
 mod waiters;
 #[cfg(test)]
 mod witnesses;
+#[cfg(test)]
+mod word_lock;
 
 #[cfg(test)]
 use std::process::Abort;
