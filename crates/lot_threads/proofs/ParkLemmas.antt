@@ -1,6 +1,6 @@
 -- How a park ends, by how its wait does, and what is known of it by whoever lent its closures nothing.
 use denote.Ref.{Bor}
-use Rattle.std.proofs.Common.{◌≡◌, ℕ, Bool, true, subst}
+use Rattle.std.proofs.Common.{ℕ, Bool, true, subst}
 use Rattle.std.specs.Fn.{Once}
 use Rattle.lot_base.specs.declared.token.ParkResult.{ParkResult}
 use Rattle.lot_base.specs.declared.token.ParkResult.TheVariants as result

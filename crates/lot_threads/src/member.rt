@@ -9,7 +9,7 @@ ghost use Rattle.lot_machine.specs.Records.{one_less, one_more, times_recorded};
 ghost use Rattle.lot_history.specs.Witness.{Extends, IsStill, IsWitnessOf, Looks, events_of, id_of, pieces_of, seen_by, view_of};
 ghost use Rattle.lot_threads.specs.Filters.{MayFilter, Unparks};
 ghost use Rattle.lot_threads.specs.Members.{Begins, IsDataOf, IsListed, IsParked, IsSame, Makes, Stays, member_of};
-ghost use Rattle.lot_threads.specs.Requeues.{MayRequeue, Requeues};
+ghost use Rattle.lot_threads.specs.Requeues.{MayRequeue, MayRequeueWithin, Requeues, RequeuesWithin};
 ghost use Rattle.lot_threads.specs.Within.{IsParkedWithin, MayCallBack, MayFilterWithin, MayPark, UnparksOne, UnparksWithin};
 
 use crate::critical_section::CriticalSection;
@@ -370,6 +370,39 @@ impl<'a, P: ThreadParkerT> Member<'a, P> {
         ensures stays { Stays self.old self.new }
         ensures requeued { Requeues V.FnOnce C.FnOnce validate callback from to self.old.history
             self.old.witness result self.new.witness }
+    {
+        self.unpark_requeue_within(
+            rt,
+            from,
+            to,
+            |_|
+                requires { V.pre validate }
+                ensures { V.post validate result }
+            { validate() },
+            |_, op, found|
+                requires { C.pre callback op found }
+                ensures { C.post callback op found result }
+            { callback(op, found) },
+        )
+    }
+
+    /// Does what `unpark_requeue` does, and lends the closures the critical section of the bucket
+    /// of `from`, in which they are called.
+    ///
+    /// The contract says which threads waited on `from` as `validate` was called: those that the
+    /// requeue found. Of the list of `to` it says only what the step does to it.
+    ///
+    /// Upstream has no such call.
+    pub fn unpark_requeue_within<
+        R: Wait,
+        V: FnOnce(&CriticalSection) -> RequeueOp,
+        C: FnOnce(&CriticalSection, RequeueOp, UnparkResult) -> UnparkToken,
+    >(&mut self, rt: &R, from: usize, to: usize, validate: V, callback: C) -> UnparkResult
+        requires callable { MayRequeueWithin V.FnOnce C.FnOnce validate callback self.old.history
+            from }
+        ensures stays { Stays self.old self.new }
+        ensures requeued { RequeuesWithin V.FnOnce C.FnOnce validate callback from to
+            self.old.history self.old.witness result self.new.witness }
     {
         self.lot
             .unpark_requeue(rt, &mut self.thread.witness, from, to, validate, callback)

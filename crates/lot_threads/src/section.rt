@@ -11,7 +11,7 @@ ghost use Rattle.lot_word_lock.specs.WordLock.{IsClaimOn, key_of};
 ghost use Rattle.lot_threads.specs.Cells.{AreApart, FitsSlot, Has, IsBelow, IsLockFor};
 ghost use Rattle.lot_threads.specs.Idle.{IsIdle, StaysIdle};
 ghost use Rattle.lot_threads.specs.Members.{IsListed, entry_of};
-ghost use Rattle.lot_threads.specs.Requeues.{MayRequeue, Requeues};
+ghost use Rattle.lot_threads.specs.Requeues.{MayRequeueWithin, RequeuesWithin};
 ghost use Rattle.lot_threads.specs.Sections.{HasBucket};
 ghost use Rattle.lot_threads.specs.Within.{Enters, MayCallBack, MayFilterWithin, MayTellTimeout, MayValidate, Refuses, TellsTimeout, UnparksOne, UnparksWithin};
 
@@ -228,10 +228,10 @@ impl<'a, P: ThreadParkerT> Section<'a, P> {
 
     /// Requeues threads of the key onto the key `to`, which has the same bucket, as `validate`
     /// chooses, and answers the handle of the one that is unparked, if there is one.
-    pub(crate) fn requeue_within<
+    pub(crate) fn requeue_here<
         R: Wait,
-        V: FnOnce() -> RequeueOp,
-        C: FnOnce(RequeueOp, UnparkResult) -> UnparkToken,
+        V: FnOnce(&CriticalSection) -> RequeueOp,
+        C: FnOnce(&CriticalSection, RequeueOp, UnparkResult) -> UnparkToken,
     >(
         &mut self,
         rt: &R,
@@ -243,27 +243,26 @@ impl<'a, P: ThreadParkerT> Section<'a, P> {
     ) -> (UnparkResult, Option<P::UnparkHandle>)
         requires idle { IsIdle self.old.lot.now me.old }
         requires to { IsLockFor self.old.lot.now to self.old.lock.now }
-        requires callable { MayRequeue V.FnOnce C.FnOnce validate callback }
+        requires callable { MayRequeueWithin V.FnOnce C.FnOnce validate callback self.old.lot.now
+            self.old.key }
         ensures idle { StaysIdle self.old.lot.now me.old me.new }
-        ensures requeued { Requeues V.FnOnce C.FnOnce validate callback self.old.key to
+        ensures requeued { RequeuesWithin V.FnOnce C.FnOnce validate callback self.old.key to
             self.old.lot.now me.old result.0 me.new }
     {
         let lot = self.lot;
         let from = self.key;
         let slot = self.claim.value_mut(self.lock).as_mut().unwrap();
         let cell = slot.cell.as_mut().unwrap();
-        let (result, taken) = lot.requeue_in_one::<Brand, V, C>(
-            me, licence, cell, from, to, validate, callback,
-        );
+        let (result, taken) = lot.requeue_in_one(me, licence, cell, from, to, validate, callback);
         (result, lot.commit_one(rt, me, taken))
     }
 
-    /// Does what `requeue_within` does, onto the key of another bucket, which the section `target`
+    /// Does what `requeue_here` does, onto the key of another bucket, which the section `target`
     /// has.
     pub(crate) fn requeue_to<
         R: Wait,
-        V: FnOnce() -> RequeueOp,
-        C: FnOnce(RequeueOp, UnparkResult) -> UnparkToken,
+        V: FnOnce(&CriticalSection) -> RequeueOp,
+        C: FnOnce(&CriticalSection, RequeueOp, UnparkResult) -> UnparkToken,
     >(
         &mut self,
         rt: &R,
@@ -276,10 +275,11 @@ impl<'a, P: ThreadParkerT> Section<'a, P> {
         requires idle { IsIdle self.old.lot.now me.old }
         requires lot { target.old.lot.now ≡ self.old.lot.now }
         requires apart { AreApart self.old.lock.now target.old.lock.now }
-        requires callable { MayRequeue V.FnOnce C.FnOnce validate callback }
+        requires callable { MayRequeueWithin V.FnOnce C.FnOnce validate callback self.old.lot.now
+            self.old.key }
         ensures idle { StaysIdle self.old.lot.now me.old me.new }
-        ensures requeued { Requeues V.FnOnce C.FnOnce validate callback self.old.key target.old.key
-            self.old.lot.now me.old result.0 me.new }
+        ensures requeued { RequeuesWithin V.FnOnce C.FnOnce validate callback self.old.key
+            target.old.key self.old.lot.now me.old result.0 me.new }
     {
         let lot = self.lot;
         let from = self.key;
@@ -288,7 +288,7 @@ impl<'a, P: ThreadParkerT> Section<'a, P> {
         let source = slot.cell.as_mut().unwrap();
         let slot = target.claim.value_mut(target.lock).as_mut().unwrap();
         let other = slot.cell.as_mut().unwrap();
-        let (result, taken) = lot.requeue_across::<Brand, V, C>(
+        let (result, taken) = lot.requeue_across(
             me, licence, source, other, from, to, validate, callback,
         );
         (result, lot.commit_one(rt, me, taken))

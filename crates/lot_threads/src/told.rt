@@ -259,6 +259,8 @@ pub(crate) fn add_requeue<E: Told>(
         (lists_in source.old.bucket ∷ lists_in target.old.bucket ∷ threads_in taken.now) }
     ensures still { IsStill history.now me.old me.new }
     ensures adds { Adds history.now me.old (λ s a. E.said s a × (a ≡ answer)) me.new }
+    ensures found { FindsPieces history.now
+        (pieces_in source.old.part ++ pieces_in target.old.part) me.old me.new }
     ensures pieces { pieces_of me.new ≡ threads_in taken.now }
     ensures buckets { (source.new.bucket ≡ source.old.bucket)
         × (target.new.bucket ≡ target.old.bucket) }
@@ -291,6 +293,7 @@ fn add_requeued<E: Told>(history: &History, me: &mut Witness, left: &Requeued<'_
     ensures still { IsStill history.now me.old me.new }
     ensures adds { Adds history.now me.old
         (λ s a. E.said s a × (a ≡ left.now.answer)) me.new }
+    ensures found { Found history.now me.old me.new }
     ensures pieces { pieces_of me.new
         ≡ lists_in left.now.source.now ∷ lists_in left.now.target.now
         ∷ threads_in left.now.taken.now }

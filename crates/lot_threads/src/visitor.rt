@@ -11,7 +11,7 @@ ghost use Rattle.lot_history.specs.Witness.{IsStill, IsWitnessOf, Looks, events_
 ghost use Rattle.lot_threads.specs.Filters.{MayFilter, Unparks};
 ghost use Rattle.lot_threads.specs.Idle.{IsIdle};
 ghost use Rattle.lot_threads.specs.Members.{IsListed};
-ghost use Rattle.lot_threads.specs.Requeues.{MayRequeue, Requeues};
+ghost use Rattle.lot_threads.specs.Requeues.{MayRequeue, MayRequeueWithin, Requeues, RequeuesWithin};
 ghost use Rattle.lot_threads.specs.Visitors.{Does, Visits};
 ghost use Rattle.lot_threads.specs.Within.{MayCallBack, MayFilterWithin, UnparksOne, UnparksWithin};
 
@@ -232,6 +232,36 @@ impl<'a, P: ThreadParkerT> Visitor<'a, P> {
         ensures visits { Visits self.old self.new }
         ensures requeued { Requeues V.FnOnce C.FnOnce validate callback from to self.old.history
             self.old.witness result self.new.witness }
+    {
+        self.unpark_requeue_within(
+            rt,
+            from,
+            to,
+            |_|
+                requires { V.pre validate }
+                ensures { V.post validate result }
+            { validate() },
+            |_, op, found|
+                requires { C.pre callback op found }
+                ensures { C.post callback op found result }
+            { callback(op, found) },
+        )
+    }
+
+    /// Does what `unpark_requeue` does, and lends the closures the critical section of the bucket
+    /// of `from`, as `Member::unpark_requeue_within` does.
+    ///
+    /// Upstream has no such call.
+    pub fn unpark_requeue_within<
+        R: Wait,
+        V: FnOnce(&CriticalSection) -> RequeueOp,
+        C: FnOnce(&CriticalSection, RequeueOp, UnparkResult) -> UnparkToken,
+    >(&mut self, rt: &R, from: usize, to: usize, validate: V, callback: C) -> UnparkResult
+        requires callable { MayRequeueWithin V.FnOnce C.FnOnce validate callback self.old.history
+            from }
+        ensures visits { Visits self.old self.new }
+        ensures requeued { RequeuesWithin V.FnOnce C.FnOnce validate callback from to
+            self.old.history self.old.witness result self.new.witness }
     {
         self.lot
             .unpark_requeue(rt, &mut self.witness, from, to, validate, callback)

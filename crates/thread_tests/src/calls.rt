@@ -3,8 +3,8 @@
 use crate::expect;
 use crate::played::goes_well;
 use lot_threads::{
-    FilterOp, Member, ParkResult, ParkingLot, RequeueOp, ThreadParkerT, UnparkResult, UnparkToken,
-    Witness, WordParker,
+    CriticalSection, FilterOp, Member, ParkResult, ParkingLot, RequeueOp, ThreadParkerT,
+    UnparkResult, UnparkToken, Witness, WordParker,
 };
 use std::alloc::Global;
 use std::process::Abort;
@@ -129,10 +129,20 @@ fn make_calls_within<P: ThreadParkerT, R: Wait + Clock + Abort>(
 ) {
     let lot = two.lot();
     let before_sleep = |_: &Witness| {
-        let nobody = lot.visitor().unpark_one_within(rt, OTHER_KEY, |_, _| TOKEN);
-        let answer = two.unpark_one_within(rt, KEY, |_, _| TOKEN);
-        let threads = (nobody.unparked_threads, answer.unparked_threads);
-        expect(rt, threads == (0, 1), "it is unparked within");
+        let choose = |_: &CriticalSection| RequeueOp::RequeueOne;
+        let moved = two.unpark_requeue_within(rt, KEY, OTHER_KEY, choose, |_, _, _| TOKEN);
+        let mut visitor = lot.visitor();
+        let choose = |_: &CriticalSection| RequeueOp::UnparkOne;
+        let nobody = visitor.unpark_requeue_within(rt, KEY, OTHER_KEY, choose, |_, _, _| TOKEN);
+        let answer = two.unpark_one_within(rt, OTHER_KEY, |_, _| TOKEN);
+        let threads = (
+            moved.requeued_threads,
+            nobody.unparked_threads,
+            answer.unparked_threads,
+        );
+        expect(rt, threads == (1, 0, 1), "it is moved and unparked within");
+        let nobody = visitor.unpark_one_within(rt, KEY, |_, _| TOKEN);
+        expect(rt, nobody.unparked_threads == 0, "nobody is left");
     };
     let ended = one.park_within(
         rt,

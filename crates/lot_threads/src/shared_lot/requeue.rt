@@ -1,7 +1,8 @@
 //! Requeues, from the list of one key to that of another: their buckets, which may be one or two,
 //! and what a section does to them.
 
-ghost use Rattle.std.specs.Prelude.{◌≡◌, ◌≢◌, ◌<◌, ◌≤◌, length, IfSome, MatchOption, Some};
+ghost use denote.Ref.{Bor};
+ghost use Rattle.std.specs.Prelude.{◌≡◌, ◌≢◌, ◌<◌, ◌≤◌, ◌∷◌, [], length, IfSome, MatchOption, Some};
 ghost use Rattle.lot_base.specs.BucketState.{KeepsPlace};
 ghost use Rattle.lot_base.specs.Place.{place_of};
 ghost use Rattle.lot_base.specs.declared.token.UnparkResult.{UnparkResult};
@@ -9,23 +10,27 @@ ghost use Rattle.lot_machine.specs.declared.step.Answer.{Answer};
 ghost use Rattle.lot_machine.specs.declared.step.Step.{Step};
 ghost use Rattle.lot_history.specs.Witness.{Adds, IsStill, id_of, max_threads_of};
 ghost use Rattle.lot_word_lock.specs.WordLock.{key_of};
-ghost use Rattle.lot_threads.specs.Cells.{AreApart, IsCell, IsCellFor, IsLockAt, IsLockFor, TakesFrom};
+ghost use Rattle.lot_threads.specs.Cells.{AreApart, IsCell, IsCellFor, IsLockAt, IsLockFor, TakesFrom, lists_in};
 ghost use Rattle.lot_threads.specs.Idle.{IsIdle, StaysIdle};
-ghost use Rattle.lot_threads.specs.Requeues.{IsRequeue, MayRequeue, Requeues};
+ghost use Rattle.lot_threads.specs.Requeues.{IsRequeueWithin, MayRequeueWithin, RequeuesWithin};
 ghost use Rattle.lot_threads.specs.Sections.{AreLockedInOrder, IsKeyedLock};
+ghost use Rattle.lot_threads.specs.Within.{FindsPieces};
 
 use super::ParkingLot;
 use crate::cell::{Cell, Slot, lock_at};
+use crate::critical_section::CriticalSection;
 use crate::parker::ThreadParkerT;
 use crate::section::{Licence, Section};
-use crate::told::{add_requeue, add_taking};
+use crate::told::{add_requeue, add_taken};
 use lot_base::bucket::place;
 use lot_base::queue::Queue;
 use lot_base::token::{RequeueOp, UnparkResult, UnparkToken};
 use lot_base::word_lock::WordLock;
-use lot_history::history::Witness;
+use lot_history::history::{Part, Witness};
 use lot_history::plays::Told;
 use lot_machine::step::Answer;
+use std::marker::Brand;
+use std::mem;
 use std::sync::Wait;
 
 // The lock of the bucket of a key, with the bucket's place in its row.
@@ -41,8 +46,8 @@ impl<P: ThreadParkerT> ParkingLot<P> {
     // there is one, once the buckets were let go.
     pub(crate) fn unpark_requeue<
         R: Wait,
-        V: FnOnce() -> RequeueOp,
-        C: FnOnce(RequeueOp, UnparkResult) -> UnparkToken,
+        V: FnOnce(&CriticalSection) -> RequeueOp,
+        C: FnOnce(&CriticalSection, RequeueOp, UnparkResult) -> UnparkToken,
     >(
         &self,
         rt: &R,
@@ -53,14 +58,14 @@ impl<P: ThreadParkerT> ParkingLot<P> {
         callback: C,
     ) -> UnparkResult
         requires idle { IsIdle self.now me.old }
-        requires callable { MayRequeue V.FnOnce C.FnOnce validate callback }
+        requires callable { MayRequeueWithin V.FnOnce C.FnOnce validate callback self.now from }
         ensures idle { StaysIdle self.now me.old me.new }
-        ensures requeued { Requeues V.FnOnce C.FnOnce validate callback from to self.now me.old
-            result me.new }
+        ensures requeued { RequeuesWithin V.FnOnce C.FnOnce validate callback from to self.now
+            me.old result me.new }
     {
         let (mut source, target, licence) = self.open_two(rt, from, to);
         let Some(mut target) = target else {
-            let (result, handle) = source.requeue_within(rt, me, licence, to, validate, callback);
+            let (result, handle) = source.requeue_here(rt, me, licence, to, validate, callback);
             source.close();
             self.wake_if_any(handle);
             return result;
@@ -189,9 +194,8 @@ impl<P: ThreadParkerT> ParkingLot<P> {
     // Requeues waiters of the key `from` onto the key `to`, where both have one bucket, and tells
     // so. The witness has the pieces of those that were taken, one at most.
     pub(crate) fn requeue_in_one<
-        E: Told,
-        V: FnOnce() -> RequeueOp,
-        C: FnOnce(RequeueOp, UnparkResult) -> UnparkToken,
+        V: FnOnce(&CriticalSection) -> RequeueOp,
+        C: FnOnce(&CriticalSection, RequeueOp, UnparkResult) -> UnparkToken,
     >(
         &self,
         me: &mut Witness,
@@ -205,36 +209,76 @@ impl<P: ThreadParkerT> ParkingLot<P> {
         requires idle { IsIdle self.now me.old }
         requires cell { IsCellFor self.now from cell.old }
         requires to { place_of to cell.old.bucket.size ≡ cell.old.bucket.place }
-        requires callable { MayRequeue V.FnOnce C.FnOnce validate callback }
+        requires callable { MayRequeueWithin V.FnOnce C.FnOnce validate callback self.now from }
+
+        ensures still { IsStill self.now me.old me.new }
+        ensures requeued { RequeuesWithin V.FnOnce C.FnOnce validate callback from to self.now
+            me.old result.0 me.new }
+        ensures taken { TakesFrom self.now cell.old cell.new result.1 me.new }
+        ensures one { length result.1 ≤ 1 }
+    {
+        self.requeue_one_with::<Brand, V, C>(me, licence, cell, from, to, validate, callback)
+    }
+
+    // The same, in a section in which the bucket is as its part says.
+    fn requeue_one_with<
+        E: Told,
+        V: FnOnce(&CriticalSection) -> RequeueOp,
+        C: FnOnce(&CriticalSection, RequeueOp, UnparkResult) -> UnparkToken,
+    >(
+        &self,
+        me: &mut Witness,
+        licence: Licence,
+        cell: &mut Cell,
+        from: usize,
+        to: usize,
+        validate: V,
+        callback: C,
+    ) -> (UnparkResult, Queue)
+        requires idle { IsIdle self.now me.old }
+        requires cell { IsCellFor self.now from cell.old }
+        requires to { place_of to cell.old.bucket.size ≡ cell.old.bucket.place }
+        requires callable { MayRequeueWithin V.FnOnce C.FnOnce validate callback self.now from }
         requires said { (answer : UnparkResult) (s : Step) (a : Answer)
-            → IsRequeue V.FnOnce C.FnOnce validate callback from to answer s a → E.said s a }
+            → IsRequeueWithin V.FnOnce C.FnOnce validate callback self.now cell.old.bucket from to
+            answer s a → E.said s a }
 
         ensures still { IsStill self.now me.old me.new }
         ensures adds { Adds self.now me.old
             (λ s a. E.said s a × (a ≡ Answer.Unpark result.0)) me.new }
+        ensures found { FindsPieces self.now (lists_in cell.old.bucket ∷ []) me.old me.new }
         ensures taken { TakesFrom self.now cell.old cell.new result.1 me.new }
         ensures one { length result.1 ≤ 1 }
     {
         let mut moved = |number: usize, timed: bool| self.note_key(number, timed, to);
-        let (result, taken) = cell
-            .bucket
-            .requeue_one(from, to, validate, callback, &mut moved);
-        add_taking::<E>(
-            &self.history,
-            me,
-            licence,
-            cell,
-            &taken,
-            Answer::Unpark(result),
+        let section = CriticalSection::of(mem::replace(&mut cell.part, Part::none()));
+        let (result, taken) = cell.bucket.requeue_one(
+            from,
+            to,
+            ||
+                requires { (lent : Bor CriticalSection) → lent.now ≡ section
+                    → V.pre validate lent }
+                ensures { (lent : Bor CriticalSection) × (lent.now ≡ section)
+                    × V.post validate lent result }
+            { validate(&section) },
+            |op, found|
+                requires { (lent : Bor CriticalSection) → lent.now ≡ section
+                    → C.pre callback lent op found }
+                ensures { (lent : Bor CriticalSection) × (lent.now ≡ section)
+                    × C.post callback lent op found result }
+            { callback(&section, op, found) },
+            &mut moved,
         );
+        self.history.take(me, section.into_part());
+        let answer = Answer::Unpark(result);
+        add_taken::<E>(&self.history, me, licence, cell, &taken, answer);
         (result, taken)
     }
 
     // Does what `requeue_in_one` does, where each key has a bucket of its own.
     pub(crate) fn requeue_across<
-        E: Told,
-        V: FnOnce() -> RequeueOp,
-        C: FnOnce(RequeueOp, UnparkResult) -> UnparkToken,
+        V: FnOnce(&CriticalSection) -> RequeueOp,
+        C: FnOnce(&CriticalSection, RequeueOp, UnparkResult) -> UnparkToken,
     >(
         &self,
         me: &mut Witness,
@@ -251,36 +295,80 @@ impl<P: ThreadParkerT> ParkingLot<P> {
         requires target { IsCellFor self.now to target.old }
         requires size { target.old.bucket.size ≡ source.old.bucket.size }
         requires places { target.old.bucket.place ≢ source.old.bucket.place }
-        requires callable { MayRequeue V.FnOnce C.FnOnce validate callback }
+        requires callable { MayRequeueWithin V.FnOnce C.FnOnce validate callback self.now from }
+
+        ensures still { IsStill self.now me.old me.new }
+        ensures requeued { RequeuesWithin V.FnOnce C.FnOnce validate callback from to self.now
+            me.old result.0 me.new }
+        ensures taken { TakesFrom self.now source.old source.new result.1 me.new }
+        ensures target { IsCell (id_of self.now) (max_threads_of self.now) target.new }
+        ensures place { KeepsPlace target.old.bucket target.new.bucket }
+        ensures one { length result.1 ≤ 1 }
+    {
+        self.requeue_across_with::<Brand, V, C>(
+            me, licence, source, target, from, to, validate, callback,
+        )
+    }
+
+    // The same, in a section in which the first bucket is as its part says.
+    fn requeue_across_with<
+        E: Told,
+        V: FnOnce(&CriticalSection) -> RequeueOp,
+        C: FnOnce(&CriticalSection, RequeueOp, UnparkResult) -> UnparkToken,
+    >(
+        &self,
+        me: &mut Witness,
+        licence: Licence,
+        source: &mut Cell,
+        target: &mut Cell,
+        from: usize,
+        to: usize,
+        validate: V,
+        callback: C,
+    ) -> (UnparkResult, Queue)
+        requires idle { IsIdle self.now me.old }
+        requires source { IsCellFor self.now from source.old }
+        requires target { IsCellFor self.now to target.old }
+        requires size { target.old.bucket.size ≡ source.old.bucket.size }
+        requires places { target.old.bucket.place ≢ source.old.bucket.place }
+        requires callable { MayRequeueWithin V.FnOnce C.FnOnce validate callback self.now from }
         requires said { (answer : UnparkResult) (s : Step) (a : Answer)
-            → IsRequeue V.FnOnce C.FnOnce validate callback from to answer s a → E.said s a }
+            → IsRequeueWithin V.FnOnce C.FnOnce validate callback self.now source.old.bucket from
+            to answer s a → E.said s a }
 
         ensures still { IsStill self.now me.old me.new }
         ensures adds { Adds self.now me.old
             (λ s a. E.said s a × (a ≡ Answer.Unpark result.0)) me.new }
+        ensures found { FindsPieces self.now
+            (lists_in source.old.bucket ∷ lists_in target.old.bucket ∷ []) me.old me.new }
         ensures taken { TakesFrom self.now source.old source.new result.1 me.new }
         ensures target { IsCell (id_of self.now) (max_threads_of self.now) target.new }
         ensures place { KeepsPlace target.old.bucket target.new.bucket }
         ensures one { length result.1 ≤ 1 }
     {
         let mut moved = |number: usize, timed: bool| self.note_key(number, timed, to);
+        let first = CriticalSection::of(mem::replace(&mut source.part, Part::none()));
         let (result, taken) = source.bucket.requeue_two(
             &mut target.bucket,
             from,
             to,
-            validate,
-            callback,
+            ||
+                requires { (lent : Bor CriticalSection) → lent.now ≡ first
+                    → V.pre validate lent }
+                ensures { (lent : Bor CriticalSection) × (lent.now ≡ first)
+                    × V.post validate lent result }
+            { validate(&first) },
+            |op, found|
+                requires { (lent : Bor CriticalSection) → lent.now ≡ first
+                    → C.pre callback lent op found }
+                ensures { (lent : Bor CriticalSection) × (lent.now ≡ first)
+                    × C.post callback lent op found result }
+            { callback(&first, op, found) },
             &mut moved,
         );
-        add_requeue::<E>(
-            &self.history,
-            me,
-            licence,
-            source,
-            target,
-            &taken,
-            Answer::Unpark(result),
-        );
+        source.part = first.into_part();
+        let answer = Answer::Unpark(result);
+        add_requeue::<E>(&self.history, me, licence, source, target, &taken, answer);
         (result, taken)
     }
 }

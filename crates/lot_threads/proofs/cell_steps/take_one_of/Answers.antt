@@ -3,7 +3,6 @@ use Rattle.lot_base.specs.declared.token.UnparkResult.{UnparkResult}
 use Rattle.lot_machine.specs.declared.step.Answer.{Answer}
 use Rattle.lot_machine.specs.declared.step.Answer.TheVariants as answer
 use Rattle.lot_machine.specs.declared.step.Step.{Step}
-use Rattle.lot_machine.specs.declared.step.Step.TheVariants.{Unpark}
 use Rattle.lot_history.specs.Witness.{Extends}
 use Rattle.lot_threads.proofs.AnswerLemmas.{same_result}
 use Rattle.lot_threads.proofs.WithinLemmas.{finds, first_result, is_section}
