@@ -12,5 +12,6 @@ pub mod AnswerLemmas
 pub mod RequeueLemmas
 pub mod LockLemmas
 pub mod HalfLemmas
+pub mod OncePlaceLemmas
 pub mod SizeLemmas
 pub mod ParkLemmas

@@ -1,19 +1,21 @@
 //! The buckets of a lot, each with its part of the history, behind a lock.
 
-ghost use Rattle.std.specs.Prelude.{◌≡◌, ◌∷◌, ◌<◌, [], length, IfOk, IfSome, None, Some};
+ghost use Rattle.std.specs.Prelude.{◌≡◌, ◌∷◌, ◌<◌, [], length, IfOk, IfSome};
 ghost use Rattle.lot_base.specs.Place.{IsTableSize};
 ghost use Rattle.lot_history.specs.Views.{rest_of};
-ghost use Rattle.lot_history.specs.Witness.{IsPartOf, IsStill, IsWitnessOf, id_of, max_threads_of, pieces_of};
+ghost use Rattle.lot_history.specs.Witness.{IsPartOf, IsStill, IsWitnessOf, events_of, id_of, max_threads_of, pieces_of};
 ghost use Rattle.lot_history.specs.declared.view.Piece.TheVariants.{Lists};
-ghost use Rattle.lot_word_lock.specs.WordLock.{IsHeldOf, key_of};
+ghost use Rattle.lot_word_lock.specs.WordLock.{key_of};
 ghost use Rattle.lot_threads.specs.Rows.{EachAt, empty_lists, free_numbers};
+ghost use Rattle.lot_threads.specs.Idle.{IsIdle, StaysIdle};
 ghost use Rattle.lot_threads.specs.Cells.{AreRows, FitsCell, IsCellLock, IsLockAt, IsRow, home_of};
 
+use crate::told::refuse_two;
 use boxcar::slot::{OnceSlot, SlotRule};
 use boxcar::tag::{Names, Tag};
 use lot_base::bucket::Bucket;
 use lot_base::token::NoMemory;
-use lot_base::word_lock::{Fits, Held, WordLock};
+use lot_base::word_lock::{Fits, WordLock};
 use lot_history::history::{History, Part, Witness};
 use lot_machine::size::INITIAL_BUCKETS;
 use std::alloc::Global;
@@ -75,29 +77,28 @@ fn taken_from<R: Wait>(rt: &R, lock: &WordLock<Slot>) -> Option<Cell>
     cell
 }
 
-// Puts a bucket to its place, in a row that is not in use there.
-pub(crate) fn put<R: Wait>(rt: &R, lock: &WordLock<Slot>, cell: Cell)
-    requires { FitsCell (key_of lock.now) cell }
+// Puts a bucket to its place, in a row that is not in use there: another bucket of this place
+// cannot be.
+pub(crate) fn put<R: Wait>(
+    rt: &R,
+    history: &History,
+    me: &mut Witness,
+    lock: &WordLock<Slot>,
+    cell: Cell,
+)
+    requires idle { IsIdle history.now me.old }
+    requires for_threads { (key_of lock.now).max_threads ≡ max_threads_of history.now }
+    requires of_lot { home_of (key_of lock.now).home ≡ id_of history.now }
+    requires fits { FitsCell (key_of lock.now) cell }
+    ensures idle { StaysIdle history.now me.old me.new }
+    ensures nothing_added { events_of me.new ≡ events_of me.old }
 {
-    let mut held = lock_empty(rt, lock);
+    let mut held = lock.lock(rt);
+    if let Some(other) = held.value.cell.take() {
+        refuse_two(history, me, cell, other);
+    }
     held.value.cell = Some(cell);
     lock.unlock(held);
-}
-
-// Locks a place that has no bucket. None that is there is lost: it would wait instead.
-fn lock_empty<R: Wait>(rt: &R, lock: &WordLock<Slot>) -> Held<Slot>
-    ensures held { IsHeldOf lock.now result }
-    ensures empty { result.value.cell ≡ None }
-{
-    for _ in rt.forever() {
-        let held = lock.lock(rt);
-        if held.value.cell.is_none() {
-            return held;
-        }
-        lock.unlock(held);
-        thread::yield_now();
-    }
-    unreachable!()
 }
 
 // The lock at this place of a row.

@@ -1,11 +1,12 @@
 //! What sections tell the history: each adds a step, and leaves the pieces where they belong.
 
 ghost use Rattle.std.specs.Prelude.{◌≡◌, ◌∷◌, ◌++◌, List, [], true, false};
+ghost use Rattle.lot_base.specs.BucketState.{IsBucketAt};
 ghost use Rattle.lot_history.specs.Moves.{Moves, Regroups};
 ghost use Rattle.lot_history.specs.Witness.{Adds, Extends, Found, IsPartOf, IsStill, IsWitnessOf, events_of, id_of, max_threads_of, pieces_in, pieces_of};
 ghost use Rattle.lot_history.specs.declared.view.Piece.{Piece};
 ghost use Rattle.lot_history.specs.declared.view.Piece.TheVariants.{Records, Thread};
-ghost use Rattle.lot_threads.specs.Cells.{Has, lists_in, numbers_in, threads_in};
+ghost use Rattle.lot_threads.specs.Cells.{Has, IsCell, lists_in, numbers_in, threads_in};
 ghost use Rattle.lot_threads.specs.Idle.{IsIdle, StaysIdle};
 ghost use Rattle.lot_threads.specs.Late.{late_pieces};
 ghost use Rattle.lot_threads.specs.Members.{Is, entry_step};
@@ -104,6 +105,33 @@ pub(crate) fn regroup_joined(history: &History, me: &mut Witness, bucket: &Bucke
     ensures pieces { pieces_of me.new ≡ lists_in bucket.now ∷ [] }
 {
     regroup_with::<&Bucket>(history, me, &bucket);
+}
+
+// Two buckets of one place cannot be, since each has the piece of its lists, and no piece is there
+// twice. So the code does not come here.
+#[cold]
+#[inline(never)]
+pub(crate) fn refuse_two(history: &History, me: &mut Witness, one: Cell, other: Cell) -> !
+    requires idle { IsIdle history.now me.old }
+    requires one { IsCell (id_of history.now) (max_threads_of history.now) one }
+    requires other { IsCell (id_of history.now) (max_threads_of history.now) other }
+    requires same_place { IsBucketAt one.bucket.place one.bucket.size other.bucket }
+{
+    let _place = one.bucket.place();
+    let _size = one.bucket.size();
+    history.take(me, one.part);
+    history.take(me, other.part);
+    find_two(history, me, &one.bucket, &other.bucket)
+}
+
+// No machine is as the pieces of the witness say, those of two buckets.
+fn find_two(history: &History, me: &mut Witness, one: &Bucket, other: &Bucket) -> !
+    requires witness { IsWitnessOf history.now me.old }
+    requires moves { Moves (max_threads_of history.now) (λ s a. ⊥) (pieces_of me.old)
+        (lists_in one.now ∷ lists_in other.now ∷ []) }
+{
+    add_with::<Brand, (&Bucket, &Bucket)>(history, me, &(one, other));
+    unreachable!()
 }
 
 // Adds that a thread was registered, which leaves these numbers so.

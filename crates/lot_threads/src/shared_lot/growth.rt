@@ -176,8 +176,8 @@ impl<P: ThreadParkerT> ParkingLot<P> {
         for place in 0..row.len() {
             let cell = take_away(rt, lock_at(row, place));
             let (low, high) = split(&self.history, me, cell);
-            put(rt, lock_at(larger, 2 * place), low);
-            put(rt, lock_at(larger, 2 * place + 1), high);
+            put(rt, &self.history, me, lock_at(larger, 2 * place), low);
+            put(rt, &self.history, me, lock_at(larger, 2 * place + 1), high);
         }
     }
 
@@ -202,7 +202,7 @@ impl<P: ThreadParkerT> ParkingLot<P> {
             let low = take_away(rt, lock_at(larger, 2 * place));
             let high = take_away(rt, lock_at(larger, 2 * place + 1));
             let cell = join(&self.history, me, place, row.len(), low, high);
-            put(rt, lock_at(row, place), cell);
+            put(rt, &self.history, me, lock_at(row, place), cell);
         }
     }
 }
