@@ -14,7 +14,7 @@ use std::hint;
 use std::process::ExitCode;
 use std::sync::atomic::Ordering::SeqCst;
 use std::sync::atomic::{AtomicBool, AtomicU8, AtomicU64};
-use std::sync::{Arc, Barrier, Mutex, RwLock};
+use std::sync::{Arc, Barrier, Condvar, Mutex, RwLock};
 use std::thread;
 use std::time::{Duration, Instant};
 
@@ -25,7 +25,7 @@ const TURNS: usize = 10_000_000;
 
 type Row = (&'static str, fn() -> Option<f64>);
 
-const ROWS: [Row; 50] = [
+const ROWS: [Row; 56] = [
     ("unpark_one_nobody", unpark_one_nobody),
     ("unpark_one_two_keys", || {
         unpark_one_on_each(&KEYS[..2], 3_000_000)
@@ -64,11 +64,13 @@ const ROWS: [Row; 50] = [
     ("std_mutex_alone", || std_mutex(1, SHORT)),
     ("std_mutex_two", || std_mutex(2, SHORT)),
     ("std_mutex_four", || std_mutex(4, SHORT)),
+    ("std_mutex_sixteen", || std_mutex(16, SHORT)),
     ("std_mutex_two_longer", || std_mutex(2, LONGER)),
     ("std_mutex_four_longer", || std_mutex(4, LONGER)),
     ("sync_mutex_alone", || sync_mutex(1, SHORT)),
     ("sync_mutex_two", || sync_mutex(2, SHORT)),
     ("sync_mutex_four", || sync_mutex(4, SHORT)),
+    ("sync_mutex_sixteen", || sync_mutex(16, SHORT)),
     ("sync_mutex_two_longer", || sync_mutex(2, LONGER)),
     ("sync_mutex_four_longer", || sync_mutex(4, LONGER)),
     ("sync_read_alone", || sync_rw_lock(1, READ)),
@@ -79,7 +81,15 @@ const ROWS: [Row; 50] = [
     ("std_read_four", || std_rw_lock(4, READ)),
     ("std_mostly_read_four", || std_rw_lock(4, MOSTLY_READ)),
     ("sync_once_done", sync_once_done),
-    ("sync_condvar_turns", || median_of(5, sync_condvar_turns)),
+    ("sync_condvar_turns", || {
+        median_of(5, || sync_condvar_turns(Notify::Unlocked))
+    }),
+    ("sync_condvar_turns_held", || {
+        median_of(5, || sync_condvar_turns(Notify::Held))
+    }),
+    ("std_condvar_turns", || median_of(5, std_condvar_turns)),
+    ("sync_queue_two", || sync_queue(2)),
+    ("sync_queue_eight", || sync_queue(8)),
     ("many_keys", many_keys),
     ("thousand_threads", thousand_threads),
 ];
@@ -558,32 +568,19 @@ fn spin(spun: u32) {
     }
 }
 
-/// A mutex whose unlock lets whoever runs have it next.
+/// So many threads lock and unlock so often each a mutex whose unlock lets whoever runs have it next.
 fn mutex(threads: usize) -> Option<f64> {
-    cost_of_mutex(threads, 300_000, ByteMutex::unlock)
-}
-
-/// One whose unlock hands it to the first that waits.
-fn fair_mutex(threads: usize) -> Option<f64> {
-    cost_of_mutex(threads, 20_000, ByteMutex::unlock_fair)
-}
-
-/// So many threads lock and unlock so often each.
-fn cost_of_mutex(
-    threads: usize,
-    pairs: u64,
-    unlock: impl Fn(&ByteMutex) + Copy + Sync,
-) -> Option<f64> {
-    let all_pairs = pairs * threads as u64;
+    const PAIRS: u64 = 300_000;
+    let all_pairs = PAIRS * threads as u64;
     let count = AtomicU64::new(0);
     let mutex = ByteMutex {
         state: AtomicU8::new(FREE),
     };
     together(threads, |_| {
-        (0..pairs).all(|_| {
+        (0..PAIRS).all(|_| {
             let locked = mutex.lock();
             count.store(count.load(SeqCst) + 1, SeqCst);
-            unlock(&mutex);
+            mutex.unlock();
             locked
         })
     })?;
@@ -593,11 +590,11 @@ fn cost_of_mutex(
     median_of(7, || {
         let spent = together(threads, |_| {
             let mut locked = 0;
-            for _ in 0..pairs {
+            for _ in 0..PAIRS {
                 locked += u64::from(mutex.lock());
-                unlock(&mutex);
+                mutex.unlock();
             }
-            locked == pairs
+            locked == PAIRS
         })?;
         Some(spent.as_nanos() as f64 / all_pairs as f64)
     })
@@ -818,6 +815,18 @@ impl TallyLock for parking_lot::Mutex<Tally> {
     }
 }
 
+impl TallyLock for parking_lot::FairMutex<Tally> {
+    #[inline]
+    fn count_one(&self, turns: u32) {
+        self.lock().count_one(turns);
+    }
+
+    #[inline]
+    fn count(&self) -> u64 {
+        self.lock().count
+    }
+}
+
 impl TallyLock for parking_lot::RwLock<Tally> {
     #[inline]
     fn count_one(&self, turns: u32) {
@@ -830,41 +839,58 @@ impl TallyLock for parking_lot::RwLock<Tally> {
     }
 }
 
+const HUNDREDS: u64 = 3_000;
+
 fn word_lock(threads: usize, section: Section) -> Option<f64> {
     let lock = Locked {
         lock: WordLock::new(),
         tally: UnsafeCell::new(Tally::new()),
     };
-    cost_of_lock(&lock, threads, section)
+    cost_of_lock(&lock, threads, section, HUNDREDS)
 }
 
 fn std_mutex(threads: usize, section: Section) -> Option<f64> {
-    cost_of_lock(&Mutex::new(Tally::new()), threads, section)
+    cost_of_lock(&Mutex::new(Tally::new()), threads, section, HUNDREDS)
 }
 
 fn std_rw_lock(threads: usize, section: Section) -> Option<f64> {
-    cost_of_lock(&RwLock::new(Tally::new()), threads, section)
+    let lock = RwLock::new(Tally::new());
+    cost_of_lock(&lock, threads, section, HUNDREDS)
 }
 
 fn sync_mutex(threads: usize, section: Section) -> Option<f64> {
-    cost_of_lock(&parking_lot::Mutex::new(Tally::new()), threads, section)
+    let lock = parking_lot::Mutex::new(Tally::new());
+    cost_of_lock(&lock, threads, section, HUNDREDS)
+}
+
+/// One whose unlock hands it to the first that waits.
+fn fair_mutex(threads: usize) -> Option<f64> {
+    const FEWER: u64 = 200;
+    let lock = parking_lot::FairMutex::new(Tally::new());
+    cost_of_lock(&lock, threads, SHORT, FEWER)
 }
 
 fn sync_rw_lock(threads: usize, section: Section) -> Option<f64> {
-    cost_of_lock(&parking_lot::RwLock::new(Tally::new()), threads, section)
+    let lock = parking_lot::RwLock::new(Tally::new());
+    cost_of_lock(&lock, threads, section, HUNDREDS)
 }
 
-fn cost_of_lock(lock: &impl TallyLock, threads: usize, section: Section) -> Option<f64> {
-    const HUNDREDS: u64 = 3_000;
+/// Each of so many threads locks and unlocks so many hundred times.
+fn cost_of_lock(
+    lock: &impl TallyLock,
+    threads: usize,
+    section: Section,
+    hundreds: u64,
+) -> Option<f64> {
     const RUNS: usize = 7;
-    let pairs = 100 * HUNDREDS * threads as u64;
+    let pairs = 100 * hundreds * threads as u64;
     let cost = median_of(RUNS, || {
         let spent = together(threads, |_| {
-            (0..HUNDREDS).all(|_| hundred_pairs(lock, section))
+            (0..hundreds).all(|_| hundred_pairs(lock, section))
         })?;
         Some(spent.as_nanos() as f64 / pairs as f64)
     });
-    let counted = HUNDREDS * u64::from(section.counts) * threads as u64 * (RUNS as u64 + 1);
+    let counted = hundreds * u64::from(section.counts) * threads as u64 * (RUNS as u64 + 1);
     cost.filter(|_| lock.count() == counted)
 }
 
@@ -883,7 +909,7 @@ fn hundred_pairs(lock: &impl TallyLock, section: Section) -> bool {
     is_ordered
 }
 
-// What is done once, and a condition variable.
+// What is done once, and condition variables.
 
 fn sync_once_done() -> Option<f64> {
     let once = parking_lot::Once::new();
@@ -898,7 +924,14 @@ fn sync_once_done() -> Option<f64> {
     })
 }
 
-fn sync_condvar_turns() -> Option<f64> {
+/// When a thread notifies the other.
+#[derive(Copy, Clone)]
+enum Notify {
+    Unlocked,
+    Held,
+}
+
+fn sync_condvar_turns(notify: Notify) -> Option<f64> {
     let mutex = parking_lot::Mutex::new(Tally::new());
     let condvar = parking_lot::Condvar::new();
     let takes_turns = |side: u64| {
@@ -908,6 +941,9 @@ fn sync_condvar_turns() -> Option<f64> {
                 condvar.wait(&mut tally);
             }
             tally.count_one(0);
+            if let Notify::Unlocked = notify {
+                drop(tally);
+            }
             condvar.notify_one();
         }
         true
@@ -916,6 +952,92 @@ fn sync_condvar_turns() -> Option<f64> {
     both(|| takes_turns(0), || takes_turns(1));
     let cost = since(start, WORD_ROUNDS);
     (mutex.lock().count == 2 * WORD_ROUNDS).then_some(cost)
+}
+
+fn std_condvar_turns() -> Option<f64> {
+    let mutex = Mutex::new(Tally::new());
+    let condvar = Condvar::new();
+    let takes_turns = |side: u64| {
+        for _ in 0..WORD_ROUNDS {
+            let tally = mutex.lock().unwrap();
+            let mut tally = condvar
+                .wait_while(tally, |tally| tally.count % 2 != side)
+                .unwrap();
+            tally.count_one(0);
+            drop(tally);
+            condvar.notify_one();
+        }
+        true
+    };
+    let start = Instant::now();
+    both(|| takes_turns(0), || takes_turns(1));
+    let cost = since(start, WORD_ROUNDS);
+    (mutex.lock().unwrap().count == 2 * WORD_ROUNDS).then_some(cost)
+}
+
+// A queue with few places.
+
+/// How many things are queued, and how many were taken.
+struct Things {
+    queued: u64,
+    taken: u64,
+}
+
+/// The queue, of which the things are counted alone.
+struct Queue {
+    things: parking_lot::Mutex<Things>,
+    filled: parking_lot::Condvar,
+    emptied: parking_lot::Condvar,
+}
+
+impl Queue {
+    fn put(&self) {
+        const PLACES: u64 = 16;
+        let mut things = self.things.lock();
+        self.emptied
+            .wait_while(&mut things, |things| things.queued == PLACES);
+        things.queued += 1;
+        self.filled.notify_one();
+    }
+
+    fn take(&self) {
+        let mut things = self.things.lock();
+        self.filled
+            .wait_while(&mut things, |things| things.queued == 0);
+        things.queued -= 1;
+        things.taken += 1;
+        self.emptied.notify_one();
+    }
+}
+
+/// Half of so many threads put things into the queue, and the others take them.
+fn sync_queue(threads: usize) -> Option<f64> {
+    const CALLS: u64 = 10_000;
+    const RUNS: usize = 5;
+    let queue = Queue {
+        things: parking_lot::Mutex::new(Things {
+            queued: 0,
+            taken: 0,
+        }),
+        filled: parking_lot::Condvar::new(),
+        emptied: parking_lot::Condvar::new(),
+    };
+    let passed = CALLS * threads as u64 / 2;
+    let cost = median_of(RUNS, || {
+        let spent = together(threads, |place| {
+            for _ in 0..CALLS {
+                if place % 2 == 0 {
+                    queue.put();
+                } else {
+                    queue.take();
+                }
+            }
+            true
+        })?;
+        Some(spent.as_nanos() as f64 / passed as f64)
+    });
+    let taken = queue.things.lock().taken;
+    cost.filter(|_| taken == passed * (RUNS as u64 + 1))
 }
 
 // Many keys.

@@ -1,15 +1,14 @@
 -- What the threads of a pool give, one after another.
-use Rattle.std.proofs.Common.{◌≡◌, List, ◌∷◌, ◌++◌, length, All, Result, Ok, IfOk, Vec, Global, subst, arith}
-use Rattle.std.specs.Fork.{GivesJobs}
+use Rattle.std.proofs.Common.{◌≡◌, ℕ, List, ◌∷◌, ◌++◌, length, All, Result, Ok, IfOk, Vec, Global, subst, arith}
+use Rattle.std.specs.Fork.{GivesEach}
 use Rattle.std.proofs.lemmas.List.Elements.{All-append, All-head, All-tail}
 use denote.Param.Members.{Shared}
 
 -- what every call promises holds of all that the calls gave
-pub all_promised : {F J R : Type 0} (g : Shared F (J × Unit {0}) R) (f : F) (jobs : List J) (given : List R) (Q : R → Type 0)
-    → ((job : J) (r : R) → g.post f (job, tt) r → Q r) → length given ≡ length jobs → GivesJobs g f jobs given → All Q given
-all_promised g f jobs given Q promised same each k d lt =
-    let call = (each k d (omega (arith, same))).1 in
-    promised call.job _ call.call.met
+pub all_promised : {F R : Type 0} (g : Shared F (ℕ × Unit {0}) R) (f : F) (count : ℕ) (given : List R) (Q : R → Type 0)
+    → ((place : ℕ) (r : R) → g.post f (place, tt) r → Q r) → length given ≡ count → GivesEach g f count given → All Q given
+all_promised g f count given Q promised same each k d lt =
+    promised k _ (each k d (omega (arith, same))).1.met
 
 -- each element that a thread gives has P
 abbrev pub GivesAll : {D E : Type 0} → (D → Type 0) → Result (Vec D Global) E → Type 0

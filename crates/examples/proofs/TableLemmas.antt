@@ -1,13 +1,12 @@
 -- Where a binary search ends in a table, and what an edit there does to the values.
-use Rattle.std.proofs.Common.{◌≡◌, ◌≢◌, ℕ, zero, suc, ◌+◌, ◌-◌, ◌<◌, ◌≤◌, eqb, List, [], ◌∷◌, length, get_or, set, take, drop, if◌then◌else◌}
-use Rattle.std.proofs.Common.{Some, None, Option, Result, Ok, Err, IfOk, IfErr, All, refl, sym, ap, subst, arith}
+use Rattle.std.proofs.Common.{◌≡◌, ◌≢◌, ℕ, zero, suc, ◌+◌, ◌-◌, ◌<◌, ◌≤◌, eqb, List, [], ◌∷◌, length, get_or, set, Bool, true, false, if◌then◌else◌}
+use Rattle.std.proofs.Common.{Some, None, Option, Result, Ok, Err, IfOk, IfErr, refl, sym, ap, subst, arith}
 use Rattle.std.specs.List.{insert, remove}
 use Rattle.std.specs.List.Sorted.{IsSearchInRange, IsBinarySearchResult, IsNonDecreasingBy}
 use Rattle.std.specs.Ordering.{nat_cmp, ordering_index}
 use Rattle.std.proofs.lemmas.Cmp.{ranked}
 use Rattle.std.proofs.lemmas.List.Edits.{length-insert, get_or-insert_below, get_or-insert_at, get_or-insert_above}
 use Rattle.std.proofs.lemmas.Bool.Decides.{nat_tests}
-use Rattle.std.proofs.lemmas.List.Elements.{All-append, All-cons, All-take, All-drop}
 use Rattle.examples.specs.SortedEntries.{value_of, HasRisingKeys, IsPlaceOf, IsGapFor}
 
 -- the first has o at the key, and at each other key what the second has
@@ -118,12 +117,6 @@ module _ {V : Type 0} (xs : List (ℕ × V)) (rising : HasRisingKeys xs) (key pl
   pub removed : HasAt key None (remove xs place) xs
   removed = value_of-remove key xs place found before behind
 
--- what holds of each entry and of a new one holds of all
-pub all_with : {X : Type 0} (P : X → Type 0) (xs : List X) (place : ℕ) (x : X) → All P xs → P x → All P (insert xs place x)
-all_with P xs place x all new =
-    let behind = All-cons P x (drop place xs) new (All-drop P place xs all) in
-    All-append P (take place xs) (x ∷ drop place xs) (All-take P place xs all) behind
-
 module _ {V : Type 0} (xs : List (ℕ × V)) (key place : ℕ) (gap : IsGapFor xs key place) where
   pub no_value : value_of xs key ≡ None
   no_value = value_of-missing key xs (λ i d lt same. grind (arith, gap.smaller_before i d, gap.greater_after i d))
@@ -153,3 +146,9 @@ module _ {V : Type 0} (xs : List (ℕ × V)) (key place : ℕ) (gap : IsGapFor x
       let old_before = rising i (j - 1) d in
       let old_behind = rising (i - 1) (j - 1) d in
       grind (arith, below i, here i, above i, below j, here j, above j, old, old_before, old_behind, gap.smaller_before i d, gap.greater_after (j - 1) d)
+
+  -- also where memory may be wanted for the new entry
+  pub rising_after : (v : V) (is_added : Bool) → HasRisingKeys xs
+      → HasRisingKeys (if is_added then insert xs place (key, v) else xs)
+  rising_after v true rising = rising_with v rising
+  rising_after v false rising = rising

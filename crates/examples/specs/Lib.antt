@@ -1,9 +1,7 @@
 pub mod SemaphoreState
 pub mod KeyedState
 pub mod SameMember
-pub mod BoundedQueueState
-pub mod JobQueueState
-pub mod JobQueueSteps
+pub mod BoundedState
 pub mod DoneJobs
 pub mod SortedEntries
 pub mod HandsOver

@@ -1,5 +1,5 @@
 -- What a table of values by keys tells, as a list of pairs of a key and its value.
-use Rattle.std.specs.Prelude.{◌≡◌, ℕ, ◌<◌, ◌≤◌, List, [], ◌∷◌, length, if◌then◌else◌, ◌==◌, slice_index_or, Some, None, Option, All, AllPairs}
+use Rattle.std.specs.Prelude.{◌≡◌, ℕ, ◌<◌, ◌≤◌, List, [], ◌∷◌, length, if◌then◌else◌, ◌==◌, slice_index_or, Some, None, Option, AllPairs}
 
 -- the value of the first entry that has the key
 abbrev pub value_of : {V : Type 0} → List (ℕ × V) → ℕ → Option V
@@ -9,10 +9,6 @@ value_of (entry ∷ rest) key = if entry.0 == key then Some entry.1 else value_o
 -- the keys rise, so that none comes twice
 abbrev pub HasRisingKeys : {V : Type 0} → List (ℕ × V) → Type 0
 HasRisingKeys = AllPairs (λ first second. first.0 < second.0)
-
--- the keys rise, and each value fits
-abbrev pub IsTable : {V : Type 0} → (V → Type 0) → List (ℕ × V) → Type 0
-IsTable fits entries = HasRisingKeys entries × All (λ entry. fits entry.1) entries
 
 -- the entry at the place has the key
 pub record IsPlaceOf {V : Type 0} (entries : List (ℕ × V)) (key place : ℕ) : Type 0 where

@@ -1,148 +1,105 @@
-//! A queue of bounded length for threads, by a fair mutex and a condition variable.
+//! A queue of bounded length for threads, by a mutex and two condition variables.
 
-ghost use Rattle.std.specs.Prelude.{◌≡◌, ◌≢◌, ◌<◌, IfOk, vec_len};
-ghost use Rattle.lot_threads.specs.Members.{IsDataOf, Stays, member_of};
+ghost use Rattle.std.specs.Prelude.{◌≡◌, ◌<◌, IfErr};
 
-use lot_sync::{FairCondvar, FairMutex};
-use lot_threads::{NoMemory, ParkingLot, ThreadData, ThreadParkerT};
+use crate::bounded::Bounded;
+use lot_threads::NoMemory;
+use parking_lot::{Condvar, Lot, Mutex};
 use std::alloc::Global;
-use std::marker::Model;
 use std::sync::Wait;
-use std::sync::atomic::{AtomicUsize, Ordering};
-use std::time::Clock;
+use std::time::{Clock, Duration};
 
-/// A queue of numbers, which threads share by reference: producers sleep while it is full, and
+/// A queue of values, which threads share by reference: producers wait while it is full, and
 /// consumers while it is empty.
 ///
-/// All sleep on one condition variable. Each change notifies all of them, which moves them to the
-/// mutex and wakes none; each then looks in its turn. Both keys are the queue's alone, and every
-/// call is with the same lot.
+/// Each value that is put wakes one consumer, and each that is taken one producer, if any wait. A
+/// thread that comes meanwhile may be quicker than the woken one, which waits again then. What
+/// holds of each value is said by its type.
 #[derive(Drop)]
-pub struct BoundedQueue {
-    mutex: FairMutex,
-    changed: FairCondvar,
-    places: Vec<AtomicUsize>,
-
-    // How many numbers were put and taken so far. They change while the mutex is held.
-    put: AtomicUsize,
-    taken: AtomicUsize,
+pub struct BoundedQueue<'l, T> {
+    values: Mutex<'l, Bounded<T>>,
+    filled: Condvar<'l>,
+    freed: Condvar<'l>,
 }
 
-impl Model for BoundedQueue {
-    ghost use Rattle.std.specs.Prelude.{◌≢◌, ◌<◌, vec_len};
-    ghost use Rattle.examples.specs.BoundedQueueState.{BoundedQueueState};
-
-    ghost Value = { BoundedQueueState };
-
-    ghost view = { λ queue. record { capacity = vec_len queue.places } };
-
-    ghost invariant = { λ queue. (queue.changed.key ≢ queue.mutex.key)
-        × (0 < vec_len queue.places) };
-}
-
-impl BoundedQueue {
-    /// An empty queue for so many numbers, at least one, whose threads stand on these two keys.
+impl<'l, T: Drop> BoundedQueue<'l, T> {
+    /// An empty queue for so many values, at least one.
     ///
     /// # Errors
     ///
-    /// `NoMemory` if memory for the numbers cannot be had.
+    /// `NoMemory` if memory cannot be had. No other call asks for any.
     pub fn new(
+        lot: &'l Lot,
         alloc: Global,
-        mutex_key: usize,
-        condvar_key: usize,
         capacity: usize,
-    ) -> Result<BoundedQueue, NoMemory>
-        requires keys { condvar_key ≢ mutex_key }
-        requires room { 0 < capacity }
-
-        ensures { IfOk result (λ queue. queue.capacity ≡ capacity) }
+    ) -> Result<BoundedQueue<'l, T>, NoMemory>
+        requires { 0 < capacity }
     {
-        let places = empty_places(alloc, capacity)?;
         Ok(BoundedQueue {
-            mutex: FairMutex::new(mutex_key),
-            changed: FairCondvar::new(condvar_key),
-            places,
-            put: AtomicUsize::new(0),
-            taken: AtomicUsize::new(0),
+            values: Mutex::new(lot, Bounded::new(alloc, capacity)?)?,
+            filled: Condvar::new(lot)?,
+            freed: Condvar::new(lot)?,
         })
     }
 
-    /// Puts a number last, and sleeps while the queue is full. The data is that of a thread of the
-    /// lot.
-    pub fn put<P: ThreadParkerT, R: Wait + Clock>(
-        &self,
-        rt: &R,
-        lot: &ParkingLot<P>,
-        thread_data: &mut ThreadData,
-        item: usize,
-    )
-        requires own { IsDataOf lot.now thread_data.old }
-
-        ensures stays { Stays (member_of lot.now thread_data.old)
-            (member_of lot.now thread_data.new) }
-    {
-        self.mutex.lock(rt, lot, thread_data);
-        self.wait_while(rt, lot, thread_data, self.places.len());
-        let put = self.put.fetch_add(1, Ordering::SeqCst);
-        self.places[put % self.places.len()].store(item, Ordering::SeqCst);
-        self.changed.notify_all(rt, &self.mutex, lot);
-        self.mutex.unlock(rt, lot);
+    /// Puts a value last, and waits while the queue is full.
+    pub fn put<R: Wait + Clock>(&self, rt: &R, value: T) {
+        let values = self.values.lock(rt);
+        let mut values = self
+            .freed
+            .wait_while(values, |values: &mut Bounded<T>| values.is_full());
+        values.put(value);
+        drop(values);
+        self.filled.notify_one(rt);
     }
 
-    /// Takes the first number, and sleeps while the queue is empty. The data is that of a thread of
-    /// the lot.
-    pub fn take<P: ThreadParkerT, R: Wait + Clock>(
-        &self,
-        rt: &R,
-        lot: &ParkingLot<P>,
-        thread_data: &mut ThreadData,
-    ) -> usize
-        requires own { IsDataOf lot.now thread_data.old }
-
-        ensures stays { Stays (member_of lot.now thread_data.old)
-            (member_of lot.now thread_data.new) }
-    {
-        self.mutex.lock(rt, lot, thread_data);
-        self.wait_while(rt, lot, thread_data, 0);
-        let taken = self.taken.fetch_add(1, Ordering::SeqCst);
-        let item = self.places[taken % self.places.len()].load(Ordering::SeqCst);
-        self.changed.notify_all(rt, &self.mutex, lot);
-        self.mutex.unlock(rt, lot);
-        item
+    /// Takes the first value, and waits while the queue is empty.
+    pub fn take<R: Wait + Clock>(&self, rt: &R) -> T {
+        let values = self.values.lock(rt);
+        let mut values = self
+            .filled
+            .wait_while(values, |values: &mut Bounded<T>| values.is_empty());
+        let first = values.take().unwrap();
+        drop(values);
+        self.freed.notify_one(rt);
+        first
     }
 
-    // Sleeps while there are just so many numbers in the queue. The thread holds the mutex before
-    // and after.
-    fn wait_while<P: ThreadParkerT, R: Wait + Clock>(
-        &self,
-        rt: &R,
-        lot: &ParkingLot<P>,
-        thread_data: &mut ThreadData,
-        count: usize,
-    )
-        requires own { IsDataOf lot.now thread_data.old }
-
-        ensures stays { Stays (member_of lot.now thread_data.old)
-            (member_of lot.now thread_data.new) }
+    /// Puts a value last, and waits no longer than this while the queue is full.
+    ///
+    /// # Errors
+    ///
+    /// The value, if the queue was full all the time.
+    pub fn put_for<R: Wait + Clock>(&self, rt: &R, value: T, duration: Duration) -> Result<(), T>
+        ensures { IfErr result (λ refused. refused ≡ value) }
     {
-        for _ in rt.forever() {
-            let put = self.put.load(Ordering::SeqCst);
-            if put.wrapping_sub(self.taken.load(Ordering::SeqCst)) != count {
-                return;
-            }
-            self.changed.wait(rt, &self.mutex, lot, thread_data);
+        let values = self.values.lock(rt);
+        let (mut values, _) = self.freed.wait_while_for(
+            values,
+            |values: &mut Bounded<T>| values.is_full(),
+            duration,
+        );
+        if values.is_full() {
+            return Err(value);
         }
-        unreachable!()
+        values.put(value);
+        drop(values);
+        self.filled.notify_one(rt);
+        Ok(())
     }
-}
 
-// So many places, each with the number 0.
-fn empty_places(alloc: Global, capacity: usize) -> Result<Vec<AtomicUsize>, NoMemory>
-    ensures { IfOk result (λ places. vec_len places ≡ capacity) }
-{
-    let mut places = Vec::new(alloc);
-    for place in 0..capacity {
-        places.push(AtomicUsize::new(0))?;
+    /// Takes the first value, and waits no longer than this while the queue is empty. `None` says
+    /// that it was empty all the time.
+    pub fn take_for<R: Wait + Clock>(&self, rt: &R, duration: Duration) -> Option<T> {
+        let values = self.values.lock(rt);
+        let (mut values, _) = self.filled.wait_while_for(
+            values,
+            |values: &mut Bounded<T>| values.is_empty(),
+            duration,
+        );
+        let first = values.take()?;
+        drop(values);
+        self.freed.notify_one(rt);
+        Some(first)
     }
-    Ok(places)
 }

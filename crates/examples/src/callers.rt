@@ -12,4 +12,5 @@ pub mod resumed;
 pub mod tell_of_a_trim;
 pub mod unpark_alike;
 pub mod wait;
+pub mod ways_out;
 pub mod word_lock_accounts;

@@ -1,12 +1,13 @@
 //! Callers of the lots, as a user would write them. Of the exclusive lot: a semaphore and a timeout
 //! for the tasks of a simulation, and simulations of two tasks. Of the threaded lot: a mutex, an
-//! event and a semaphore for threads, a bounded queue by a fair mutex, a token whose way from one
-//! thread to another is proved, and a thread that wakes whom it has heard of. Of the interleaved
-//! lot: what a schedule amounts to. Of a recording lot: a journal of threads, and its replay. Of
-//! the locks around values: a pool of worker threads, and a table that many read. And the short
-//! callers that the documents show.
+//! event and a semaphore for threads, a token whose way from one thread to another is proved, and a
+//! thread that wakes whom it has heard of. Of the interleaved lot: what a schedule amounts to. Of a
+//! recording lot: a journal of threads, and its replay. Of the locks around values: a queue of
+//! bounded length, a pool of worker threads, and a table that many read. And the short callers that
+//! the documents show.
 #![tactic(auto)]
 
+pub mod bounded;
 pub mod bounded_queue;
 pub mod byte_mutex;
 pub mod callers;

@@ -1,50 +1,42 @@
 //! A table of values by keys, which many threads read and few change: sorted entries behind a lock
 //! for readers and writers.
 
-ghost use Rattle.std.specs.Prelude.{IfOk, IfSome};
-ghost use Rattle.examples.specs.SortedEntries.{IsTable};
+ghost use Rattle.std.specs.Prelude.{IfOk};
+ghost use Rattle.examples.specs.SortedEntries.{HasRisingKeys};
 
 mod sorted_entries;
 
 use crate::read_mostly_table::sorted_entries::SortedEntries;
-use lot_sync::fits::Fits;
-use lot_sync::rw_lock::RwLock;
-use lot_threads::{Member, NoMemory, ThreadParkerT};
+use lot_threads::NoMemory;
+use parking_lot::{Lot, RwLock};
 use std::alloc::Global;
 use std::sync::Wait;
 use std::time::Clock;
 
 /// A table of values by keys, as of settings or routes, which threads share by reference.
 ///
-/// Between two calls its keys rise, and each value fits: who puts one in proves it, and who gets it
-/// may rely on it. Each reader copies what it asked for under the lock, so it has a value as one
-/// call put it in. The key is the table's alone, and every call is with members of one lot.
+/// Between two calls its keys rise. Each reader copies what it asked for under the lock, so it has
+/// a value as one call put it in. What holds of each value is said by its type.
 #[derive(Drop)]
-pub struct ReadMostlyTable<V: Fits + Copy> {
-    lock: RwLock<SortedEntries<V>>,
+pub struct ReadMostlyTable<'l, V: Copy> {
+    lock: RwLock<'l, SortedEntries<V>>,
 }
 
-impl<V: Fits + Copy> ReadMostlyTable<V> {
-    /// A table with no entries, whose waiters stand on the key.
-    pub fn new<R: Wait>(rt: &R, alloc: Global, key: usize) -> ReadMostlyTable<V> {
-        ReadMostlyTable {
-            lock: RwLock::new(rt, key, SortedEntries::new(alloc)),
-        }
+impl<'l, V: Copy> ReadMostlyTable<'l, V> {
+    /// A table with no entries.
+    ///
+    /// # Errors
+    ///
+    /// `NoMemory` if memory for the lock cannot be had.
+    pub fn new(lot: &'l Lot, alloc: Global) -> Result<ReadMostlyTable<'l, V>, NoMemory> {
+        Ok(ReadMostlyTable {
+            lock: RwLock::new(lot, SortedEntries::new(alloc))?,
+        })
     }
 
     /// The value of a key, if it has one. Other readers go on meanwhile.
-    pub fn get<P: ThreadParkerT, R: Wait + Clock>(
-        &self,
-        rt: &R,
-        member: &mut Member<'_, P>,
-        key: u64,
-    ) -> Option<V>
-        ensures { IfSome result V.fits }
-    {
-        let lent = self.lock.read(rt, member);
-        let value = lent.value().get(key);
-        lent.unlock(rt, member);
-        value
+    pub fn get<R: Wait + Clock>(&self, rt: &R, key: u64) -> Option<V> {
+        self.lock.read(rt).get(key)
     }
 
     /// A copy of all keys and their values, as they stand together at one moment. The keys rise.
@@ -52,54 +44,28 @@ impl<V: Fits + Copy> ReadMostlyTable<V> {
     /// # Errors
     ///
     /// `NoMemory` if memory for the copy cannot be had.
-    pub fn entries<P: ThreadParkerT, R: Wait + Clock>(
-        &self,
-        rt: &R,
-        alloc: Global,
-        member: &mut Member<'_, P>,
-    ) -> Result<Vec<(u64, V)>, NoMemory>
-        ensures { IfOk result (λ entries. IsTable V.fits entries.items) }
+    pub fn entries<R: Wait + Clock>(&self, rt: &R, alloc: Global) -> Result<Vec<(u64, V)>, NoMemory>
+        ensures { IfOk result (λ entries. HasRisingKeys entries.items) }
     {
-        let lent = self.lock.read(rt, member);
-        let copied = lent.value().copied(alloc);
-        lent.unlock(rt, member);
-        Ok(copied?)
+        Ok(self.lock.read(rt).copied(alloc)?)
     }
 
-    /// Gives a key a value, which has to fit, and tells its value until then. It waits until nobody
-    /// reads.
+    /// Gives a key a value, and tells its value until then. It waits until nobody reads.
     ///
     /// # Errors
     ///
     /// `NoMemory` if memory for a new entry cannot be had. Nothing changed.
-    pub fn insert<P: ThreadParkerT, R: Wait + Clock>(
+    pub fn insert<R: Wait + Clock>(
         &self,
         rt: &R,
-        member: &mut Member<'_, P>,
         key: u64,
         value: V,
-    ) -> Result<Option<V>, NoMemory>
-        requires { V.fits value }
-        ensures { IfOk result (λ previous. IfSome previous V.fits) }
-    {
-        let mut held = self.lock.write(rt, member);
-        let previous = held.value.insert(key, value);
-        held.unlock(rt, member);
-        Ok(previous?)
+    ) -> Result<Option<V>, NoMemory> {
+        Ok(self.lock.write(rt).insert(key, value)?)
     }
 
     /// Takes a key out of the table, and tells its value until then. It waits until nobody reads.
-    pub fn remove<P: ThreadParkerT, R: Wait + Clock>(
-        &self,
-        rt: &R,
-        member: &mut Member<'_, P>,
-        key: u64,
-    ) -> Option<V>
-        ensures { IfSome result V.fits }
-    {
-        let mut held = self.lock.write(rt, member);
-        let previous = held.value.remove(key);
-        held.unlock(rt, member);
-        previous
+    pub fn remove<R: Wait + Clock>(&self, rt: &R, key: u64) -> Option<V> {
+        self.lock.write(rt).remove(key)
     }
 }

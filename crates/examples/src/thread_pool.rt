@@ -1,17 +1,16 @@
 //! A pool of worker threads: a queue of jobs behind a mutex, and two condition variables.
 //!
-//! Whoever finds the queue full sleeps until a job was taken, and a worker that finds it empty
-//! until one came; both look again in their turn. To close the pool wakes them all.
+//! Whoever finds the queue full waits until a job was taken, and a worker that finds it empty until
+//! one came; both look again in their turn. To close the pool wakes them all.
 
-ghost use Rattle.std.specs.Prelude.{◌≡◌, ◌<◌, All, IfErr, IfOk, IfSome, vec_len};
+ghost use Rattle.std.specs.Prelude.{◌≡◌, ◌<◌, All, IfErr, IfOk, IfSome};
 ghost use Rattle.examples.specs.DoneJobs.{IsDone};
 
 mod job_queue;
 
-use crate::thread_pool::job_queue::{JobQueue, Next, Refused};
-use lot_sync::fits::Fits;
-use lot_sync::mutex::{Condvar, Mutex};
-use lot_threads::{Member, NoMemory, ThreadParkerT};
+use crate::thread_pool::job_queue::JobQueue;
+use lot_threads::NoMemory;
+use parking_lot::{Condvar, Lot, Mutex};
 use std::alloc::Global;
 use std::sync::Wait;
 use std::thread;
@@ -20,116 +19,70 @@ use std::time::Clock;
 
 /// A pool of threads, which share it by reference: some submit jobs, and workers take them.
 ///
-/// `Fits` says what holds of each job: who submits it proves that, and who takes it may rely on
-/// that. Between two calls no more jobs wait than there is room for. The three keys are the pool's
-/// alone, and every call is with members of one lot.
+/// No more jobs wait than there is room for. What holds of each job is said by its type.
 #[derive(Drop)]
-pub struct ThreadPool<J: Fits> {
-    queue: Mutex<JobQueue<J>>,
-    filled: Condvar,
-    emptied: Condvar,
+pub struct ThreadPool<'l, J> {
+    queue: Mutex<'l, JobQueue<J>>,
+    filled: Condvar<'l>,
+    freed: Condvar<'l>,
 }
 
-impl<J: Fits> ThreadPool<J> {
-    /// An open pool with room for so many jobs that wait, at least one. Its mutex stands on the
-    /// first key, workers without a job on the second, and jobs without room on the third.
+impl<'l, J: Drop> ThreadPool<'l, J> {
+    /// An open pool with room for so many jobs that wait, at least one.
     ///
     /// # Errors
     ///
     /// `NoMemory` if memory cannot be had. No other call of a pool asks for any.
-    pub fn new(alloc: Global, keys: [usize; 3], capacity: usize) -> Result<ThreadPool<J>, NoMemory>
+    pub fn new(lot: &'l Lot, alloc: Global, capacity: usize) -> Result<ThreadPool<'l, J>, NoMemory>
         requires { 0 < capacity }
     {
-        let [queue_key, filled_key, emptied_key] = keys;
         Ok(ThreadPool {
-            queue: Mutex::new(alloc, queue_key, JobQueue::new(alloc, capacity)?)?,
-            filled: Condvar::new(filled_key),
-            emptied: Condvar::new(emptied_key),
+            queue: Mutex::new(lot, JobQueue::new(alloc, capacity)?)?,
+            filled: Condvar::new(lot)?,
+            freed: Condvar::new(lot)?,
         })
     }
 
-    /// Puts a job behind those that wait, and wakes a worker that sleeps. It sleeps while there is
-    /// no room.
+    /// Puts a job behind those that wait, and wakes a worker that waits. It waits while there is no
+    /// room.
     ///
     /// # Errors
     ///
-    /// The job, if the pool is closed, also while it slept.
-    pub fn submit<P: ThreadParkerT, R: Wait + Clock>(
-        &self,
-        rt: &R,
-        member: &mut Member<'_, P>,
-        job: J,
-    ) -> Result<(), J>
-        requires { J.fits job }
+    /// The job, if the pool is closed, also while it waited.
+    pub fn submit<R: Wait + Clock>(&self, rt: &R, job: J) -> Result<(), J>
         ensures { IfErr result (λ refused. refused ≡ job) }
     {
-        let mut offered = job;
-        for _ in rt.forever() {
-            let mut held = self.queue.lock(rt, member);
-            match held.value.offer(offered) {
-                Ok(()) => {
-                    held.unlock(rt, member);
-                    self.filled.notify_one(rt, member, &self.queue);
-                    return Ok(());
-                }
-                Err(Refused::Closed(job)) => {
-                    held.unlock(rt, member);
-                    return Err(job);
-                }
-                Err(Refused::Full(job)) => {
-                    offered = job;
-                    self.emptied.wait(rt, member, held).unlock(rt, member);
-                }
-            }
-        }
-        unreachable!()
+        let queue = self.queue.lock(rt);
+        let mut queue = self
+            .freed
+            .wait_while(queue, |queue: &mut JobQueue<J>| queue.is_full());
+        queue.offer(job)?;
+        drop(queue);
+        self.filled.notify_one(rt);
+        Ok(())
     }
 
-    /// Takes the job that waits longest, and wakes a thread that waits for room. It sleeps while no
-    /// job waits. `None` says that the pool is closed and no job is left.
-    pub fn take<P: ThreadParkerT, R: Wait + Clock>(
-        &self,
-        rt: &R,
-        member: &mut Member<'_, P>,
-    ) -> Option<J>
-        ensures { IfSome result J.fits }
-    {
-        for _ in rt.forever() {
-            let mut held = self.queue.lock(rt, member);
-            match held.value.next() {
-                Next::Job(job) => {
-                    held.unlock(rt, member);
-                    self.emptied.notify_one(rt, member, &self.queue);
-                    return Some(job);
-                }
-                Next::NoneYet => self.filled.wait(rt, member, held).unlock(rt, member),
-                Next::NoMore => {
-                    held.unlock(rt, member);
-                    return None;
-                }
-            }
-        }
-        unreachable!()
+    /// Takes the job that waits longest, and wakes a thread that waits for room. It waits while no
+    /// job does. `None` says that the pool is closed and no job is left.
+    pub fn take<R: Wait + Clock>(&self, rt: &R) -> Option<J> {
+        let queue = self.queue.lock(rt);
+        let mut queue = self
+            .filled
+            .wait_while(queue, |queue: &mut JobQueue<J>| queue.is_idle());
+        let job = queue.next()?;
+        drop(queue);
+        self.freed.notify_one(rt);
+        Some(job)
     }
 
-    /// Closes the pool, and wakes all who sleep on it: no job comes any more, and workers take
+    /// Closes the pool, and wakes all who wait for it: no job comes any more, and workers take
     /// those that wait. To close it once more changes nothing.
-    pub fn close<P: ThreadParkerT, R: Wait + Clock>(&self, rt: &R, member: &mut Member<'_, P>) {
-        let mut held = self.queue.lock(rt, member);
-        held.value.close();
-        held.unlock(rt, member);
-        self.filled.notify_all(rt, member, &self.queue);
-        self.emptied.notify_all(rt, member, &self.queue);
+    pub fn close<R: Wait + Clock>(&self, rt: &R) {
+        self.queue.lock(rt).close();
+        self.filled.notify_all(rt);
+        self.freed.notify_all(rt);
     }
 }
-
-/// The place of a job in a list of jobs.
-#[derive(Drop)]
-pub struct Place {
-    index: usize,
-}
-
-impl Fits for Place {}
 
 /// What the job at a place gave.
 #[derive(Drop)]
@@ -138,22 +91,21 @@ pub struct Done<O> {
     pub output: O,
 }
 
-/// Does the jobs of a list by worker threads, and tells what each gave, with its place, in no order
-/// that is told. The calling thread submits the places while the workers take them.
+/// Does the jobs of a list by so many worker threads, at least one, and tells what each gave, with
+/// its place, in no order that is told. The calling thread submits the places while the workers
+/// take them.
 ///
-/// The pool is open and nobody else's, and is closed afterwards. The workers are at least one, and
-/// retired at the end. It starts a thread for each; if the system refuses threads, or memory before
-/// a worker has begun, it may wait for ever for room in the pool.
+/// If the system refuses threads, or memory before a worker has begun, it may wait for ever for
+/// room in the pool.
 ///
 /// # Errors
 ///
-/// `NoMemory` if memory cannot be had. The pool is closed, and some jobs may have been done.
-pub fn do_jobs<J, O, F, P, R>(
+/// `NoMemory` if memory cannot be had. Some jobs may have been done.
+pub fn do_jobs<J, O, F, R>(
     rt: &R,
     alloc: Global,
-    pool: &ThreadPool<Place>,
-    member: &mut Member<'_, P>,
-    workers: Vec<Member<'_, P>>,
+    lot: &Lot,
+    workers: usize,
     jobs: &[J],
     work: &F,
 ) -> Result<Vec<Done<O>>, NoMemory>
@@ -161,30 +113,31 @@ where
     J: Sync,
     O: Send + Drop,
     F: Fn(&J) -> O + Sync,
-    P: ThreadParkerT + Send + Sync,
     R: Threads + Wait + Clock + Sync,
     requires work { F.IsAlwaysCallable work.now }
-    requires workers { 0 < vec_len workers }
+    requires workers { 0 < workers }
     ensures { IfOk result (λ done. All (IsDone F.Fn work.now jobs.now) done.items) }
 {
+    let pool = ThreadPool::new(lot, alloc, workers)?;
+    let shared = &pool;
     let (done, ()) = thread::join(
         rt,
         || -> Result<Vec<Done<O>>, NoMemory>
             requires { F.IsAlwaysCallable work.now }
             ensures { IfOk result (λ done.
                 All (IsDone F.Fn work.entry.now jobs.entry.now) done.items) }
-        { serve_all(rt, alloc, pool, workers, jobs, work) },
-        || submit_places(rt, pool, member, jobs.len()),
+        { serve_all(rt, alloc, shared, workers, jobs, work) },
+        || submit_places(rt, shared, jobs.len()),
     );
     done
 }
 
-// Lets each worker serve in a thread, and gathers what they did.
-fn serve_all<J, O, F, P, R>(
+// Lets so many workers serve, each in a thread, and gathers what they did.
+fn serve_all<J, O, F, R>(
     rt: &R,
     alloc: Global,
-    pool: &ThreadPool<Place>,
-    workers: Vec<Member<'_, P>>,
+    pool: &ThreadPool<'_, usize>,
+    workers: usize,
     jobs: &[J],
     work: &F,
 ) -> Result<Vec<Done<O>>, NoMemory>
@@ -192,17 +145,16 @@ where
     J: Sync,
     O: Send + Drop,
     F: Fn(&J) -> O + Sync,
-    P: ThreadParkerT + Send + Sync,
     R: Threads + Wait + Clock + Sync,
     requires { F.IsAlwaysCallable work.now }
     ensures { IfOk result (λ done. All (IsDone F.Fn work.now jobs.now) done.items) }
 {
-    let each = |worker: Member<'_, P>| -> Result<Vec<Done<O>>, NoMemory>
+    let each = |_: usize| -> Result<Vec<Done<O>>, NoMemory>
         requires { F.IsAlwaysCallable work.now }
         ensures { IfOk result (λ done.
             All (IsDone F.Fn work.entry.now jobs.entry.now) done.items) }
-    { serve(rt, alloc, pool, worker, jobs, work) };
-    let served = thread::map_vec(rt, workers, &each)?;
+    { serve(rt, alloc, pool, jobs, work) };
+    let served = thread::map_indices(rt, alloc, workers, &each)?;
     let mut all = Vec::new(alloc);
     for done in served {
         all.append(&mut done?)?;
@@ -212,26 +164,20 @@ where
 
 // Submits the places of a list of so many jobs, and closes the pool. A worker without memory may
 // have closed it before.
-fn submit_places<P: ThreadParkerT, R: Wait + Clock>(
-    rt: &R,
-    pool: &ThreadPool<Place>,
-    member: &mut Member<'_, P>,
-    count: usize,
-) {
-    for index in 0..count {
-        if pool.submit(rt, member, Place { index }).is_err() {
+fn submit_places<R: Wait + Clock>(rt: &R, pool: &ThreadPool<'_, usize>, count: usize) {
+    for place in 0..count {
+        if pool.submit(rt, place).is_err() {
             break;
         }
     }
-    pool.close(rt, member);
+    pool.close(rt);
 }
 
-// What a worker does, from its first job until it retires.
-fn serve<J, O, F: Fn(&J) -> O, P: ThreadParkerT, R: Wait + Clock>(
+// What a worker does. Nobody may wait for one that ends early, so it closes the pool.
+fn serve<J, O, F: Fn(&J) -> O, R: Wait + Clock>(
     rt: &R,
     alloc: Global,
-    pool: &ThreadPool<Place>,
-    worker: Member<'_, P>,
+    pool: &ThreadPool<'_, usize>,
     jobs: &[J],
     work: &F,
 ) -> Result<Vec<Done<O>>, NoMemory>
@@ -240,22 +186,18 @@ where
     requires { F.IsAlwaysCallable work.now }
     ensures { IfOk result (λ done. All (IsDone F.Fn work.now jobs.now) done.items) }
 {
-    let mut worker = worker;
-    let done = do_while_open(rt, alloc, pool, &mut worker, jobs, work);
+    let done = do_while_open(rt, alloc, pool, jobs, work);
     if done.is_err() {
-        // Nobody may wait for this worker.
-        pool.close(rt, &mut worker);
+        pool.close(rt);
     }
-    worker.retire(rt);
     done
 }
 
 // Does jobs until the pool is closed and no job is left.
-fn do_while_open<J, O, F: Fn(&J) -> O, P: ThreadParkerT, R: Wait + Clock>(
+fn do_while_open<J, O, F: Fn(&J) -> O, R: Wait + Clock>(
     rt: &R,
     alloc: Global,
-    pool: &ThreadPool<Place>,
-    worker: &mut Member<'_, P>,
+    pool: &ThreadPool<'_, usize>,
     jobs: &[J],
     work: &F,
 ) -> Result<Vec<Done<O>>, NoMemory>
@@ -266,10 +208,10 @@ where
 {
     let mut done = Vec::new(alloc);
     for _ in rt.forever() {
-        let Some(Place { index }) = pool.take(rt, worker) else {
+        let Some(place) = pool.take(rt) else {
             return Ok(done);
         };
-        if let Some(more) = do_job(jobs, work, index) {
+        if let Some(more) = do_job(jobs, work, place) {
             done.push(more)?;
         }
     }

@@ -1,37 +1,22 @@
-//! One of two threads parks until the other opens.
+//! Four threads count under a mutex.
 #![tactic(auto)]
 
-use lot_threads::{DEFAULT_PARK_TOKEN, Member, ParkingLot, UnparkToken, WordParker, unpark_one};
-use std::sync::atomic::{AtomicBool, Ordering};
+use parking_lot::{Lot, Mutex};
 use std::thread;
 
 fn main(rt: HostRuntime) -> anyhow::Result<()> {
-    let lot = ParkingLot::<WordParker>::new(rt.alloc(), 1)?;
-    let mut member = Member::register(&rt, rt.alloc(), &lot)?;
-    let is_open = AtomicBool::new(false);
-    let is_waiting = AtomicBool::new(false);
-    let open = || {
-        for _ in rt.forever() {
-            if is_waiting.load(Ordering::SeqCst) {
-                break;
-            }
-            thread::yield_now();
+    let lot = Lot::new(rt.alloc(), 4)?;
+    let total = Mutex::new(&lot, 0u64)?;
+    let count = || {
+        for _ in 0..1000u32 {
+            let mut total = total.lock(&rt);
+            *total = total.wrapping_add(1);
         }
-        is_open.store(true, Ordering::SeqCst);
-        unpark_one(&rt, &lot, 7, |_| UnparkToken(42));
     };
-    let wait = || {
-        member.park(
-            &rt,
-            7,
-            || !is_open.load(Ordering::SeqCst),
-            || is_waiting.store(true, Ordering::SeqCst),
-            |_, _| (),
-            DEFAULT_PARK_TOKEN,
-            None,
-        )
+    let count_in_two = || {
+        thread::join(&rt, &count, &count);
     };
-    let ((), ended) = thread::join(&rt, open, wait);
-    println!(rt; "{ended:?}")?;
+    thread::join(&rt, &count_in_two, &count_in_two);
+    println!(rt; "{}", *total.lock(&rt))?;
     Ok(())
 }

@@ -1,210 +1,119 @@
-//! Whoever is handed a fair mutex holds it alone, and in order. No clause says any of it.
+//! Who has a mutex next that another waits for.
 
-use crate::script::perform;
+use crate::scenery::{
+    Host, ROOM, expect_equal, new_condvar, new_count, new_lot, new_mutex, raise, read,
+};
+use parking_lot::mutex::{Barging, Fairness, InOrder, MutexGuardIn, MutexIn};
+use parking_lot::{Condvar, Lot};
+use std::sync::atomic::AtomicUsize;
+use std::thread;
 
-#[test]
-fn those_who_wait_are_handed_the_mutex_alone_and_in_order(rt: HostRuntime) {
-    perform(
-        &rt,
-        rt.alloc(),
-        "# It refuses an unlock that hands the mutex to the last waiter and marks it free.
-        play word
-        thread 1
-            fair_lock
-            raise a
-            waiting fair 1
-            fair_unlock
-            fair_lock
-            fair_unlock
-        thread 1
-            await a 1
-            fair_lock
-            waiting fair 1
-            fair_unlock
-        %
-        # It refuses an unlock that hands it to another than the first.
-        play word
-        thread 1
-            fair_lock
-            raise a
-            waiting fair 2
-            fair_unlock
-            await a 3
-            tell b = 23
-        thread 1
-            await a 1
-            fair_lock; note; fair_unlock
-            raise a
-        thread 1
-            await a 1
-            waiting fair 1
-            fair_lock; note; fair_unlock
-            raise a
-        %
-        # It refuses a `lock` that lets a thread in while another holds the mutex.
-        play each
-        thread 4
-            repeat 1000 fair_lock; inside 1; fair_unlock",
+// A mutex, the condition variable from which the other comes to it, and whether that had it then.
+#[derive(Drop)]
+struct Stage<'l, F: Fairness> {
+    mutex: MutexIn<'l, u64, F>,
+    condvar: Condvar<'l>,
+    had: AtomicUsize,
+}
+
+fn new_stage<'l, F: Fairness, R: Host>(rt: &R, lot: &'l Lot) -> Stage<'l, F> {
+    Stage {
+        mutex: new_mutex(rt, lot, 0),
+        condvar: new_condvar(rt, lot),
+        had: new_count(),
+    }
+}
+
+// Waits on the condition variable, and tells once it has the mutex again.
+fn wait_and_tell<'x, F: Fairness, R: Host>(rt: &'x R, stage: &'x Stage<'_, F>) {
+    let mut guard = stage.condvar.wait(stage.mutex.lock(rt));
+    expect_equal(rt, *guard, 1);
+    *guard = 2;
+    raise(&stage.had);
+}
+
+// Moves the other thread to the mutex, so that it stands in its list, while this one holds it.
+fn lock_before_the_other<'x, 'l, F: Fairness, R: Host>(
+    rt: &'x R,
+    stage: &'x Stage<'l, F>,
+) -> MutexGuardIn<'x, 'x, 'l, u64, R, F> {
+    let mut guard = stage.mutex.lock(rt);
+    for _ in rt.forever() {
+        if stage.condvar.notify_one_held(&guard) {
+            break;
+        }
+        drop(guard);
+        thread::yield_now();
+        guard = stage.mutex.lock(rt);
+    }
+    *guard = 1;
+    guard
+}
+
+// Tries until it has the mutex, which is so only once the other had it.
+fn try_until_the_other_had_it<'x, F: Fairness, R: Host>(rt: &'x R, stage: &'x Stage<'_, F>) {
+    for _ in rt.forever() {
+        if let Some(guard) = stage.mutex.try_lock(rt) {
+            expect_equal(rt, read(&stage.had), 1);
+            expect_equal(rt, *guard, 2);
+            break;
+        }
+        thread::yield_now();
+    }
+}
+
+// Unlocks the mutex for the other thread, and tries to have it before that.
+fn hand_over_and_try<'x, F: Fairness, R: Host>(rt: &'x R, stage: &'x Stage<'_, F>) {
+    let guard = lock_before_the_other(rt, stage);
+    if F::IS_FAIR {
+        drop(guard);
+    } else {
+        MutexGuardIn::unlock_fair(guard);
+    }
+    try_until_the_other_had_it(rt, stage);
+}
+
+fn is_handed_over<F: Fairness + Sync, R: Host>(rt: &R) {
+    let lot = new_lot(rt, ROOM);
+    let stage: Stage<'_, F> = new_stage(rt, &lot);
+    thread::join(
+        rt,
+        || wait_and_tell(rt, &stage),
+        || hand_over_and_try(rt, &stage),
     );
 }
 
-// It refuses a notify that hands a free mutex to the sleeper, or to the first of several, and
-// leaves it free, so that another thread locks it too.
+// It refuses an unlock of a fair mutex, or a fair unlock, that lets another than the thread which
+// waits longest have the mutex.
 #[test]
-fn who_is_handed_a_free_mutex_holds_it_alone(rt: HostRuntime) {
-    perform(
-        &rt,
-        rt.alloc(),
-        "play word one
-        play word all
-        thread 1
-            fair_lock
-            fair_wait
-            waiting fair 1
-            fair_unlock
-        thread 1
-            waiting fair_sleepers 1
-            fair_lock; fair_unlock
-            fair_notify $1 = 100
-            fair_lock; fair_unlock
-        %
-        play word
-        thread 1
-            fair_lock
-            fair_wait
-            waiting fair 1
-            fair_unlock
-        thread 1
-            waiting fair_sleepers 1
-            fair_lock
-            fair_wait
-            fair_unlock
-        thread 1
-            waiting fair_sleepers 2
-            fair_lock; fair_unlock
-            fair_notify one = 101
-            fair_lock; fair_unlock
-            fair_notify one = 100",
+fn nobody_has_it_before_the_thread_that_waits(rt: HostRuntime) {
+    for _ in 0..50usize {
+        is_handed_over::<Barging, _>(&rt);
+        is_handed_over::<InOrder, _>(&rt);
+    }
+}
+
+fn bump_and_look<'x, F: Fairness, R: Host>(rt: &'x R, stage: &'x Stage<'_, F>) {
+    let guard = MutexGuardIn::bump(lock_before_the_other(rt, stage));
+    expect_equal(rt, read(&stage.had), 1);
+    expect_equal(rt, *guard, 2);
+}
+
+fn bump_lets_the_other_go_first<F: Fairness + Sync, R: Host>(rt: &R) {
+    let lot = new_lot(rt, ROOM);
+    let stage: Stage<'_, F> = new_stage(rt, &lot);
+    thread::join(
+        rt,
+        || wait_and_tell(rt, &stage),
+        || bump_and_look(rt, &stage),
     );
 }
 
+// It refuses a bump that has the mutex again before the thread that waits.
 #[test]
-fn a_notify_reaches_those_who_sleep_in_order(rt: HostRuntime) {
-    perform(
-        &rt,
-        rt.alloc(),
-        "# It refuses a notify of one that moves all, or the thread that came last, or that wakes
-        # one although the mutex is held.
-        play word
-        thread 1
-            fair_lock; fair_wait; note; fair_unlock
-            raise a
-        thread 1
-            waiting fair_sleepers 1
-            fair_lock; fair_wait; note; fair_unlock
-            raise a
-        thread 1
-            waiting fair_sleepers 2
-            fair_lock
-            fair_notify one = 11
-            waiting fair_sleepers 1
-            fair_notify one = 10
-            waiting fair 2
-            fair_unlock
-            await a 2
-            tell b = 12
-        %
-        # It refuses a notify of all that reaches the first alone, or moves them in another order,
-        # while the mutex is held.
-        play word
-        thread 1
-            fair_lock; fair_wait; note; fair_unlock
-            raise a
-        thread 1
-            waiting fair_sleepers 1
-            fair_lock; fair_wait; note; fair_unlock
-            raise a
-        thread 1
-            waiting fair_sleepers 2
-            fair_lock
-            fair_notify all = 20
-            waiting fair 2
-            fair_unlock
-            await a 2
-            tell b = 12
-        %
-        # The same while it is free.
-        play word
-        thread 1
-            fair_lock; fair_wait; note; fair_unlock
-            raise a
-        thread 1
-            waiting fair_sleepers 1
-            fair_lock; fair_wait; note; fair_unlock
-            raise a
-        thread 1
-            waiting fair_sleepers 2
-            fair_lock; fair_unlock
-            fair_notify all = 110
-            await a 2
-            tell b = 12",
-    );
-}
-
-// It refuses a wait that lets the mutex go first: a notify of the next holder finds nobody then,
-// and the sleeper is not woken.
-#[test]
-fn the_next_holder_finds_the_sleeper(rt: HostRuntime) {
-    perform(
-        &rt,
-        rt.alloc(),
-        "play followed
-        thread 1
-            await a 1
-            fair_lock
-            fair_notify one = 10
-            fair_unlock
-            fair_lock; fair_unlock
-        thread 1
-            fair_lock
-            raise a
-            waiting fair 1
-            fair_wait
-            fair_unlock",
-    );
-}
-
-// It refuses a lock that takes the mutex outside the section of its key, and a notify that looks
-// outside it whether the mutex is held: two threads hold it then.
-#[test]
-fn a_notify_of_a_thread_that_does_not_hold_the_mutex_hands_it_to_one(rt: HostRuntime) {
-    perform(
-        &rt,
-        rt.alloc(),
-        "play each
-        thread 1
-            often 500 fair_lock; fair_wait; inside 1; fair_unlock
-            raise end
-        thread 1
-            until end 1 fair_lock; inside 1; fair_unlock
-        thread 1
-            until end 1 fair_notify one = any; fair_notify all = any",
-    );
-}
-
-// It refuses an unlock that frees the mutex behind its section: who came to wait meanwhile sleeps
-// on, though nobody has it. From round to round the unlock comes a spin later.
-#[test]
-fn who_comes_as_the_mutex_is_unlocked_has_it_next(rt: HostRuntime) {
-    perform(
-        &rt,
-        rt.alloc(),
-        "play word
-        thread 1
-            often 300000 fair_lock; raise a; spin; fair_unlock; await b round
-            fair_lock; fair_unlock
-            raise end
-        thread 1
-            until end 1 await a round; fair_lock; fair_unlock; raise b",
-    );
+fn a_bump_lets_the_thread_that_waits_go_first(rt: HostRuntime) {
+    for _ in 0..50usize {
+        bump_lets_the_other_go_first::<Barging, _>(&rt);
+        bump_lets_the_other_go_first::<InOrder, _>(&rt);
+    }
 }

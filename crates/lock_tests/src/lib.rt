@@ -1,26 +1,35 @@
-//! Tests of the locks of a parking lot, by their public calls alone. Each is a script: what threads
-//! do with one set of locks, line by line, and how each call has to end. `actor` tells the words.
+//! Tests of `parking_lot` by its public calls alone. Most are tests and examples of Rust's
+//! `parking_lot` and `lock_api` that were written anew, under the names that they have there, and
+//! they expect what those do. Where the answer here is another one, the comment of a test says so.
+//!
+//! No clause of a contract says that a lock keeps others out, that whoever waits is woken, or that
+//! an addition is not lost: these tests do. One that waits for ever, or a thread that is not woken,
+//! ends the test by its time.
 #![tactic(auto)]
 
 #[cfg(test)]
-mod actor;
+mod barrier;
 #[cfg(test)]
-mod counting;
-#[cfg(test)]
-mod each_call;
+mod condvar;
 #[cfg(test)]
 mod fair;
 #[cfg(test)]
-mod held;
+mod mutex;
 #[cfg(test)]
-mod released;
+mod once;
 #[cfg(test)]
-mod script;
+mod once_values;
 #[cfg(test)]
-mod slow;
+mod parts;
 #[cfg(test)]
-mod stage;
+mod queue;
 #[cfg(test)]
-mod waits;
+mod reentrant_mutex;
 #[cfg(test)]
-mod words;
+mod rw_lock;
+#[cfg(test)]
+mod rw_lock_calls;
+#[cfg(test)]
+mod scenery;
+#[cfg(test)]
+mod semaphore;

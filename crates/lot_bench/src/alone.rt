@@ -1,10 +1,10 @@
 //! What one thread does with the lot, again and again.
 
-use lot_sync::once::Once;
 use lot_threads::{
     DEFAULT_PARK_TOKEN, DEFAULT_UNPARK_TOKEN, Member, ParkResult, ParkingLot, ThreadParkerT,
     unpark_one,
 };
+use parking_lot::{Once, Semaphore};
 use std::alloc::Global;
 use std::sync::Wait;
 use std::sync::atomic::{AtomicU64, Ordering};
@@ -130,16 +130,23 @@ fn count_unparked<P: ThreadParkerT, R: Wait + Clock>(
 }
 
 /// Calls a once that is done, if only by the first call. False says that it called a closure again.
-pub fn calls_once<P: ThreadParkerT, R: Wait + Clock>(
-    rt: &R,
-    once: &Once,
-    member: &mut Member<'_, P>,
-    calls: usize,
-) -> bool {
-    once.call_once(rt, member, nothing);
+pub fn calls_once<R: Wait + Clock>(rt: &R, once: &Once<'_>, calls: usize) -> bool {
+    once.call_once(rt, |_| ());
     let mut called = 0usize;
     for _ in 0..calls {
-        called = called.wrapping_add(usize::from(once.call_once(rt, member, || ())));
+        once.call_once(rt, |_| called = called.wrapping_add(1));
     }
     called == 0
+}
+
+/// Takes the one permit and gives it back. False says that it is not there then.
+pub fn takes_permits<'a, R: Wait + Clock>(
+    rt: &'a R,
+    semaphore: &'a Semaphore<'_>,
+    calls: usize,
+) -> bool {
+    for _ in 0..calls {
+        drop(semaphore.acquire(rt));
+    }
+    semaphore.available_permits() == 1
 }

@@ -30,7 +30,7 @@ fn no_token(_: RequeueOp, _: UnparkResult) -> UnparkToken {
     DEFAULT_UNPARK_TOKEN
 }
 
-impl<'a, P: ThreadParkerT> Scene<'a, P> {
+impl<P: ThreadParkerT> Scene<'_, '_, P> {
     /// Parks in each run, until all is over. False says that the thread could not be registered.
     pub fn waits<R: Wait + Clock>(&self, rt: &R, alloc: Global) -> bool {
         let Ok(mut member) = Member::register(rt, alloc, self.lot) else {

@@ -3,15 +3,49 @@
 
 ghost use Rattle.std.specs.Prelude.{⊤};
 
+use crate::queue::Queue;
 use crate::row::Row;
-use lot_base::word_lock::{self, WordLock};
-use lot_sync::fits::Fits;
-use lot_sync::{mutex, rw_lock};
-use lot_threads::{Member, ThreadParkerT};
-use std::sync::{Mutex, RwLock, Wait};
+use lot_base::word_lock::{Fits, WordLock};
+use lot_threads::NoMemory;
+use parking_lot::mutex::{Fairness, MutexIn};
+use parking_lot::{Condvar, FairMutex, Lot, Mutex, Once, RwLock, Semaphore};
+use std::sync;
+use std::sync::Wait;
 use std::time::Clock;
 
 const MULTIPLIER: u64 = 0x9E37_79B9_7F4A_7C15;
+
+/// The locks that threads of a scene share. A row uses one of them.
+#[derive(Drop)]
+pub struct Locks<'l> {
+    pub mutex: Mutex<'l, Tally>,
+    pub fair_mutex: FairMutex<'l, Tally>,
+    pub rw_lock: RwLock<'l, Tally>,
+    pub condvar: Condvar<'l>,
+    pub once: Once<'l>,
+    pub semaphore: Semaphore<'l>,
+    pub queue: Queue<'l>,
+    pub std_mutex: sync::Mutex<Tally>,
+    pub std_rw_lock: sync::RwLock<Tally>,
+    pub std_condvar: sync::Condvar,
+}
+
+impl<'l> Locks<'l> {
+    pub fn new(lot: &'l Lot) -> Result<Locks<'l>, NoMemory> {
+        Ok(Locks {
+            mutex: Mutex::new(lot, Tally::new())?,
+            fair_mutex: FairMutex::new(lot, Tally::new())?,
+            rw_lock: RwLock::new(lot, Tally::new())?,
+            condvar: Condvar::new(lot)?,
+            once: Once::new(lot)?,
+            semaphore: Semaphore::new(lot, 1)?,
+            queue: Queue::new(lot)?,
+            std_mutex: sync::Mutex::new(Tally::new()),
+            std_rw_lock: sync::RwLock::new(Tally::new()),
+            std_condvar: sync::Condvar::new(),
+        })
+    }
+}
 
 /// What the lock is around. It is as large as a bucket of a lot.
 #[derive(Drop)]
@@ -21,9 +55,7 @@ pub struct Tally {
     others: [u64; 3],
 }
 
-impl Fits for Tally {}
-
-impl word_lock::Fits for Tally {
+impl Fits for Tally {
     type Key = ();
 
     ghost fits = { λ _ _. ⊤ };
@@ -48,132 +80,95 @@ impl Tally {
     }
 }
 
+/// A lock around a tally.
+pub trait TallyLock {
+    /// Counts one under the lock, and mixes a number so often.
+    fn count_one<R: Wait + Clock>(&self, rt: &R, turns: usize);
+
+    /// What was counted.
+    fn count<R: Wait + Clock>(&self, rt: &R) -> u64;
+}
+
 // The tally stays in its place, as in the driver.
-#[inline]
-fn count_in_word_lock<R: Wait>(rt: &R, lock: &WordLock<Tally>, counts: usize, turns: usize) {
-    for _ in 0..counts {
-        let mut claim = lock.claim(rt);
-        lock.lend(&mut claim, |tally: &mut Tally| tally.count_one(turns));
-        lock.release(claim);
+impl TallyLock for WordLock<Tally> {
+    #[inline]
+    fn count_one<R: Wait + Clock>(&self, rt: &R, turns: usize) {
+        let mut claim = self.claim(rt);
+        self.lend(&mut claim, |tally: &mut Tally| tally.count_one(turns));
+        self.release(claim);
+    }
+
+    #[inline]
+    fn count<R: Wait + Clock>(&self, rt: &R) -> u64 {
+        let held = self.lock(rt);
+        let count = held.value.count;
+        self.unlock(held);
+        count
     }
 }
 
-pub fn use_word_lock<R: Wait>(rt: &R, lock: &WordLock<Tally>, row: &Row<'_>) -> u64 {
-    let (counts, turns) = (row.counts, row.turns);
-    for _ in 0..row.calls {
-        count_in_word_lock(rt, lock, counts, turns);
+impl TallyLock for sync::Mutex<Tally> {
+    #[inline]
+    fn count_one<R: Wait + Clock>(&self, rt: &R, turns: usize) {
+        self.lock(rt).count_one(turns);
     }
-    let held = lock.lock(rt);
-    let count = held.value.count;
-    lock.unlock(held);
-    count
-}
 
-pub fn use_std_mutex<R: Wait>(rt: &R, lock: &Mutex<Tally>, row: &Row<'_>) -> u64 {
-    let (counts, turns) = (row.counts, row.turns);
-    for _ in 0..row.calls {
-        for _ in 0..counts {
-            lock.lock(rt).count_one(turns);
-        }
+    #[inline]
+    fn count<R: Wait + Clock>(&self, rt: &R) -> u64 {
+        self.lock(rt).count
     }
-    lock.lock(rt).count
 }
 
-#[inline]
-fn count_in_mutex<P: ThreadParkerT, R: Wait + Clock>(
-    rt: &R,
-    lock: &mutex::Mutex<Tally>,
-    member: &mut Member<'_, P>,
-    turns: usize,
-) {
-    let mut held = lock.lock(rt, member);
-    held.value.count_one(turns);
-    held.unlock(rt, member);
-}
-
-pub fn use_mutex<P: ThreadParkerT, R: Wait + Clock>(
-    rt: &R,
-    lock: &mutex::Mutex<Tally>,
-    member: &mut Member<'_, P>,
-    row: &Row<'_>,
-) -> u64 {
-    let (counts, turns) = (row.counts, row.turns);
-    for _ in 0..row.calls {
-        for _ in 0..counts {
-            count_in_mutex(rt, lock, member, turns);
-        }
+impl TallyLock for sync::RwLock<Tally> {
+    #[inline]
+    fn count_one<R: Wait + Clock>(&self, rt: &R, turns: usize) {
+        self.write(rt).count_one(turns);
     }
-    let held = lock.lock(rt, member);
-    let count = held.value.count;
-    held.unlock(rt, member);
-    count
+
+    #[inline]
+    fn count<R: Wait + Clock>(&self, rt: &R) -> u64 {
+        self.read(rt).count
+    }
 }
 
-/// It answers 0 if it read less than before.
-pub fn use_std_rw_lock<R: Wait>(rt: &R, lock: &RwLock<Tally>, row: &Row<'_>) -> u64 {
+impl<F: Fairness> TallyLock for MutexIn<'_, Tally, F> {
+    #[inline]
+    fn count_one<R: Wait + Clock>(&self, rt: &R, turns: usize) {
+        self.lock(rt).count_one(turns);
+    }
+
+    #[inline]
+    fn count<R: Wait + Clock>(&self, rt: &R) -> u64 {
+        self.lock(rt).count
+    }
+}
+
+impl TallyLock for RwLock<'_, Tally> {
+    #[inline]
+    fn count_one<R: Wait + Clock>(&self, rt: &R, turns: usize) {
+        self.write(rt).count_one(turns);
+    }
+
+    #[inline]
+    fn count<R: Wait + Clock>(&self, rt: &R) -> u64 {
+        self.read(rt).count
+    }
+}
+
+/// Counts and reads as the row says. It answers 0 if it read less than before.
+pub fn use_lock<L: TallyLock, R: Wait + Clock>(rt: &R, lock: &L, row: &Row<'_>) -> u64 {
     let (counts, turns, reads) = (row.counts, row.turns, row.reads);
     let mut is_ordered = true;
     for _ in 0..row.calls {
         for _ in 0..counts {
-            lock.write(rt).count_one(turns);
+            lock.count_one(rt, turns);
         }
         let mut last = 0u64;
         for _ in 0..reads {
-            let count = lock.read(rt).count;
+            let count = lock.count(rt);
             is_ordered &= last <= count;
             last = count;
         }
     }
-    if is_ordered { lock.read(rt).count } else { 0 }
-}
-
-#[inline]
-fn count_in_rw_lock<P: ThreadParkerT, R: Wait + Clock>(
-    rt: &R,
-    lock: &rw_lock::RwLock<Tally>,
-    member: &mut Member<'_, P>,
-    turns: usize,
-) {
-    let mut held = lock.write(rt, member);
-    held.value.count_one(turns);
-    held.unlock(rt, member);
-}
-
-#[inline]
-fn count_of_rw_lock<P: ThreadParkerT, R: Wait + Clock>(
-    rt: &R,
-    lock: &rw_lock::RwLock<Tally>,
-    member: &mut Member<'_, P>,
-) -> u64 {
-    let lent = lock.read(rt, member);
-    let count = lent.value().count;
-    lent.unlock(rt, member);
-    count
-}
-
-/// It answers 0 if it read less than before.
-pub fn use_rw_lock<P: ThreadParkerT, R: Wait + Clock>(
-    rt: &R,
-    lock: &rw_lock::RwLock<Tally>,
-    member: &mut Member<'_, P>,
-    row: &Row<'_>,
-) -> u64 {
-    let (counts, turns, reads) = (row.counts, row.turns, row.reads);
-    let mut is_ordered = true;
-    for _ in 0..row.calls {
-        for _ in 0..counts {
-            count_in_rw_lock(rt, lock, member, turns);
-        }
-        let mut last = 0u64;
-        for _ in 0..reads {
-            let count = count_of_rw_lock(rt, lock, member);
-            is_ordered &= last <= count;
-            last = count;
-        }
-    }
-    if is_ordered {
-        count_of_rw_lock(rt, lock, member)
-    } else {
-        0
-    }
+    if is_ordered { lock.count(rt) } else { 0 }
 }

@@ -2,11 +2,13 @@
 #![tactic(auto)]
 
 mod alone;
+mod by_turns;
 mod crowd;
 mod fair;
 mod locks;
 mod measure;
 mod program;
+mod queue;
 mod row;
 mod scene;
 mod tables;

@@ -1,20 +1,17 @@
 //! What one operation of a row costs.
 
-use crate::locks::Tally;
+use crate::locks::{Locks, Tally};
 use crate::row::Row;
 use crate::scene::Scene;
 use crate::tables::register;
 use crate::thousand::thousand_threads;
 use crate::word_mutex::WordMutex;
 use lot_base::word_lock::WordLock;
-use lot_sync::mutex::{Condvar, Mutex};
-use lot_sync::once::Once;
-use lot_sync::rw_lock::RwLock;
-use lot_sync::{FairCondvar, FairMutex};
 use lot_threads::{MAX_THREADS, ParkingLot, ThreadParkerT};
+use parking_lot::Lot;
 use std::alloc::Global;
 use std::sync::atomic::AtomicU64;
-use std::sync::{self, Barrier, Wait};
+use std::sync::{Barrier, Wait};
 use std::thread::Threads;
 use std::time::{Clock, Instant};
 
@@ -38,7 +35,8 @@ where
     hundredths.checked_div(row.operations as u64)
 }
 
-// The lot has room for those who register twice, and for the one who leads.
+// The lot has room for those who register twice, and for the one who leads. The locks have a lot of
+// their own.
 fn time_of<P, R>(rt: &R, alloc: Global, row: &Row<'_>) -> Option<u64>
 where
     P: ThreadParkerT + Send + Sync,
@@ -46,22 +44,14 @@ where
 {
     let room = row.threads.checked_mul(2)?.checked_add(row.others)?;
     let lot = ParkingLot::<P>::new(alloc, room.checked_add(1)?.min(MAX_THREADS)).ok()?;
-    let once = Once::new(alloc, 1).ok()?;
+    let locks_lot = Lot::new(alloc, row.threads.checked_add(1)?).ok()?;
     let word_lock = WordLock::new(alloc, Tally::new(), &()).ok()?;
-    let mutex = Mutex::new(alloc, 1, Tally::new()).ok()?;
     let scene = Scene {
         row,
         lot: &lot,
-        once: &once,
+        locks: Locks::new(&locks_lot).ok()?,
         word_lock: &word_lock,
-        mutex: &mutex,
-        rw_lock: RwLock::new(rt, 1, Tally::new()),
-        condvar: Condvar::new(2),
-        std_mutex: sync::Mutex::new(Tally::new()),
-        std_rw_lock: sync::RwLock::new(Tally::new()),
         word_mutex: WordMutex::new(),
-        fair_mutex: FairMutex::new(1),
-        fair_condvar: FairCondvar::new(2),
         begins: Barrier::new(row.threads),
         runs: AtomicU64::new(0),
         epoch: Instant::now(rt).ok(),
@@ -76,7 +66,7 @@ where
 }
 
 // The time of a run in a scene, while the others are registered if they do not come and go.
-fn time_in<P, R>(rt: &R, alloc: Global, scene: &Scene<'_, P>) -> Option<u64>
+fn time_in<P, R>(rt: &R, alloc: Global, scene: &Scene<'_, '_, P>) -> Option<u64>
 where
     P: ThreadParkerT + Send + Sync,
     R: Threads + Wait + Clock + Sync,

@@ -21,9 +21,9 @@ mutex_alone                mutex           7 1    1     0  300000  300000   3000
 mutex_two                  mutex           7 1    2     0  300000  600000   600000
 mutex_four                 mutex           7 1    4     0  300000 1200000  1200000
 mutex_sixteen              mutex           7 1   16     0  300000 4800000  4800000
-fair_alone                 fair            7 1    1     0   20000   20000    20000
-fair_two                   fair            7 1    2     0   20000   40000    40000
-fair_four                  fair            7 1    4     0   20000   80000    80000
+fair_alone                 fair            7 1    1     0     200   20000   160000 100
+fair_two                   fair            7 1    2     0     200   40000   320000 100
+fair_four                  fair            7 1    4     0     200   80000   640000 100
 fair_notify_all            notify         15 0  100     0       1       1
 word_lock_alone            word_lock       7 1    1     0    3000  300000  2400000 100
 word_lock_two              word_lock       7 1    2     0    3000  600000  4800000 100
@@ -35,11 +35,13 @@ word_lock_sixteen_longer   word_lock       7 1   16     0    3000 4800000 384000
 std_mutex_alone            std_mutex       7 1    1     0    3000  300000  2400000 100
 std_mutex_two              std_mutex       7 1    2     0    3000  600000  4800000 100
 std_mutex_four             std_mutex       7 1    4     0    3000 1200000  9600000 100
+std_mutex_sixteen          std_mutex       7 1   16     0    3000 4800000 38400000 100
 std_mutex_two_longer       std_mutex       7 1    2     0    3000  600000  4800000 100 50
 std_mutex_four_longer      std_mutex       7 1    4     0    3000 1200000  9600000 100 50
 sync_mutex_alone           sync_mutex      7 1    1     0    3000  300000  2400000 100
 sync_mutex_two             sync_mutex      7 1    2     0    3000  600000  4800000 100
 sync_mutex_four            sync_mutex      7 1    4     0    3000 1200000  9600000 100
+sync_mutex_sixteen         sync_mutex      7 1   16     0    3000 4800000 38400000 100
 sync_mutex_two_longer      sync_mutex      7 1    2     0    3000  600000  4800000 100 50
 sync_mutex_four_longer     sync_mutex      7 1    4     0    3000 1200000  9600000 100 50
 sync_read_alone            sync_rw_lock    7 1    1     0    3000  300000        0   0  0 100
@@ -51,6 +53,11 @@ std_read_four              std_rw_lock     7 1    4     0    3000 1200000       
 std_mostly_read_four       std_rw_lock     7 1    4     0    3000 1200000    96000   1  0  99
 sync_once_done             once            7 1    1     0 1000000 1000000
 sync_condvar_turns         condvar         5 1    2     0    5000    5000    60000
+sync_condvar_turns_held    condvar_held    5 1    2     0    5000    5000    60000
+std_condvar_turns          std_condvar     5 1    2     0    5000    5000    60000
+sync_queue_two             queue           5 1    2     0   10000   10000    60000
+sync_queue_eight           queue           5 1    8     0   10000   40000   240000
+sync_semaphore_alone       semaphore       7 1    1     0 1000000 1000000
 many_keys                  many_keys       7 1    1   998  100000  100000
 thousand_threads           thousand        1 0 1000     0       1    1000
 register_all               register        7 1    0 16384       1   16384

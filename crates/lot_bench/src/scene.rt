@@ -1,42 +1,32 @@
 //! What the threads of a row share, and what each of them does.
 
 use crate::alone::{
-    calls_once, parks, unparks_itself_on_each, unparks_nobody, unparks_nobody_on_each,
+    calls_once, parks, takes_permits, unparks_itself_on_each, unparks_nobody,
+    unparks_nobody_on_each,
 };
-use crate::locks::{Tally, use_mutex, use_rw_lock, use_std_mutex, use_std_rw_lock, use_word_lock};
+use crate::locks::{Locks, Tally, use_lock};
 use crate::measure::nanoseconds_since;
 use crate::row::Row;
 use crate::tables::{registers, trims, trims_exclusive_lot};
-use crate::turns::{OVER, counts_by_turns, takes_turns_by_word, takes_turns_strictly};
+use crate::turns::{OVER, takes_turns_by_word, takes_turns_strictly};
 use crate::word_mutex::WordMutex;
 use lot_base::word_lock::WordLock;
-use lot_sync::mutex::{Condvar, Mutex};
-use lot_sync::once::Once;
-use lot_sync::rw_lock::RwLock;
-use lot_sync::{FairCondvar, FairMutex};
 use lot_threads::{Member, ParkResult, ParkingLot, ThreadParkerT};
 use std::alloc::Global;
 use std::sync::atomic::{AtomicU64, Ordering};
-use std::sync::{self, Barrier, Wait};
+use std::sync::{Barrier, Wait};
 use std::thread;
 use std::thread::Threads;
 use std::time::{Clock, Instant};
 
 /// What the threads share. A row uses some of it.
 #[derive(Drop)]
-pub struct Scene<'a, P: ThreadParkerT> {
+pub struct Scene<'a, 'l, P: ThreadParkerT> {
     pub row: &'a Row<'a>,
     pub lot: &'a ParkingLot<P>,
-    pub once: &'a Once,
+    pub locks: Locks<'l>,
     pub word_lock: &'a WordLock<Tally>,
-    pub mutex: &'a Mutex<Tally>,
-    pub rw_lock: RwLock<Tally>,
-    pub condvar: Condvar,
-    pub std_mutex: sync::Mutex<Tally>,
-    pub std_rw_lock: sync::RwLock<Tally>,
     pub word_mutex: WordMutex,
-    pub fair_mutex: FairMutex,
-    pub fair_condvar: FairCondvar,
 
     /// Where threads wait until all of them begin a run.
     pub begins: Barrier,
@@ -60,7 +50,7 @@ pub struct Scene<'a, P: ThreadParkerT> {
     pub awake: AtomicU64,
 }
 
-impl<'a, P: ThreadParkerT> Scene<'a, P> {
+impl<P: ThreadParkerT> Scene<'_, '_, P> {
     /// Whether as much was counted under a lock as has to be.
     pub fn has_counted(&self) -> bool {
         self.counted.load(Ordering::SeqCst) == self.row.counted as u64
@@ -112,25 +102,30 @@ impl<'a, P: ThreadParkerT> Scene<'a, P> {
             "park_late" => self.parks(rt, alloc, true),
             "strict" => { takes_turns_strictly(rt, self.lot, member, &self.word, place, row.calls) }
             "by_word" => { takes_turns_by_word(rt, self.lot, member, &self.word, place, row.calls) }
-            "condvar" => self.notes(counts_by_turns(
-                rt,
-                member,
-                self.mutex,
-                &self.condvar,
-                place,
-                row.calls,
-            )),
             "mutex" => self.uses_word_mutex(rt, member),
-            "fair" => self.uses_fair_mutex(rt, alloc),
-            "word_lock" => self.notes(use_word_lock(rt, self.word_lock, row)),
-            "std_mutex" => self.notes(use_std_mutex(rt, &self.std_mutex, row)),
-            "std_rw_lock" => self.notes(use_std_rw_lock(rt, &self.std_rw_lock, row)),
-            "sync_mutex" => self.notes(use_mutex(rt, self.mutex, member, row)),
-            "sync_rw_lock" => self.notes(use_rw_lock(rt, &self.rw_lock, member, row)),
-            "once" => calls_once(rt, self.once, member, row.calls),
             "many_keys" => unparks_itself_on_each(rt, alloc, self.lot, row.calls),
-            _ => false,
+            "once" => calls_once(rt, &self.locks.once, row.calls),
+            "semaphore" => takes_permits(rt, &self.locks.semaphore, row.calls),
+            _ => self.uses_locks(rt, place),
         }
+    }
+
+    // Counts with the locks, as the thread at this place. False says that the row's deed is none.
+    fn uses_locks<R: Wait + Clock>(&self, rt: &R, place: usize) -> bool {
+        let (row, locks) = (self.row, &self.locks);
+        self.notes(match row.deed {
+            "word_lock" => use_lock(rt, self.word_lock, row),
+            "std_mutex" => use_lock(rt, &locks.std_mutex, row),
+            "std_rw_lock" => use_lock(rt, &locks.std_rw_lock, row),
+            "sync_mutex" => use_lock(rt, &locks.mutex, row),
+            "sync_rw_lock" => use_lock(rt, &locks.rw_lock, row),
+            "fair" => use_lock(rt, &locks.fair_mutex, row),
+            "condvar" => locks.counts_by_turns(rt, place, row.calls),
+            "condvar_held" => locks.counts_by_turns_held(rt, place, row.calls),
+            "std_condvar" => locks.counts_by_std_turns(rt, place, row.calls),
+            "queue" => locks.queue.pass(rt, place, row.calls),
+            _ => return false,
+        })
     }
 
     // Does its part of a run, and notes when that began and ended. It registers before all begin
@@ -179,7 +174,7 @@ impl<'a, P: ThreadParkerT> Scene<'a, P> {
             "call" => self.wakes_all(rt, false),
             "awake" => self.wakes_all(rt, true),
             "requeue" => self.moves_all(rt),
-            "notify" => self.notifies_all(rt, alloc),
+            "notify" => self.notifies_all(rt),
             "trim" => trims(rt, alloc, self.lot, row.others),
             _ => None,
         }
@@ -217,13 +212,14 @@ impl<'a, P: ThreadParkerT> Scene<'a, P> {
         if place == 0 {
             let median = self.median(rt, alloc);
             self.ends(rt);
+            self.ends_sleep(rt);
             return median;
         }
-        let has_come = match self.row.deed {
-            "notify" => self.sleeps(rt, alloc),
-            _ => self.waits(rt, alloc),
-        };
-        if has_come { Some(0) } else { None }
+        if self.row.deed == "notify" {
+            self.sleeps(rt);
+            return Some(0);
+        }
+        if self.waits(rt, alloc) { Some(0) } else { None }
     }
 
     /// The median time of a run.

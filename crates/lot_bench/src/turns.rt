@@ -1,9 +1,7 @@
 //! Two threads that hand a turn to each other.
 
 use crate::alone::{ignore, nothing};
-use crate::locks::Tally;
 use lot_base::token::UnparkResult;
-use lot_sync::mutex::{Condvar, Mutex};
 use lot_threads::{
     DEFAULT_PARK_TOKEN, DEFAULT_UNPARK_TOKEN, Member, ParkResult, ParkingLot, ThreadParkerT,
     UnparkToken, unpark_all, unpark_one,
@@ -138,42 +136,4 @@ fn awaits_turn<P: ThreadParkerT, R: Wait + Clock>(
         park_while(rt, member, side, word, other, nothing);
     }
     false
-}
-
-/// Counts one in each round, when the count is even or odd as the side says. Answers the last
-/// count.
-pub fn counts_by_turns<P: ThreadParkerT, R: Wait + Clock>(
-    rt: &R,
-    member: &mut Member<'_, P>,
-    mutex: &Mutex<Tally>,
-    condvar: &Condvar,
-    side: usize,
-    rounds: usize,
-) -> u64 {
-    let mut last = 0u64;
-    for _ in 0..rounds {
-        last = counts_at_turn(rt, member, mutex, condvar, side as u64);
-    }
-    last
-}
-
-fn counts_at_turn<P: ThreadParkerT, R: Wait + Clock>(
-    rt: &R,
-    member: &mut Member<'_, P>,
-    mutex: &Mutex<Tally>,
-    condvar: &Condvar,
-    side: u64,
-) -> u64 {
-    let mut held = mutex.lock(rt, member);
-    for _ in rt.forever() {
-        if held.value.count % 2 == side {
-            break;
-        }
-        held = condvar.wait(rt, member, held);
-    }
-    held.value.count_one(0);
-    let count = held.value.count;
-    condvar.notify_one(rt, member, mutex);
-    held.unlock(rt, member);
-    count
 }

@@ -27,12 +27,10 @@ each parking_lot_list each
 each acquire_resource each
 count all_registered_twice any
 each word_lock_new any
-each mutex_new any
-each once_new any
-each once_value_new any
+each lot_new any
 none parking_lot_trim_far each
 none park each
-none lock_calls each
+none lock_calls any
 none threads each
 none word_lock any
 none lot_steps any
@@ -68,7 +66,7 @@ where
     let answer = match name {
         "threads" => crowd::gather(rt, alloc, lot, Duration::ZERO)?,
         "word_lock" => word_lock::count_together(rt, alloc, LOCKS, moment)?,
-        "lock_calls" => locks::run(rt, alloc, lot, None)?,
+        "lock_calls" => locks::act_alone(rt, alloc)?,
         "lot_steps" => exclusive::do_steps(alloc)?,
         _ => return one_thread::play(rt, alloc, lot, name),
     };

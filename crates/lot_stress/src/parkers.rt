@@ -1,7 +1,7 @@
 //! What is done with one parker, on a new lot. The parkers are named here alone.
 
 use crate::fault::Fault;
-use crate::{locks, marks, memory, parks, race, rest};
+use crate::{marks, memory, parks, race, rest};
 use lot_base::thread_parker as lower;
 use lot_threads::{ParkingLot, ThreadParker, ThreadParkerT, WordParker, YieldParker};
 use std::alloc::Global;
@@ -53,7 +53,6 @@ where
 fn threads_of(task: &str) -> usize {
     match task {
         "race" => race::MOST,
-        "locks" => locks::MOST,
         "parks" => 1,
         "rest" => rest::MOST,
         _ => memory::threads_of(task),
@@ -75,7 +74,6 @@ where
 {
     match task {
         "race" => race::run_round(rt, alloc, lot, number),
-        "locks" => locks::run(rt, alloc, lot, Some(number)),
         "parks" => parks::run(rt, alloc, lot, number as usize),
         "rest" => rest::run::<P, Q, R>(rt, alloc, lot, number),
         _ => memory::play(rt, alloc, lot, task),

@@ -3,7 +3,7 @@
 use crate::fault::Fault;
 use crate::memory::SCENARIOS;
 use crate::parkers::{numbered, perform};
-use crate::{cost, nested};
+use crate::{cost, locks, nested};
 use std::alloc::Global;
 use std::env;
 use std::process::ExitCode;
@@ -17,7 +17,7 @@ const USAGE: &str = "usage: lot_stress memory [SCENARIO word|thread|yield]
        lot_stress parks COUNT
        lot_stress rest MILLISECONDS
        lot_stress race SECONDS SEED
-       lot_stress locks SECONDS SEED
+       lot_stress locks ROUNDS SEED
        lot_stress nested SEED
        lot_stress deep SEED";
 
@@ -71,7 +71,8 @@ fn follow<R: Print + Eprint + Threads + Wait + Clock + Sync>(
         "parks" => perform_each(rt, alloc, 3, command, number(first)?)?,
         // A parker that yields does not sleep.
         "rest" => perform_each(rt, alloc, 2, command, number(first)?)?,
-        "race" | "locks" => run_rounds(rt, alloc, command, number(first)?, number(second)?)?,
+        "race" => run_races(rt, alloc, number(first)?, number(second)?)?,
+        "locks" => locks::run(rt, alloc, number(first)?, number(second)?)?,
         "nested" => nested::run(rt, alloc, false, number(first)?)?,
         "deep" => nested::run(rt, alloc, true, number(first)?)?,
         _ => return Err(Fault(USAGE)),
@@ -101,13 +102,12 @@ fn perform_each<R: Print + Eprint + Threads + Wait + Clock + Sync>(
     Ok(())
 }
 
-// Plays rounds of the task for so long, each on a lot of its own, with each parker by turns, and
-// tells how many they were, and how much was done. The seed of a round is that of the one before
-// and one more, so a round that failed is the first of those with its seed.
-fn run_rounds<R: Print + Eprint + Threads + Wait + Clock + Sync>(
+// Plays races for so long, each on a lot of its own, with each parker by turns, and tells how many
+// they were, and how many were woken. The seed of a round is that of the one before and one more, so
+// a round that failed is the first of those with its seed.
+fn run_races<R: Print + Eprint + Threads + Wait + Clock + Sync>(
     rt: &R,
     alloc: Global,
-    task: &str,
     seconds: u64,
     seed: u64,
 ) -> Result<(), Fault> {
@@ -117,15 +117,15 @@ fn run_rounds<R: Print + Eprint + Threads + Wait + Clock + Sync>(
         if start.elapsed(rt)? >= Duration::from_secs(seconds) {
             break;
         }
-        match perform(rt, alloc, seed, task, seed) {
+        match perform(rt, alloc, seed, "race", seed) {
             Ok(more) => done = done.wrapping_add(more),
             Err(fault) => {
-                eprintln!(rt; "a round failed: lot_stress {task} 1 {seed}")?;
+                eprintln!(rt; "a round failed: lot_stress race 1 {seed}")?;
                 return Err(fault);
             }
         }
         rounds = rounds.wrapping_add(1);
     }
-    println!(rt; "{task}: {rounds} rounds as they should be, {done} wakes or counts in them")?;
+    println!(rt; "race: {rounds} rounds as they should be, {done} wakes in them")?;
     Ok(())
 }

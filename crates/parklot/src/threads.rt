@@ -1,6 +1,8 @@
 //! `parklot threads`: scenarios of threads on threaded lots of their own, and whether each went as
 //! it should.
 
+mod fair_condvar;
+mod fair_mutex;
 mod guest;
 mod latch;
 mod scenarios;

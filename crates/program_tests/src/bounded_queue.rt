@@ -1,83 +1,56 @@
-//! The queue of bounded length among threads.
+//! The queue of bounded length among threads, of numbers.
 //!
 //! - `queue put N`: puts the numbers from 1 to N.
 //! - `queue take N`: takes so many, and adds them to `first`. Tells whether they were 1 to N.
-
-ghost use Rattle.lot_threads.specs.Members.{IsDataOf};
+//! - `queue put_for MS`, `queue take_for MS`: puts 1, or takes a number, in so many milliseconds.
+//!   Tells whether it did.
 
 use crate::player::perform;
 use crate::stage::Stage;
-use examples::bounded_queue::BoundedQueue;
-use lot_threads::{ParkingLot, ThreadData, ThreadParkerT};
-use std::alloc::Global;
+use lot_threads::ThreadParkerT;
 use std::sync::Wait;
 use std::sync::atomic::Ordering;
-use std::time::Clock;
+use std::time::{Clock, Duration};
 use test_support::words::Words;
 
-// A thread of its own for the queue, since a member does not lend its data.
-#[derive(Drop)]
-struct Worker<'a, P: ThreadParkerT> {
-    lot: &'a ParkingLot<P>,
-    queue: &'a BoundedQueue,
-    thread: ThreadData,
-    ghost own: { IsDataOf lot.now thread },
-}
-
-impl<'a, P: ThreadParkerT> Worker<'a, P> {
-    fn put<R: Wait + Clock>(&mut self, rt: &R, number: usize) {
-        self.queue.put(rt, self.lot, &mut self.thread, number);
+impl<P: ThreadParkerT> Stage<'_, P> {
+    fn put_all<R: Wait + Clock>(&self, rt: &R, count: usize) {
+        for number in 1..=count {
+            self.queue.put(rt, number);
+        }
     }
 
-    fn take<R: Wait + Clock>(&mut self, rt: &R) -> usize {
-        self.queue.take(rt, self.lot, &mut self.thread)
-    }
-}
-
-impl<P: ThreadParkerT> Stage<P> {
-    fn put_or_take<R: Wait + Clock>(
-        &self,
-        rt: &R,
-        worker: &mut Worker<'_, P>,
-        puts: bool,
-        count: usize,
-    ) -> bool {
+    fn take_all<R: Wait + Clock>(&self, rt: &R, count: usize) -> bool {
         let mut in_order = true;
         for number in 1..=count {
-            if puts {
-                worker.put(rt, number);
-            } else {
-                let taken = worker.take(rt);
-                self.first.fetch_add(taken, Ordering::SeqCst);
-                in_order = taken == number && in_order;
-            }
+            let taken = self.queue.take(rt);
+            self.first.fetch_add(taken, Ordering::SeqCst);
+            in_order = taken == number && in_order;
         }
         in_order
     }
 
-    pub fn use_queue<R: Wait + Clock>(
-        &self,
-        rt: &R,
-        alloc: Global,
-        words: &mut Words<'_>,
-    ) -> Option<usize> {
-        let puts = words.reads("put");
-        if !puts && !words.reads("take") {
-            return None;
+    pub fn use_queue<R: Wait + Clock>(&self, rt: &R, words: &mut Words<'_>) -> Option<usize> {
+        if words.reads("put") {
+            self.put_all(rt, words.number()?);
+            Some(1)
+        } else if words.reads("take") {
+            Some(usize::from(self.take_all(rt, words.number()?)))
+        } else if words.reads("put_for") {
+            let duration = Duration::from_millis(words.number()? as u64);
+            Some(usize::from(self.queue.put_for(rt, 1, duration).is_ok()))
+        } else if words.reads("take_for") {
+            let duration = Duration::from_millis(words.number()? as u64);
+            Some(usize::from(self.queue.take_for(rt, duration).is_some()))
+        } else {
+            None
         }
-        let count = words.number()?;
-        let mut worker = Worker {
-            lot: &self.lot,
-            queue: &self.queue,
-            thread: self.lot.thread_data(rt, alloc).ok()?,
-        };
-        Some(usize::from(self.put_or_take(rt, &mut worker, puts, count)))
     }
 }
 
-// It refuses a `put` that sleeps while a place is free, or overwrites, a `take` in another order,
-// or that takes a number twice, and where there is one place, which is full or empty at each look,
-// changes that are told to one sleeper alone.
+// It refuses a `put` that waits while a place is free, or overwrites, a `take` in another order, or
+// that takes a number twice, and where there is one place, which is full or empty at each look,
+// changes that are told to nobody.
 #[test]
 fn consumers_take_what_producers_put_in_its_order(rt: HostRuntime) {
     perform(
@@ -100,5 +73,25 @@ fn consumers_take_what_producers_put_in_its_order(rt: HostRuntime) {
         thread
             await a 6
             tell first -> 6003000",
+    );
+}
+
+// It refuses a wait with a deadline that ends early though the queue changes, or that does not end.
+#[test]
+fn a_wait_ends_by_a_change_or_after_its_time(rt: HostRuntime) {
+    perform(
+        &rt,
+        rt.alloc(),
+        &[1],
+        "thread
+            queue take_for 5 -> 0
+            queue put_for 5
+            queue put_for 5 -> 0
+            raise a
+            queue put_for 10000
+            queue take_for 10000
+        thread
+            await a 1
+            queue take_for 10000",
     );
 }

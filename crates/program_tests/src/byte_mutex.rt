@@ -33,7 +33,7 @@ const LONG: u64 = 1_000;
 // So often two threads lock and unlock at once, or until the time is over.
 const OFTEN: usize = 5_000_000;
 
-impl<P: ThreadParkerT> Stage<P> {
+impl<P: ThreadParkerT> Stage<'_, P> {
     fn count_both(&self) -> bool {
         let first = self.first.load(Ordering::SeqCst);
         let second = self.second.load(Ordering::SeqCst);

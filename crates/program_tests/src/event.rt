@@ -13,7 +13,7 @@ use std::time::{Clock, Instant};
 use test_support::clock::now;
 use test_support::words::Words;
 
-impl<P: ThreadParkerT> Stage<P> {
+impl<P: ThreadParkerT> Stage<'_, P> {
     fn see_it_set<R: Wait + Clock>(
         &self,
         rt: &R,

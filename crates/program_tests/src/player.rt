@@ -8,22 +8,25 @@
 //!
 //! - `raise COUNT`, `await COUNT N`, `tell COUNT`: adds one, waits until it is so high, or tells
 //!   it. `a` and `b` are the script's, `first` and `second` those of the examples.
-//! - `waiting OBJECT N`: waits until so many threads wait for it: `gate`, `mutex`, `event`,
-//!   `semaphore`, or `jobs` and `room` of the pool.
+//! - `waiting OBJECT N`: waits until so many threads wait for it: `gate`, `mutex`, `event`
+//!   or `semaphore`.
+//! - `pause MS`: sleeps so many milliseconds, so that others come to wait where no other sign tells
+//!   that they do.
 //! - `gate`: parks at the gate until another thread unparks this one.
 //! - `mutex`, `event`, `semaphore`, `queue`, `table`, `pool`, `other` (another pool), `jobs`,
 //!   `token` and `heard`, of which the modules with their names tell the calls.
 
 use crate::heard::woken_by_word;
-use crate::stage::{EVENT_KEY, MUTEX_KEY, POOL_KEYS, SEMAPHORE_KEY, Stage};
+use crate::stage::{EVENT_KEY, MOST, MUTEX_KEY, SEMAPHORE_KEY, Stage};
 use crate::token::token_passed;
 use lot_threads::{Member, ThreadParkerT, WordParker};
+use parking_lot::Lot;
 use std::alloc::Global;
 use std::process::Abort;
 use std::sync::Wait;
 use std::thread;
 use std::thread::Threads;
-use std::time::Clock;
+use std::time::{Clock, Duration};
 use test_support::calls::{register_all, wait};
 use test_support::followed_parker::{FollowedParker, GATE};
 use test_support::waits::come_by_turns;
@@ -38,10 +41,6 @@ fn key_of(words: &mut Words<'_>) -> Option<usize> {
         Some(EVENT_KEY)
     } else if words.reads("semaphore") {
         Some(SEMAPHORE_KEY)
-    } else if words.reads("jobs") {
-        Some(POOL_KEYS[1])
-    } else if words.reads("room") {
-        Some(POOL_KEYS[2])
     } else {
         None
     }
@@ -51,7 +50,7 @@ fn key_of(words: &mut Words<'_>) -> Option<usize> {
 fn await_waiters<P: ThreadParkerT, R: Wait>(
     rt: &R,
     alloc: Global,
-    stage: &Stage<P>,
+    stage: &Stage<'_, P>,
     words: &mut Words<'_>,
 ) -> Option<usize> {
     let key = key_of(words)?;
@@ -64,7 +63,7 @@ fn await_waiters<P: ThreadParkerT, R: Wait>(
 fn outcome<P, R>(
     rt: &R,
     alloc: Global,
-    stage: &Stage<P>,
+    stage: &Stage<'_, P>,
     member: &mut Member<'_, P>,
     words: &mut Words<'_>,
 ) -> Option<usize>
@@ -74,6 +73,9 @@ where
 {
     if words.reads("waiting") {
         await_waiters(rt, alloc, stage, words)
+    } else if words.reads("pause") {
+        thread::sleep(rt, Duration::from_millis(words.number()? as u64));
+        Some(1)
     } else if words.reads("gate") {
         Some(usize::from(wait(rt, member, GATE, None).is_unparked()))
     } else if words.reads("mutex") {
@@ -83,15 +85,15 @@ where
     } else if words.reads("semaphore") {
         stage.use_semaphore(rt, member, words)
     } else if words.reads("queue") {
-        stage.use_queue(rt, alloc, words)
+        stage.use_queue(rt, words)
     } else if words.reads("table") {
-        stage.use_table(rt, alloc, member, words)
+        stage.use_table(rt, alloc, words)
     } else if words.reads("pool") {
-        stage.use_pool(rt, member, &stage.pool, words)
+        stage.use_pool(rt, &stage.pool, words)
     } else if words.reads("other") {
-        stage.use_pool(rt, member, &stage.other_pool, words)
+        stage.use_pool(rt, &stage.other_pool, words)
     } else if words.reads("jobs") {
-        stage.do_all_jobs(rt, alloc, member)
+        stage.do_all_jobs(rt, alloc)
     } else if words.reads("token") {
         Some(token_passed(rt, alloc, &stage.lot))
     } else if words.reads("heard") {
@@ -113,7 +115,7 @@ fn is_named(words: &mut Words<'_>, found: usize) -> Option<bool> {
 fn act<P, R>(
     rt: &R,
     alloc: Global,
-    stage: &Stage<P>,
+    stage: &Stage<'_, P>,
     member: &mut Member<'_, P>,
     words: &mut Words<'_>,
 ) -> Option<bool>
@@ -129,7 +131,7 @@ where
 fn act_all<P, R>(
     rt: &R,
     alloc: Global,
-    stage: &Stage<P>,
+    stage: &Stage<'_, P>,
     member: &mut Member<'_, P>,
     words: &mut Words<'_>,
 ) -> Option<bool>
@@ -159,7 +161,7 @@ fn times(words: &mut Words<'_>) -> Option<usize> {
 fn play_line<P, R>(
     rt: &R,
     alloc: Global,
-    stage: &Stage<P>,
+    stage: &Stage<'_, P>,
     member: &mut Member<'_, P>,
     line: &str,
     size: usize,
@@ -205,7 +207,7 @@ fn count_threads(script: &str, size: usize) -> usize {
 fn play_lines<P, R>(
     rt: &R,
     alloc: Global,
-    stage: &Stage<P>,
+    stage: &Stage<'_, P>,
     member: &mut Member<'_, P>,
     script: &str,
     size: usize,
@@ -231,7 +233,7 @@ where
 fn play_as<P, R>(
     rt: &R,
     alloc: Global,
-    stage: &Stage<P>,
+    stage: &Stage<'_, P>,
     mut member: Member<'_, P>,
     script: &str,
     size: usize,
@@ -246,7 +248,7 @@ where
 fn members_play<P, R>(
     rt: &R,
     alloc: Global,
-    stage: &Stage<P>,
+    stage: &Stage<'_, P>,
     members: Vec<Member<'_, P>>,
     script: &str,
     size: usize,
@@ -264,7 +266,8 @@ where
     P: ThreadParkerT + Send + Sync,
     R: Threads + Wait + Clock + Abort + Sync,
 {
-    let stage = Stage::<P>::new(rt, alloc, size);
+    let locks = Lot::new(alloc, MOST).expect(rt, "a lot");
+    let stage = Stage::<P>::new(rt, alloc, &locks, size);
     let threads = count_threads(script, size);
     let members = register_all(rt, alloc, &stage.lot, threads).expect(rt, "numbers");
     members_play(rt, alloc, &stage, members, script, size);

@@ -9,9 +9,8 @@
 
 use crate::player::perform;
 use crate::stage::{Pair, Stage, number_of, twice};
-use lot_threads::{Member, ThreadParkerT};
+use lot_threads::ThreadParkerT;
 use std::alloc::Global;
-use std::process::Abort;
 use std::sync::Wait;
 use std::time::Clock;
 use test_support::words::Words;
@@ -33,16 +32,10 @@ fn are_neighbours(entries: &[(u64, Pair)]) -> bool {
     are_equal && (newest <= oldest.wrapping_add(1) || newest <= oldest)
 }
 
-impl<P: ThreadParkerT> Stage<P> {
+impl<P: ThreadParkerT> Stage<'_, P> {
     // Whether there are so many entries at least, and they are neighbours.
-    fn has_neighbours<R: Wait + Clock>(
-        &self,
-        rt: &R,
-        alloc: Global,
-        member: &mut Member<'_, P>,
-        least: usize,
-    ) -> Option<bool> {
-        let entries = self.table.entries(rt, alloc, member).ok()?;
+    fn has_neighbours<R: Wait + Clock>(&self, rt: &R, alloc: Global, least: usize) -> Option<bool> {
+        let entries = self.table.entries(rt, alloc).ok()?;
         Some(least <= entries.len() && are_neighbours(&entries))
     }
 
@@ -50,18 +43,17 @@ impl<P: ThreadParkerT> Stage<P> {
         &self,
         rt: &R,
         alloc: Global,
-        member: &mut Member<'_, P>,
         key: u64,
         last: usize,
     ) -> Option<bool> {
         let mut seen = 0;
         for _ in rt.forever() {
             let least = if seen > 0 { ALWAYS } else { 0 };
-            if !self.has_neighbours(rt, alloc, member, least)? {
+            if !self.has_neighbours(rt, alloc, least)? {
                 return Some(false);
             }
             let before = seen;
-            seen = match self.table.get(rt, member, key) {
+            seen = match self.table.get(rt, key) {
                 Some(value) => value.one,
                 None => 0,
             };
@@ -72,29 +64,28 @@ impl<P: ThreadParkerT> Stage<P> {
         unreachable!()
     }
 
-    pub fn use_table<R: Wait + Clock + Abort>(
+    pub fn use_table<R: Wait + Clock>(
         &self,
         rt: &R,
         alloc: Global,
-        member: &mut Member<'_, P>,
         words: &mut Words<'_>,
     ) -> Option<usize> {
         if words.reads("insert") {
             let key = words.number()? as u64;
             let value = twice(words.number()?);
-            Some(number_of(self.table.insert(rt, member, key, value).ok()?))
+            Some(number_of(self.table.insert(rt, key, value).ok()?))
         } else if words.reads("get") {
             let key = words.number()? as u64;
-            Some(number_of(self.table.get(rt, member, key)))
+            Some(number_of(self.table.get(rt, key)))
         } else if words.reads("remove") {
             let key = words.number()? as u64;
-            Some(number_of(self.table.remove(rt, member, key)))
+            Some(number_of(self.table.remove(rt, key)))
         } else if words.reads("entries") {
-            Some(self.table.entries(rt, alloc, member).ok()?.len())
+            Some(self.table.entries(rt, alloc).ok()?.len())
         } else if words.reads("read") {
             let key = words.number()? as u64;
             let last = words.number()?;
-            Some(usize::from(self.read_until(rt, alloc, member, key, last)?))
+            Some(usize::from(self.read_until(rt, alloc, key, last)?))
         } else {
             None
         }

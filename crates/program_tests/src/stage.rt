@@ -6,17 +6,16 @@ use examples::event::Event;
 use examples::read_mostly_table::ReadMostlyTable;
 use examples::thread_pool::ThreadPool;
 use examples::thread_semaphore::ThreadSemaphore;
-use lot_sync::fits::Fits;
 use lot_threads::{ParkingLot, ThreadParkerT};
+use parking_lot::Lot;
 use std::alloc::Global;
 use std::process::Abort;
-use std::sync::Wait;
 use std::sync::atomic::{AtomicUsize, Ordering};
 use test_support::waits::comes_to;
 use test_support::words::Words;
 
-// A lot is for so many threads.
-const MOST: usize = 16;
+/// A lot is for so many threads.
+pub const MOST: usize = 16;
 
 /// So many events two threads set for each other, by turns.
 pub const EVENTS: usize = 10_000;
@@ -29,17 +28,6 @@ pub const SEMAPHORE_KEY: usize = 23;
 
 const OTHER_SEMAPHORE_KEY: usize = 24;
 
-const QUEUE_KEY: usize = 25;
-
-const QUEUE_CHANGED_KEY: usize = 26;
-
-const TABLE_KEY: usize = 27;
-
-// Of the mutex, of workers without a job, and of jobs without room.
-pub const POOL_KEYS: [usize; 3] = [28, 29, 30];
-
-const OTHER_POOL_KEYS: [usize; 3] = [31, 32, 33];
-
 const FIRST_EVENT_KEY: usize = 100;
 
 /// A number twice. With two values mixed, the halves differ.
@@ -48,8 +36,6 @@ pub struct Pair {
     pub one: usize,
     pub other: usize,
 }
-
-impl Fits for Pair {}
 
 pub fn twice(number: usize) -> Pair {
     Pair {
@@ -67,8 +53,12 @@ pub fn number_of(value: Option<Pair>) -> usize {
 }
 
 #[derive(Drop)]
-pub struct Stage<P: ThreadParkerT> {
+pub struct Stage<'l, P: ThreadParkerT> {
     pub lot: ParkingLot<P>,
+
+    /// The lot of the queue, the table and the pools.
+    pub locks: &'l Lot,
+
     pub mutex: ByteMutex,
     pub event: Event,
 
@@ -77,10 +67,10 @@ pub struct Stage<P: ThreadParkerT> {
 
     pub semaphore: ThreadSemaphore,
     pub other_semaphore: ThreadSemaphore,
-    pub queue: BoundedQueue,
-    pub table: ReadMostlyTable<Pair>,
-    pub pool: ThreadPool<Pair>,
-    pub other_pool: ThreadPool<Pair>,
+    pub queue: BoundedQueue<'l, usize>,
+    pub table: ReadMostlyTable<'l, Pair>,
+    pub pool: ThreadPool<'l, Pair>,
+    pub other_pool: ThreadPool<'l, Pair>,
 
     // What threads tell each other.
     pub a: AtomicUsize,
@@ -100,23 +90,22 @@ fn many_events() -> [Event; EVENTS] {
     })
 }
 
-impl<P: ThreadParkerT> Stage<P> {
+impl<'l, P: ThreadParkerT> Stage<'l, P> {
     /// With so many permits of each semaphore, and room for so many numbers and jobs, or for one.
-    pub fn new<R: Wait + Abort>(rt: &R, alloc: Global, size: usize) -> Stage<P> {
+    pub fn new<R: Abort>(rt: &R, alloc: Global, locks: &'l Lot, size: usize) -> Stage<'l, P> {
         let room = size.max(1);
         Stage {
             lot: ParkingLot::new(alloc, MOST).expect(rt, "a lot"),
+            locks,
             mutex: ByteMutex::new(MUTEX_KEY),
             event: Event::new(EVENT_KEY),
             events: many_events(),
             semaphore: ThreadSemaphore::new(SEMAPHORE_KEY, size),
             other_semaphore: ThreadSemaphore::new(OTHER_SEMAPHORE_KEY, size),
-            queue: BoundedQueue::new(alloc, QUEUE_KEY, QUEUE_CHANGED_KEY, room).expect(
-                rt, "a queue",
-            ),
-            table: ReadMostlyTable::new(rt, alloc, TABLE_KEY),
-            pool: ThreadPool::new(alloc, POOL_KEYS, room).expect(rt, "a pool"),
-            other_pool: ThreadPool::new(alloc, OTHER_POOL_KEYS, room).expect(rt, "a pool"),
+            queue: BoundedQueue::new(locks, alloc, room).expect(rt, "a queue"),
+            table: ReadMostlyTable::new(locks, alloc).expect(rt, "a table"),
+            pool: ThreadPool::new(locks, alloc, room).expect(rt, "a pool"),
+            other_pool: ThreadPool::new(locks, alloc, room).expect(rt, "a pool"),
             a: AtomicUsize::new(0),
             b: AtomicUsize::new(0),
             first: AtomicUsize::new(0),

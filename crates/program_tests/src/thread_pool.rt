@@ -7,15 +7,13 @@
 //! `other` instead of `pool` is another pool.
 
 use crate::player::perform;
-use crate::stage::{POOL_KEYS, Pair, Stage, number_of, twice};
-use examples::thread_pool::{Done, Place, ThreadPool, do_jobs};
-use lot_threads::{Member, ThreadParkerT};
+use crate::stage::{Pair, Stage, number_of, twice};
+use examples::thread_pool::{Done, ThreadPool, do_jobs};
+use lot_threads::ThreadParkerT;
 use std::alloc::Global;
-use std::process::Abort;
 use std::sync::Wait;
 use std::thread::Threads;
 use std::time::Clock;
-use test_support::calls::register_all;
 use test_support::words::Words;
 
 const WORKERS: usize = 4;
@@ -32,49 +30,29 @@ fn are_done_once(alloc: Global, done: &[Done<usize>]) -> Option<bool> {
     Some(sums.iter().all(|sum| *sum == 1))
 }
 
-// What the workers give for so many jobs, each of which gives 1.
-fn work<P, R>(
-    rt: &R,
-    alloc: Global,
-    pool: &ThreadPool<Place>,
-    member: &mut Member<'_, P>,
-    workers: Vec<Member<'_, P>>,
-) -> Option<Vec<Done<usize>>>
-where
-    P: ThreadParkerT + Send + Sync,
-    R: Threads + Wait + Clock + Abort + Sync,
-{
-    assert!(rt; !workers.is_empty(), "workers");
-    do_jobs(
-        rt,
-        alloc,
-        pool,
-        member,
-        workers,
-        &[(); JOBS],
-        &|_: &()| 1usize,
-    )
-    .ok()
-}
-
-impl<P: ThreadParkerT> Stage<P> {
-    pub fn do_all_jobs<R>(&self, rt: &R, alloc: Global, member: &mut Member<'_, P>) -> Option<usize>
-    where
-        P: Send + Sync,
-        R: Threads + Wait + Clock + Abort + Sync,
-    {
-        let pool = ThreadPool::new(alloc, POOL_KEYS, 3).ok()?;
-        let workers = register_all(rt, alloc, &self.lot, WORKERS).ok()?;
-        let done = work(rt, alloc, &pool, member, workers)?;
-        Some(usize::from(are_done_once(alloc, &done)?))
+impl<P: ThreadParkerT> Stage<'_, P> {
+    pub fn do_all_jobs<R: Threads + Wait + Clock + Sync>(
+        &self,
+        rt: &R,
+        alloc: Global,
+    ) -> Option<usize> {
+        let done = do_jobs(
+            rt,
+            alloc,
+            self.locks,
+            WORKERS,
+            &[(); JOBS],
+            &|_: &()| 1usize,
+        );
+        Some(usize::from(are_done_once(alloc, &done.ok()?)?))
     }
 
-    fn answer_all<R: Wait + Clock>(&self, rt: &R, member: &mut Member<'_, P>) -> bool {
+    fn answer_all<R: Wait + Clock>(&self, rt: &R) -> bool {
         for _ in rt.forever() {
-            let Some(job) = self.pool.take(rt, member) else {
+            let Some(job) = self.pool.take(rt) else {
                 return true;
             };
-            if self.other_pool.submit(rt, member, job).is_err() {
+            if self.other_pool.submit(rt, job).is_err() {
                 return false;
             }
         }
@@ -84,20 +62,19 @@ impl<P: ThreadParkerT> Stage<P> {
     pub fn use_pool<R: Wait + Clock>(
         &self,
         rt: &R,
-        member: &mut Member<'_, P>,
-        pool: &ThreadPool<Pair>,
+        pool: &ThreadPool<'_, Pair>,
         words: &mut Words<'_>,
     ) -> Option<usize> {
         if words.reads("submit") {
             let job = twice(words.number()?);
-            Some(usize::from(pool.submit(rt, member, job).is_ok()))
+            Some(usize::from(pool.submit(rt, job).is_ok()))
         } else if words.reads("take") {
-            Some(number_of(pool.take(rt, member)))
+            Some(number_of(pool.take(rt)))
         } else if words.reads("close") {
-            pool.close(rt, member);
+            pool.close(rt);
             Some(1)
         } else if words.reads("answer") {
-            Some(usize::from(self.answer_all(rt, member)))
+            Some(usize::from(self.answer_all(rt)))
         } else {
             None
         }
@@ -134,9 +111,11 @@ fn a_closed_pool_gives_what_is_left_and_wakes_all_who_sleep_on_it(rt: HostRuntim
         rt.alloc(),
         &[1],
         "thread 2
+            raise a
             pool take -> greatest
         thread
-            waiting jobs 2
+            await a 2
+            pause 20
             pool close",
     );
     perform(
@@ -145,11 +124,13 @@ fn a_closed_pool_gives_what_is_left_and_wakes_all_who_sleep_on_it(rt: HostRuntim
         &[1],
         "thread 2
             await a 1
+            raise b
             pool submit 5 -> 0
         thread
             pool submit 9
             raise a
-            waiting room 2
+            await b 2
+            pause 20
             pool close",
     );
 }

@@ -15,7 +15,7 @@ use std::thread;
 use std::time::Clock;
 use test_support::words::Words;
 
-impl<P: ThreadParkerT> Stage<P> {
+impl<P: ThreadParkerT> Stage<'_, P> {
     fn visit<R: Wait + Clock>(&self, rt: &R, member: &mut Member<'_, P>, most: usize) -> bool {
         let free = self.semaphore.acquire(rt, member);
         let others = self.first.fetch_add(1, Ordering::SeqCst);

@@ -1,28 +1,13 @@
-//! A wait, and a notify of all.
+//! A wait for a turn, and a notify of all.
 
-ghost use Rattle.std.specs.Prelude.{◌≢◌};
-ghost use Rattle.lot_threads.specs.Members.{IsDataOf};
-
-use lot_sync::{FairCondvar, FairMutex};
-use lot_threads::{ParkingLot, ThreadData, ThreadParkerT};
+use parking_lot::{Condvar, Mutex};
 use std::sync::Wait;
 use std::time::Clock;
 
-/// Waits once, and then moves all others that wait to the mutex.
-pub fn pass_on<P: ThreadParkerT, R: Wait + Clock>(
-    rt: &R,
-    lot: &ParkingLot<P>,
-    thread_data: &mut ThreadData,
-    mutex: &FairMutex,
-    condvar: &FairCondvar,
-)
-    requires own { IsDataOf lot.now thread_data.old }
-    requires keys { condvar.now.key ≢ mutex.now.key }
-
-    ensures own { IsDataOf lot.now thread_data.new }
-{
-    mutex.lock(rt, lot, thread_data);
-    condvar.wait(rt, mutex, lot, thread_data);
-    condvar.notify_all(rt, mutex, lot);
-    mutex.unlock(rt, lot);
+/// Waits until it is this thread's turn, and passes it on to the next.
+pub fn pass_on<R: Wait + Clock>(rt: &R, turn: &Mutex<'_, u32>, changed: &Condvar<'_>, own: u32) {
+    let turn = turn.lock(rt);
+    let mut turn = changed.wait_while(turn, |turn: &mut u32| *turn != own);
+    *turn = turn.wrapping_add(1);
+    changed.notify_all_held(&turn);
 }

@@ -1,12 +1,10 @@
 //! The queue of a thread pool, without threads.
 
-ghost use Rattle.std.specs.Prelude.{◌≡◌, ◌<◌, [], ◌∷◌, ◌++◌, IfOk, OnOk, OnErr, drop};
-ghost use Rattle.examples.specs.JobQueueSteps.{IsJobQueue, first_of, offered};
+ghost use Rattle.std.specs.Prelude.{◌≡◌, ◌↔◌, ◌<◌, ◌≤◌, [], ◌∷◌, ◌++◌, length, drop, slice_get};
+ghost use Rattle.std.specs.Prelude.{IfErr, IfOk, IsOk, IsTrue, OnOk, OnErr};
 
-use lot_sync::fits::Fits;
+use crate::bounded::Bounded;
 use std::alloc::{AllocError, Global};
-use std::collections::VecDeque;
-use std::marker::Model;
 
 /// Whether jobs may still come.
 #[derive(Copy, Clone)]
@@ -15,101 +13,77 @@ pub enum Stage {
     Shut,
 }
 
-/// A job that was not taken, and why.
-#[derive(Drop)]
-pub enum Refused<J> {
-    Full(J),
-    Closed(J),
-}
-
-/// What a worker finds.
-#[derive(Drop)]
-pub enum Next<J> {
-    Job(J),
-    NoneYet,
-    NoMore,
-}
-
 /// The jobs that wait, first to last.
 #[derive(Drop)]
-pub struct JobQueue<J: Fits> {
-    waiting: VecDeque<J>,
-    capacity: usize,
+pub struct JobQueue<J> {
+    waiting: Bounded<J>,
     stage: Stage,
 }
 
-impl<J: Fits> Model for JobQueue<J> {
-    ghost use Rattle.std.specs.Prelude.{◌≤◌};
-    ghost use Rattle.std.specs.VecDeque.{deque_capacity};
-    ghost use Rattle.examples.specs.JobQueueState.{JobQueueState};
-
-    ghost Value = { JobQueueState J };
-
-    ghost view = { λ queue. record {
-      waiting = queue.waiting.items;
-      capacity = queue.capacity;
-      stage = queue.stage;
-    } };
-
-    ghost invariant = { λ queue. queue.capacity ≤ deque_capacity queue.waiting };
-}
-
-impl<J: Fits> Fits for JobQueue<J> {
-    ghost fits = { IsJobQueue J.fits };
-}
-
-impl<J: Fits> JobQueue<J> {
-    // An empty queue with room for so many jobs. It asks for memory, and no other call does.
+impl<J> JobQueue<J> {
+    // An empty queue with room for so many jobs.
     pub fn new(alloc: Global, capacity: usize) -> Result<JobQueue<J>, AllocError>
-        ensures { IfOk result (λ queue.
-            queue ≡ record { waiting = []; capacity = capacity; stage = Stage.Open }) }
+        ensures stage { IfOk result (λ queue. queue.stage ≡ Stage.Open) }
+        ensures room { IfOk result (λ queue.
+            queue.waiting ≡ record { values = []; capacity = capacity }) }
     {
         Ok(JobQueue {
-            waiting: VecDeque::with_capacity(alloc, capacity)?,
-            capacity,
+            waiting: Bounded::new(alloc, capacity)?,
             stage: Stage::Open,
         })
     }
 
-    // Puts a job last, if the queue is open and has room.
-    pub fn offer(&mut self, job: J) -> Result<(), Refused<J>>
-        requires queue { IsJobQueue J.fits self.old }
-        requires job { J.fits job }
+    // Whether a job that comes has to wait for room.
+    pub fn is_full(&self) -> bool
+        ensures { IsTrue result ↔ ((self.now.stage ≡ Stage.Open)
+            × (self.now.waiting.capacity ≤ length self.now.waiting.values)) }
+    {
+        matches!(self.stage, Stage::Open) && self.waiting.is_full()
+    }
 
-        ensures queue { IsJobQueue J.fits self.new }
-        ensures answer { result ≡ offered self.old.stage self.old job }
-        ensures ok { OnOk result
-            (self.new ≡ record self.old { waiting = self.old.waiting ++ job ∷ [] }) }
-        ensures err { OnErr result (self.new ≡ self.old) }
+    // Whether a worker that comes has to wait for a job.
+    pub fn is_idle(&self) -> bool
+        ensures { IsTrue result ↔ ((self.now.stage ≡ Stage.Open)
+            × (self.now.waiting.values ≡ [])) }
+    {
+        matches!(self.stage, Stage::Open) && self.waiting.is_empty()
+    }
+
+    // Puts a job last, or gives it back if the queue is shut.
+    pub fn offer(&mut self, job: J) -> Result<(), J>
+        requires { self.old.stage ≡ Stage.Open
+            → length self.old.waiting.values < self.old.waiting.capacity }
+
+        ensures open { IsOk result ↔ (self.old.stage ≡ Stage.Open) }
+        ensures stage { self.new.stage ≡ self.old.stage }
+        ensures ok { OnOk result (self.new.waiting
+            ≡ record self.old.waiting { values = self.old.waiting.values ++ job ∷ [] }) }
+        ensures err { OnErr result (self.new.waiting ≡ self.old.waiting) }
+        ensures refused { IfErr result (λ refused. refused ≡ job) }
     {
         match self.stage {
-            Stage::Shut => Err(Refused::Closed(job)),
-            Stage::Open if self.waiting.len() < self.capacity => {
-                self.waiting.push_back_reserved(job);
+            Stage::Shut => Err(job),
+            Stage::Open => {
+                self.waiting.put(job);
                 Ok(())
             }
-            Stage::Open => Err(Refused::Full(job)),
         }
     }
 
     // Takes the first job out, if one waits.
-    pub fn next(&mut self) -> Next<J>
-        requires { IsJobQueue J.fits self.old }
-
-        ensures queue { IsJobQueue J.fits self.new }
-        ensures answer { result ≡ first_of self.old.waiting self.old.stage }
-        ensures rest { self.new ≡ record self.old { waiting = drop 1 self.old.waiting } }
+    pub fn next(&mut self) -> Option<J>
+        ensures first { result ≡ slice_get self.old.waiting.values 0 }
+        ensures rest { self.new.waiting
+            ≡ record self.old.waiting { values = drop 1 self.old.waiting.values } }
+        ensures stage { self.new.stage ≡ self.old.stage }
     {
-        match (self.waiting.pop_front(), self.stage) {
-            (Some(job), _) => Next::Job(job),
-            (None, Stage::Open) => Next::NoneYet,
-            (None, Stage::Shut) => Next::NoMore,
-        }
+        self.waiting.take()
     }
 
     // Lets no more jobs come.
     pub fn close(&mut self)
-        ensures { self.new ≡ record self.old { stage = Stage.Shut } }
+        ensures shut { self.new.stage ≡ Stage.Shut }
+        ensures waiting { self.new.waiting ≡ self.old.waiting }
     {
         self.stage = Stage::Shut;
     }

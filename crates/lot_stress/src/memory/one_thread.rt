@@ -7,12 +7,11 @@ use crate::marks;
 use crate::parks::park_often;
 use crate::word_lock::Count;
 use lot_base::word_lock::WordLock;
-use lot_sync::mutex::Mutex;
-use lot_sync::once::{Once, OnceValue};
 use lot_threads::{
     DEFAULT_PARK_TOKEN, MAX_THREADS, Member, ParkResult, ParkingLot, SpinWait, ThreadParkerT,
     UnparkToken, thread_yield, unpark_all,
 };
+use parking_lot::Lot;
 use std::alloc::Global;
 use std::sync::Wait;
 use std::time::{Clock, Instant};
@@ -156,9 +155,7 @@ fn make<P: ThreadParkerT>(alloc: Global, name: &str) -> Result<usize, Fault> {
     let is_made = match name {
         "parking_lot_new" => ParkingLot::<P>::new(alloc, SOME).is_ok(),
         "word_lock_new" => WordLock::new(alloc, Count(0), &()).is_ok(),
-        "mutex_new" => Mutex::new(alloc, KEYS[0], Count(0)).is_ok(),
-        "once_new" => Once::new(alloc, KEYS[0]).is_ok(),
-        "once_value_new" => OnceValue::<Count>::new(alloc, KEYS[0]).is_ok(),
+        "lot_new" => Lot::new(alloc, SOME).is_ok(),
         _ => return Err(Fault("no scenario of this name")),
     };
     if is_made {

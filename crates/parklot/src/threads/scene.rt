@@ -1,8 +1,9 @@
 //! What the threads of a scenario share, and the acts that any thread can do on it.
 
+use crate::threads::fair_condvar::FairCondvar;
+use crate::threads::fair_mutex::FairMutex;
 use crate::threads::latch::{Latch, let_all_through, let_one_by_one};
 use crate::threads::turns::{TURNS, comes_to};
-use lot_sync::{FairCondvar, FairMutex};
 use lot_threads::{
     FilterOp, ParkToken, ParkingLot, ThreadParkerT, UnparkResult, UnparkToken, unpark_all,
     unpark_chosen, unpark_one,

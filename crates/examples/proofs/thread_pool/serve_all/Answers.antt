@@ -8,7 +8,7 @@ pub loop-done-init : goal.loop-done-init
 loop-done-init g c =
     let as_done = GivesAll (IsDone g.F.Fn c.args.work.now c.args.jobs.now) in
     let given = c.in_ok-served.ensures.each in
-    let promised = all_promised _ _ _ _ as_done (λ worker r called. search rules) (search rules) given in
+    let promised = all_promised _ _ _ _ as_done (λ place r called. search rules) (search rules) given in
     (search rules, rw c.into_iter-done-iterator.ensures.into_iter_gives.0 promised)
 
 -- what one worker did is gathered

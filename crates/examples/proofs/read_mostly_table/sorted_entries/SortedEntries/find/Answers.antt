@@ -7,5 +7,5 @@ use Rattle.examples.proofs.read_mostly_table.sorted_entries.SortedEntries.find.G
 pub returns : goal.returns
 returns g c =
     let by_key = c.binary_search_by_key.ensures.position (λ entry. entry.0) (answers_always _ _ _ (λ f a r h called. search rules)) in
-    let ends = search_ends _ (rw c.deref.ensures.value c.requires.0) c.args.key _ c.binary_search_by_key.ensures.bound by_key in
+    let ends = search_ends _ (rw c.deref.ensures.value c.args.self.now.rising) c.args.key _ c.binary_search_by_key.ensures.bound by_key in
     rw (← c.deref.ensures.value) (record { found = ends.0; missing = ends.1 })

@@ -1,0 +1,185 @@
+//! What a thread does with the locks, and with a mutex and a condition variable among them.
+
+use super::Locks;
+use super::queue::Shelf;
+use crate::draws::draw;
+use parking_lot::{FairMutexGuard, MutexGuard};
+use std::sync::Wait;
+use std::thread;
+use std::time::{Clock, Duration, Instant};
+
+// In microseconds: most waits end within so long, and many before they have what they wait for.
+const MOMENT: u64 = 50;
+
+/// How many deeds there are.
+pub(super) const KINDS: usize = 16;
+
+/// All deeds.
+pub(super) const DEEDS: [Deed; KINDS] = [
+    Deed::Lock,
+    Deed::UnlockFair,
+    Deed::Bump,
+    Deed::Sleep,
+    Deed::NotifyOne,
+    Deed::NotifyAll,
+    Deed::NotifyOneHeld,
+    Deed::NotifyAllHeld,
+    Deed::LockFair,
+    Deed::Read,
+    Deed::Write,
+    Deed::Downgrade,
+    Deed::DowngradeToUpgradable,
+    Deed::Upgrade,
+    Deed::Acquire,
+    Deed::AcquireTwo,
+];
+
+/// What a thread does with a lock. It counts where it may write.
+#[derive(Clone, Copy)]
+pub(super) enum Deed {
+    Lock,
+    UnlockFair,
+    Bump,
+    Sleep,
+    NotifyOne,
+    NotifyAll,
+    NotifyOneHeld,
+    NotifyAllHeld,
+    LockFair,
+    Read,
+    Write,
+    Downgrade,
+    DowngradeToUpgradable,
+    Upgrade,
+    Acquire,
+    AcquireTwo,
+}
+
+/// How long a thread waits for a lock.
+#[derive(Clone, Copy)]
+pub(super) enum Patience {
+    Over,
+    Until(Instant),
+    Endless,
+}
+
+impl Patience {
+    /// The next that is drawn. Nothing says that the clock could not be read.
+    pub(super) fn drawn<R: Clock>(rt: &R, draws: &mut u64) -> Option<Patience> {
+        match draw(draws) % 3 {
+            0 => Some(Patience::Over),
+            1 => Some(Patience::Endless),
+            _ => {
+                let moment = Duration::from_micros(draw(draws) % MOMENT);
+                Some(Patience::Until(Instant::now(rt).ok()?.checked_add(moment)?))
+            }
+        }
+    }
+}
+
+impl<'l> Locks<'l> {
+    /// Answers how often the thread counted, or nothing if a lock was wrong.
+    pub(super) fn act<R: Wait + Clock>(
+        &self,
+        rt: &R,
+        deed: Deed,
+        patience: Patience,
+    ) -> Option<usize> {
+        match deed {
+            Deed::Lock | Deed::UnlockFair | Deed::Bump => {
+                Some(self.count_locked(rt, deed, patience))
+            }
+            Deed::Sleep => Some(self.sleep(rt, patience)),
+            Deed::NotifyOne | Deed::NotifyAll => Some(self.notify(rt, deed)),
+            Deed::NotifyOneHeld | Deed::NotifyAllHeld => Some(self.notify_held(rt, deed)),
+            Deed::LockFair => Some(self.count_in_order(rt, patience)),
+            Deed::Read => self.read(rt, patience),
+            Deed::Write | Deed::Downgrade | Deed::DowngradeToUpgradable => {
+                self.count_written(rt, deed, patience)
+            }
+            Deed::Upgrade => self.count_upgraded(rt, patience),
+            Deed::Acquire => self.count_permitted(rt, 1, patience),
+            Deed::AcquireTwo => self.count_permitted(rt, 2, patience),
+        }
+    }
+
+    fn lock<'a, R: Wait + Clock>(
+        &'a self,
+        rt: &'a R,
+        patience: Patience,
+    ) -> Option<MutexGuard<'a, 'a, 'l, Shelf, R>> {
+        match patience {
+            Patience::Over => self.mutex.try_lock(rt),
+            Patience::Until(deadline) => self.mutex.lock_until(rt, deadline),
+            Patience::Endless => Some(self.mutex.lock(rt)),
+        }
+    }
+
+    fn count_locked<R: Wait + Clock>(&self, rt: &R, deed: Deed, patience: Patience) -> usize {
+        let Some(mut shelf) = self.lock(rt, patience) else {
+            return 0;
+        };
+        shelf.count_one();
+        thread::yield_now();
+        match deed {
+            Deed::UnlockFair => MutexGuard::unlock_fair(shelf),
+            Deed::Bump => drop(MutexGuard::bump(shelf)),
+            _ => drop(shelf),
+        }
+        1
+    }
+
+    // Counts after a sleep on the condition variable.
+    fn sleep<R: Wait + Clock>(&self, rt: &R, patience: Patience) -> usize {
+        let shelf = self.mutex.lock(rt);
+        let (mut shelf, _) = match patience {
+            Patience::Over => self.changed.wait_for(shelf, Duration::ZERO),
+            Patience::Until(deadline) => self.changed.wait_until(shelf, deadline),
+            Patience::Endless => self.changed.wait_for(shelf, Duration::from_micros(MOMENT)),
+        };
+        shelf.count_one();
+        1
+    }
+
+    fn notify<R: Wait + Clock>(&self, rt: &R, deed: Deed) -> usize {
+        if let Deed::NotifyOne = deed {
+            self.changed.notify_one(rt);
+        } else {
+            self.changed.notify_all(rt);
+        }
+        0
+    }
+
+    // Counts and notifies under the mutex.
+    fn notify_held<R: Wait + Clock>(&self, rt: &R, deed: Deed) -> usize {
+        let mut shelf = self.mutex.lock(rt);
+        shelf.count_one();
+        if let Deed::NotifyOneHeld = deed {
+            self.changed.notify_one_held(&shelf);
+        } else {
+            self.changed.notify_all_held(&shelf);
+        }
+        1
+    }
+
+    fn lock_in_order<'a, R: Wait + Clock>(
+        &'a self,
+        rt: &'a R,
+        patience: Patience,
+    ) -> Option<FairMutexGuard<'a, 'a, 'l, usize, R>> {
+        match patience {
+            Patience::Over => self.fair.try_lock(rt),
+            Patience::Until(deadline) => self.fair.lock_until(rt, deadline),
+            Patience::Endless => Some(self.fair.lock(rt)),
+        }
+    }
+
+    fn count_in_order<R: Wait + Clock>(&self, rt: &R, patience: Patience) -> usize {
+        let Some(mut count) = self.lock_in_order(rt, patience) else {
+            return 0;
+        };
+        *count = count.wrapping_add(1);
+        thread::yield_now();
+        1
+    }
+}

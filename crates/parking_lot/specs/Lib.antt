@@ -1,0 +1,2 @@
+-- What the contracts of the locks say.
+pub mod Guards

@@ -1,0 +1,184 @@
+//! A point at which threads wait for one another.
+//!
+//! # The protocol
+//!
+//! `here` counts the threads that have come in this round. `generation` counts the rounds, and
+//! wraps.
+//!
+//! - Whoever comes reads `generation`, **then** adds itself to `here`.
+//! - Whoever is the last of its round sets `here` to 0, **then** adds 1 to `generation`, and
+//!   **then** unparks all threads of the key. It leads the round.
+//! - Whoever is not spins for a while and parks while `generation` is what it read. In the section
+//!   of the key it looks again, and stays in the list only if it still is.
+//!
+//! Nobody is forgotten: a thread stands in the list only after a look, in the section, that found
+//! its round open. The last of that round closes it later, and unparks all after that. Whoever is
+//! unparked by the last of an earlier round looks again. All steps are `SeqCst`.
+//!
+//! No thread is counted twice in a round, by type: there are as many parties as the barrier wants,
+//! and one is borrowed for as long as it waits. `here` is 0 before the next round can begin, since
+//! nobody comes again before `generation` has changed.
+
+use crate::lot::Lot;
+use lot_threads::{
+    DEFAULT_PARK_TOKEN, DEFAULT_UNPARK_TOKEN, NoMemory, SpinWait, thread_yield, unpark_all,
+};
+use std::fmt;
+use std::fmt::{Debug, Formatter};
+use std::sync::Wait;
+use std::sync::atomic::{AtomicUsize, Ordering};
+use std::time::Clock;
+
+/// A point at which so many threads wait until all of them have come. It can be passed again and
+/// again.
+///
+/// Threads wait at it by its parties: `parties` hands them out, one for each thread.
+///
+/// Upstream has no such type; std has it under this name, where any thread may wait by a shared
+/// reference, and more threads than the barrier counts make rounds of their own.
+#[derive(Drop)]
+pub struct Barrier<'l> {
+    lot: &'l Lot,
+    key: usize,
+    parties: usize,
+    here: AtomicUsize,
+    generation: AtomicUsize,
+}
+
+/// The parties of a barrier that were not handed out yet.
+#[derive(Drop)]
+pub struct Parties<'a, 'l> {
+    barrier: &'a Barrier<'l>,
+    left: usize,
+}
+
+/// The right of one thread to wait at a barrier. A round ends once all its parties wait, so one
+/// that is dropped, or not handed out, keeps the others waiting for ever.
+#[derive(Drop)]
+pub struct Party<'a, 'l> {
+    barrier: &'a Barrier<'l>,
+}
+
+/// What a thread learns as a round ends.
+#[derive(Clone, Copy, Debug, PartialEq, Eq)]
+pub struct BarrierWaitResult {
+    role: Role,
+}
+
+#[derive(Clone, Copy, Debug, PartialEq, Eq)]
+enum Role {
+    Leader,
+    Follower,
+}
+
+impl<'l> Barrier<'l> {
+    /// A barrier for so many threads. With none nobody can wait at it, and with one nobody waits.
+    ///
+    /// # Errors
+    ///
+    /// `NoMemory` if memory cannot be had. It asks for none by now.
+    pub fn new(lot: &'l Lot, parties: usize) -> Result<Barrier<'l>, NoMemory> {
+        Ok(Barrier {
+            lot,
+            key: lot.key(),
+            parties,
+            here: AtomicUsize::new(0),
+            generation: AtomicUsize::new(0),
+        })
+    }
+
+    /// The parties of the barrier, as many as it was made for. While one of them lives there are no
+    /// others.
+    pub fn parties(&mut self) -> Parties<'_, 'l> {
+        let barrier: &Barrier<'l> = self;
+        Parties {
+            barrier,
+            left: barrier.parties,
+        }
+    }
+
+    // Counts the thread, and answers what it is in its round once all have come.
+    fn wait<R: Wait + Clock>(&self, rt: &R) -> Role {
+        let generation = self.generation.load(Ordering::SeqCst);
+        let before = self.here.fetch_add(1, Ordering::SeqCst);
+        if before.wrapping_add(1) == self.parties {
+            self.open(rt);
+            Role::Leader
+        } else {
+            self.wait_for_end(rt, generation);
+            Role::Follower
+        }
+    }
+
+    // Ends the round, and with that begins the next one.
+    fn open<R: Wait>(&self, rt: &R) {
+        self.here.store(0, Ordering::SeqCst);
+        self.generation.fetch_add(1, Ordering::SeqCst);
+        unpark_all(rt, self.lot.queues(), self.key, DEFAULT_UNPARK_TOKEN);
+    }
+
+    fn wait_for_end<R: Wait + Clock>(&self, rt: &R, generation: usize) {
+        let mut spin = SpinWait::new();
+        for _ in rt.forever() {
+            if !self.is_open(generation) {
+                return;
+            }
+            if !spin.spin() {
+                self.park(rt, generation);
+            }
+        }
+    }
+
+    // Whether the round still waits for threads.
+    fn is_open(&self, generation: usize) -> bool {
+        self.generation.load(Ordering::SeqCst) == generation
+    }
+
+    fn park<R: Wait + Clock>(&self, rt: &R, generation: usize) {
+        let parked = self.lot.park(
+            rt,
+            self.key,
+            || self.is_open(generation),
+            || (),
+            |_, _| (),
+            DEFAULT_PARK_TOKEN,
+            None,
+        );
+        if parked.is_none() {
+            thread_yield();
+        }
+    }
+}
+
+impl<'a, 'l> Iterator for Parties<'a, 'l> {
+    type Item = Party<'a, 'l>;
+
+    fn next(&mut self) -> Option<Party<'a, 'l>> {
+        self.left = self.left.checked_sub(1)?;
+        Some(Party {
+            barrier: self.barrier,
+        })
+    }
+}
+
+impl Party<'_, '_> {
+    /// Waits until all parties of the barrier wait.
+    pub fn wait<R: Wait + Clock>(&mut self, rt: &R) -> BarrierWaitResult {
+        BarrierWaitResult {
+            role: self.barrier.wait(rt),
+        }
+    }
+}
+
+impl BarrierWaitResult {
+    /// Whether this thread leads the round: one thread of each round does, the one that came last.
+    pub fn is_leader(&self) -> bool {
+        self.role == Role::Leader
+    }
+}
+
+impl Debug for Barrier<'_> {
+    fn fmt<W: fmt::Write>(&self, f: &mut Formatter<W>) -> fmt::Result {
+        f.debug_struct("Barrier").finish_non_exhaustive()
+    }
+}

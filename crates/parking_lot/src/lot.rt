@@ -1,0 +1,159 @@
+//! The lot on which the locks of a program wait.
+
+ghost use Rattle.std.specs.Prelude.{◌≡◌, ◌≢◌, None, Some, true, false};
+
+use crate::reentrant_mutex::Owner;
+use lot_threads::{LotError, Member, NoMemory, ParkResult, ParkToken, ParkingLot, WordParker};
+use std::alloc::Global;
+use std::io;
+use std::sync::Wait;
+use std::sync::atomic::{AtomicU64, AtomicUsize, Ordering};
+use std::time::{Clock, Duration, Instant};
+
+// The number of a lot that has none yet.
+const UNNUMBERED: u64 = 0;
+
+/// A parking lot with keys to deal: each lock is made with a lot, and has keys of its own there.
+///
+/// `threads` is how many threads may wait at once, for any of its locks. A thread that has to wait
+/// while so many do yields the processor and looks again, so a lot that is too small costs time and
+/// nothing else. A thread that need not wait takes no place.
+///
+/// Upstream has one lot for the whole program, which is made by itself.
+#[derive(Drop)]
+pub struct Lot {
+    lot: ParkingLot<WordParker>,
+    next_key: AtomicUsize,
+    next_owner: AtomicUsize,
+    number: AtomicU64,
+    alloc: Global,
+}
+
+impl Lot {
+    /// A lot in which so many threads may wait at once.
+    ///
+    /// # Errors
+    ///
+    /// Those of `ParkingLot::new`.
+    pub fn new(alloc: Global, threads: usize) -> Result<Lot, LotError> {
+        let lot = ParkingLot::new(alloc, threads)?;
+        Ok(Lot {
+            lot,
+            next_key: AtomicUsize::new(0),
+            next_owner: AtomicUsize::new(1),
+            number: AtomicU64::new(UNNUMBERED),
+            alloc,
+        })
+    }
+
+    /// A lot that lives as long as the program, for locks in an `Arc` and for threads that are
+    /// spawned. Its memory is never given back.
+    ///
+    /// # Errors
+    ///
+    /// Those of `Lot::new`, and `NoMemory`.
+    pub fn for_ever(alloc: Global, threads: usize) -> Result<&'static Lot, LotError> {
+        let lot = Box::new(alloc, Lot::new(alloc, threads)?)?;
+        Ok(Box::leak(lot))
+    }
+
+    /// An owner for the reentrant mutexes of the lot, for one thread. No other is taken for it.
+    ///
+    /// Upstream has no such call: there a thread is an owner.
+    pub fn owner(&self) -> Owner<'_>
+        ensures { result.lot.now ≡ self.now }
+    {
+        Owner::new(self, self.next_owner.fetch_add(1, Ordering::SeqCst))
+    }
+
+    // A key that no other lock of the lot has.
+    pub(crate) fn key(&self) -> usize {
+        self.next_key.fetch_add(1, Ordering::SeqCst)
+    }
+
+    // Gives the two lots numbers, where they have none: from the moment when a thread first waited
+    // with a mutex of the second on a condition variable of the first. References cannot be
+    // compared here, so these numbers tell lots apart.
+    pub(crate) fn number_both<R: Clock>(&self, rt: &R, other: &Lot) {
+        if self.is_numbered() && other.is_numbered() {
+            return;
+        }
+        if let Ok(time) = rt.monotonic() {
+            let seconds = time.as_secs().wrapping_mul(1 << 30);
+            let moment = seconds.wrapping_add(u64::from(time.subsec_nanos()));
+            let first = moment.wrapping_mul(2) | 1;
+            self.give_number(first);
+            other.give_number(first.wrapping_add(1));
+        }
+    }
+
+    fn is_numbered(&self) -> bool {
+        self.number.load(Ordering::SeqCst) != UNNUMBERED
+    }
+
+    fn give_number(&self, number: u64) {
+        self.number
+            .compare_exchange(UNNUMBERED, number, Ordering::SeqCst, Ordering::SeqCst)
+            .ok();
+    }
+
+    // Whether both have the same number, so that they are one lot.
+    pub(crate) fn is_same(&self, other: &Lot) -> bool {
+        let number = self.number.load(Ordering::SeqCst);
+        number != UNNUMBERED && number == other.number.load(Ordering::SeqCst)
+    }
+
+    pub(crate) fn queues(&self) -> &ParkingLot<WordParker> {
+        &self.lot
+    }
+
+    // Parks the thread, which is registered for just so long. `None` says that the lot was full, or
+    // that its table could not grow; then nothing was called.
+    pub(crate) fn park<R: Wait + Clock, V: FnOnce() -> bool, B: FnOnce(), T: FnOnce(usize, bool)>(
+        &self,
+        rt: &R,
+        key: usize,
+        validate: V,
+        before_sleep: B,
+        timed_out: T,
+        park_token: ParkToken,
+        deadline: Option<Instant>,
+    ) -> Option<ParkResult>
+        requires validate { V.pre validate }
+        requires before_sleep { V.post validate true → B.pre before_sleep }
+        requires timed_out { V.post validate true → deadline ≢ None
+            → (key last : _) → T.pre timed_out key last }
+        ensures { deadline ≡ None → result ≢ Some ParkResult.TimedOut }
+    {
+        let mut member = Member::register(rt, self.alloc, &self.lot).ok()?;
+        let result = member.park(
+            rt,
+            key,
+            validate,
+            before_sleep,
+            timed_out,
+            park_token,
+            deadline,
+        );
+        member.retire(rt);
+        Some(result)
+    }
+}
+
+// The instant after so long, or none where no `Instant` can say it, which is then never reached.
+pub(crate) fn instant_after<R: Clock>(rt: &R, duration: Duration) -> io::Result<Option<Instant>> {
+    Ok(Instant::now(rt)?.checked_add(duration))
+}
+
+// Whether the deadline is past. A clock that cannot be read counts as past each deadline.
+pub(crate) fn is_past<R: Clock>(rt: &R, deadline: Option<Instant>) -> bool
+    ensures { deadline ≡ None → result ≡ false }
+{
+    match deadline {
+        Some(deadline) => match Instant::now(rt) {
+            Ok(now) => now >= deadline,
+            Err(_) => true,
+        },
+        None => false,
+    }
+}

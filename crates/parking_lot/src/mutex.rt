@@ -1,0 +1,538 @@
+//! A mutex around a value, which lets others pass a woken thread, or is handed over in order.
+//!
+//! # The protocol
+//!
+//! Three words say who has the mutex. `value` is std's mutex, of which only `try_lock` is called:
+//! it is held or free. `parked` says that threads may be parked on the key. `kept` counts the
+//! threads for which the mutex was let go, and which have not had it since.
+//!
+//! - Whoever comes takes a mutex that is free and kept for nobody, by one exchange.
+//! - Whoever cannot spins for a while and parks. In the section of the key it puts `parked` up and
+//!   **then** tries once more, and stays in the list only if that fails.
+//! - Whoever unlocks frees the word and **then** looks at `parked`. If it is up, it unparks the
+//!   first thread of the list, and in that section takes `parked` down if nobody is left.
+//! - Whoever was woken tries whatever `kept` says, and parks again if somebody was quicker.
+//! - A fair unlock looks at `parked` first. If it is up, it takes the first thread of the list, and
+//!   in that section it raises `kept` and frees the word. The thread is told so by its token. It
+//!   lowers `kept` once it has the mutex, or once it gives up, and then wakes as an unlock does.
+//!
+//! Nobody is forgotten: a thread stands in the list only after a try, behind its `parked`, that
+//! failed. If the mutex was held, its holder frees it later and looks at `parked` after that.
+//! `parked` goes down only in a section that leaves nobody in the list, so it is up, and the first
+//! thread is woken. That thread takes the mutex, and so unlocks it later, or fails since another
+//! holds it, who unlocks it later. If the mutex was kept, the thread for which it is kept takes it
+//! later, or wakes the next as it gives up. All steps are `SeqCst`.
+//!
+//! Upstream has the first two words as bits of one byte, and hands over by leaving the first set.
+
+ghost use Rattle.std.specs.Prelude.{◌≡◌, ◌≢◌, None, IfErr, IfSome, IsSome};
+ghost use Rattle.parking_lot.specs.Guards.{mutex_of};
+
+use crate::guard::{Guard, Release};
+use crate::lot::{Lot, instant_after, is_past};
+use lot_threads::{
+    DEFAULT_PARK_TOKEN, DEFAULT_UNPARK_TOKEN, NoMemory, ParkResult, SpinWait, UnparkResult,
+    UnparkToken, thread_yield, unpark_one,
+};
+use std::alloc::Global;
+use std::fmt::{Debug, Formatter};
+use std::marker::PhantomData;
+use std::sync::Wait;
+use std::sync::atomic::{AtomicBool, AtomicUsize, Ordering};
+use std::time::{Clock, Duration, Instant};
+use std::{fmt, sync};
+
+// What a woken thread is told for which the mutex is kept.
+const KEPT: UnparkToken = UnparkToken(1);
+
+/// Who has a mutex next that others wait for.
+pub trait Fairness {
+    /// Whether each unlock keeps the mutex for the thread that waits longest.
+    const IS_FAIR: bool;
+}
+
+/// Whoever comes first.
+pub struct Barging;
+
+impl Fairness for Barging {
+    const IS_FAIR: bool = false;
+}
+
+/// Whoever waits longest.
+pub struct InOrder;
+
+impl Fairness for InOrder {
+    const IS_FAIR: bool = true;
+}
+
+/// A mutex around a value, which threads share by reference.
+///
+/// A thread that comes while another is woken may lock first. So the mutex serves many calls a
+/// second, and may let one wait long; `MutexGuard::unlock_fair` lets the one that waits longest
+/// have it, and a `FairMutex` always does.
+///
+/// Upstream has it under this name, as one byte beside the value. There a lock finds the lot by
+/// itself, and an unlock is fair about each half millisecond.
+pub type Mutex<'l, T> = MutexIn<'l, T, Barging>;
+
+/// A mutex around a value that threads get in the order in which they came to wait.
+///
+/// While threads wait for it, whoever else comes does not get it before them. So it is idle until a
+/// woken thread runs, and serves fewer calls a second than `Mutex`. A thread that tries while an
+/// unlock is under way may still get it, and those that wait are one turn later then.
+///
+/// Upstream has it under this name.
+pub type FairMutex<'l, T> = MutexIn<'l, T, InOrder>;
+
+/// A mutex around a value: a `Mutex` or a `FairMutex`.
+#[derive(Drop)]
+pub struct MutexIn<'l, T, F: Fairness> {
+    lot: &'l Lot,
+    key: usize,
+    parked: AtomicBool,
+    kept: AtomicUsize,
+    value: sync::Mutex<T>,
+    fairness: PhantomData<F>,
+}
+
+/// The right to the value of a `Mutex`, as a reference to it. Its drop unlocks the mutex: one
+/// exchange, and one `unpark_one` if threads may be parked.
+pub type MutexGuard<'a, 'r, 'l, T, R> = MutexGuardIn<'a, 'r, 'l, T, R, Barging>;
+
+/// The right to the value of a `FairMutex`, as a reference to it. Its drop unlocks the mutex.
+pub type FairMutexGuard<'a, 'r, 'l, T, R> = MutexGuardIn<'a, 'r, 'l, T, R, InOrder>;
+
+/// The right to the value of a mutex: a `MutexGuard` or a `FairMutexGuard`.
+pub type MutexGuardIn<'a, 'r, 'l, T, R, F> = Guard<
+    sync::MutexGuard<'a, T>,
+    Locked<'a, 'r, 'l, T, R, F>,
+>;
+
+/// The mutex that a guard has locked, and the runtime with which it wakes others.
+#[derive(Drop)]
+pub struct Locked<'a, 'r, 'l, T, R: Wait, F: Fairness> {
+    pub(crate) mutex: &'a MutexIn<'l, T, F>,
+    pub(crate) rt: &'r R,
+}
+
+impl<T, R: Wait, F: Fairness> Release<sync::MutexGuard<'_, T>> for Locked<'_, '_, '_, T, R, F> {
+    #[inline]
+    fn release(self, held: sync::MutexGuard<'_, T>) {
+        if F::IS_FAIR {
+            self.mutex.release_fair(self.rt, held);
+        } else {
+            drop(held);
+            self.mutex.wake(self.rt);
+        }
+    }
+}
+
+// What a thread that waits may take.
+#[derive(Clone, Copy)]
+pub(crate) enum Turn {
+    // A mutex that is free and kept for nobody.
+    Comes,
+    // One that is free: it was woken.
+    Woken,
+    // One that is free, which is kept for it.
+    Kept,
+}
+
+impl Turn {
+    // The turn of a thread that was woken with this token.
+    pub(crate) fn of(token: UnparkToken) -> Turn {
+        if token == KEPT {
+            Turn::Kept
+        } else {
+            Turn::Woken
+        }
+    }
+}
+
+// How a park for a mutex ended.
+enum Parked<G: Drop> {
+    // Its last look took the mutex.
+    Took(G),
+    NotLetIn,
+    Unparked(UnparkToken),
+    TimedOut,
+    LotIsFull,
+}
+
+impl<'l, T, F: Fairness> MutexIn<'l, T, F> {
+    /// A mutex around the value, which nobody holds.
+    ///
+    /// # Errors
+    ///
+    /// `NoMemory` if memory cannot be had. It asks for none by now.
+    ///
+    /// Upstream's `new` is a `const fn`.
+    pub fn new(lot: &'l Lot, value: T) -> Result<MutexIn<'l, T, F>, NoMemory> {
+        Ok(MutexIn {
+            lot,
+            key: lot.key(),
+            parked: AtomicBool::new(false),
+            kept: AtomicUsize::new(0),
+            value: sync::Mutex::new(value),
+            fairness: PhantomData,
+        })
+    }
+
+    /// Locks the mutex, and waits while another thread holds it. A thread that holds it already
+    /// waits for ever.
+    #[inline]
+    pub fn lock<'a, 'r, R: Wait + Clock>(&'a self, rt: &'r R) -> MutexGuardIn<'a, 'r, 'l, T, R, F>
+        ensures { mutex_of result ≡ self.now }
+    {
+        let held = match self.try_take() {
+            Some(held) => held,
+            None => self.wait(rt, Turn::Comes),
+        };
+        self.guard(rt, held)
+    }
+
+    /// Locks the mutex if nobody holds it and it is kept for nobody. It waits for nobody.
+    #[inline]
+    pub fn try_lock<'a, 'r, R: Wait>(
+        &'a self,
+        rt: &'r R,
+    ) -> Option<MutexGuardIn<'a, 'r, 'l, T, R, F>>
+        ensures { IfSome result (λ guard. mutex_of guard ≡ self.now) }
+    {
+        Some(self.guard(rt, self.try_take()?))
+    }
+
+    /// Locks the mutex as `lock` does, and waits no longer than for the duration. A clock that
+    /// cannot be read leaves no time to wait.
+    ///
+    /// Upstream has it as `try_lock_for`.
+    pub fn lock_for<'a, 'r, R: Wait + Clock>(
+        &'a self,
+        rt: &'r R,
+        duration: Duration,
+    ) -> Option<MutexGuardIn<'a, 'r, 'l, T, R, F>>
+        ensures { IfSome result (λ guard. mutex_of guard ≡ self.now) }
+    {
+        let held = match self.try_take() {
+            Some(held) => held,
+            None => self.wait_until(rt, Turn::Comes, instant_after(rt, duration).ok()?)?,
+        };
+        Some(self.guard(rt, held))
+    }
+
+    /// Locks the mutex as `lock` does, and waits no longer than until the deadline. A clock that
+    /// cannot be read counts as past it.
+    ///
+    /// Upstream has it as `try_lock_until`.
+    pub fn lock_until<'a, 'r, R: Wait + Clock>(
+        &'a self,
+        rt: &'r R,
+        deadline: Instant,
+    ) -> Option<MutexGuardIn<'a, 'r, 'l, T, R, F>>
+        ensures { IfSome result (λ guard. mutex_of guard ≡ self.now) }
+    {
+        let held = match self.try_take() {
+            Some(held) => held,
+            None => self.wait_until(rt, Turn::Comes, Some(deadline))?,
+        };
+        Some(self.guard(rt, held))
+    }
+
+    /// Whether the mutex is held or kept, by a try to lock it. A thread that tries in the same
+    /// moment may find it locked.
+    ///
+    /// Upstream looks at its byte, and needs no runtime for that.
+    pub fn is_locked<R: Wait>(&self, rt: &R) -> bool {
+        self.try_lock(rt).is_none()
+    }
+
+    /// The value, for whoever has the mutex alone.
+    pub fn get_mut(&mut self) -> &mut T {
+        self.value.get_mut()
+    }
+
+    /// The value, with which the mutex ends.
+    pub fn into_inner(self) -> T {
+        let MutexIn {
+            lot: _,
+            key: _,
+            parked: _parked,
+            kept: _kept,
+            value,
+            fairness: _fairness,
+        } = self;
+        value.into_inner()
+    }
+
+    // Whether threads may be parked for the mutex.
+    pub(crate) fn is_waited_for(&self) -> bool {
+        self.parked.load(Ordering::SeqCst)
+    }
+
+    pub(crate) fn lot(&self) -> &'l Lot {
+        self.lot
+    }
+
+    pub(crate) fn key(&self) -> usize {
+        self.key
+    }
+
+    // Says that a thread may be parked on the key, which a requeue brought there.
+    pub(crate) fn note_parked(&self) {
+        self.parked.store(true, Ordering::SeqCst);
+    }
+
+    #[inline]
+    pub(crate) fn guard<'a, 'r, R: Wait>(
+        &'a self,
+        rt: &'r R,
+        held: sync::MutexGuard<'a, T>,
+    ) -> MutexGuardIn<'a, 'r, 'l, T, R, F>
+        ensures { mutex_of result ≡ self.now }
+    {
+        Guard::new(held, Locked { mutex: self, rt })
+    }
+
+    // Takes the mutex if it is free and kept for nobody.
+    #[inline]
+    fn try_take(&self) -> Option<sync::MutexGuard<'_, T>> {
+        if self.kept.load(Ordering::SeqCst) == 0 {
+            self.value.try_lock()
+        } else {
+            None
+        }
+    }
+
+    // Takes the mutex if it is free and the turn allows that.
+    fn take(&self, turn: Turn) -> Option<sync::MutexGuard<'_, T>> {
+        match turn {
+            Turn::Comes => self.try_take(),
+            Turn::Woken => self.value.try_lock(),
+            Turn::Kept => {
+                let held = self.value.try_lock()?;
+                self.kept.fetch_sub(1, Ordering::SeqCst);
+                Some(held)
+            }
+        }
+    }
+
+    // Waits until it has the mutex.
+    #[cold]
+    #[inline(never)]
+    pub(crate) fn wait<R: Wait + Clock>(&self, rt: &R, turn: Turn) -> sync::MutexGuard<'_, T> {
+        self.wait_until(rt, turn, None).unwrap()
+    }
+
+    // Waits until it has the mutex, or until the deadline.
+    fn wait_until<R: Wait + Clock>(
+        &self,
+        rt: &R,
+        first_turn: Turn,
+        deadline: Option<Instant>,
+    ) -> Option<sync::MutexGuard<'_, T>>
+        ensures { deadline ≡ None → IsSome result }
+    {
+        let mut turn = first_turn;
+        let mut spin = SpinWait::new();
+        for _ in rt.forever() {
+            if let Some(held) = self.take(turn) {
+                return Some(held);
+            }
+            if !self.parked.load(Ordering::SeqCst) && spin.spin() {
+                continue;
+            }
+            match self.park(rt, turn, deadline) {
+                Parked::Took(held) => return Some(held),
+                Parked::NotLetIn => (),
+                Parked::Unparked(token) => turn = self.next_turn(turn, token),
+                Parked::TimedOut => return self.give_up(rt, turn),
+                Parked::LotIsFull if is_past(rt, deadline) => return self.give_up(rt, turn),
+                Parked::LotIsFull => thread_yield(),
+            }
+            spin.reset();
+        }
+        unreachable!()
+    }
+
+    // The turn of a thread that was unparked. Whoever was told twice that the mutex is kept for it
+    // has it only once.
+    fn next_turn(&self, turn: Turn, token: UnparkToken) -> Turn {
+        let next = Turn::of(token);
+        match (turn, next) {
+            (Turn::Kept, Turn::Kept) => {
+                self.kept.fetch_sub(1, Ordering::SeqCst);
+                Turn::Kept
+            }
+            (Turn::Kept, _) => Turn::Kept,
+            _ => next,
+        }
+    }
+
+    // Leaves without the mutex, which is kept for this thread no longer.
+    fn give_up<R: Wait>(&self, rt: &R, turn: Turn) -> Option<sync::MutexGuard<'_, T>> {
+        if let Turn::Kept = turn {
+            self.kept.fetch_sub(1, Ordering::SeqCst);
+            self.wake(rt);
+        }
+        None
+    }
+
+    fn park<R: Wait + Clock>(
+        &self,
+        rt: &R,
+        turn: Turn,
+        deadline: Option<Instant>,
+    ) -> Parked<sync::MutexGuard<'_, T>>
+        ensures { deadline ≡ None → result ≢ Parked.TimedOut }
+    {
+        let mut held = None;
+        let parked = self.lot.park(
+            rt,
+            self.key,
+            || {
+                self.parked.store(true, Ordering::SeqCst);
+                held = self.take(turn);
+                held.is_none()
+            },
+            || (),
+            |_, _| (),
+            DEFAULT_PARK_TOKEN,
+            deadline,
+        );
+        match (held, parked) {
+            (Some(held), _) => Parked::Took(held),
+            (None, None) => Parked::LotIsFull,
+            (None, Some(ParkResult::Unparked(token))) => Parked::Unparked(token),
+            (None, Some(ParkResult::Invalid)) => Parked::NotLetIn,
+            (None, Some(ParkResult::TimedOut)) => Parked::TimedOut,
+        }
+    }
+
+    // Wakes the thread that waits longest, once the mutex was freed.
+    #[inline]
+    fn wake<R: Wait>(&self, rt: &R) {
+        if self.parked.load(Ordering::SeqCst) {
+            self.unpark(rt);
+        }
+    }
+
+    #[cold]
+    #[inline(never)]
+    fn unpark<R: Wait>(&self, rt: &R) {
+        unpark_one(rt, self.lot.queues(), self.key, |found| {
+            self.note_left(found);
+            DEFAULT_UNPARK_TOKEN
+        });
+    }
+
+    // Unlocks the mutex, and keeps it for the thread that waits longest.
+    #[inline]
+    fn release_fair<R: Wait>(&self, rt: &R, held: sync::MutexGuard<'_, T>) {
+        if self.parked.load(Ordering::SeqCst) {
+            self.hand_over(rt, held);
+        } else {
+            drop(held);
+            self.wake(rt);
+        }
+    }
+
+    #[cold]
+    #[inline(never)]
+    fn hand_over<R: Wait>(&self, rt: &R, held: sync::MutexGuard<'_, T>) {
+        unpark_one(rt, self.lot.queues(), self.key, |found| {
+            let token = if found.unparked_threads == 0 {
+                DEFAULT_UNPARK_TOKEN
+            } else {
+                self.kept.fetch_add(1, Ordering::SeqCst);
+                KEPT
+            };
+            self.note_left(found);
+            drop(held);
+            token
+        });
+    }
+
+    // Says in a section that nobody is left in the list, if that is so.
+    fn note_left(&self, found: UnparkResult) {
+        if !found.have_more_threads {
+            self.parked.store(false, Ordering::SeqCst);
+        }
+    }
+}
+
+impl<'a, 'r, 'l, T, R: Wait, F: Fairness> MutexGuardIn<'a, 'r, 'l, T, R, F> {
+    /// The mutex that is locked.
+    pub fn mutex(guard: &Self) -> &'a MutexIn<'l, T, F>
+        ensures { result.now ≡ mutex_of guard.now }
+    {
+        guard.lock().mutex
+    }
+
+    /// Unlocks the mutex, and keeps it for the thread that waits longest, if one does. A thread that
+    /// comes meanwhile does not get it first.
+    ///
+    /// Upstream has it under this name.
+    pub fn unlock_fair(guard: Self) {
+        let (held, locked) = guard.into_parts();
+        locked.mutex.release_fair(locked.rt, held);
+    }
+
+    /// The value, for as long as the mutex is there, which stays locked. The guard goes into memory
+    /// that is never given back.
+    ///
+    /// # Errors
+    ///
+    /// The guard, if memory for it cannot be had.
+    ///
+    /// Upstream has it under this name, and asks for no memory.
+    pub fn leak(guard: Self, alloc: Global) -> Result<&'a mut T, Self>
+        ensures { IfErr result (λ back. mutex_of back ≡ mutex_of guard.entry) }
+    {
+        let (held, locked) = guard.into_parts();
+        match Box::new(alloc, held) {
+            Ok(kept) => {
+                let held: &'a mut sync::MutexGuard<'a, T> = Box::leak(kept);
+                Ok(&mut **held)
+            }
+            Err(failed) => Err(Guard::new(failed.value, locked)),
+        }
+    }
+}
+
+impl<'a, 'r, 'l, T, R: Wait + Clock, F: Fairness> MutexGuardIn<'a, 'r, 'l, T, R, F> {
+    /// Lets the thread that waits longest have the mutex, if one waits, and locks it again.
+    ///
+    /// Upstream has it under this name, and takes the guard by reference.
+    pub fn bump(guard: Self) -> Self
+        ensures { mutex_of result ≡ mutex_of guard.entry }
+    {
+        let mutex = guard.lock().mutex;
+        let rt = guard.lock().rt;
+        if !mutex.parked.load(Ordering::SeqCst) {
+            return guard;
+        }
+        Self::unlock_fair(guard);
+        mutex.lock(rt)
+    }
+
+    /// Unlocks the mutex, calls the closure, and locks the mutex again.
+    ///
+    /// Upstream has it under this name, and takes the guard by reference.
+    pub fn unlocked<A, C: FnOnce() -> A>(guard: Self, call: C) -> (Self, A)
+        requires { C.pre call }
+        ensures mutex { mutex_of result.0 ≡ mutex_of guard.entry }
+        ensures called { C.post call result.1 }
+    {
+        let mutex = guard.lock().mutex;
+        let rt = guard.lock().rt;
+        drop(guard);
+        let answer = call();
+        (mutex.lock(rt), answer)
+    }
+}
+
+impl<T, F: Fairness> Debug for MutexIn<'_, T, F> {
+    fn fmt<W: fmt::Write>(&self, f: &mut Formatter<W>) -> fmt::Result {
+        f.debug_struct("Mutex").finish_non_exhaustive()
+    }
+}

@@ -1,0 +1,211 @@
+//! How a thread exchanges what it holds, so that nobody writes between.
+
+use super::waiting::Writer;
+use super::{
+    DOWNGRADING, DRAINS, RwLock, RwLockReadGuard, RwLockUpgradableReadGuard, RwLockWriteGuard,
+    UPGRADING, UpgradableLocked, WriteLocked,
+};
+use crate::guard::Guard;
+use crate::lot::instant_after;
+use lot_threads::thread_yield;
+use std::sync;
+use std::sync::Wait;
+use std::sync::atomic::Ordering;
+use std::time::{Clock, Duration, Instant};
+
+impl<'a, 'r, 'l, T, R: Wait> Guard<sync::RwLockWriteGuard<'a, T>, WriteLocked<'a, 'r, 'l, T, R>> {
+    /// Goes on to read. Nobody writes between, and readers that wait are let in.
+    ///
+    /// Upstream has it under this name.
+    pub fn downgrade(guard: Self) -> RwLockReadGuard<'a, 'r, 'l, T, R> {
+        let (held, WriteLocked { lock, rt }) = guard.into_parts();
+        let held = lock.read_after_write(rt, held);
+        lock.read_guard(rt, held)
+    }
+}
+
+impl<'a, 'r, 'l, T, R: Wait + Clock> Guard<
+    sync::RwLockWriteGuard<'a, T>,
+    WriteLocked<'a, 'r, 'l, T, R>,
+> {
+    /// Goes on to read with the right to upgrade. Nobody writes between, and readers that wait are
+    /// let in. It may wait for a moment, until another thread sees that it cannot read yet.
+    ///
+    /// Upstream has it under this name, and does not wait.
+    pub fn downgrade_to_upgradable(guard: Self) -> RwLockUpgradableReadGuard<'a, 'r, 'l, T, R> {
+        let (held, WriteLocked { lock, rt }) = guard.into_parts();
+        let upgradable = lock.upgradable.lock(rt);
+        let held = lock.read_after_write(rt, held);
+        lock.upgradable_guard(rt, held, upgradable)
+    }
+}
+
+impl<'a, 'r, 'l, T, R: Wait> Guard<
+    sync::RwLockReadGuard<'a, T>,
+    UpgradableLocked<'a, 'r, 'l, T, R>,
+> {
+    /// Goes on to write if nobody else reads, and else gives the guard back. Nobody writes between.
+    ///
+    /// # Errors
+    ///
+    /// The guard, if others read.
+    ///
+    /// Upstream has it under this name.
+    pub fn try_upgrade(guard: Self) -> Result<RwLockWriteGuard<'a, 'r, 'l, T, R>, Self> {
+        let (held, locked) = guard.into_parts();
+        locked.lock.begin_upgrade(held);
+        let held = locked.lock.try_take_write(locked.rt, Writer::Upgrades);
+        locked.end_upgrade(held)
+    }
+
+    /// Goes on to read without the right to upgrade.
+    ///
+    /// Upstream has it under this name.
+    pub fn downgrade(guard: Self) -> RwLockReadGuard<'a, 'r, 'l, T, R> {
+        let (
+            held,
+            UpgradableLocked {
+                lock,
+                upgradable,
+                rt,
+            },
+        ) = guard.into_parts();
+        drop(upgradable);
+        lock.read_guard(rt, held)
+    }
+}
+
+impl<'a, 'r, 'l, T, R: Wait + Clock> Guard<
+    sync::RwLockReadGuard<'a, T>,
+    UpgradableLocked<'a, 'r, 'l, T, R>,
+> {
+    /// Goes on to write, and waits until nobody else reads. Nobody writes between.
+    ///
+    /// Upstream has it under this name.
+    pub fn upgrade(guard: Self) -> RwLockWriteGuard<'a, 'r, 'l, T, R> {
+        let (
+            held,
+            UpgradableLocked {
+                lock,
+                upgradable,
+                rt,
+            },
+        ) = guard.into_parts();
+        lock.begin_upgrade(held);
+        let held = lock
+            .wait_to_write_until(rt, Writer::Upgrades, None)
+            .unwrap();
+        lock.note_upgraded();
+        drop(upgradable);
+        lock.write_guard(rt, held)
+    }
+
+    /// Goes on to write as `upgrade` does, and waits no longer than for the duration. A clock that
+    /// cannot be read leaves no time to wait.
+    ///
+    /// # Errors
+    ///
+    /// The guard, if others read until then.
+    ///
+    /// Upstream has it as `try_upgrade_for`.
+    pub fn upgrade_for(
+        guard: Self,
+        duration: Duration,
+    ) -> Result<RwLockWriteGuard<'a, 'r, 'l, T, R>, Self> {
+        match instant_after(guard.lock().rt, duration) {
+            Ok(deadline) => upgrade_at_most(guard, deadline),
+            Err(_) => Self::try_upgrade(guard),
+        }
+    }
+
+    /// Goes on to write as `upgrade` does, and waits no longer than until the deadline. A clock
+    /// that cannot be read counts as past it.
+    ///
+    /// # Errors
+    ///
+    /// The guard, if others read until then.
+    ///
+    /// Upstream has it as `try_upgrade_until`.
+    pub fn upgrade_until(
+        guard: Self,
+        deadline: Instant,
+    ) -> Result<RwLockWriteGuard<'a, 'r, 'l, T, R>, Self> {
+        upgrade_at_most(guard, Some(deadline))
+    }
+}
+
+fn upgrade_at_most<'a, 'r, 'l, T, R: Wait + Clock>(
+    guard: RwLockUpgradableReadGuard<'a, 'r, 'l, T, R>,
+    deadline: Option<Instant>,
+) -> Result<RwLockWriteGuard<'a, 'r, 'l, T, R>, RwLockUpgradableReadGuard<'a, 'r, 'l, T, R>> {
+    let (held, locked) = guard.into_parts();
+    let lock = locked.lock;
+    lock.begin_upgrade(held);
+    let held = lock.wait_to_write_until(locked.rt, Writer::Upgrades, deadline);
+    locked.end_upgrade(held)
+}
+
+impl<'a, 'r, 'l, T, R: Wait> UpgradableLocked<'a, 'r, 'l, T, R> {
+    // Writes, if the write was had, and else reads again.
+    fn end_upgrade(
+        self,
+        written: Option<sync::RwLockWriteGuard<'a, T>>,
+    ) -> Result<RwLockWriteGuard<'a, 'r, 'l, T, R>, RwLockUpgradableReadGuard<'a, 'r, 'l, T, R>> {
+        let UpgradableLocked {
+            lock,
+            upgradable,
+            rt,
+        } = self;
+        match written {
+            Some(held) => {
+                lock.note_upgraded();
+                drop(upgradable);
+                Ok(lock.write_guard(rt, held))
+            }
+            None => {
+                let held = lock.read_at_last(rt);
+                lock.note_upgraded();
+                lock.wake_beside_read(rt);
+                Err(lock.upgradable_guard(rt, held, upgradable))
+            }
+        }
+    }
+}
+
+impl<T> RwLock<'_, T> {
+    // Lets the read of an upgradable guard go, so that nobody writes until `note_upgraded`.
+    fn begin_upgrade(&self, held: sync::RwLockReadGuard<'_, T>) {
+        self.state.fetch_or(UPGRADING, Ordering::SeqCst);
+        drop(held);
+    }
+
+    fn note_upgraded(&self) {
+        self.state
+            .fetch_and(!(UPGRADING | DRAINS), Ordering::SeqCst);
+    }
+
+    // Reads in place of writing.
+    fn read_after_write<R: Wait>(
+        &self,
+        rt: &R,
+        held: sync::RwLockWriteGuard<'_, T>,
+    ) -> sync::RwLockReadGuard<'_, T> {
+        self.state.fetch_or(DOWNGRADING, Ordering::SeqCst);
+        drop(held);
+        let held = self.read_at_last(rt);
+        self.state.fetch_and(!DOWNGRADING, Ordering::SeqCst);
+        self.wake_beside_read(rt);
+        held
+    }
+
+    // Takes a read that only writers delay who let the lock go again.
+    fn read_at_last<R: Wait>(&self, rt: &R) -> sync::RwLockReadGuard<'_, T> {
+        for _ in rt.forever() {
+            if let Some(held) = self.value.try_read() {
+                return held;
+            }
+            thread_yield();
+        }
+        unreachable!()
+    }
+}

@@ -1,0 +1,2 @@
+-- A fair mutex and its condition variable as contracts see them.
+pub mod FairLockState
