@@ -103,8 +103,8 @@ fn perform_each<R: Print + Eprint + Threads + Wait + Clock + Sync>(
 }
 
 // Plays races for so long, each on a lot of its own, with each parker by turns, and tells how many
-// they were, and how many were woken. The seed of a round is that of the one before and one more, so
-// a round that failed is the first of those with its seed.
+// they were, and how many were woken. The seed of a round is that of the one before and one more,
+// so a round that failed is the first of those with its seed.
 fn run_races<R: Print + Eprint + Threads + Wait + Clock + Sync>(
     rt: &R,
     alloc: Global,

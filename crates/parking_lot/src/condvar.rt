@@ -7,8 +7,8 @@
 //!
 //! - Whoever waits notes itself in the section in which it comes to the list, while it holds the
 //!   mutex, and lets the mutex go once it stands there. Woken, it locks the mutex again.
-//! - A notify looks at `sleepers`. If it is up, it takes the first thread, or all, off the list, and
-//!   in that section takes `sleepers` down if nobody is left.
+//! - A notify looks at `sleepers`. If it is up, it takes the first thread, or all, off the list,
+//!   and in that section takes `sleepers` down if nobody is left.
 //! - Whoever notifies while it holds the mutex moves the threads to the key of the mutex, if all
 //!   came with it, and puts the `parked` of that mutex up: its own unlock wakes them. Else they are
 //!   woken.

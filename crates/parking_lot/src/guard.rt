@@ -12,8 +12,8 @@ pub trait Release<G>: Drop {
 
 /// The right to the value of a lock, as a reference to it. Its drop lets the lock go.
 ///
-/// Each lock has names for its guards, as `MutexGuard`. What it holds need not be `Drop`, so a guard
-/// whose drop did not hand it to the lock would not compile.
+/// Each lock has names for its guards, as `MutexGuard`. What it holds need not be `Drop`, so a
+/// guard whose drop did not hand it to the lock would not compile.
 pub struct Guard<G, L: Release<G>> {
     held: G,
     lock: L,

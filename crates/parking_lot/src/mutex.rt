@@ -468,8 +468,8 @@ impl<'a, 'r, 'l, T, R: Wait, F: Fairness> MutexGuardIn<'a, 'r, 'l, T, R, F> {
         guard.lock().mutex
     }
 
-    /// Unlocks the mutex, and keeps it for the thread that waits longest, if one does. A thread that
-    /// comes meanwhile does not get it first.
+    /// Unlocks the mutex, and keeps it for the thread that waits longest, if one does. A thread
+    /// that comes meanwhile does not get it first.
     ///
     /// Upstream has it under this name.
     pub fn unlock_fair(guard: Self) {
