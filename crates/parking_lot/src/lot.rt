@@ -3,12 +3,17 @@
 ghost use Rattle.std.specs.Prelude.{◌≡◌, ◌≢◌, None, Some, true, false};
 
 use crate::reentrant_mutex::Owner;
-use lot_threads::{LotError, Member, NoMemory, ParkResult, ParkToken, ParkingLot, WordParker};
+use lot_threads::{
+    LotError, Member, NoMemory, ParkResult, ParkToken, ParkingLot, WordParker, thread_yield,
+};
 use std::alloc::Global;
 use std::io;
 use std::sync::Wait;
 use std::sync::atomic::{AtomicU64, AtomicUsize, Ordering};
 use std::time::{Clock, Duration, Instant};
+
+// How often a thread yields before it tries a lock once more, and parks.
+const YIELDS: u32 = 10;
 
 // The number of a lot that has none yet.
 const UNNUMBERED: u64 = 0;
@@ -137,6 +142,14 @@ impl Lot {
         );
         member.retire(rt);
         Some(result)
+    }
+}
+
+// Yields the processor for a while, in which the thread leaves the word of a lock alone. Each look
+// at the word takes it from the processor of the thread that holds the lock, which is slower then.
+pub(crate) fn stand_back() {
+    for _ in 0..YIELDS {
+        thread_yield();
     }
 }
 

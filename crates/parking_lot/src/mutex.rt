@@ -7,8 +7,9 @@
 //! threads for which the mutex was let go, and which have not had it since.
 //!
 //! - Whoever comes takes a mutex that is free and kept for nobody, by one exchange.
-//! - Whoever cannot spins for a while and parks. In the section of the key it puts `parked` up and
-//!   **then** tries once more, and stays in the list only if that fails.
+//! - Whoever cannot leaves the word alone for a moment, tries again, and parks. In the section of
+//!   the key it puts `parked` up and **then** tries once more, and stays in the list only if that
+//!   fails.
 //! - Whoever unlocks frees the word and **then** looks at `parked`. If it is up, it unparks the
 //!   first thread of the list, and in that section takes `parked` down if nobody is left.
 //! - Whoever was woken tries whatever `kept` says, and parks again if somebody was quicker.
@@ -23,16 +24,18 @@
 //! holds it, who unlocks it later. If the mutex was kept, the thread for which it is kept takes it
 //! later, or wakes the next as it gives up. All steps are `SeqCst`.
 //!
-//! Upstream has the first two words as bits of one byte, and hands over by leaving the first set.
+//! Upstream has the first two words as bits of one byte, and hands over by leaving the first set. A
+//! thread that waits looks at that byte ten times before it parks. Here a look is an exchange, which
+//! takes the word from the processor of the holder, so there is one.
 
 ghost use Rattle.std.specs.Prelude.{◌≡◌, ◌≢◌, None, IfErr, IfSome, IsSome};
 ghost use Rattle.parking_lot.specs.Guards.{mutex_of};
 
 use crate::guard::{Guard, Release};
-use crate::lot::{Lot, instant_after, is_past};
+use crate::lot::{Lot, instant_after, is_past, stand_back};
 use lot_threads::{
-    DEFAULT_PARK_TOKEN, DEFAULT_UNPARK_TOKEN, NoMemory, ParkResult, SpinWait, UnparkResult,
-    UnparkToken, thread_yield, unpark_one,
+    DEFAULT_PARK_TOKEN, DEFAULT_UNPARK_TOKEN, NoMemory, ParkResult, UnparkResult, UnparkToken,
+    thread_yield, unpark_one,
 };
 use std::alloc::Global;
 use std::fmt::{Debug, Formatter};
@@ -316,6 +319,19 @@ impl<'l, T, F: Fairness> MutexIn<'l, T, F> {
         }
     }
 
+    // Takes the mutex as `take` does. It tries twice, with some time between, unless others are
+    // parked, behind whom this thread parks too.
+    fn take_patiently(&self, turn: Turn) -> Option<sync::MutexGuard<'_, T>> {
+        if let Some(held) = self.take(turn) {
+            return Some(held);
+        }
+        if self.is_waited_for() {
+            return None;
+        }
+        stand_back();
+        self.take(turn)
+    }
+
     // Waits until it has the mutex.
     #[cold]
     #[inline(never)]
@@ -333,13 +349,9 @@ impl<'l, T, F: Fairness> MutexIn<'l, T, F> {
         ensures { deadline ≡ None → IsSome result }
     {
         let mut turn = first_turn;
-        let mut spin = SpinWait::new();
         for _ in rt.forever() {
-            if let Some(held) = self.take(turn) {
+            if let Some(held) = self.take_patiently(turn) {
                 return Some(held);
-            }
-            if !self.parked.load(Ordering::SeqCst) && spin.spin() {
-                continue;
             }
             match self.park(rt, turn, deadline) {
                 Parked::Took(held) => return Some(held),
@@ -349,7 +361,6 @@ impl<'l, T, F: Fairness> MutexIn<'l, T, F> {
                 Parked::LotIsFull if is_past(rt, deadline) => return self.give_up(rt, turn),
                 Parked::LotIsFull => thread_yield(),
             }
-            spin.reset();
         }
         unreachable!()
     }
