@@ -52,7 +52,8 @@ impl<'l> Queue<'l> {
         let is_full = |things: &mut Things| things.queued == PLACES;
         let mut things = self.emptied.wait_while(self.things.lock(rt), is_full);
         things.queued = things.queued.wrapping_add(1);
-        self.filled.notify_one_held(&things);
+        drop(things);
+        self.filled.notify_one(rt);
     }
 
     fn take<R: Wait + Clock>(&self, rt: &R) {
@@ -60,6 +61,7 @@ impl<'l> Queue<'l> {
         let mut things = self.filled.wait_while(self.things.lock(rt), is_empty);
         things.queued = things.queued.wrapping_sub(1);
         things.taken = things.taken.wrapping_add(1);
-        self.emptied.notify_one_held(&things);
+        drop(things);
+        self.emptied.notify_one(rt);
     }
 }
