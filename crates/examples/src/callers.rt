@@ -2,6 +2,7 @@
 
 pub mod answer_text;
 pub mod count_by_four;
+pub mod greatest;
 pub mod hand_back;
 pub mod let_expire;
 pub mod mutex_accounts;
@@ -9,6 +10,7 @@ pub mod open;
 pub mod pass_on;
 pub mod register_and_park;
 pub mod resumed;
+pub mod take_ticket;
 pub mod tell_of_a_trim;
 pub mod unpark_alike;
 pub mod wait;
