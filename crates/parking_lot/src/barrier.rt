@@ -3,26 +3,24 @@
 //! # The protocol
 //!
 //! `here` counts the threads that have come in this round. `generation` counts the rounds, and
-//! wraps.
+//! wraps. `queue` has the threads that wait.
 //!
 //! - Whoever comes reads `generation`, **then** adds itself to `here`.
 //! - Whoever is the last of its round sets `here` to 0, **then** adds 1 to `generation`, and
-//!   **then** unparks all threads of the key. It leads the round.
-//! - Whoever is not spins for a while and parks while `generation` is what it read. In the section
-//!   of the key it looks again, and stays in the list only if it still is.
+//!   **then** wakes the queue. It leads the round.
+//! - Whoever is not waits in the queue while `generation` is what it read.
 //!
-//! Nobody is forgotten: a thread stands in the list only after a look, in the section, that found
-//! its round open. The last of that round closes it later, and unparks all after that. Whoever is
-//! unparked by the last of an earlier round looks again. All steps are `SeqCst`.
+//! Nobody is forgotten: a thread stands in the queue only after a look that found its round open.
+//! The last of that round closes it later, and wakes all after that. Whoever is woken by the last
+//! of an earlier round looks again. All steps are `SeqCst`.
 //!
 //! No thread is counted twice in a round, by type: there are as many parties as the barrier wants,
 //! and one is borrowed for as long as it waits. `here` is 0 before the next round can begin, since
 //! nobody comes again before `generation` has changed.
 
 use crate::lot::Lot;
-use lot_threads::{
-    DEFAULT_PARK_TOKEN, DEFAULT_UNPARK_TOKEN, NoMemory, SpinWait, thread_yield, unpark_all,
-};
+use crate::wait_queue::WaitQueue;
+use lot_threads::NoMemory;
 use std::fmt;
 use std::fmt::{Debug, Formatter};
 use std::sync::Wait;
@@ -38,8 +36,7 @@ use std::time::Clock;
 /// reference, and more threads than the barrier counts make rounds of their own.
 #[derive(Drop)]
 pub struct Barrier<'l> {
-    lot: &'l Lot,
-    key: usize,
+    queue: WaitQueue<'l>,
     parties: usize,
     here: AtomicUsize,
     generation: AtomicUsize,
@@ -79,8 +76,7 @@ impl<'l> Barrier<'l> {
     /// `NoMemory` if memory cannot be had. It asks for none by now.
     pub fn new(lot: &'l Lot, parties: usize) -> Result<Barrier<'l>, NoMemory> {
         Ok(Barrier {
-            lot,
-            key: lot.key(),
+            queue: WaitQueue::new(lot),
             parties,
             here: AtomicUsize::new(0),
             generation: AtomicUsize::new(0),
@@ -105,7 +101,7 @@ impl<'l> Barrier<'l> {
             self.open(rt);
             Role::Leader
         } else {
-            self.wait_for_end(rt, generation);
+            self.queue.wait(rt, || !self.is_open(generation));
             Role::Follower
         }
     }
@@ -114,39 +110,12 @@ impl<'l> Barrier<'l> {
     fn open<R: Wait>(&self, rt: &R) {
         self.here.store(0, Ordering::SeqCst);
         self.generation.fetch_add(1, Ordering::SeqCst);
-        unpark_all(rt, self.lot.queues(), self.key, DEFAULT_UNPARK_TOKEN);
-    }
-
-    fn wait_for_end<R: Wait + Clock>(&self, rt: &R, generation: usize) {
-        let mut spin = SpinWait::new();
-        for _ in rt.forever() {
-            if !self.is_open(generation) {
-                return;
-            }
-            if !spin.spin() {
-                self.park(rt, generation);
-            }
-        }
+        self.queue.wake_all(rt);
     }
 
     // Whether the round still waits for threads.
     fn is_open(&self, generation: usize) -> bool {
         self.generation.load(Ordering::SeqCst) == generation
-    }
-
-    fn park<R: Wait + Clock>(&self, rt: &R, generation: usize) {
-        let parked = self.lot.park(
-            rt,
-            self.key,
-            || self.is_open(generation),
-            || (),
-            |_, _| (),
-            DEFAULT_PARK_TOKEN,
-            None,
-        );
-        if parked.is_none() {
-            thread_yield();
-        }
     }
 }
 

@@ -74,8 +74,7 @@ impl<'l, T: Drop, F: FnOnce() -> T> LazyLock<'l, T, F> {
     where
         F: Drop,
     {
-        let LazyLock { init: _init, value } = self;
-        value.into_inner()
+        self.value.into_inner()
     }
 
     #[cold]

@@ -13,6 +13,7 @@ pub mod once_lock;
 pub mod reentrant_mutex;
 pub mod rw_lock;
 pub mod semaphore;
+mod wait_queue;
 
 pub use barrier::{Barrier, BarrierWaitResult, Parties, Party};
 pub use condvar::{Condvar, WaitTimeoutResult};

@@ -3,27 +3,23 @@
 //! # The protocol
 //!
 //! `right` has the right to run the closure until somebody takes it out. `ran` says that the
-//! closure has run. `parked` says that threads may be parked on the key, and never goes down.
+//! closure has run. `queue` has the threads that wait for that.
 //!
-//! - Whoever takes the right out runs its closure, puts `ran` up and **then** looks at `parked`. If
-//!   it is up, it unparks all threads of the key.
-//! - Whoever else comes spins for a while and parks. In the section of the key it puts `parked` up
-//!   and **then** looks at `ran`, and stays in the list only if that is down.
+//! - Whoever takes the right out runs its closure, puts `ran` up and **then** wakes the queue.
+//! - Whoever else comes waits in the queue while `ran` is down.
 //!
 //! std's mutex around the right is tried and never waited for. Whoever finds it held need not try
 //! again: its holder takes the right, or has found it gone.
 //!
-//! Nobody is forgotten: a thread stands in the list only after a look, behind its `parked`, that
-//! found `ran` down. `ran` goes up later, and after that its thread sees `parked` up and unparks
-//! all. Whoever comes to the section behind that finds `ran` up. All steps are `SeqCst`.
+//! Nobody is forgotten: a thread stands in the queue only after a look that found `ran` down. `ran`
+//! goes up later, and after that all are woken. All steps are `SeqCst`.
 //!
 //! At most one closure runs, by its type: a closure takes a `Begun`, and there is one for each
 //! `Once`.
 
 use crate::lot::Lot;
-use lot_threads::{
-    DEFAULT_PARK_TOKEN, DEFAULT_UNPARK_TOKEN, NoMemory, SpinWait, thread_yield, unpark_all,
-};
+use crate::wait_queue::WaitQueue;
+use lot_threads::NoMemory;
 use std::fmt::{Debug, Formatter};
 use std::sync::Wait;
 use std::sync::atomic::{AtomicBool, Ordering};
@@ -46,10 +42,8 @@ pub struct Begun(());
 /// ends the program.
 #[derive(Drop)]
 pub struct Once<'l> {
-    lot: &'l Lot,
-    key: usize,
+    queue: WaitQueue<'l>,
     ran: AtomicBool,
-    parked: AtomicBool,
     right: sync::Mutex<Option<Begun>>,
 }
 
@@ -63,10 +57,8 @@ impl<'l> Once<'l> {
     /// Upstream's `new` is a `const fn`.
     pub fn new(lot: &'l Lot) -> Result<Once<'l>, NoMemory> {
         Ok(Once {
-            lot,
-            key: lot.key(),
+            queue: WaitQueue::new(lot),
             ran: AtomicBool::new(false),
-            parked: AtomicBool::new(false),
             right: sync::Mutex::new(Some(Begun(()))),
         })
     }
@@ -96,15 +88,7 @@ impl<'l> Once<'l> {
     ///
     /// Upstream has no such call; std's `Once` has it.
     pub fn wait<R: Wait + Clock>(&self, rt: &R) {
-        let mut spin = SpinWait::new();
-        for _ in rt.forever() {
-            if self.is_completed() {
-                return;
-            }
-            if !spin.spin() {
-                self.park(rt);
-            }
-        }
+        self.queue.wait(rt, || self.is_completed());
     }
 
     #[cold]
@@ -114,7 +98,8 @@ impl<'l> Once<'l> {
         match self.begin() {
             Some(begun) => {
                 f(begun);
-                self.complete(rt);
+                self.ran.store(true, Ordering::SeqCst);
+                self.queue.wake_all(rt);
             }
             None => self.wait(rt),
         }
@@ -122,31 +107,6 @@ impl<'l> Once<'l> {
 
     fn begin(&self) -> Option<Begun> {
         self.right.try_lock()?.take()
-    }
-
-    fn complete<R: Wait>(&self, rt: &R) {
-        self.ran.store(true, Ordering::SeqCst);
-        if self.parked.load(Ordering::SeqCst) {
-            unpark_all(rt, self.lot.queues(), self.key, DEFAULT_UNPARK_TOKEN);
-        }
-    }
-
-    fn park<R: Wait + Clock>(&self, rt: &R) {
-        let parked = self.lot.park(
-            rt,
-            self.key,
-            || {
-                self.parked.store(true, Ordering::SeqCst);
-                !self.is_completed()
-            },
-            || (),
-            |_, _| (),
-            DEFAULT_PARK_TOKEN,
-            None,
-        );
-        if parked.is_none() {
-            thread_yield();
-        }
     }
 }
 

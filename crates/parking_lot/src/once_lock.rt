@@ -3,30 +3,25 @@
 //! # The protocol
 //!
 //! `value` is std's cell, which is set once. `state` says whether a thread is about to set it:
-//! `IDLE`, `RUNNING` or `DONE`. `parked` says that threads may be parked on the key, and never goes
-//! down.
+//! `IDLE`, `RUNNING` or `DONE`. `queue` has the threads that wait.
 //!
 //! - Whoever finds no value takes `state` from `IDLE` to `RUNNING`, and has the right to set one.
-//! - With a value it sets the cell, puts `state` to `DONE`, and **then** looks at `parked`. Without
-//!   one, since its closure failed, it puts `state` back to `IDLE`, and **then** looks at `parked`.
-//!   If that is up, it unparks all threads of the key, who look again.
-//! - Whoever finds `RUNNING` spins for a while and parks. In the section of the key it puts
-//!   `parked` up and **then** looks at `state`, and stays in the list only if that is `RUNNING`.
-//!   Whoever waits without a value of its own stays if there is no value.
+//! - With a value it sets the cell, puts `state` to `DONE`, and **then** wakes the queue. Without
+//!   one, since its closure failed, it puts `state` back to `IDLE`, and **then** wakes the queue.
+//! - Whoever finds `RUNNING` waits in the queue while `state` is that. Whoever waits without a value
+//!   of its own does so while there is no value.
 //!
-//! Nobody is forgotten: a thread stands in the list only after a look, behind its `parked`, that
-//! found what it waits for not done. Whoever does it looks at `parked` after that, finds it up, and
-//! unparks all. All steps are `SeqCst`.
+//! Nobody is forgotten: a thread stands in the queue only after a look that found what it waits for
+//! not done. Whoever does it wakes all after that. All steps are `SeqCst`.
 //!
-//! std's calls that wait find the cell free: whoever has the right is alone with them.
+//! std's calls that wait need not: whoever has the right is alone with them, or the value is there.
 
 use crate::lot::Lot;
-use lot_threads::{
-    DEFAULT_PARK_TOKEN, DEFAULT_UNPARK_TOKEN, NoMemory, SpinWait, thread_yield, unpark_all,
-};
+use crate::wait_queue::WaitQueue;
+use lot_threads::NoMemory;
 use std::fmt::{Debug, Formatter};
 use std::sync::Wait;
-use std::sync::atomic::{AtomicBool, AtomicUsize, Ordering};
+use std::sync::atomic::{AtomicUsize, Ordering};
 use std::time::Clock;
 use std::{fmt, sync};
 
@@ -42,10 +37,8 @@ const DONE: usize = 2;
 /// Upstream has no such type; std's `OnceLock` and the crate `once_cell` do.
 #[derive(Drop)]
 pub struct OnceLock<'l, T> {
-    lot: &'l Lot,
-    key: usize,
+    queue: WaitQueue<'l>,
     state: AtomicUsize,
-    parked: AtomicBool,
     value: sync::OnceLock<T>,
 }
 
@@ -57,10 +50,8 @@ impl<'l, T> OnceLock<'l, T> {
     /// `NoMemory` if memory cannot be had. It asks for none by now.
     pub fn new(lot: &'l Lot) -> Result<OnceLock<'l, T>, NoMemory> {
         Ok(OnceLock {
-            lot,
-            key: lot.key(),
+            queue: WaitQueue::new(lot),
             state: AtomicUsize::new(IDLE),
-            parked: AtomicBool::new(false),
             value: sync::OnceLock::new(),
         })
     }
@@ -145,35 +136,19 @@ impl<'l, T> OnceLock<'l, T> {
 
     /// Waits until the value is set, which another thread has to do.
     pub fn wait<R: Wait + Clock>(&self, rt: &R) -> &T {
-        let mut spin = SpinWait::new();
-        for _ in rt.forever() {
-            if let Some(value) = self.get() {
-                return value;
-            }
-            if !spin.spin() {
-                self.park(rt, || self.get().is_none());
-            }
-        }
-        unreachable!()
+        self.queue.wait(rt, || self.get().is_some());
+        self.value.wait(rt)
     }
 
     /// The value, if it was set, which ends the cell.
     pub fn into_inner(self) -> Option<T> {
-        let OnceLock {
-            lot: _,
-            key: _,
-            state: _state,
-            parked: _parked,
-            value,
-        } = self;
-        value.into_inner()
+        self.value.into_inner()
     }
 
     // Waits until there is a value, or until this thread has the right to set one, which `None`
     // says.
     #[cold]
     fn begin<R: Wait + Clock>(&self, rt: &R) -> Option<&T> {
-        let mut spin = SpinWait::new();
         for _ in rt.forever() {
             if let Some(value) = self.get() {
                 return Some(value);
@@ -181,9 +156,8 @@ impl<'l, T> OnceLock<'l, T> {
             if self.take_right() {
                 return None;
             }
-            if !spin.spin() {
-                self.park(rt, || self.state.load(Ordering::SeqCst) == RUNNING);
-            }
+            let is_over = || self.state.load(Ordering::SeqCst) != RUNNING;
+            self.queue.wait(rt, is_over);
         }
         unreachable!()
     }
@@ -209,29 +183,7 @@ impl<'l, T> OnceLock<'l, T> {
 
     fn end<R: Wait>(&self, rt: &R, state: usize) {
         self.state.store(state, Ordering::SeqCst);
-        if self.parked.load(Ordering::SeqCst) {
-            unpark_all(rt, self.lot.queues(), self.key, DEFAULT_UNPARK_TOKEN);
-        }
-    }
-
-    fn park<R: Wait + Clock, V: FnOnce() -> bool>(&self, rt: &R, has_to_wait: V)
-        requires { V.pre has_to_wait }
-    {
-        let parked = self.lot.park(
-            rt,
-            self.key,
-            || {
-                self.parked.store(true, Ordering::SeqCst);
-                has_to_wait()
-            },
-            || (),
-            |_, _| (),
-            DEFAULT_PARK_TOKEN,
-            None,
-        );
-        if parked.is_none() {
-            thread_yield();
-        }
+        self.queue.wake_all(rt);
     }
 }
 

@@ -3,39 +3,33 @@
 //! # The protocol
 //!
 //! `owner` is the number of the owner that has the mutex, or `NOBODY`. `depth` counts the guards of
-//! that owner, whose thread alone reads and writes it. `parked` says that threads may be parked on
-//! the key.
+//! that owner, whose thread alone reads and writes it. `queue` has the threads that wait.
 //!
 //! - Whoever comes finds its own number in `owner`, and adds 1 to `depth`; or it takes `owner` from
 //!   `NOBODY` to its number, and puts `depth` to 1.
-//! - Whoever cannot spins for a while and parks. In the section of the key it puts `parked` up and
-//!   **then** tries once more, and stays in the list only if that fails.
+//! - Whoever can do neither waits in the queue until it can.
 //! - Whoever drops a guard takes 1 from `depth`. At the last one it puts `owner` to `NOBODY` and
-//!   **then** looks at `parked`. If that is up, it unparks the first thread of the list, and in
-//!   that section takes `parked` down if nobody is left.
+//!   **then** wakes the first thread of the queue.
 //!
-//! Nobody is forgotten, for the reason that the mutex gives: a thread stands in the list only after
-//! a try, behind its `parked`, that found another owner; that one lets go later and looks at
-//! `parked` after it; and whoever is woken takes the mutex, or finds one who lets go later. All
-//! steps are `SeqCst`.
+//! Nobody is forgotten: a thread stands in the queue only after a try that found another owner.
+//! That one lets go later and wakes the first thread, which takes the mutex, or finds one who lets
+//! go later. All steps are `SeqCst`.
 //!
 //! Only the thread of an owner finds the owner's number in `owner`: an owner cannot be shared
 //! between threads, and a guard borrows it, so it stays with its thread while it has the mutex.
 
-ghost use Rattle.std.specs.Prelude.{◌≡◌, ◌≢◌, None, true, IfOk};
+ghost use Rattle.std.specs.Prelude.{◌≡◌, None, true, IfOk};
 
 use crate::guard::{Guard, Release};
-use crate::lot::{Lot, instant_after, is_past};
-use lot_threads::{
-    DEFAULT_PARK_TOKEN, DEFAULT_UNPARK_TOKEN, NoMemory, ParkResult, SpinWait, thread_yield,
-    unpark_one,
-};
+use crate::lot::{Lot, instant_after};
+use crate::wait_queue::WaitQueue;
+use lot_threads::{DEFAULT_PARK_TOKEN, NoMemory};
 use std::cell::Cell;
+use std::fmt;
 use std::fmt::{Debug, Formatter};
 use std::sync::Wait;
-use std::sync::atomic::{AtomicBool, AtomicUsize, Ordering};
+use std::sync::atomic::{AtomicUsize, Ordering};
 use std::time::{Clock, Duration, Instant};
-use std::{fmt, ptr};
 
 // The number that no owner has.
 const NOBODY: usize = 0;
@@ -77,9 +71,7 @@ impl<'l> Owner<'l> {
 /// threads apart over several steps.
 #[derive(Drop)]
 pub struct ReentrantMutex<'l, T> {
-    lot: &'l Lot,
-    key: usize,
-    parked: AtomicBool,
+    queue: WaitQueue<'l>,
     owner: AtomicUsize,
     depth: AtomicUsize,
     value: T,
@@ -104,15 +96,6 @@ impl<T, R: Wait> Release<&T> for Entered<'_, '_, '_, T, R> {
     }
 }
 
-// How a park for a mutex ended.
-enum Parked {
-    // Its last look took the mutex.
-    Took,
-    Woken,
-    TimedOut,
-    LotIsFull,
-}
-
 impl<'l, T> ReentrantMutex<'l, T> {
     /// A mutex around the value, which nobody holds.
     ///
@@ -122,12 +105,10 @@ impl<'l, T> ReentrantMutex<'l, T> {
     ///
     /// Upstream's `new` is a `const fn`.
     pub fn new(lot: &'l Lot, value: T) -> Result<ReentrantMutex<'l, T>, NoMemory>
-        ensures { IfOk result (λ mutex. mutex.lot.now ≡ lot.now) }
+        ensures { IfOk result (λ mutex. mutex.queue.lot.now ≡ lot.now) }
     {
         Ok(ReentrantMutex {
-            lot,
-            key: lot.key(),
-            parked: AtomicBool::new(false),
+            queue: WaitQueue::new(lot),
             owner: AtomicUsize::new(NOBODY),
             depth: AtomicUsize::new(0),
             value,
@@ -138,9 +119,9 @@ impl<'l, T> ReentrantMutex<'l, T> {
     ///
     /// Upstream has no such call: there a thread is an owner.
     pub fn owner(&self) -> Owner<'l>
-        ensures { result.lot.now ≡ self.now.lot.now }
+        ensures { result.lot.now ≡ self.now.queue.lot.now }
     {
-        self.lot.owner()
+        self.queue.lot().owner()
     }
 
     /// Locks the mutex for the owner, and waits while another owner has it.
@@ -150,10 +131,10 @@ impl<'l, T> ReentrantMutex<'l, T> {
         rt: &'r R,
         owner: &'a Owner<'l>,
     ) -> ReentrantMutexGuard<'a, 'r, 'l, T, R>
-        requires same_lot { owner.now.lot.now ≡ self.now.lot.now }
+        requires same_lot { owner.now.lot.now ≡ self.now.queue.lot.now }
     {
         if !self.try_enter(owner.number) {
-            self.wait(rt, owner.number);
+            self.queue.wait(rt, || self.try_enter(owner.number));
         }
         self.guard(rt, owner)
     }
@@ -165,7 +146,7 @@ impl<'l, T> ReentrantMutex<'l, T> {
         rt: &'r R,
         owner: &'a Owner<'l>,
     ) -> Option<ReentrantMutexGuard<'a, 'r, 'l, T, R>>
-        requires same_lot { owner.now.lot.now ≡ self.now.lot.now }
+        requires same_lot { owner.now.lot.now ≡ self.now.queue.lot.now }
     {
         if self.try_enter(owner.number) {
             Some(self.guard(rt, owner))
@@ -183,7 +164,7 @@ impl<'l, T> ReentrantMutex<'l, T> {
         owner: &'a Owner<'l>,
         duration: Duration,
     ) -> Option<ReentrantMutexGuard<'a, 'r, 'l, T, R>>
-        requires same_lot { owner.now.lot.now ≡ self.now.lot.now }
+        requires same_lot { owner.now.lot.now ≡ self.now.queue.lot.now }
     {
         if self.try_enter(owner.number)
             || self.wait_until(rt, owner.number, instant_after(rt, duration).ok()?)
@@ -204,7 +185,7 @@ impl<'l, T> ReentrantMutex<'l, T> {
         owner: &'a Owner<'l>,
         deadline: Instant,
     ) -> Option<ReentrantMutexGuard<'a, 'r, 'l, T, R>>
-        requires same_lot { owner.now.lot.now ≡ self.now.lot.now }
+        requires same_lot { owner.now.lot.now ≡ self.now.queue.lot.now }
     {
         if self.try_enter(owner.number) || self.wait_until(rt, owner.number, Some(deadline)) {
             Some(self.guard(rt, owner))
@@ -222,7 +203,7 @@ impl<'l, T> ReentrantMutex<'l, T> {
     ///
     /// Upstream has it as `is_owned_by_current_thread`.
     pub fn is_owned_by(&self, owner: &Owner<'l>) -> bool
-        requires same_lot { owner.now.lot.now ≡ self.now.lot.now }
+        requires same_lot { owner.now.lot.now ≡ self.now.queue.lot.now }
     {
         self.owner.load(Ordering::SeqCst) == owner.number
     }
@@ -234,15 +215,7 @@ impl<'l, T> ReentrantMutex<'l, T> {
 
     /// The value, which ends the mutex.
     pub fn into_inner(self) -> T {
-        let ReentrantMutex {
-            lot: _,
-            key: _,
-            parked: _parked,
-            owner: _owner,
-            depth: _depth,
-            value,
-        } = self;
-        value
+        self.value
     }
 
     #[inline]
@@ -281,74 +254,19 @@ impl<'l, T> ReentrantMutex<'l, T> {
     fn leave<R: Wait>(&self, rt: &R) {
         if self.depth.fetch_sub(1, Ordering::SeqCst) == 1 {
             self.owner.store(NOBODY, Ordering::SeqCst);
-            if self.parked.load(Ordering::SeqCst) {
-                self.unpark(rt);
-            }
+            self.queue.wake_one(rt);
         }
     }
 
-    #[cold]
-    #[inline(never)]
-    fn wait<R: Wait + Clock>(&self, rt: &R, number: usize) {
-        self.wait_until(rt, number, None);
-    }
-
-    // Waits until the owner of this number has the mutex, or until the deadline, and answers
-    // whether it has it.
-    fn wait_until<R: Wait + Clock>(&self, rt: &R, number: usize, deadline: Option<Instant>) -> bool
-        ensures { deadline ≡ None → result ≡ true }
-    {
-        let mut spin = SpinWait::new();
-        for _ in rt.forever() {
-            if self.try_enter(number) {
-                return true;
-            }
-            if !self.parked.load(Ordering::SeqCst) && spin.spin() {
-                continue;
-            }
-            match self.park(rt, number, deadline) {
-                Parked::Took => return true,
-                Parked::Woken => spin.reset(),
-                Parked::TimedOut => return false,
-                Parked::LotIsFull if is_past(rt, deadline) => return false,
-                Parked::LotIsFull => thread_yield(),
-            }
-        }
-        unreachable!()
-    }
-
-    fn park<R: Wait + Clock>(&self, rt: &R, number: usize, deadline: Option<Instant>) -> Parked
-        ensures { deadline ≡ None → result ≢ Parked.TimedOut }
-    {
-        let parked = self.lot.park(
-            rt,
-            self.key,
-            || {
-                self.parked.store(true, Ordering::SeqCst);
-                !self.try_enter(number)
-            },
-            || (),
-            |_, _| (),
-            DEFAULT_PARK_TOKEN,
-            deadline,
-        );
-        match parked {
-            Some(ParkResult::Invalid) => Parked::Took,
-            Some(ParkResult::Unparked(_)) => Parked::Woken,
-            Some(ParkResult::TimedOut) => Parked::TimedOut,
-            None => Parked::LotIsFull,
-        }
-    }
-
-    #[cold]
-    #[inline(never)]
-    fn unpark<R: Wait>(&self, rt: &R) {
-        unpark_one(rt, self.lot.queues(), self.key, |found| {
-            if !found.have_more_threads {
-                self.parked.store(false, Ordering::SeqCst);
-            }
-            DEFAULT_UNPARK_TOKEN
-        });
+    fn wait_until<R: Wait + Clock>(
+        &self,
+        rt: &R,
+        number: usize,
+        deadline: Option<Instant>,
+    ) -> bool {
+        let enters = || self.try_enter(number);
+        self.queue
+            .wait_until(rt, DEFAULT_PARK_TOKEN, enters, deadline)
     }
 }
 

@@ -2,36 +2,28 @@
 //!
 //! # The protocol
 //!
-//! `permits` counts those that nobody has. `parked` says that threads may be parked on the key,
-//! where each has the number of permits that it wants as its park token.
+//! `permits` counts those that nobody has. `queue` has the threads that wait, each with the number
+//! of permits that it wants as its park token.
 //!
 //! - Whoever comes takes what it wants, if so many are there, by one exchange.
-//! - Whoever cannot spins for a while and parks. In the section of the key it puts `parked` up and
-//!   **then** tries once more, and stays in the list only if that fails.
-//! - Whoever gives permits back adds them and **then** looks at `parked`. If it is up, it goes
-//!   through the list: it takes for the first thread what that one wants, and unparks it, and so on
-//!   until too few are left. It takes `parked` down if nobody is left.
-//! - Whoever was unparked has its permits: they were taken for it.
-//! - Whoever leaves at its deadline goes through the list as one who gives back does. It may have
-//!   stood first, and wanted more than those behind it.
+//! - Where fewer are there, it waits in the queue until it can, or until it is served.
+//! - Whoever gives permits back adds them and **then** serves the queue: it takes for the first
+//!   thread what that one wants, and so on until too few are left.
+//! - Whoever was served has its permits: they were taken for it.
+//! - Whoever leaves at its deadline serves the queue as one who gives back does. It may have stood
+//!   first, and wanted more than those behind it.
 //!
-//! Nobody is forgotten: a thread comes to stand in the list in a section in which its own try
-//! failed, behind its `parked`. Nothing but an add, or the leaving of a thread before it, lets it
-//! have its permits. Whoever does that looks at `parked` after it. That goes down only in a section
-//! that leaves nobody in the list, so it is up, and the longest beginning of the list for which
-//! there are permits is granted them. All steps are `SeqCst`.
+//! Nobody is forgotten: a thread comes to stand in the queue only as its own try fails. Nothing but
+//! an add, or the leaving of a thread before it, lets it have its permits. Whoever does that serves
+//! the longest beginning of the queue for which there are permits. All steps are `SeqCst`.
 
-ghost use Rattle.std.specs.Prelude.{◌≡◌, ◌≢◌, None, true, IsSome};
-
-use crate::lot::{Lot, instant_after, is_past};
-use lot_threads::{
-    DEFAULT_UNPARK_TOKEN, FilterOp, NoMemory, ParkResult, ParkToken, SpinWait, thread_yield,
-    unpark_chosen,
-};
+use crate::lot::{Lot, instant_after};
+use crate::wait_queue::WaitQueue;
+use lot_threads::{FilterOp, NoMemory, ParkToken};
 use std::fmt;
 use std::fmt::{Debug, Formatter};
 use std::sync::Wait;
-use std::sync::atomic::{AtomicBool, AtomicUsize, Ordering};
+use std::sync::atomic::{AtomicUsize, Ordering};
 use std::time::{Clock, Duration, Instant};
 
 /// A counter of permits. Whoever wants some waits until so many are there.
@@ -47,10 +39,8 @@ use std::time::{Clock, Duration, Instant};
 /// panic.
 #[derive(Drop)]
 pub struct Semaphore<'l> {
-    lot: &'l Lot,
-    key: usize,
+    queue: WaitQueue<'l>,
     permits: AtomicUsize,
-    parked: AtomicBool,
 }
 
 /// Permits that a thread has. Its drop gives them back, and unparks those that may have them.
@@ -58,14 +48,6 @@ pub struct SemaphorePermit<'a, 'r, 'l, R: Wait> {
     semaphore: &'a Semaphore<'l>,
     rt: &'r R,
     permits: usize,
-}
-
-// How a park for permits ended.
-enum Parked {
-    // Its last look took them, or they were taken for it.
-    Took,
-    TimedOut,
-    LotIsFull,
 }
 
 impl<'l> Semaphore<'l> {
@@ -76,10 +58,8 @@ impl<'l> Semaphore<'l> {
     /// `NoMemory` if memory cannot be had. It asks for none by now.
     pub fn new(lot: &'l Lot, permits: usize) -> Result<Semaphore<'l>, NoMemory> {
         Ok(Semaphore {
-            lot,
-            key: lot.key(),
+            queue: WaitQueue::new(lot),
             permits: AtomicUsize::new(permits),
-            parked: AtomicBool::new(false),
         })
     }
 
@@ -165,7 +145,7 @@ impl<'l> Semaphore<'l> {
     pub fn add_permits<R: Wait>(&self, rt: &R, permits: usize) {
         if permits != 0 {
             self.add(permits);
-            self.wake(rt);
+            self.serve(rt);
         }
     }
 
@@ -222,85 +202,32 @@ impl<'l> Semaphore<'l> {
     }
 
     // Waits until it has the permits, or until the deadline, and answers whether it has them.
-    fn wait_until<R: Wait + Clock>(&self, rt: &R, wanted: usize, deadline: Option<Instant>) -> bool
-        ensures { deadline ≡ None → result ≡ true }
-    {
-        let mut spin = SpinWait::new();
-        for _ in rt.forever() {
-            if self.try_take(wanted) {
-                return true;
-            }
-            if !self.parked.load(Ordering::SeqCst) && spin.spin() {
-                continue;
-            }
-            match self.park(rt, wanted, deadline) {
-                Parked::Took => return true,
-                Parked::TimedOut => {
-                    self.wake(rt);
-                    return false;
-                }
-                Parked::LotIsFull if is_past(rt, deadline) => return false,
-                Parked::LotIsFull => thread_yield(),
-            }
+    fn wait_until<R: Wait + Clock>(
+        &self,
+        rt: &R,
+        wanted: usize,
+        deadline: Option<Instant>,
+    ) -> bool {
+        let takes = || self.try_take(wanted);
+        let took = self
+            .queue
+            .wait_until(rt, ParkToken(wanted), takes, deadline);
+        if !took {
+            self.serve(rt);
         }
-        unreachable!()
+        took
     }
 
-    fn park<R: Wait + Clock>(&self, rt: &R, wanted: usize, deadline: Option<Instant>) -> Parked
-        ensures { deadline ≡ None → result ≢ Parked.TimedOut }
-    {
-        let parked = self.lot.park(
-            rt,
-            self.key,
-            || {
-                self.parked.store(true, Ordering::SeqCst);
-                !self.try_take(wanted)
-            },
-            || (),
-            |_, was_last| {
-                if was_last {
-                    self.parked.store(false, Ordering::SeqCst);
-                }
-            },
-            ParkToken(wanted),
-            deadline,
-        );
-        match parked {
-            Some(ParkResult::Unparked(_) | ParkResult::Invalid) => Parked::Took,
-            Some(ParkResult::TimedOut) => Parked::TimedOut,
-            None => Parked::LotIsFull,
-        }
-    }
-
+    // Takes permits for those that wait, in their order.
     #[inline]
-    fn wake<R: Wait>(&self, rt: &R) {
-        if self.parked.load(Ordering::SeqCst) {
-            self.grant(rt);
-        }
-    }
-
-    // Takes permits for those that wait, in their order, and unparks them.
-    #[cold]
-    #[inline(never)]
-    fn grant<R: Wait>(&self, rt: &R) {
-        unpark_chosen(
-            rt,
-            self.lot.queues(),
-            self.key,
-            |wanted| {
-                if self.try_take(wanted.0) {
-                    FilterOp::Unpark
-                } else {
-                    FilterOp::Stop
-                }
-            },
-            |found| {
-                if !found.have_more_threads {
-                    self.parked.store(false, Ordering::SeqCst);
-                }
-                DEFAULT_UNPARK_TOKEN
-            },
-        );
+    fn serve<R: Wait>(&self, rt: &R) {
+        self.queue.serve(rt, |wanted| {
+            if self.try_take(wanted.0) {
+                FilterOp::Unpark
+            } else {
+                FilterOp::Stop
+            }
+        });
     }
 }
 
