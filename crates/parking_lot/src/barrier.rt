@@ -18,6 +18,8 @@
 //! and one is borrowed for as long as it waits. `here` is 0 before the next round can begin, since
 //! nobody comes again before `generation` has changed.
 
+ghost use Rattle.std.specs.Iterator.{at_most};
+
 use crate::lot::Lot;
 use crate::wait_queue::WaitQueue;
 use lot_threads::NoMemory;
@@ -85,6 +87,14 @@ impl<'l> Barrier<'l> {
 
     /// The parties of the barrier, as many as it was made for. While one of them lives there are no
     /// others.
+    ///
+    /// ```
+    /// let mut parties = Vec::new(alloc);
+    /// for party in barrier.parties() {
+    ///     parties.push(party)?;
+    /// }
+    /// thread::map_vec(rt, parties, &|mut party: Party<'_, '_>| party.wait(rt).is_leader())?;
+    /// ```
     pub fn parties(&mut self) -> Parties<'_, 'l> {
         let barrier: &Barrier<'l> = self;
         Parties {
@@ -121,6 +131,8 @@ impl<'l> Barrier<'l> {
 
 impl<'a, 'l> Iterator for Parties<'a, 'l> {
     type Item = Party<'a, 'l>;
+
+    ghost remaining = { λ parties. at_most parties.left };
 
     fn next(&mut self) -> Option<Party<'a, 'l>> {
         self.left = self.left.checked_sub(1)?;
