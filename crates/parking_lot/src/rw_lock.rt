@@ -3,7 +3,7 @@
 //! # The protocol
 //!
 //! `value` is std's lock, of which only `try_read` and `try_write` are called. `upgradable` is a
-//! mutex: whoever has it reads and may upgrade. `state` has five bits:
+//! mutex: whoever has it reads and may upgrade. `state` has five bits and a count:
 //!
 //! - `PARKED`: threads may be parked on the key.
 //! - `WRITER`: a writer is parked there, or was woken and has not had the lock since. Readers that
@@ -13,31 +13,38 @@
 //! - `DRAINS`: whoever upgrades is parked on the key `drain`.
 //! - `DOWNGRADING`: a writer lets the lock go to read. A writer or an upgrade that gets the lock
 //!   lets it go again.
+//! - The count is of the threads for which the lock was let go, and which have not had it since. It
+//!   is kept for them: a writer that comes stays out, or lets the lock go again.
 //!
 //! The steps:
 //!
 //! - Who cannot have the lock spins for a while and parks. In the section of the key it puts its
-//!   bits up and **then** tries once more, and stays in the list only if that fails. A reader that
-//!   was woken tries once whatever the bits say.
-//! - A writer looks at the bits before its try and again **after** it. The upgrade and the
-//!   downgrade put their bit up before they let their guard go, and take it down once they have
-//!   the other one. So nobody writes between the two.
+//!   bits up and **then** tries once more, and stays in the list only if that fails. Who was woken
+//!   tries whatever the count says, and a reader whatever the bits say.
+//! - A writer looks at `state` before its try and again **after** it. The upgrade and the downgrade
+//!   put their bit up before they let their guard go, and take it down once they have the other
+//!   one. So nobody writes between the two.
 //! - Who lets a read go looks at `state` **after** that. During an upgrade it wakes the one that
 //!   drains, else the first writer of the list.
 //! - Who lets a write go looks at `state` **after** that. During an upgrade it wakes the one that
 //!   drains. Else it wakes the first of the list if that is a writer, or the readers up to the
 //!   first writer.
+//! - A fair unlock looks at `state` first. If threads are parked and nobody upgrades, it takes those
+//!   off the list whom an unlock wakes, and in that section it adds them to the count and lets the
+//!   lock go. **Then** it wakes the one that drains. Whoever was woken so is told by its token. It
+//!   takes itself off the count once it has the lock, or once it gives up, and then wakes as who
+//!   lets a write go does.
 //! - Who goes on reading where others were kept out wakes the readers up to the first writer. That
 //!   is a downgrade, and an upgrade that gives up. A writer that gives up does the same.
 //! - `PARKED` and `WRITER` go down in sections that leave nobody in the list, `WRITER` only if
 //!   no writer was woken there.
 //!
-//! Nobody is forgotten. A writer stands in the list only if a try behind its bits failed, or if an
-//! exchange of guards was under way. Whoever had the lock then, or has it after the exchange, lets
-//! it go later, sees `PARKED`, and wakes the first writer if the readers in front of it are not
-//! woken. A reader stands there only if a writer stands or was woken, somebody writes, or an
-//! upgrade is under way. Each of these comes to write and to let go, or gives up, and then wakes
-//! the readers in front of the first writer.
+//! Nobody is forgotten. A writer stands in the list only if a try behind its bits failed, if an
+//! exchange of guards was under way, or if the lock was kept. Whoever had the lock then, has it
+//! after the exchange, or has it kept, lets it go later or gives up, sees `PARKED`, and wakes the
+//! first writer if the readers in front of it are not woken. A reader stands there only if a writer
+//! stands or was woken, somebody writes, or an upgrade is under way. Each of these comes to write
+//! and to let go, or gives up, and then wakes the readers in front of the first writer.
 //!
 //! Nobody waits for `value` with `upgradable` locked, but the upgrade. So a writer may wait for
 //! `upgradable`. All steps are `SeqCst`.
@@ -61,25 +68,32 @@ pub use guards::{
 use lot_threads::NoMemory;
 use std::fmt::{Debug, Formatter};
 use std::sync::Wait;
-use std::sync::atomic::{AtomicU8, Ordering};
+use std::sync::atomic::{AtomicUsize, Ordering};
 use std::time::{Clock, Duration, Instant};
 use std::{fmt, sync};
-use waiting::{Reader, Writer};
+use waiting::{Reader, Turn, Writer};
 
-const PARKED: u8 = 1;
+const PARKED: usize = 1;
 
-const WRITER: u8 = 2;
+const WRITER: usize = 2;
 
-const UPGRADING: u8 = 4;
+const UPGRADING: usize = 4;
 
-const DRAINS: u8 = 8;
+const DRAINS: usize = 8;
 
-const DOWNGRADING: u8 = 16;
+const DOWNGRADING: usize = 16;
+
+// The count goes up and down by it.
+const KEPT_ONCE: usize = 32;
+
+// The bits of the count.
+const KEPT: usize = !(KEPT_ONCE - 1);
 
 /// A value that many threads may read at once, or one may write.
 ///
 /// While a writer waits, readers that come wait too, so a thread that reads already should not read
-/// again but by `read_recursive`. A writer that comes may be quicker than a woken one.
+/// again but by `read_recursive`. A writer that comes may be quicker than a woken one, but for one
+/// that a guard's `unlock_fair` woke.
 ///
 /// One thread at a time may have the lock in the third way, an upgradable read beside other reads:
 /// it can go on to write, and nobody has written between.
@@ -91,7 +105,7 @@ pub struct RwLock<'l, T> {
     lot: &'l Lot,
     key: usize,
     drain: usize,
-    state: AtomicU8,
+    state: AtomicUsize,
     upgradable: Mutex<'l, ()>,
     value: sync::RwLock<T>,
 }
@@ -112,7 +126,7 @@ impl<'l, T> RwLock<'l, T> {
             lot,
             key: lot.key(),
             drain: lot.key(),
-            state: AtomicU8::new(0),
+            state: AtomicUsize::new(0),
             upgradable: Mutex::new(lot, ())?,
             value: sync::RwLock::new(value),
         })
@@ -122,7 +136,7 @@ impl<'l, T> RwLock<'l, T> {
     /// the lock already may wait for ever.
     #[inline]
     pub fn read<'a, 'r, R: Wait + Clock>(&'a self, rt: &'r R) -> RwLockReadGuard<'a, 'r, 'l, T, R> {
-        self.read_as(rt, Reader::Comes)
+        self.read_guard(rt, self.take(rt, Reader::Comes))
     }
 
     /// Locks to read if `read` would not wait.
@@ -131,7 +145,8 @@ impl<'l, T> RwLock<'l, T> {
         &'a self,
         rt: &'r R,
     ) -> Option<RwLockReadGuard<'a, 'r, 'l, T, R>> {
-        Some(self.read_guard(rt, self.try_take_read(Reader::Comes)?))
+        let held = self.try_take(rt, Reader::Comes, Turn::Comes)?;
+        Some(self.read_guard(rt, held))
     }
 
     /// Locks to read as `read` does, and waits no longer than for the duration. A clock that cannot
@@ -143,10 +158,8 @@ impl<'l, T> RwLock<'l, T> {
         rt: &'r R,
         duration: Duration,
     ) -> Option<RwLockReadGuard<'a, 'r, 'l, T, R>> {
-        match self.try_read(rt) {
-            Some(guard) => Some(guard),
-            None => self.read_at_most(rt, Reader::Comes, instant_after(rt, duration).ok()?),
-        }
+        let held = self.take_for(rt, Reader::Comes, duration)?;
+        Some(self.read_guard(rt, held))
     }
 
     /// Locks to read as `read` does, and waits no longer than until the deadline. A clock that
@@ -158,7 +171,8 @@ impl<'l, T> RwLock<'l, T> {
         rt: &'r R,
         deadline: Instant,
     ) -> Option<RwLockReadGuard<'a, 'r, 'l, T, R>> {
-        self.read_at_most(rt, Reader::Comes, Some(deadline))
+        let held = self.take_until(rt, Reader::Comes, Some(deadline))?;
+        Some(self.read_guard(rt, held))
     }
 
     /// Locks to read, and waits only while another thread writes. So a thread that reads already
@@ -168,7 +182,7 @@ impl<'l, T> RwLock<'l, T> {
         &'a self,
         rt: &'r R,
     ) -> RwLockReadGuard<'a, 'r, 'l, T, R> {
-        self.read_as(rt, Reader::Recurs)
+        self.read_guard(rt, self.take(rt, Reader::Recurs))
     }
 
     /// Locks to read if nobody writes. It waits for nobody.
@@ -177,7 +191,8 @@ impl<'l, T> RwLock<'l, T> {
         &'a self,
         rt: &'r R,
     ) -> Option<RwLockReadGuard<'a, 'r, 'l, T, R>> {
-        Some(self.read_guard(rt, self.try_take_read(Reader::Recurs)?))
+        let held = self.try_take(rt, Reader::Recurs, Turn::Comes)?;
+        Some(self.read_guard(rt, held))
     }
 
     /// Locks to read as `read_recursive` does, and waits no longer than for the duration. A clock
@@ -189,10 +204,8 @@ impl<'l, T> RwLock<'l, T> {
         rt: &'r R,
         duration: Duration,
     ) -> Option<RwLockReadGuard<'a, 'r, 'l, T, R>> {
-        match self.try_read_recursive(rt) {
-            Some(guard) => Some(guard),
-            None => self.read_at_most(rt, Reader::Recurs, instant_after(rt, duration).ok()?),
-        }
+        let held = self.take_for(rt, Reader::Recurs, duration)?;
+        Some(self.read_guard(rt, held))
     }
 
     /// Locks to read as `read_recursive` does, and waits no longer than until the deadline. A clock
@@ -204,7 +217,8 @@ impl<'l, T> RwLock<'l, T> {
         rt: &'r R,
         deadline: Instant,
     ) -> Option<RwLockReadGuard<'a, 'r, 'l, T, R>> {
-        self.read_at_most(rt, Reader::Recurs, Some(deadline))
+        let held = self.take_until(rt, Reader::Recurs, Some(deadline))?;
+        Some(self.read_guard(rt, held))
     }
 
     /// Locks to write, and waits while other threads have the lock. A thread that has it already
@@ -214,11 +228,7 @@ impl<'l, T> RwLock<'l, T> {
         &'a self,
         rt: &'r R,
     ) -> RwLockWriteGuard<'a, 'r, 'l, T, R> {
-        let held = match self.try_take_write(rt, Writer::Comes) {
-            Some(held) => held,
-            None => self.wait_to_write(rt),
-        };
-        self.write_guard(rt, held)
+        self.write_guard(rt, self.take(rt, Writer::Comes))
     }
 
     /// Locks to write if nobody has the lock. It waits for nobody.
@@ -229,7 +239,8 @@ impl<'l, T> RwLock<'l, T> {
         &'a self,
         rt: &'r R,
     ) -> Option<RwLockWriteGuard<'a, 'r, 'l, T, R>> {
-        Some(self.write_guard(rt, self.try_take_write(rt, Writer::Comes)?))
+        let held = self.try_take(rt, Writer::Comes, Turn::Comes)?;
+        Some(self.write_guard(rt, held))
     }
 
     /// Locks to write as `write` does, and waits no longer than for the duration. A clock that
@@ -241,10 +252,8 @@ impl<'l, T> RwLock<'l, T> {
         rt: &'r R,
         duration: Duration,
     ) -> Option<RwLockWriteGuard<'a, 'r, 'l, T, R>> {
-        match self.try_write(rt) {
-            Some(guard) => Some(guard),
-            None => self.write_at_most(rt, instant_after(rt, duration).ok()?),
-        }
+        let held = self.take_for(rt, Writer::Comes, duration)?;
+        Some(self.write_guard(rt, held))
     }
 
     /// Locks to write as `write` does, and waits no longer than until the deadline. A clock that
@@ -256,7 +265,8 @@ impl<'l, T> RwLock<'l, T> {
         rt: &'r R,
         deadline: Instant,
     ) -> Option<RwLockWriteGuard<'a, 'r, 'l, T, R>> {
-        self.write_at_most(rt, Some(deadline))
+        let held = self.take_until(rt, Writer::Comes, Some(deadline))?;
+        Some(self.write_guard(rt, held))
     }
 
     /// Locks to read with the right to upgrade, and waits while another thread has that right,
@@ -274,7 +284,7 @@ impl<'l, T> RwLock<'l, T> {
         rt: &'r R,
     ) -> Option<RwLockUpgradableReadGuard<'a, 'r, 'l, T, R>> {
         let upgradable = self.upgradable.try_lock(rt)?;
-        let held = self.try_take_read(Reader::Comes)?;
+        let held = self.try_take(rt, Reader::Comes, Turn::Comes)?;
         Some(self.upgradable_guard(rt, held, upgradable))
     }
 
@@ -328,52 +338,7 @@ impl<'l, T> RwLock<'l, T> {
 
     /// The value, with which the lock ends.
     pub fn into_inner(self) -> T {
-        let RwLock {
-            lot: _,
-            key: _,
-            drain: _,
-            state: _state,
-            upgradable: _upgradable,
-            value,
-        } = self;
-        value.into_inner()
-    }
-
-    #[inline]
-    fn read_as<'a, 'r, R: Wait + Clock>(
-        &'a self,
-        rt: &'r R,
-        reader: Reader,
-    ) -> RwLockReadGuard<'a, 'r, 'l, T, R> {
-        let held = match self.try_take_read(reader) {
-            Some(held) => held,
-            None => self.wait_to_read(rt, reader),
-        };
-        self.read_guard(rt, held)
-    }
-
-    fn read_at_most<'a, 'r, R: Wait + Clock>(
-        &'a self,
-        rt: &'r R,
-        reader: Reader,
-        deadline: Option<Instant>,
-    ) -> Option<RwLockReadGuard<'a, 'r, 'l, T, R>> {
-        let held = self.wait_to_read_until(rt, reader, deadline)?;
-        Some(self.read_guard(rt, held))
-    }
-
-    fn write_at_most<'a, 'r, R: Wait + Clock>(
-        &'a self,
-        rt: &'r R,
-        deadline: Option<Instant>,
-    ) -> Option<RwLockWriteGuard<'a, 'r, 'l, T, R>> {
-        match self.wait_to_write_until(rt, Writer::Comes, deadline) {
-            Some(held) => Some(self.write_guard(rt, held)),
-            None => {
-                self.wake_beside_read(rt);
-                None
-            }
-        }
+        self.value.into_inner()
     }
 
     // Whoever waits here for readers to be let in does not have `upgradable` locked.
@@ -386,11 +351,11 @@ impl<'l, T> RwLock<'l, T> {
     {
         for _ in rt.forever() {
             let upgradable = self.lock_upgradable(rt, deadline)?;
-            if let Some(held) = self.try_take_read(Reader::Comes) {
+            if let Some(held) = self.try_take(rt, Reader::Comes, Turn::Comes) {
                 return Some(self.upgradable_guard(rt, held, upgradable));
             }
             drop(upgradable);
-            let held = self.wait_to_read_until(rt, Reader::Comes, deadline)?;
+            let held = self.take_until(rt, Reader::Comes, deadline)?;
             if let Some(upgradable) = self.upgradable.try_lock(rt) {
                 return Some(self.upgradable_guard(rt, held, upgradable));
             }
@@ -414,7 +379,7 @@ impl<'l, T> RwLock<'l, T> {
 
     // Whether one of these bits is up.
     #[inline]
-    fn has(&self, bits: u8) -> bool {
+    fn has(&self, bits: usize) -> bool {
         self.state.load(Ordering::SeqCst) & bits != 0
     }
 }

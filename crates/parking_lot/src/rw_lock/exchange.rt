@@ -1,6 +1,9 @@
 //! How a thread exchanges what it holds, so that nobody writes between.
 
-use super::waiting::Writer;
+ghost use Rattle.std.specs.Prelude.{◌≡◌, None, IsOk, IsSome};
+
+use super::waiting::{Turn, Writer};
+use super::waking::Front;
 use super::{
     DOWNGRADING, DRAINS, RwLock, RwLockReadGuard, RwLockUpgradableReadGuard, RwLockWriteGuard,
     UPGRADING, UpgradableLocked, WriteLocked,
@@ -13,7 +16,7 @@ use std::sync::Wait;
 use std::sync::atomic::Ordering;
 use std::time::{Clock, Duration, Instant};
 
-impl<'a, 'r, 'l, T, R: Wait> Guard<sync::RwLockWriteGuard<'a, T>, WriteLocked<'a, 'r, 'l, T, R>> {
+impl<'a, 'r, 'l, T, R: Wait> RwLockWriteGuard<'a, 'r, 'l, T, R> {
     /// Goes on to read. Nobody writes between, and readers that wait are let in.
     ///
     /// Upstream has it under this name.
@@ -22,17 +25,15 @@ impl<'a, 'r, 'l, T, R: Wait> Guard<sync::RwLockWriteGuard<'a, T>, WriteLocked<'a
         let held = lock.read_after_write(rt, held);
         lock.read_guard(rt, held)
     }
-}
 
-impl<'a, 'r, 'l, T, R: Wait + Clock> Guard<
-    sync::RwLockWriteGuard<'a, T>,
-    WriteLocked<'a, 'r, 'l, T, R>,
-> {
     /// Goes on to read with the right to upgrade. Nobody writes between, and readers that wait are
     /// let in. It may wait for a moment, until another thread sees that it cannot read yet.
     ///
     /// Upstream has it under this name, and does not wait.
-    pub fn downgrade_to_upgradable(guard: Self) -> RwLockUpgradableReadGuard<'a, 'r, 'l, T, R> {
+    pub fn downgrade_to_upgradable(guard: Self) -> RwLockUpgradableReadGuard<'a, 'r, 'l, T, R>
+    where
+        R: Clock,
+    {
         let (held, WriteLocked { lock, rt }) = guard.into_parts();
         let upgradable = lock.upgradable.lock(rt);
         let held = lock.read_after_write(rt, held);
@@ -40,10 +41,7 @@ impl<'a, 'r, 'l, T, R: Wait + Clock> Guard<
     }
 }
 
-impl<'a, 'r, 'l, T, R: Wait> Guard<
-    sync::RwLockReadGuard<'a, T>,
-    UpgradableLocked<'a, 'r, 'l, T, R>,
-> {
+impl<'a, 'r, 'l, T, R: Wait> RwLockUpgradableReadGuard<'a, 'r, 'l, T, R> {
     /// Goes on to write if nobody else reads, and else gives the guard back. Nobody writes between.
     ///
     /// # Errors
@@ -54,7 +52,9 @@ impl<'a, 'r, 'l, T, R: Wait> Guard<
     pub fn try_upgrade(guard: Self) -> Result<RwLockWriteGuard<'a, 'r, 'l, T, R>, Self> {
         let (held, locked) = guard.into_parts();
         locked.lock.begin_upgrade(held);
-        let held = locked.lock.try_take_write(locked.rt, Writer::Upgrades);
+        let held = locked
+            .lock
+            .try_take(locked.rt, Writer::Upgrades, Turn::Comes);
         locked.end_upgrade(held)
     }
 
@@ -62,42 +62,22 @@ impl<'a, 'r, 'l, T, R: Wait> Guard<
     ///
     /// Upstream has it under this name.
     pub fn downgrade(guard: Self) -> RwLockReadGuard<'a, 'r, 'l, T, R> {
-        let (
-            held,
-            UpgradableLocked {
-                lock,
-                upgradable,
-                rt,
-            },
-        ) = guard.into_parts();
-        drop(upgradable);
-        lock.read_guard(rt, held)
+        let (held, locked) = guard.into_parts();
+        drop(locked.upgradable);
+        locked.lock.read_guard(locked.rt, held)
     }
-}
 
-impl<'a, 'r, 'l, T, R: Wait + Clock> Guard<
-    sync::RwLockReadGuard<'a, T>,
-    UpgradableLocked<'a, 'r, 'l, T, R>,
-> {
     /// Goes on to write, and waits until nobody else reads. Nobody writes between.
     ///
     /// Upstream has it under this name.
-    pub fn upgrade(guard: Self) -> RwLockWriteGuard<'a, 'r, 'l, T, R> {
-        let (
-            held,
-            UpgradableLocked {
-                lock,
-                upgradable,
-                rt,
-            },
-        ) = guard.into_parts();
-        lock.begin_upgrade(held);
-        let held = lock
-            .wait_to_write_until(rt, Writer::Upgrades, None)
-            .unwrap();
-        lock.note_upgraded();
-        drop(upgradable);
-        lock.write_guard(rt, held)
+    pub fn upgrade(guard: Self) -> RwLockWriteGuard<'a, 'r, 'l, T, R>
+    where
+        R: Clock,
+    {
+        match upgrade_at_most(guard, None) {
+            Ok(guard) => guard,
+            Err(_) => unreachable!(),
+        }
     }
 
     /// Goes on to write as `upgrade` does, and waits no longer than for the duration. A clock that
@@ -111,7 +91,10 @@ impl<'a, 'r, 'l, T, R: Wait + Clock> Guard<
     pub fn upgrade_for(
         guard: Self,
         duration: Duration,
-    ) -> Result<RwLockWriteGuard<'a, 'r, 'l, T, R>, Self> {
+    ) -> Result<RwLockWriteGuard<'a, 'r, 'l, T, R>, Self>
+    where
+        R: Clock,
+    {
         match instant_after(guard.lock().rt, duration) {
             Ok(deadline) => upgrade_at_most(guard, deadline),
             Err(_) => Self::try_upgrade(guard),
@@ -129,7 +112,10 @@ impl<'a, 'r, 'l, T, R: Wait + Clock> Guard<
     pub fn upgrade_until(
         guard: Self,
         deadline: Instant,
-    ) -> Result<RwLockWriteGuard<'a, 'r, 'l, T, R>, Self> {
+    ) -> Result<RwLockWriteGuard<'a, 'r, 'l, T, R>, Self>
+    where
+        R: Clock,
+    {
         upgrade_at_most(guard, Some(deadline))
     }
 }
@@ -137,11 +123,13 @@ impl<'a, 'r, 'l, T, R: Wait + Clock> Guard<
 fn upgrade_at_most<'a, 'r, 'l, T, R: Wait + Clock>(
     guard: RwLockUpgradableReadGuard<'a, 'r, 'l, T, R>,
     deadline: Option<Instant>,
-) -> Result<RwLockWriteGuard<'a, 'r, 'l, T, R>, RwLockUpgradableReadGuard<'a, 'r, 'l, T, R>> {
+) -> Result<RwLockWriteGuard<'a, 'r, 'l, T, R>, RwLockUpgradableReadGuard<'a, 'r, 'l, T, R>>
+    ensures { deadline ≡ None → IsOk result }
+{
     let (held, locked) = guard.into_parts();
     let lock = locked.lock;
     lock.begin_upgrade(held);
-    let held = lock.wait_to_write_until(locked.rt, Writer::Upgrades, deadline);
+    let held = lock.take_until(locked.rt, Writer::Upgrades, deadline);
     locked.end_upgrade(held)
 }
 
@@ -150,23 +138,21 @@ impl<'a, 'r, 'l, T, R: Wait> UpgradableLocked<'a, 'r, 'l, T, R> {
     fn end_upgrade(
         self,
         written: Option<sync::RwLockWriteGuard<'a, T>>,
-    ) -> Result<RwLockWriteGuard<'a, 'r, 'l, T, R>, RwLockUpgradableReadGuard<'a, 'r, 'l, T, R>> {
-        let UpgradableLocked {
-            lock,
-            upgradable,
-            rt,
-        } = self;
+    ) -> Result<RwLockWriteGuard<'a, 'r, 'l, T, R>, RwLockUpgradableReadGuard<'a, 'r, 'l, T, R>>
+        ensures { IsSome written.entry → IsOk result }
+    {
+        let lock = self.lock;
         match written {
             Some(held) => {
                 lock.note_upgraded();
-                drop(upgradable);
-                Ok(lock.write_guard(rt, held))
+                drop(self.upgradable);
+                Ok(lock.write_guard(self.rt, held))
             }
             None => {
-                let held = lock.read_at_last(rt);
+                let held = lock.read_at_last(self.rt);
                 lock.note_upgraded();
-                lock.wake_beside_read(rt);
-                Err(lock.upgradable_guard(rt, held, upgradable))
+                lock.wake(self.rt, Front::Readers);
+                Err(Guard::new(held, self))
             }
         }
     }
@@ -194,7 +180,7 @@ impl<T> RwLock<'_, T> {
         drop(held);
         let held = self.read_at_last(rt);
         self.state.fetch_and(!DOWNGRADING, Ordering::SeqCst);
-        self.wake_beside_read(rt);
+        self.wake(rt, Front::Readers);
         held
     }
 

@@ -1,9 +1,9 @@
 //! The guards of the lock.
 
+use super::waking::Front;
 use super::{DRAINS, PARKED, RwLock};
 use crate::guard::{Guard, Release};
 use crate::mutex::MutexGuard;
-use lot_threads::thread_yield;
 use std::sync;
 use std::sync::Wait;
 use std::time::Clock;
@@ -55,20 +55,15 @@ impl<T, R: Wait> Release<sync::RwLockReadGuard<'_, T>> for ReadLocked<'_, '_, '_
     #[inline]
     fn release(self, held: sync::RwLockReadGuard<'_, T>) {
         drop(held);
-        self.lock.wake_after_read(self.rt);
+        self.lock.wake(self.rt, Front::FewerReaders);
     }
 }
 
 impl<T, R: Wait> Release<sync::RwLockReadGuard<'_, T>> for UpgradableLocked<'_, '_, '_, T, R> {
     fn release(self, held: sync::RwLockReadGuard<'_, T>) {
-        let UpgradableLocked {
-            lock,
-            upgradable,
-            rt,
-        } = self;
         drop(held);
-        lock.wake_after_read(rt);
-        drop(upgradable);
+        self.lock.wake(self.rt, Front::FewerReaders);
+        drop(self.upgradable);
     }
 }
 
@@ -76,41 +71,38 @@ impl<T, R: Wait> Release<sync::RwLockWriteGuard<'_, T>> for WriteLocked<'_, '_, 
     #[inline]
     fn release(self, held: sync::RwLockWriteGuard<'_, T>) {
         drop(held);
-        self.lock.wake_after_write(self.rt);
+        self.lock.wake(self.rt, Front::Nobody);
     }
 }
 
-impl<'a, 'r, 'l, T, R: Wait> Guard<sync::RwLockReadGuard<'a, T>, ReadLocked<'a, 'r, 'l, T, R>> {
+impl<'a, 'r, 'l, T, R: Wait> RwLockReadGuard<'a, 'r, 'l, T, R> {
     /// The lock that the guard reads.
     pub fn rwlock(guard: &Self) -> &'a RwLock<'l, T> {
         guard.lock().lock
     }
 
-    /// Lets the lock go as a drop does. That wakes the writer that waits longest, and does not keep
-    /// the lock for it: another writer may be quicker.
+    /// Lets the lock go, and keeps it for the writer that waits longest, if one does. It writes
+    /// once the other readers have let the lock go.
     ///
-    /// Upstream hands the lock over.
+    /// Upstream has it under this name.
     pub fn unlock_fair(guard: Self) {
-        drop(guard);
+        let (held, ReadLocked { lock, rt }) = guard.into_parts();
+        lock.release_fair(rt, held, Front::FewerReaders);
     }
-}
 
-impl<'a, 'r, 'l, T, R: Wait + Clock> Guard<
-    sync::RwLockReadGuard<'a, T>,
-    ReadLocked<'a, 'r, 'l, T, R>,
-> {
     /// Lets others have the lock that wait for it, and reads again. If nobody waits it does
     /// nothing.
     ///
     /// Upstream has it under this name, and takes the guard by reference.
-    pub fn bump(guard: Self) -> Self {
-        let lock = guard.lock().lock;
-        let rt = guard.lock().rt;
+    pub fn bump(guard: Self) -> Self
+    where
+        R: Clock,
+    {
+        let ReadLocked { lock, rt } = *guard.lock();
         if !lock.has(PARKED | DRAINS) {
             return guard;
         }
-        drop(guard);
-        thread_yield();
+        Self::unlock_fair(guard);
         lock.read(rt)
     }
 
@@ -118,51 +110,49 @@ impl<'a, 'r, 'l, T, R: Wait + Clock> Guard<
     ///
     /// Upstream has it under this name, and takes the guard by reference.
     pub fn unlocked<A, C: FnOnce() -> A>(guard: Self, call: C) -> (Self, A)
+    where
+        R: Clock,
         requires { C.pre call }
     {
-        let lock = guard.lock().lock;
-        let rt = guard.lock().rt;
+        let ReadLocked { lock, rt } = *guard.lock();
         drop(guard);
         let answer = call();
         (lock.read(rt), answer)
     }
 }
 
-impl<'a, 'r, 'l, T, R: Wait> Guard<
-    sync::RwLockReadGuard<'a, T>,
-    UpgradableLocked<'a, 'r, 'l, T, R>,
-> {
+impl<'a, 'r, 'l, T, R: Wait> RwLockUpgradableReadGuard<'a, 'r, 'l, T, R> {
     /// The lock that the guard reads.
     pub fn rwlock(guard: &Self) -> &'a RwLock<'l, T> {
         guard.lock().lock
     }
 
-    /// Lets the lock go as a drop does. That wakes the writer that waits longest, and the thread
-    /// that waits longest for the right to upgrade, and does not keep the lock for them: others may
-    /// be quicker.
+    /// Lets the lock go, and keeps it for the writer that waits longest, if one does, and the right
+    /// to upgrade for the thread that waits longest for that.
     ///
-    /// Upstream hands the lock over.
+    /// Upstream has it under this name.
     pub fn unlock_fair(guard: Self) {
-        drop(guard);
+        let (held, locked) = guard.into_parts();
+        locked
+            .lock
+            .release_fair(locked.rt, held, Front::FewerReaders);
+        MutexGuard::unlock_fair(locked.upgradable);
     }
-}
 
-impl<'a, 'r, 'l, T, R: Wait + Clock> Guard<
-    sync::RwLockReadGuard<'a, T>,
-    UpgradableLocked<'a, 'r, 'l, T, R>,
-> {
     /// Lets others have the lock that wait for it, and reads again, with the right to upgrade. If
     /// nobody waits it does nothing.
     ///
     /// Upstream has it under this name, and takes the guard by reference.
-    pub fn bump(guard: Self) -> Self {
+    pub fn bump(guard: Self) -> Self
+    where
+        R: Clock,
+    {
         let lock = guard.lock().lock;
         let rt = guard.lock().rt;
         if !lock.has(PARKED) && !lock.upgradable.is_waited_for() {
             return guard;
         }
-        drop(guard);
-        thread_yield();
+        Self::unlock_fair(guard);
         lock.upgradable_read(rt)
     }
 
@@ -170,6 +160,8 @@ impl<'a, 'r, 'l, T, R: Wait + Clock> Guard<
     ///
     /// Upstream has it under this name, and takes the guard by reference.
     pub fn unlocked<A, C: FnOnce() -> A>(guard: Self, call: C) -> (Self, A)
+    where
+        R: Clock,
         requires { C.pre call }
     {
         let lock = guard.lock().lock;
@@ -180,37 +172,34 @@ impl<'a, 'r, 'l, T, R: Wait + Clock> Guard<
     }
 }
 
-impl<'a, 'r, 'l, T, R: Wait> Guard<sync::RwLockWriteGuard<'a, T>, WriteLocked<'a, 'r, 'l, T, R>> {
+impl<'a, 'r, 'l, T, R: Wait> RwLockWriteGuard<'a, 'r, 'l, T, R> {
     /// The lock that the guard writes.
     pub fn rwlock(guard: &Self) -> &'a RwLock<'l, T> {
         guard.lock().lock
     }
 
-    /// Lets the lock go as a drop does. That wakes the thread that waits longest, if it reads all
-    /// those up to the first writer, and does not keep the lock for them: a writer may be quicker.
+    /// Lets the lock go, and keeps it for the thread that waits longest, if one does; if that reads
+    /// for all those up to the first writer. A writer that comes meanwhile does not get it first.
     ///
-    /// Upstream hands the lock over.
+    /// Upstream has it under this name.
     pub fn unlock_fair(guard: Self) {
-        drop(guard);
+        let (held, WriteLocked { lock, rt }) = guard.into_parts();
+        lock.release_fair(rt, held, Front::Nobody);
     }
-}
 
-impl<'a, 'r, 'l, T, R: Wait + Clock> Guard<
-    sync::RwLockWriteGuard<'a, T>,
-    WriteLocked<'a, 'r, 'l, T, R>,
-> {
     /// Lets others have the lock that wait for it, and writes again. If nobody waits it does
     /// nothing.
     ///
     /// Upstream has it under this name, and takes the guard by reference.
-    pub fn bump(guard: Self) -> Self {
-        let lock = guard.lock().lock;
-        let rt = guard.lock().rt;
+    pub fn bump(guard: Self) -> Self
+    where
+        R: Clock,
+    {
+        let WriteLocked { lock, rt } = *guard.lock();
         if !lock.has(PARKED) {
             return guard;
         }
-        drop(guard);
-        thread_yield();
+        Self::unlock_fair(guard);
         lock.write(rt)
     }
 
@@ -218,10 +207,11 @@ impl<'a, 'r, 'l, T, R: Wait + Clock> Guard<
     ///
     /// Upstream has it under this name, and takes the guard by reference.
     pub fn unlocked<A, C: FnOnce() -> A>(guard: Self, call: C) -> (Self, A)
+    where
+        R: Clock,
         requires { C.pre call }
     {
-        let lock = guard.lock().lock;
-        let rt = guard.lock().rt;
+        let WriteLocked { lock, rt } = *guard.lock();
         drop(guard);
         let answer = call();
         (lock.write(rt), answer)

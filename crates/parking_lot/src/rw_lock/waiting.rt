@@ -2,17 +2,45 @@
 
 ghost use Rattle.std.specs.Prelude.{◌≡◌, ◌≢◌, None, IsSome};
 
-use super::{DOWNGRADING, DRAINS, PARKED, RwLock, UPGRADING, WRITER};
-use crate::lot::is_past;
-use lot_threads::{ParkResult, ParkToken, SpinWait, thread_yield};
+use super::waking::Front;
+use super::{DOWNGRADING, DRAINS, KEPT, KEPT_ONCE, PARKED, RwLock, UPGRADING, WRITER};
+use crate::lot::{instant_after, is_past};
+use lot_threads::{ParkResult, ParkToken, SpinWait, UnparkToken, thread_yield};
 use std::sync;
 use std::sync::Wait;
 use std::sync::atomic::Ordering;
-use std::time::{Clock, Instant};
+use std::time::{Clock, Duration, Instant};
 
 pub(super) const READS: ParkToken = ParkToken(0);
 
 pub(super) const WRITES: ParkToken = ParkToken(1);
+
+// What a woken thread is told for which the lock is kept.
+pub(super) const IS_KEPT: UnparkToken = UnparkToken(1);
+
+/// How far a thread has come.
+#[derive(Clone, Copy)]
+pub(super) enum Turn {
+    Comes,
+    Woken,
+    // The lock is kept for it.
+    Kept,
+}
+
+/// What a thread comes for: a `G` of std's lock.
+pub(super) trait Access<'a, T, G: Drop>: Copy {
+    /// What it is parked with.
+    const TOKEN: ParkToken;
+
+    /// The bits that say that it is parked.
+    fn parks_under(self) -> usize;
+
+    /// The bits that keep it out.
+    fn is_kept_out_by(self, turn: Turn) -> usize;
+
+    /// Takes std's lock, if that is free.
+    fn try_value(self, value: &'a sync::RwLock<T>) -> Option<G>;
+}
 
 /// A thread that reads.
 #[derive(Clone, Copy)]
@@ -22,14 +50,24 @@ pub(super) enum Reader {
     Recurs,
 }
 
-impl Reader {
-    // The bits that keep it out.
+impl<'a, T: 'a> Access<'a, T, sync::RwLockReadGuard<'a, T>> for Reader {
+    const TOKEN: ParkToken = READS;
+
+    fn parks_under(self) -> usize {
+        PARKED
+    }
+
     #[inline]
-    fn is_kept_out_by(self) -> u8 {
-        match self {
-            Reader::Comes => WRITER | UPGRADING,
-            Reader::Recurs => 0,
+    fn is_kept_out_by(self, turn: Turn) -> usize {
+        match (self, turn) {
+            (Reader::Comes, Turn::Comes) => WRITER | UPGRADING,
+            _ => 0,
         }
+    }
+
+    #[inline]
+    fn try_value(self, value: &'a sync::RwLock<T>) -> Option<sync::RwLockReadGuard<'a, T>> {
+        value.try_read()
     }
 }
 
@@ -41,22 +79,28 @@ pub(super) enum Writer {
     Upgrades,
 }
 
-impl Writer {
-    // The bits at which it lets the lock go again.
-    #[inline]
-    fn gives_way_to(self) -> u8 {
-        match self {
-            Writer::Comes => UPGRADING | DOWNGRADING,
-            Writer::Upgrades => DOWNGRADING,
-        }
-    }
+impl<'a, T: 'a> Access<'a, T, sync::RwLockWriteGuard<'a, T>> for Writer {
+    const TOKEN: ParkToken = WRITES;
 
-    // The bits that say that it is parked.
-    fn parks_under(self) -> u8 {
+    fn parks_under(self) -> usize {
         match self {
             Writer::Comes => PARKED | WRITER,
             Writer::Upgrades => DRAINS,
         }
+    }
+
+    #[inline]
+    fn is_kept_out_by(self, turn: Turn) -> usize {
+        match (self, turn) {
+            (Writer::Comes, Turn::Comes) => UPGRADING | DOWNGRADING | KEPT,
+            (Writer::Comes, _) => UPGRADING | DOWNGRADING,
+            (Writer::Upgrades, _) => DOWNGRADING,
+        }
+    }
+
+    #[inline]
+    fn try_value(self, value: &'a sync::RwLock<T>) -> Option<sync::RwLockWriteGuard<'a, T>> {
+        value.try_write()
     }
 }
 
@@ -64,200 +108,183 @@ impl Writer {
 enum Parked<G: Drop> {
     // Its last look took the lock.
     Took(G),
-    // It was unparked, or not let in.
-    Woken,
+    NotLetIn,
+    Unparked(UnparkToken),
     TimedOut,
     LotIsFull,
 }
 
-impl<T> RwLock<'_, T> {
+impl<'l, T> RwLock<'l, T> {
+    /// Takes the lock, and waits for it if it has to.
     #[inline]
-    pub(super) fn try_take_read(&self, reader: Reader) -> Option<sync::RwLockReadGuard<'_, T>> {
-        if self.has(reader.is_kept_out_by()) {
-            None
-        } else {
-            self.value.try_read()
+    pub(super) fn take<'a, R: Wait + Clock, G: Drop, A: Access<'a, T, G>>(
+        &'a self,
+        rt: &R,
+        access: A,
+    ) -> G {
+        match self.try_take(rt, access, Turn::Comes) {
+            Some(held) => held,
+            None => self.wait(rt, access),
         }
     }
 
+    /// Takes the lock if it need not wait.
     #[inline]
-    pub(super) fn try_take_write<R: Wait>(
-        &self,
+    pub(super) fn try_take<'a, R: Wait, G: Drop, A: Access<'a, T, G>>(
+        &'a self,
         rt: &R,
-        writer: Writer,
-    ) -> Option<sync::RwLockWriteGuard<'_, T>> {
-        let held = self.look_to_write(writer)?;
-        self.keep_write(rt, writer, held)
+        access: A,
+        turn: Turn,
+    ) -> Option<G> {
+        let held = self.look(access, turn)?;
+        self.keep(rt, access, turn, held)
     }
 
-    // Takes a write, which is to be kept or let go by `keep_write`.
-    #[inline]
-    fn look_to_write(&self, writer: Writer) -> Option<sync::RwLockWriteGuard<'_, T>> {
-        if self.has(writer.gives_way_to()) {
-            None
-        } else {
-            self.value.try_write()
+    /// Takes the lock, and waits for it no longer than for the duration.
+    pub(super) fn take_for<'a, R: Wait + Clock, G: Drop, A: Access<'a, T, G>>(
+        &'a self,
+        rt: &R,
+        access: A,
+        duration: Duration,
+    ) -> Option<G> {
+        match self.try_take(rt, access, Turn::Comes) {
+            Some(held) => Some(held),
+            None => self.take_until(rt, access, instant_after(rt, duration).ok()?),
         }
     }
 
-    // Lets the write go if another thread exchanges its guard.
+    // Takes std's lock, if that is free and no bit keeps the thread out.
     #[inline]
-    fn keep_write<'a, R: Wait>(
-        &self,
+    fn look<'a, G: Drop, A: Access<'a, T, G>>(&'a self, access: A, turn: Turn) -> Option<G> {
+        if self.has(access.is_kept_out_by(turn)) {
+            None
+        } else {
+            access.try_value(&self.value)
+        }
+    }
+
+    // Keeps what a look took, or lets it go again if a bit keeps the writer out by now.
+    #[inline]
+    fn keep<'a, R: Wait, G: Drop, A: Access<'a, T, G>>(
+        &'a self,
         rt: &R,
-        writer: Writer,
-        held: sync::RwLockWriteGuard<'a, T>,
-    ) -> Option<sync::RwLockWriteGuard<'a, T>> {
-        if self.has(writer.gives_way_to()) {
+        access: A,
+        turn: Turn,
+        held: G,
+    ) -> Option<G> {
+        if A::TOKEN == WRITES && self.has(access.is_kept_out_by(turn)) {
             drop(held);
-            self.wake_after_write(rt);
-            None
-        } else {
-            Some(held)
+            self.wake(rt, Front::Nobody);
+            return None;
         }
+        if let Turn::Kept = turn {
+            self.note_kept_no_longer();
+        }
+        Some(held)
+    }
+
+    fn note_kept_no_longer(&self) {
+        self.state.fetch_sub(KEPT_ONCE, Ordering::SeqCst);
     }
 
     #[cold]
     #[inline(never)]
-    pub(super) fn wait_to_read<R: Wait + Clock>(
-        &self,
-        rt: &R,
-        reader: Reader,
-    ) -> sync::RwLockReadGuard<'_, T> {
-        self.wait_to_read_until(rt, reader, None).unwrap()
+    fn wait<'a, R: Wait + Clock, G: Drop, A: Access<'a, T, G>>(&'a self, rt: &R, access: A) -> G {
+        self.take_until(rt, access, None).unwrap()
     }
 
-    pub(super) fn wait_to_read_until<R: Wait + Clock>(
-        &self,
+    /// Takes the lock, and waits for it no longer than until the deadline.
+    pub(super) fn take_until<'a, R: Wait + Clock, G: Drop, A: Access<'a, T, G>>(
+        &'a self,
         rt: &R,
-        reader: Reader,
+        access: A,
         deadline: Option<Instant>,
-    ) -> Option<sync::RwLockReadGuard<'_, T>>
+    ) -> Option<G>
         ensures { deadline ≡ None → IsSome result }
     {
+        let mut turn = Turn::Comes;
         let mut spin = SpinWait::new();
         for _ in rt.forever() {
-            if let Some(held) = self.try_take_read(reader) {
-                return Some(held);
-            }
-            if !self.has(PARKED) && spin.spin() {
-                continue;
-            }
-            match self.park_to_read(rt, reader, deadline) {
-                Parked::Took(held) => return Some(held),
-                Parked::Woken => {
-                    // A writer that stands behind keeps it out no longer.
-                    if let Some(held) = self.value.try_read() {
-                        return Some(held);
-                    }
-                }
-                Parked::TimedOut => return None,
-                Parked::LotIsFull if is_past(rt, deadline) => return None,
-                Parked::LotIsFull => thread_yield(),
-            }
-            spin.reset();
-        }
-        unreachable!()
-    }
-
-    #[cold]
-    #[inline(never)]
-    pub(super) fn wait_to_write<R: Wait + Clock>(&self, rt: &R) -> sync::RwLockWriteGuard<'_, T> {
-        self.wait_to_write_until(rt, Writer::Comes, None).unwrap()
-    }
-
-    pub(super) fn wait_to_write_until<R: Wait + Clock>(
-        &self,
-        rt: &R,
-        writer: Writer,
-        deadline: Option<Instant>,
-    ) -> Option<sync::RwLockWriteGuard<'_, T>>
-        ensures { deadline ≡ None → IsSome result }
-    {
-        let mut spin = SpinWait::new();
-        for _ in rt.forever() {
-            if let Some(held) = self.try_take_write(rt, writer) {
+            if let Some(held) = self.try_take(rt, access, turn) {
                 return Some(held);
             }
             // The readers that keep a woken writer waiting leave soon, since no others come.
-            if spin.spin() {
+            if (A::TOKEN == WRITES || !self.has(PARKED)) && spin.spin() {
                 continue;
             }
-            match self.park_to_write(rt, writer, deadline) {
+            match self.park(rt, access, turn, deadline) {
                 Parked::Took(held) => {
-                    if let Some(held) = self.keep_write(rt, writer, held) {
+                    if let Some(held) = self.keep(rt, access, turn, held) {
                         return Some(held);
                     }
                 }
-                Parked::Woken => (),
-                Parked::TimedOut => return None,
-                Parked::LotIsFull if is_past(rt, deadline) => return None,
-                Parked::LotIsFull => thread_yield(),
+                Parked::NotLetIn => (),
+                Parked::Unparked(token) => turn = self.next_turn(turn, token),
+                Parked::LotIsFull if !is_past(rt, deadline) => thread_yield(),
+                Parked::TimedOut | Parked::LotIsFull => {
+                    self.give_up(rt, A::TOKEN, turn);
+                    return None;
+                }
             }
             spin.reset();
         }
         unreachable!()
     }
 
-    fn park_to_read<R: Wait + Clock>(
-        &self,
-        rt: &R,
-        reader: Reader,
-        deadline: Option<Instant>,
-    ) -> Parked<sync::RwLockReadGuard<'_, T>>
-        ensures { deadline ≡ None → result ≢ Parked.TimedOut }
-    {
-        let look = || self.try_take_read(reader);
-        self.park(rt, self.key, READS, PARKED, look, deadline)
+    // The turn of a thread that was unparked. Whoever was told twice that the lock is kept for it
+    // has it only once.
+    fn next_turn(&self, turn: Turn, token: UnparkToken) -> Turn {
+        match (turn, token) {
+            (Turn::Kept, IS_KEPT) => {
+                self.note_kept_no_longer();
+                Turn::Kept
+            }
+            (Turn::Kept, _) | (_, IS_KEPT) => Turn::Kept,
+            _ => Turn::Woken,
+        }
     }
 
-    fn park_to_write<R: Wait + Clock>(
-        &self,
-        rt: &R,
-        writer: Writer,
-        deadline: Option<Instant>,
-    ) -> Parked<sync::RwLockWriteGuard<'_, T>>
-        ensures { deadline ≡ None → result ≢ Parked.TimedOut }
-    {
-        let key = match writer {
-            Writer::Comes => self.key,
-            Writer::Upgrades => self.drain,
-        };
-        let look = || self.look_to_write(writer);
-        self.park(rt, key, WRITES, writer.parks_under(), look, deadline)
+    // Leaves without the lock, which is kept for this thread no longer.
+    fn give_up<R: Wait>(&self, rt: &R, token: ParkToken, turn: Turn) {
+        if let Turn::Kept = turn {
+            self.note_kept_no_longer();
+            self.wake(rt, Front::Nobody);
+        }
+        if token == WRITES {
+            self.wake(rt, Front::Readers);
+        }
     }
 
     // Parks on the key unless a look takes the lock, with the bits up before it.
-    fn park<R: Wait + Clock, G: Drop, F: FnOnce() -> Option<G>>(
-        &self,
+    fn park<'a, R: Wait + Clock, G: Drop, A: Access<'a, T, G>>(
+        &'a self,
         rt: &R,
-        key: usize,
-        token: ParkToken,
-        bits: u8,
-        look: F,
+        access: A,
+        turn: Turn,
         deadline: Option<Instant>,
     ) -> Parked<G>
-        requires { F.pre look }
         ensures { deadline ≡ None → result ≢ Parked.TimedOut }
     {
+        let bits = access.parks_under();
         let mut held = None;
         let parked = self.lot.park(
             rt,
-            key,
+            if bits == DRAINS { self.drain } else { self.key },
             || {
                 self.state.fetch_or(bits, Ordering::SeqCst);
-                held = look();
+                held = self.look(access, turn);
                 held.is_none()
             },
             || (),
             |_, _| (),
-            token,
+            A::TOKEN,
             deadline,
         );
         match (held, parked) {
             (Some(held), _) => Parked::Took(held),
             (None, None) => Parked::LotIsFull,
-            (None, Some(ParkResult::Unparked(_) | ParkResult::Invalid)) => Parked::Woken,
+            (None, Some(ParkResult::Unparked(token))) => Parked::Unparked(token),
+            (None, Some(ParkResult::Invalid)) => Parked::NotLetIn,
             (None, Some(ParkResult::TimedOut)) => Parked::TimedOut,
         }
     }

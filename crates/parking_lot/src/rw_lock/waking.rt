@@ -1,15 +1,17 @@
 //! Whom a thread wakes that lets the lock go.
 
-use super::waiting::WRITES;
-use super::{DRAINS, PARKED, RwLock, UPGRADING, WRITER};
-use lot_threads::{DEFAULT_UNPARK_TOKEN, FilterOp, ParkToken, unpark_chosen, unpark_one};
+use super::waiting::{IS_KEPT, WRITES};
+use super::{DRAINS, KEPT_ONCE, PARKED, RwLock, UPGRADING, WRITER};
+use lot_threads::{
+    DEFAULT_UNPARK_TOKEN, FilterOp, ParkToken, UnparkToken, unpark_chosen, unpark_one,
+};
 use std::cell::Cell;
 use std::sync::Wait;
 use std::sync::atomic::Ordering;
 
-// Who has the lock or was woken for it, as the list is gone through.
+/// Who has the lock or was woken for it, as the list is gone through.
 #[derive(Clone, Copy)]
-enum Front {
+pub(super) enum Front {
     // Nobody: the first of the list may come, whoever that is.
     Nobody,
     // A reader left, and perhaps not the last: only a writer may come, whose turn it then is.
@@ -21,6 +23,16 @@ enum Front {
 }
 
 impl Front {
+    // The bits that say whether somebody may come, or whether bits are to go down.
+    #[inline]
+    fn looks_for(self) -> usize {
+        match self {
+            Front::Nobody | Front::Writer => PARKED | WRITER | DRAINS,
+            Front::FewerReaders => PARKED | DRAINS,
+            Front::Readers => PARKED | WRITER,
+        }
+    }
+
     // What becomes of the next waiter, and who is at the front then.
     fn meets(self, waiter: ParkToken) -> (FilterOp, Front) {
         match (self, waiter == WRITES) {
@@ -33,7 +45,7 @@ impl Front {
 
     // The bits that go down with nobody left in the list. A writer that was woken keeps readers out
     // until it lets the lock go.
-    fn takes_down(self) -> u8 {
+    fn takes_down(self) -> usize {
         match self {
             Front::Nobody | Front::Readers => PARKED | WRITER,
             Front::FewerReaders | Front::Writer => PARKED,
@@ -42,43 +54,42 @@ impl Front {
 }
 
 impl<T> RwLock<'_, T> {
-    // Wakes others, once a read was let go.
+    /// Wakes others, once the lock was let go, or once nothing keeps readers out any more.
     #[inline]
-    pub(super) fn wake_after_read<R: Wait>(&self, rt: &R) {
+    pub(super) fn wake<R: Wait>(&self, rt: &R, front: Front) {
         let state = self.state.load(Ordering::SeqCst);
-        if state & (PARKED | DRAINS) != 0 {
-            self.unpark_in(rt, state, Front::FewerReaders);
-        }
-    }
-
-    // Wakes others, once a write was let go.
-    #[inline]
-    pub(super) fn wake_after_write<R: Wait>(&self, rt: &R) {
-        let state = self.state.load(Ordering::SeqCst);
-        if state & (PARKED | WRITER | DRAINS) != 0 {
-            self.unpark_in(rt, state, Front::Nobody);
-        }
-    }
-
-    // Wakes readers that nothing keeps out any more.
-    pub(super) fn wake_beside_read<R: Wait>(&self, rt: &R) {
-        if self.has(PARKED | WRITER) {
-            self.unpark(rt, Front::Readers);
+        if state & front.looks_for() != 0 {
+            self.wake_in(rt, state, front);
         }
     }
 
     // Wakes others in this state. Whoever upgrades wakes all but itself later.
     #[cold]
     #[inline(never)]
-    fn unpark_in<R: Wait>(&self, rt: &R, state: u8, front: Front) {
+    fn wake_in<R: Wait>(&self, rt: &R, state: usize, front: Front) {
         if state & UPGRADING == 0 {
-            self.unpark(rt, front);
+            self.unpark::<R, ()>(rt, front, None);
         } else if state & DRAINS != 0 {
             self.unpark_upgrade(rt);
         }
     }
 
-    fn unpark<R: Wait>(&self, rt: &R, first: Front) {
+    /// Lets the lock go, and keeps it for those whom it wakes. During an upgrade it is kept for
+    /// that.
+    pub(super) fn release_fair<R: Wait, G: Drop>(&self, rt: &R, held: G, front: Front) {
+        if self.state.load(Ordering::SeqCst) & (PARKED | UPGRADING) != PARKED {
+            drop(held);
+            self.wake(rt, front);
+            return;
+        }
+        self.unpark(rt, front, Some(held));
+        if self.has(DRAINS) {
+            self.unpark_upgrade(rt);
+        }
+    }
+
+    // Unparks those who may come. A lock that is handed over is let go in the section.
+    fn unpark<R: Wait, G: Drop>(&self, rt: &R, first: Front, handed_over: Option<G>) {
         let front = Cell::new(first);
         unpark_chosen(
             rt,
@@ -94,9 +105,20 @@ impl<T> RwLock<'_, T> {
                     let bits = front.get().takes_down();
                     self.state.fetch_and(!bits, Ordering::SeqCst);
                 }
-                DEFAULT_UNPARK_TOKEN
+                match handed_over {
+                    Some(held) => self.keep_for(found.unparked_threads, held),
+                    None => DEFAULT_UNPARK_TOKEN,
+                }
             },
         );
+    }
+
+    // Lets the lock go, and keeps it for so many threads, which their token tells.
+    fn keep_for<G: Drop>(&self, threads: usize, held: G) -> UnparkToken {
+        let kept = threads.wrapping_mul(KEPT_ONCE);
+        self.state.fetch_add(kept, Ordering::SeqCst);
+        drop(held);
+        IS_KEPT
     }
 
     fn unpark_upgrade<R: Wait>(&self, rt: &R) {
