@@ -1,70 +1,63 @@
 //! Tests of `Barrier`, which upstream does not have.
 
-use crate::scenery::{
-    Host, ROOM, ROOMS, expect, expect_equal, expect_shown, new_count, new_lot, raise, read,
-};
-use parking_lot::{Barrier, Party};
-use std::sync::atomic::AtomicUsize;
+use crate::stage::{Host, ROOMS, expect, new_lot};
+use parking_lot::{Barrier, Lot, Parties, Party};
+use std::sync::atomic::{AtomicUsize, Ordering};
 use std::thread;
 
+// So many come.
+const PARTIES: usize = 4;
+
 // So many times each comes.
-const ROUNDS: u64 = 100;
+const ROUNDS: usize = 100;
 
 // Each comes again and again, and finds that all have come before it goes on.
-fn come<R: Host>(rt: &R, party: Party<'_, '_>, came: &AtomicUsize, led: &AtomicUsize) {
-    let mut party = party;
-    for round in 0..ROUNDS {
-        raise(came);
+fn come<R: Host>(rt: &R, party: &mut Party<'_, '_>, came: &AtomicUsize, led: &AtomicUsize) {
+    for round in 1..=ROUNDS {
+        came.fetch_add(1, Ordering::SeqCst);
         if party.wait(rt).is_leader() {
-            raise(led);
+            led.fetch_add(1, Ordering::SeqCst);
         }
-        let all = round.wrapping_add(1).wrapping_mul(4);
-        expect(rt, read(came) >= all, "all have come");
+        let have_come = came.load(Ordering::SeqCst) >= round.wrapping_mul(PARTIES);
+        expect(rt, have_come, "all have come");
         party.wait(rt);
     }
 }
 
-fn two_come<R: Host>(
+fn push_next<'a, 'l, R: Host>(
     rt: &R,
-    one: Party<'_, '_>,
-    other: Party<'_, '_>,
-    came: &AtomicUsize,
-    led: &AtomicUsize,
+    parties: &mut Vec<Party<'a, 'l>>,
+    left: &mut Parties<'a, 'l>,
 ) {
-    thread::join(
-        rt,
-        || come(rt, one, came, led),
-        || come(rt, other, came, led),
-    );
+    let party = left.next().expect(rt, "a party");
+    parties.push(party).expect(rt, "memory");
 }
 
-fn four_meet<R: Host>(rt: &R, room: usize) {
-    let lot = new_lot(rt, room);
-    let mut barrier = Barrier::new(&lot, 4).expect(rt, "a barrier");
-    let (came, led) = (new_count(), new_count());
+fn all_meet<R: Host>(rt: &R, barrier: &mut Barrier<'_>) -> usize {
+    let (came, led) = (AtomicUsize::new(0), AtomicUsize::new(0));
     let mut left = barrier.parties();
-    let first = left.next().expect(rt, "a party");
-    let second = left.next().expect(rt, "a party");
-    let third = left.next().expect(rt, "a party");
-    let fourth = left.next().expect(rt, "a party");
-    thread::join(
-        rt,
-        || two_come(rt, first, second, &came, &led),
-        || two_come(rt, third, fourth, &came, &led),
-    );
-    expect_equal(rt, read(&led), ROUNDS);
+    let mut parties = Vec::new(rt.alloc());
+    for _ in 0..PARTIES {
+        push_next(rt, &mut parties, &mut left);
+    }
+    let come = |mut party| come(rt, &mut party, &came, &led);
+    thread::map_vec(rt, parties, &come).expect(rt, "threads");
+    led.load(Ordering::SeqCst)
 }
 
-#[test]
-fn each_round_has_one_leader(rt: HostRuntime) {
+fn has_one_leader_a_round<R: Host>(rt: &R, lot: &Lot) -> bool {
+    let mut barrier = Barrier::new(lot, PARTIES).expect(rt, "a barrier");
+    all_meet(rt, &mut barrier) == ROUNDS
+}
+
+fn meet_in_each_room<R: Host>(rt: &R) {
     for room in ROOMS {
-        four_meet(&rt, room);
+        let lot = new_lot(rt, room);
+        expect(rt, has_one_leader_a_round(rt, &lot), "one leader each");
     }
 }
 
 #[test]
-fn barrier_debug(rt: HostRuntime) {
-    let lot = new_lot(&rt, ROOM);
-    let barrier = Barrier::new(&lot, 1).expect(&rt, "a barrier");
-    expect_shown(&rt, &barrier, "Barrier { .. }");
+fn each_round_has_one_leader(rt: HostRuntime) {
+    meet_in_each_room(&rt);
 }

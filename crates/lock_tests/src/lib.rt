@@ -1,6 +1,8 @@
 //! Tests of `parking_lot` by its public calls alone. Most are tests and examples of Rust's
-//! `parking_lot` and `lock_api` that were written anew, under the names that they have there, and
-//! they expect what those do. Where the answer here is another one, the comment of a test says so.
+//! `parking_lot` and `lock_api` that were written anew, and they expect what those do. Where the
+//! answer here is another one, the test says so. Nearly all are scripts: what threads do with one
+//! lock of each kind, line by line, and how each call has to end. The first line of a script has
+//! the name that the test has there. `player` tells the words.
 //!
 //! No clause of a contract says that a lock keeps others out, that whoever waits is woken, or that
 //! an addition is not lost: these tests do. One that waits for ever, or a thread that is not woken,
@@ -12,15 +14,15 @@ mod barrier;
 #[cfg(test)]
 mod condvar;
 #[cfg(test)]
-mod fair;
+mod drops;
 #[cfg(test)]
 mod mutex;
 #[cfg(test)]
 mod once;
 #[cfg(test)]
-mod once_values;
-#[cfg(test)]
 mod parts;
+#[cfg(test)]
+mod player;
 #[cfg(test)]
 mod queue;
 #[cfg(test)]
@@ -28,8 +30,8 @@ mod reentrant_mutex;
 #[cfg(test)]
 mod rw_lock;
 #[cfg(test)]
-mod rw_lock_calls;
-#[cfg(test)]
-mod scenery;
-#[cfg(test)]
 mod semaphore;
+#[cfg(test)]
+mod stage;
+#[cfg(test)]
+mod values;

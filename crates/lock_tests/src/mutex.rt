@@ -1,262 +1,231 @@
 //! Tests of `Mutex` and `FairMutex`. Each is run for both.
+//!
+//! - `mutex`: `lock`, `try_lock`, `lock_for TIME`, `lock_until TIME` (whether it has the mutex
+//!   now), `is_locked`. `take mutex`, `take second`, `take foreign`: the mutex that the thread uses
+//!   from then on, the last being one of another lot.
+//! - `guard`: `value`, `still` (whether the value is as the thread saw or left it), `set N`,
+//!   `add N`, `take N`, `slowly` (adds 1 in two writes, and lets others run between), `bump`,
+//!   `unlocked` (whether nobody had it meanwhile), `is_locked` (asked of the guard's mutex),
+//!   `unlock`, `unlock_fair`, `hand_over` (unlocks it in the way that keeps it for who waits),
+//!   `leak` (which writes 2).
 
-use crate::scenery::{
-    Dropped, Host, ROOM, ROOMS, expect, expect_equal, expect_shown, far, in_threads, is_shared,
-    long_time, new_count, new_lot, new_mutex, past, raise, read, short_time, soon, wait_for_count,
-};
-use parking_lot::Lot;
-use parking_lot::mutex::{Barging, Fairness, InOrder, MutexGuardIn, MutexIn};
-use std::sync::Arc;
-use std::sync::atomic::AtomicUsize;
+use crate::player::play_both;
+use crate::stage::{BETWEEN, Hand, Host, ROOM, ROOMS, Stage, instant, keep, time};
+use parking_lot::mutex::{Fairness, MutexGuardIn, MutexIn};
 use std::thread;
+use test_support::words::Words;
 
-// Adds one so often.
-fn add<'x, F: Fairness, R: Host>(rt: &'x R, mutex: &'x MutexIn<'_, u64, F>, times: usize) {
-    for _ in 0..times {
-        let mut guard = mutex.lock(rt);
-        *guard = guard.wrapping_add(1);
-    }
+type Held<'x, 'l, F, R> = MutexGuardIn<'x, 'x, 'l, usize, R, F>;
+
+pub fn use_mutex<'x, 'l, F: Fairness, R: Host>(
+    rt: &'x R,
+    stage: &'x Stage<'l, F>,
+    hand: &mut Hand<'x, 'l, F, R>,
+    words: &mut Words<'_>,
+) -> Option<usize> {
+    let found = match words.word()? {
+        "is_locked" => return Some(usize::from(hand.mutex.is_locked(rt))),
+        "take" => return choose(stage, hand, words),
+        "lock" => Some(hand.mutex.lock(rt)),
+        "try_lock" => hand.mutex.try_lock(rt),
+        "lock_for" => hand.mutex.lock_for(rt, time(words)?),
+        "lock_until" => hand.mutex.lock_until(rt, instant(rt, words)?),
+        _ => return None,
+    };
+    Some(usize::from(keep(&mut hand.guard, found)))
 }
 
-fn locks_twice<F: Fairness, R: Host>(rt: &R) {
-    let lot = new_lot(rt, ROOM);
-    let mutex: MutexIn<'_, u64, F> = new_mutex(rt, &lot, 0);
-    drop(mutex.lock(rt));
-    drop(mutex.lock(rt));
+fn choose<'x, 'l, F: Fairness, R: Host>(
+    stage: &'x Stage<'l, F>,
+    hand: &mut Hand<'x, 'l, F, R>,
+    words: &mut Words<'_>,
+) -> Option<usize> {
+    hand.mutex = match words.word()? {
+        "mutex" => &stage.mutex,
+        "second" => &stage.second,
+        "foreign" => &stage.foreign,
+        _ => return None,
+    };
+    Some(1)
 }
 
-#[test]
-fn smoke(rt: HostRuntime) {
-    locks_twice::<Barging, _>(&rt);
-    locks_twice::<InOrder, _>(&rt);
-}
-
-fn six_threads_add<F: Fairness + Sync, R: Host>(rt: &R, room: usize) {
-    let lot = new_lot(rt, room);
-    let mutex: MutexIn<'_, u64, F> = new_mutex(rt, &lot, 0);
-    in_threads(rt, 6, &|_| add(rt, &mutex, 1000));
-    expect_equal(rt, *mutex.lock(rt), 6000);
-}
-
-#[test]
-fn lots_and_lots(rt: HostRuntime) {
-    for room in ROOMS {
-        six_threads_add::<Barging, _>(&rt, room);
-        six_threads_add::<InOrder, _>(&rt, room);
-    }
-}
-
-fn tries<F: Fairness, R: Host>(rt: &R) {
-    let lot = new_lot(rt, ROOM);
-    let mutex: MutexIn<'_, u64, F> = new_mutex(rt, &lot, 0);
-    expect(rt, !mutex.is_locked(rt), "nobody holds it");
-    let guard = mutex.try_lock(rt);
-    expect(rt, guard.is_some(), "it is free");
-    expect(rt, mutex.is_locked(rt), "it is held");
-    expect(rt, mutex.try_lock(rt).is_none(), "it is held");
-    drop(guard);
-    expect(rt, mutex.try_lock(rt).is_some(), "it is free again");
-}
-
-#[test]
-fn try_lock(rt: HostRuntime) {
-    tries::<Barging, _>(&rt);
-    tries::<InOrder, _>(&rt);
-}
-
-fn value_comes_out<F: Fairness, R: Host>(rt: &R, lot: &Lot) {
-    let mut mutex: MutexIn<'_, u64, F> = new_mutex(rt, lot, 10);
-    *mutex.get_mut() = 20;
-    expect_equal(rt, mutex.into_inner(), 20);
-    let unchanged: MutexIn<'_, u64, F> = new_mutex(rt, lot, 10);
-    expect_equal(rt, unchanged.into_inner(), 10);
-}
-
-#[test]
-fn into_inner_and_get_mut(rt: HostRuntime) {
-    let lot = new_lot(&rt, ROOM);
-    value_comes_out::<Barging, _>(&rt, &lot);
-    value_comes_out::<InOrder, _>(&rt, &lot);
-}
-
-fn value_is_dropped_once<F: Fairness, R: Host>(rt: &R) {
-    let lot = new_lot(rt, ROOM);
-    let count = new_count();
-    let mutex: MutexIn<'_, Dropped<'_>, F> = new_mutex(rt, &lot, Dropped::counted_by(&count));
-    expect_equal(rt, read(&count), 0);
-    let value = mutex.into_inner();
-    expect_equal(rt, read(&count), 0);
-    drop(value);
-    expect_equal(rt, read(&count), 1);
-}
-
-#[test]
-fn into_inner_drop(rt: HostRuntime) {
-    value_is_dropped_once::<Barging, _>(&rt);
-    value_is_dropped_once::<InOrder, _>(&rt);
-}
-
-// It locks a mutex that lies in another mutex, which a spawned thread has in an `Arc`.
-fn looks_inside<F: Fairness, R: Host>(
-    rt: &R,
-    outer: &MutexIn<'static, MutexIn<'static, u64, F>, F>,
-) -> bool {
-    let guard = outer.lock(rt);
-    let inner = guard.lock(rt);
-    *inner == 1
-}
-
-fn nests<F: Fairness + Sync + Send + 'static, R: Host + Copy + Send + 'static>(
-    rt: R,
-    lot: &'static Lot,
-) {
-    let inner: MutexIn<'static, u64, F> = new_mutex(&rt, lot, 1);
-    let outer: MutexIn<'static, MutexIn<'static, u64, F>, F> = new_mutex(&rt, lot, inner);
-    let shared = Arc::new(rt.alloc(), outer).expect(&rt, "memory");
-    let cloned: Result<_, _> = shared.clone();
-    let theirs = cloned.expect(&rt, "memory");
-    let spawned = thread::spawn(&rt, move || looks_inside(&rt, &theirs));
-    expect(&rt, looks_inside(&rt, &shared), "it is 1");
-    if let Ok(child) = spawned {
-        expect(&rt, child.join(&rt), "it is 1 in the thread");
-    }
-}
-
-#[test]
-fn arc_nested(rt: HostRuntime) {
-    let lot = Lot::for_ever(rt.alloc(), ROOM).expect(&rt, "a lot");
-    nests::<Barging, _>(rt, lot);
-    nests::<InOrder, _>(rt, lot);
-}
-
-fn guard_is_shared<F: Fairness + Sync, R: Host>(rt: &R, lot: &Lot) {
-    let mutex: MutexIn<'_, u64, F> = new_mutex(rt, lot, 0);
-    is_shared(mutex.lock(rt));
-}
-
-#[test]
-fn mutexguard_sync(rt: HostRuntime) {
-    let lot = new_lot(&rt, ROOM);
-    guard_is_shared::<Barging, _>(&rt, &lot);
-    guard_is_shared::<InOrder, _>(&rt, &lot);
-}
-
-fn is_shown<F: Fairness, R: Host>(rt: &R, lot: &Lot) {
-    let mutex: MutexIn<'_, u64, F> = new_mutex(rt, lot, 10);
-    expect_shown(rt, &mutex, "Mutex { .. }");
-    let _guard = mutex.lock(rt);
-    expect_shown(rt, &mutex, "Mutex { .. }");
-}
-
-// Upstream shows the value, or that it is locked. To look takes a runtime here.
-#[test]
-fn mutex_debug(rt: HostRuntime) {
-    let lot = new_lot(&rt, ROOM);
-    is_shown::<Barging, _>(&rt, &lot);
-    is_shown::<InOrder, _>(&rt, &lot);
-}
-
-fn adds_and_tells<F: Fairness, R: Host>(rt: &R, mutex: &MutexIn<'_, u64, F>, all: &AtomicUsize) {
-    let mut guard = mutex.lock(rt);
-    *guard = guard.wrapping_add(1);
-    if *guard == 10 {
-        raise(all);
-    }
-}
-
-fn tenth_tells<F: Fairness + Sync, R: Host>(rt: &R, room: usize) {
-    let lot = new_lot(rt, room);
-    let mutex: MutexIn<'_, u64, F> = new_mutex(rt, &lot, 0);
-    let all = new_count();
-    thread::join(
-        rt,
-        || in_threads(rt, 10, &|_| adds_and_tells(rt, &mutex, &all)),
-        || wait_for_count(rt, &all, 1),
-    );
-    expect_equal(rt, read(&all), 1);
-}
-
-// The example of the documentation of either.
-#[test]
-fn example_of_ten_threads(rt: HostRuntime) {
-    for room in ROOMS {
-        tenth_tells::<Barging, _>(&rt, room);
-        tenth_tells::<InOrder, _>(&rt, room);
-    }
-}
-
-fn gives_up_at_deadlines<F: Fairness + Sync, R: Host>(rt: &R, room: usize) {
-    let lot = new_lot(rt, room);
-    let mutex: MutexIn<'_, u64, F> = new_mutex(rt, &lot, 0);
-    expect(rt, mutex.lock_until(rt, past(rt)).is_some(), "it is free");
-    expect(rt, mutex.lock_for(rt, short_time()).is_some(), "it is free");
-    let _guard = mutex.lock(rt);
-    expect(rt, mutex.lock_until(rt, past(rt)).is_none(), "it is held");
-    expect(rt, mutex.lock_until(rt, soon(rt)).is_none(), "it is held");
-    expect(rt, mutex.lock_for(rt, short_time()).is_none(), "it is held");
-}
-
-// One holds the mutex until another has come for it, and is let go before the deadline.
-fn is_let_in_before_the_deadline<F: Fairness + Sync, R: Host>(rt: &R, room: usize) {
-    let lot = new_lot(rt, room);
-    let mutex: MutexIn<'_, u64, F> = new_mutex(rt, &lot, 0);
-    let guard = mutex.lock(rt);
-    thread::join(
-        rt,
-        || expect(rt, mutex.lock_until(rt, far(rt)).is_some(), "it is let go"),
-        || drop(guard),
-    );
-    let guard = mutex.lock(rt);
-    thread::join(
-        rt,
-        || expect(
-            rt,
-            mutex.lock_for(rt, long_time()).is_some(),
-            "it is let go",
-        ),
-        || drop(guard),
-    );
-}
-
-#[test]
-fn deadlines_pass_or_do_not(rt: HostRuntime) {
-    for room in ROOMS {
-        gives_up_at_deadlines::<Barging, _>(&rt, room);
-        gives_up_at_deadlines::<InOrder, _>(&rt, room);
-        is_let_in_before_the_deadline::<Barging, _>(&rt, room);
-        is_let_in_before_the_deadline::<InOrder, _>(&rt, room);
-    }
-}
-
-// Locks it in one way of each three, so often.
-fn add_and_hand_over<'x, F: Fairness, R: Host>(rt: &'x R, mutex: &'x MutexIn<'_, u64, F>) {
-    for _ in 0..300usize {
-        add(rt, mutex, 1);
-        let guard = MutexGuardIn::bump(mutex.lock(rt));
-        let (mut guard, other) = MutexGuardIn::unlocked(guard, || mutex.try_lock(rt).is_some());
-        *guard = guard.wrapping_add(1);
-        expect(
-            rt,
-            MutexGuardIn::mutex(&guard).is_locked(rt),
-            "the guard holds it",
-        );
-        if other {
-            MutexGuardIn::unlock_fair(guard);
+pub fn use_guard<'x, 'l, F: Fairness, R: Host>(
+    rt: &'x R,
+    hand: &mut Hand<'x, 'l, F, R>,
+    words: &mut Words<'_>,
+) -> Option<usize> {
+    let call = words.word()?;
+    match call {
+        "is_locked" | "bump" | "unlocked" | "unlock" | "unlock_fair" | "hand_over" | "leak" => {
+            Some(use_held(rt, hand.mutex, &mut hand.guard, call))
         }
+        _ => change(hand.guard.as_mut()?, &mut hand.last, call, words),
     }
 }
 
-fn four_hand_over<F: Fairness + Sync, R: Host>(rt: &R, room: usize) {
-    let lot = new_lot(rt, room);
-    let mutex: MutexIn<'_, u64, F> = new_mutex(rt, &lot, 0);
-    in_threads(rt, 4, &|_| add_and_hand_over(rt, &mutex));
-    expect_equal(rt, *mutex.lock(rt), 2400);
+fn use_held<'x, 'l, F: Fairness, R: Host>(
+    rt: &'x R,
+    mutex: &'x MutexIn<'l, usize, F>,
+    held: &mut Option<Held<'x, 'l, F, R>>,
+    call: &str,
+) -> usize {
+    let Some(guard) = held.take() else {
+        return 0;
+    };
+    let (guard, found) = pass_on(rt, mutex, guard, call);
+    *held = guard;
+    found
+}
+
+/// Looks at a value or changes it.
+pub fn change(
+    value: &mut usize,
+    last: &mut usize,
+    call: &str,
+    words: &mut Words<'_>,
+) -> Option<usize> {
+    let is_still = *value == *last;
+    match call {
+        "value" | "still" => (),
+        "set" => *value = words.number()?,
+        "add" => *value = value.wrapping_add(words.number()?),
+        "take" => *value = value.wrapping_sub(words.number()?),
+        "slowly" => add_slowly(value),
+        _ => return None,
+    }
+    *last = *value;
+    match call {
+        "value" => Some(*value),
+        "still" => Some(usize::from(is_still)),
+        _ => Some(1),
+    }
+}
+
+fn add_slowly(value: &mut usize) {
+    let old = *value;
+    *value = BETWEEN;
+    thread::yield_now();
+    *value = old.wrapping_add(1);
+}
+
+fn pass_on<'x, 'l, F: Fairness, R: Host>(
+    rt: &'x R,
+    mutex: &'x MutexIn<'l, usize, F>,
+    guard: Held<'x, 'l, F, R>,
+    call: &str,
+) -> (Option<Held<'x, 'l, F, R>>, usize) {
+    match call {
+        "is_locked" => {
+            let is_locked = MutexGuardIn::mutex(&guard).is_locked(rt);
+            return (Some(guard), usize::from(is_locked));
+        }
+        "bump" => return (Some(MutexGuardIn::bump(guard)), 1),
+        "unlocked" => {
+            let (guard, found) = MutexGuardIn::unlocked(guard, || mutex.try_lock(rt).is_some());
+            return (Some(guard), usize::from(found));
+        }
+        "leak" => return (None, usize::from(is_leaked(rt, guard))),
+        "hand_over" if !F::IS_FAIR => MutexGuardIn::unlock_fair(guard),
+        "unlock_fair" => MutexGuardIn::unlock_fair(guard),
+        _ => drop(guard),
+    }
+    (None, 1)
+}
+
+fn is_leaked<F: Fairness, R: Host>(rt: &R, guard: Held<'_, '_, F, R>) -> bool {
+    match MutexGuardIn::leak(guard, rt.alloc()) {
+        Ok(value) => {
+            *value = 2;
+            true
+        }
+        Err(_guard) => false,
+    }
 }
 
 #[test]
-fn bumps_and_fair_unlocks_lose_nothing(rt: HostRuntime) {
-    for room in ROOMS {
-        four_hand_over::<Barging, _>(&rt, room);
-        four_hand_over::<InOrder, _>(&rt, room);
-    }
+fn one_thread_has_a_mutex(rt: HostRuntime) {
+    let scripts = [
+        "# smoke
+mutex lock ; guard unlock ; mutex lock ; guard unlock",
+        "# try_lock
+mutex is_locked -> 0 ; mutex try_lock ; mutex is_locked ; mutex try_lock -> 0 ; guard unlock
+mutex try_lock ; guard is_locked",
+        "# into_inner_and_get_mut
+begins 20
+leaves mutex 20",
+        "# into_inner
+leaves mutex 0",
+        "# leaked guard
+mutex lock ; guard leak ; mutex is_locked ; mutex try_lock -> 0
+leaves mutex 2",
+    ];
+    play_both(&rt, &[ROOM], 1, &scripts);
+}
+
+#[test]
+fn threads_share_a_mutex(rt: HostRuntime) {
+    let scripts = [
+        "# lots_and_lots
+leaves mutex 6000
+thread 6
+repeat 1000 mutex lock ; guard add 1 ; guard unlock",
+        "# the example of the documentation
+thread 10
+mutex lock ; guard slowly ; guard unlock ; raise came
+thread
+await came 10 ; mutex lock ; guard value -> 10",
+        "# bumps and fair unlocks lose nothing
+leaves mutex 3600
+thread 4
+repeat 300 mutex lock ; guard add 1 ; guard unlock ; mutex lock ; guard bump ; \
+guard unlocked -> any ; guard add 1 ; guard is_locked ; guard unlock_fair ; \
+mutex lock ; guard unlocked -> any ; guard add 1 ; guard unlock",
+    ];
+    play_both(&rt, &ROOMS, 1, &scripts);
+}
+
+#[test]
+fn deadlines_of_a_mutex_pass_or_do_not(rt: HostRuntime) {
+    let scripts = [
+        "# It is free, or held, and nobody lets it go.
+mutex lock_until no_time ; guard unlock ; mutex lock_for short
+mutex lock_until no_time -> 0 ; mutex lock_until short -> 0 ; mutex lock_for short -> 0",
+        "# It is let go.
+thread
+repeat 2 mutex lock ; raise held ; pause 2 ; guard unlock ; await done ; lower done
+thread
+await held ; lower held ; mutex lock_until long ; guard unlock ; raise done
+await held ; lower held ; mutex lock_for long ; guard unlock ; raise done",
+        "# Whoever gives up a mutex that is kept for it lets others have it.
+thread 6
+repeat 100 mutex lock_for moment -> any ; pause 1 ; guard unlock_fair -> any ; \
+mutex lock_for moment -> any ; pause 1 ; guard unlock -> any
+after
+mutex lock_for long",
+    ];
+    play_both(&rt, &ROOMS, 1, &scripts);
+}
+
+// A thread waits for the mutex in its list, where a notify has moved it.
+#[test]
+fn nobody_has_a_mutex_before_the_thread_that_waits(rt: HostRuntime) {
+    let scripts = [
+        "# A fair mutex, and a fair unlock, keep it for that thread.
+thread
+mutex lock ; condvar wait ; guard value -> 1 ; guard set 2 ; raise done ; guard unlock
+thread
+mutex lock
+until guard unlock ; yield ; mutex lock ; condvar notify_one_held
+guard set 1 ; guard hand_over
+until mutex try_lock
+guard value -> 2 ; tell done",
+        "# A bump lets that thread go first.
+thread
+mutex lock ; condvar wait ; guard value -> 1 ; guard set 2 ; raise done ; guard unlock
+thread
+mutex lock
+until guard unlock ; yield ; mutex lock ; condvar notify_one_held
+guard set 1 ; guard bump ; guard value -> 2 ; tell done",
+    ];
+    play_both(&rt, &[ROOM], 50, &scripts);
 }

@@ -1,102 +1,118 @@
-//! Tests of `Once`.
+//! Tests of `Once`, and of `OnceLock` and `LazyLock`, which upstream does not have.
+//!
+//! - `once`: `call_once N` (its closure raises `came`, and waits until `done` is N; it tells how
+//!   many closures have begun to run), `is_completed`, `wait`.
+//! - `cell`: `get` (0 is none), `set N`, `wait`, `get_or_init N` (its closure raises `came`),
+//!   `get_or_try_init N` (which fails where that is 0).
 
-use crate::scenery::{
-    Host, ROOM, ROOMS, expect, expect_equal, expect_shown, in_threads, new_count, new_lot, raise,
-    read, wait_for_count,
-};
-use parking_lot::{Lot, Once};
-use std::sync::atomic::AtomicUsize;
-use std::thread;
+use crate::player::play_each;
+use crate::stage::{Host, ROOMS, Stage, number_or_one};
+use parking_lot::OnceLock;
+use parking_lot::mutex::Fairness;
+use std::sync::atomic::{AtomicUsize, Ordering};
+use test_support::waits::comes_to;
+use test_support::words::Words;
 
-fn new_once<'l, R: Host>(rt: &R, lot: &'l Lot) -> Once<'l> {
-    Once::new(lot).expect(rt, "a once")
-}
-
-// The test, and the example of the documentation. There the `Once` is a static.
-#[test]
-fn smoke_once(rt: HostRuntime) {
-    let lot = new_lot(&rt, ROOM);
-    let once = new_once(&rt, &lot);
-    let runs = new_count();
-    expect(&rt, !once.is_completed(), "no closure has run");
-    for _ in 0..2usize {
-        once.call_once(&rt, |_begun| raise(&runs));
-        expect_equal(&rt, read(&runs), 1);
-        expect(&rt, once.is_completed(), "a closure has run");
-    }
-    once.wait(&rt);
-}
-
-// Calls it, and sees what the closure did, whoever ran it.
-fn call<R: Host>(rt: &R, once: &Once<'_>, runs: &AtomicUsize) {
-    for _ in 0..4usize {
-        thread::yield_now();
-    }
-    once.call_once(rt, |_begun| raise(runs));
-    expect_equal(rt, read(runs), 1);
-}
-
-fn stampede<R: Host>(rt: &R, room: usize) {
-    let lot = new_lot(rt, room);
-    let once = new_once(rt, &lot);
-    let runs = new_count();
-    thread::join(
-        rt,
-        || in_threads(rt, 10, &|_| call(rt, &once, &runs)),
-        || call(rt, &once, &runs),
-    );
-}
-
-#[test]
-fn stampede_once(rt: HostRuntime) {
-    for room in ROOMS {
-        for _ in 0..20usize {
-            stampede(&rt, room);
+pub fn use_once<F: Fairness, R: Host>(
+    rt: &R,
+    stage: &Stage<'_, F>,
+    words: &mut Words<'_>,
+) -> Option<usize> {
+    match words.word()? {
+        "is_completed" => Some(usize::from(stage.once.is_completed())),
+        "wait" => {
+            stage.once.wait(rt);
+            Some(1)
         }
+        "call_once" => {
+            let least = words.number()?;
+            stage.once.call_once(rt, |_begun| {
+                stage.came.fetch_add(1, Ordering::SeqCst);
+                comes_to(&stage.done, least);
+            });
+            Some(stage.came.load(Ordering::SeqCst))
+        }
+        _ => None,
     }
 }
 
-// A closure that tells that it runs, and ends once it may.
-fn run_until<R: Host>(rt: &R, once: &Once<'_>, begun: &AtomicUsize, may_end: &AtomicUsize) {
-    once.call_once(rt, |_begun| {
-        raise(begun);
-        wait_for_count(rt, may_end, 1);
-    });
-}
-
-// Calls it while the closure of another runs.
-fn call_late<R: Host>(rt: &R, once: &Once<'_>, begun: &AtomicUsize, may_end: &AtomicUsize) {
-    wait_for_count(rt, begun, 1);
-    expect(rt, !once.is_completed(), "it has not run to its end");
-    raise(may_end);
-    let called = new_count();
-    once.call_once(rt, |_begun| raise(&called));
-    expect_equal(rt, read(&called), 0);
-    expect(rt, once.is_completed(), "it has run");
-}
-
-fn late_one_waits<R: Host>(rt: &R, room: usize) {
-    let lot = new_lot(rt, room);
-    let once = new_once(rt, &lot);
-    let (begun, may_end) = (new_count(), new_count());
-    thread::join(
-        rt,
-        || run_until(rt, &once, &begun, &may_end),
-        || call_late(rt, &once, &begun, &may_end),
-    );
-}
-
-// `wait_for_force_to_finish`, but for the poison with which that begins.
-#[test]
-fn wait_for_another_to_finish(rt: HostRuntime) {
-    for room in ROOMS {
-        late_one_waits(&rt, room);
+pub fn use_cell<F: Fairness, R: Host>(
+    rt: &R,
+    stage: &Stage<'_, F>,
+    words: &mut Words<'_>,
+) -> Option<usize> {
+    let call = words.word()?;
+    let number = number_or_one(words);
+    match call {
+        "get" => Some(number_in(stage.cell.get())),
+        "wait" => Some(*stage.cell.wait(rt)),
+        "set" => Some(usize::from(stage.cell.set(rt, number).is_ok())),
+        "get_or_init" => Some(computed(rt, &stage.cell, &stage.came, number)),
+        "get_or_try_init" => Some(tried(rt, &stage.cell, number)),
+        _ => None,
     }
 }
 
-// Upstream shows the state.
+// A number that may be there, or 0.
+fn number_in(found: Option<&usize>) -> usize {
+    match found {
+        Some(number) => *number,
+        None => 0,
+    }
+}
+
+fn computed<R: Host>(
+    rt: &R,
+    cell: &OnceLock<'_, usize>,
+    runs: &AtomicUsize,
+    number: usize,
+) -> usize {
+    *cell.get_or_init(rt, || compute(runs, number))
+}
+
+fn tried<R: Host>(rt: &R, cell: &OnceLock<'_, usize>, number: usize) -> usize {
+    let found = cell.get_or_try_init(rt, || if number == 0 { Err(()) } else { Ok(number) });
+    number_in(found.ok())
+}
+
+// A number that takes long to compute.
+fn compute(runs: &AtomicUsize, number: usize) -> usize {
+    runs.fetch_add(1, Ordering::SeqCst);
+    number
+}
+
 #[test]
-fn once_debug(rt: HostRuntime) {
-    let lot = new_lot(&rt, ROOM);
-    expect_shown(&rt, &new_once(&rt, &lot), "Once { .. }");
+fn one_closure_runs(rt: HostRuntime) {
+    let scripts = [
+        "# smoke_once, and the example of the documentation
+once is_completed -> 0 ; once call_once 0 -> 1 ; once is_completed
+once call_once 0 -> 1 ; once is_completed ; once wait",
+        "# stampede_once
+thread 11
+repeat 4 yield
+once call_once 0 -> 1",
+        "# The example of call_once: a cached value.
+thread 10
+cell get_or_init 2 -> 2
+thread
+cell wait -> 2
+after
+tell came -> 1",
+    ];
+    play_each(&rt, &ROOMS, 20, &scripts);
+}
+
+#[test]
+fn others_wait_for_the_closure(rt: HostRuntime) {
+    let scripts = [
+        "# wait_for_force_to_finish, but for the poison with which that begins
+thread
+once call_once 1
+thread
+await came ; once is_completed -> 0 ; raise done ; once call_once 0 -> 1 ; once is_completed",
+        "# A cell is set once.
+cell get -> 0 ; cell get_or_try_init 0 -> 0 ; cell set 5 ; cell set 6 -> 0 ; cell get -> 5
+cell get_or_try_init 7 -> 5",
+    ];
+    play_each(&rt, &ROOMS, 1, &scripts);
 }

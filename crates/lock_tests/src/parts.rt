@@ -1,91 +1,75 @@
-//! Guards of a part of a value, and guards that are never let go. Upstream has no test of them.
+//! Guards of a part of a value. Upstream has no test of them.
 
-use crate::scenery::{Host, ROOM, expect, expect_equal, new_lot, new_mutex, new_rw_lock};
+use crate::stage::{Host, ROOM, expect, new_lot};
 use parking_lot::mutex::{Barging, Fairness, InOrder, MutexIn};
-use parking_lot::{Guard, Lens, Lot, MutexGuard, RwLock};
+use parking_lot::{Guard, Lens, Lot, RwLock};
 
-#[derive(Drop)]
-struct Pair {
-    first: u64,
-    second: u64,
-}
-
-fn new_pair() -> Pair {
-    Pair {
-        first: 1,
-        second: 2,
-    }
-}
+type Pair = (usize, usize);
 
 // The second number of a pair.
 #[derive(Drop)]
 struct Second;
 
 impl Lens<Pair> for Second {
-    type Part = u64;
+    type Part = usize;
 
-    fn part<'a>(&self, whole: &'a Pair) -> &'a u64 {
-        &whole.second
+    fn part<'a>(&self, whole: &'a Pair) -> &'a usize {
+        &whole.1
     }
 
-    fn part_mut<'a>(&self, whole: &'a mut Pair) -> &'a mut u64 {
-        &mut whole.second
+    fn part_mut<'a>(&self, whole: &'a mut Pair) -> &'a mut usize {
+        &mut whole.1
     }
 }
 
 // Chooses the second number of a pair if the first is not 1.
 fn choose_second(pair: &Pair) -> Option<Second> {
-    if pair.first == 1 { None } else { Some(Second) }
+    if pair.0 == 1 { None } else { Some(Second) }
 }
 
-fn writes_a_part<R: Host, F: Fairness>(rt: &R, lot: &Lot) {
-    let mutex: MutexIn<'_, Pair, F> = new_mutex(rt, lot, new_pair());
+fn writes_a_part<F: Fairness, R: Host>(rt: &R, mutex: &MutexIn<'_, Pair, F>) {
     let mut part = Guard::map(mutex.lock(rt), Second);
-    expect_equal(rt, *part, 2);
+    expect(rt, *part == 2 && mutex.is_locked(rt), "the part is held");
     *part = 3;
-    expect(rt, mutex.is_locked(rt), "the part is held");
     drop(part);
     let Err(mut guard) = Guard::try_map(mutex.lock(rt), choose_second) else {
         return expect(rt, false, "no part was chosen");
     };
-    expect_equal(rt, guard.second, 3);
-    guard.first = 2;
+    expect(rt, guard.1 == 3, "it was written");
+    guard.0 = 2;
     let part = Guard::try_map(guard, choose_second);
     expect(rt, part.is_ok(), "a part was chosen");
     drop(part);
     expect(rt, !mutex.is_locked(rt), "it was let go");
 }
 
-#[test]
-fn part_of_a_mutex(rt: HostRuntime) {
-    let lot = new_lot(&rt, ROOM);
-    writes_a_part::<_, Barging>(&rt, &lot);
-    writes_a_part::<_, InOrder>(&rt, &lot);
+fn has_parts<F: Fairness, R: Host>(rt: &R, lot: &Lot) {
+    let mutex: MutexIn<'_, Pair, F> = MutexIn::new(lot, (1, 2)).expect(rt, "a mutex");
+    writes_a_part(rt, &mutex);
 }
 
-#[test]
-fn part_of_a_lock(rt: HostRuntime) {
-    let lot = new_lot(&rt, ROOM);
-    let lock: RwLock<'_, Pair> = new_rw_lock(&rt, &lot, new_pair());
-    let part = Guard::map(lock.read(&rt), Second);
-    expect_equal(&rt, *part, 2);
-    expect(&rt, lock.try_read(&rt).is_some(), "it is read");
-    expect(&rt, lock.try_write(&rt).is_none(), "it is read");
+fn reads_and_writes_a_part<R: Host>(rt: &R, lock: &RwLock<'_, Pair>) {
+    let part = Guard::map(lock.read(rt), Second);
+    expect(rt, *part == 2, "it is read");
+    expect(rt, lock.try_read(rt).is_some(), "it is read");
+    expect(rt, lock.try_write(rt).is_none(), "it is read");
     drop(part);
-    let mut part = Guard::map(lock.write(&rt), Second);
+    let mut part = Guard::map(lock.write(rt), Second);
     *part = 3;
-    expect(&rt, lock.try_read(&rt).is_none(), "it is written");
+    expect(rt, lock.try_read(rt).is_none(), "it is written");
     drop(part);
-    expect_equal(&rt, lock.read(&rt).second, 3);
+    expect(rt, lock.read(rt).1 == 3, "it was written");
+}
+
+fn parts_of_each<R: Host>(rt: &R) {
+    let lot = new_lot(rt, ROOM);
+    has_parts::<Barging, R>(rt, &lot);
+    has_parts::<InOrder, R>(rt, &lot);
+    let lock = RwLock::new(&lot, (1, 2)).expect(rt, "a lock");
+    reads_and_writes_a_part(rt, &lock);
 }
 
 #[test]
-fn leaked_guard(rt: HostRuntime) {
-    let lot = new_lot(&rt, ROOM);
-    let mutex: MutexIn<'_, u64, Barging> = new_mutex(&rt, &lot, 1);
-    if let Ok(value) = MutexGuard::leak(mutex.lock(&rt), rt.alloc()) {
-        *value = 2;
-        expect_equal(&rt, *value, 2);
-        expect(&rt, mutex.is_locked(&rt), "it stays locked");
-    }
+fn part_of_a_mutex_and_of_a_lock(rt: HostRuntime) {
+    parts_of_each(&rt);
 }

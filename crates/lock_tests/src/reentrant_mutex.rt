@@ -1,17 +1,43 @@
-//! Tests of `ReentrantMutex`.
+//! Tests of `ReentrantMutex`. Each call is that of an owner of its own.
+//!
+//! `reentrant`: `thrice` (locks the value 2 thrice, and tells whether it is unlocked at last),
+//! `nested` (raises `held`, and adds each number below 100 while it has the mutex already), `look`
+//! (the value), `tries` (whether each way to lock it gets it thrice; raises `held` then, and waits
+//! for `done`), `refused` (whether each way to lock it is refused, since another owner has it).
 
-use crate::scenery::{
-    Host, ROOM, ROOMS, expect, expect_equal, expect_shown, far, in_threads, long_time, new_count,
-    new_lot, past, raise, read, short_time, wait_for_count,
-};
-use parking_lot::{Lot, ReentrantMutex};
+use crate::player::play_each;
+use crate::stage::{Host, ROOMS, Stage, expect};
+use parking_lot::ReentrantMutex;
+use parking_lot::mutex::Fairness;
 use std::sync::atomic::{AtomicUsize, Ordering};
-use std::thread;
+use std::time::{Duration, Instant};
+use test_support::waits::comes_to;
+use test_support::words::Words;
 
 type Counter<'l> = ReentrantMutex<'l, AtomicUsize>;
 
-fn new_counter<'l, R: Host>(rt: &R, lot: &'l Lot, value: usize) -> Counter<'l> {
-    ReentrantMutex::new(lot, AtomicUsize::new(value)).expect(rt, "a mutex")
+pub fn use_reentrant<F: Fairness, R: Host>(
+    rt: &R,
+    stage: &Stage<'_, F>,
+    words: &mut Words<'_>,
+) -> Option<usize> {
+    let mutex = &stage.reentrant;
+    let is_well = match words.word()? {
+        "thrice" => {
+            lock_thrice(rt, mutex);
+            !mutex.is_locked()
+        }
+        "nested" => add_nested(rt, mutex, &stage.held),
+        "look" => return Some(look(rt, mutex)),
+        "tries" => gets_it_in_each_way(rt, mutex, stage),
+        "refused" => is_refused(rt, mutex),
+        _ => return None,
+    };
+    Some(usize::from(is_well))
+}
+
+fn value_of(counter: &AtomicUsize) -> usize {
+    counter.load(Ordering::SeqCst)
 }
 
 fn lock_thrice<R: Host>(rt: &R, mutex: &Counter<'_>) {
@@ -19,97 +45,80 @@ fn lock_thrice<R: Host>(rt: &R, mutex: &Counter<'_>) {
     let first = mutex.lock(rt, &owner);
     let second = mutex.lock(rt, &owner);
     let third = mutex.lock(rt, &owner);
-    expect_equal(rt, read(&third), 2);
+    expect(rt, value_of(&third) == 2, "the value is 2");
     drop(third);
-    expect_equal(rt, read(&second), 2);
+    expect(rt, value_of(&second) == 2, "the value is 2");
     drop(second);
-    expect_equal(rt, read(&first), 2);
+    expect(rt, value_of(&first) == 2, "the value is 2");
     expect(rt, mutex.is_locked(), "one guard is left");
     expect(rt, mutex.is_owned_by(&owner), "its owner has it");
     drop(first);
 }
 
-#[test]
-fn smoke(rt: HostRuntime) {
-    let lot = new_lot(&rt, ROOM);
-    let mutex = new_counter(&rt, &lot, 2);
-    lock_thrice(&rt, &mutex);
-    expect(&rt, !mutex.is_locked(), "no guard is left");
-    drop(lot.owner());
-}
-
-// Adds each number below 100 while it has the mutex already.
-fn hold_and_add<R: Host>(rt: &R, mutex: &Counter<'_>, is_held: &AtomicUsize) {
+fn add_nested<R: Host>(rt: &R, mutex: &Counter<'_>, is_held: &AtomicUsize) -> bool {
     let owner = mutex.owner();
     let guard = mutex.lock(rt, &owner);
-    raise(is_held);
+    is_held.fetch_add(1, Ordering::SeqCst);
     for number in 0..100usize {
         mutex.lock(rt, &owner).fetch_add(number, Ordering::SeqCst);
     }
     drop(guard);
+    true
 }
 
-// Sees all that another adds which had it before.
-fn look_after_it<R: Host>(rt: &R, mutex: &Counter<'_>, is_held: &AtomicUsize) {
-    wait_for_count(rt, is_held, 1);
+fn look<R: Host>(rt: &R, mutex: &Counter<'_>) -> usize {
     let owner = mutex.owner();
-    expect_equal(rt, read(&mutex.lock(rt, &owner)), 4950);
+    mutex.lock(rt, &owner).load(Ordering::SeqCst)
 }
 
-// Upstream's value is a `RefCell`, which threads cannot share here.
-#[test]
-fn is_mutex(rt: HostRuntime) {
-    for room in ROOMS {
-        let lot = new_lot(&rt, room);
-        let mutex = new_counter(&rt, &lot, 0);
-        let is_held = new_count();
-        thread::join(
-            &rt,
-            || look_after_it(&rt, &mutex, &is_held),
-            || hold_and_add(&rt, &mutex, &is_held),
-        );
-    }
-}
-
-// Each call of another owner is refused, or ends at its deadline.
-fn is_refused<R: Host>(rt: &R, mutex: &Counter<'_>) {
-    let other = mutex.owner();
-    let (time, deadline) = (short_time(), past(rt));
-    let first = mutex.try_lock(rt, &other);
-    let second = mutex.lock_for(rt, &other, time);
-    let third = mutex.lock_until(rt, &other, deadline);
-    expect(rt, first.is_none(), "another has it");
-    expect(rt, second.is_none(), "another has it");
-    expect(rt, third.is_none(), "another has it");
-    expect(rt, !mutex.is_owned_by(&other), "another has it");
-}
-
-fn tries_beside_another<R: Host>(rt: &R, mutex: &Counter<'_>) {
+fn gets_it_in_each_way<F: Fairness, R: Host>(
+    rt: &R,
+    mutex: &Counter<'_>,
+    stage: &Stage<'_, F>,
+) -> bool {
     let owner = mutex.owner();
+    let time = Duration::from_secs(20);
+    let deadline = Instant::now(rt).expect(rt, "a clock");
     let first = mutex.try_lock(rt, &owner);
-    let second = mutex.lock_for(rt, &owner, long_time());
-    let third = mutex.lock_until(rt, &owner, far(rt));
-    in_threads(rt, 1, &|_| is_refused(rt, mutex));
-    expect(rt, first.is_some(), "it is free");
-    expect(rt, second.is_some(), "its owner has it");
-    expect(rt, third.is_some(), "its owner has it");
-    expect(rt, mutex.try_lock(rt, &owner).is_some(), "its owner has it");
+    let second = mutex.lock_for(rt, &owner, time);
+    let third = mutex.lock_until(rt, &owner, deadline);
+    let has_it = first.is_some() && second.is_some() && third.is_some();
+    stage.held.fetch_add(1, Ordering::SeqCst);
+    has_it && comes_to(&stage.done, 1) && mutex.try_lock(rt, &owner).is_some()
+}
+
+fn is_refused<R: Host>(rt: &R, mutex: &Counter<'_>) -> bool {
+    let owner = mutex.owner();
+    let time = Duration::from_millis(30);
+    let deadline = Instant::now(rt).expect(rt, "a clock");
+    let first = mutex.try_lock(rt, &owner);
+    let second = mutex.lock_for(rt, &owner, time);
+    let third = mutex.lock_until(rt, &owner, deadline);
+    let is_refused = first.is_none() && second.is_none() && third.is_none();
+    let is_owned = mutex.is_owned_by(&owner);
+    is_refused && !is_owned
 }
 
 #[test]
-fn trylock_works(rt: HostRuntime) {
-    for room in ROOMS {
-        let lot = new_lot(&rt, room);
-        let mut mutex = new_counter(&rt, &lot, 3);
-        tries_beside_another(&rt, &mutex);
-        *mutex.get_mut() = AtomicUsize::new(4);
-        expect_equal(&rt, read(&mutex.into_inner()), 4);
-    }
-}
-
-// Upstream shows the value, or that it is locked.
-#[test]
-fn reentrant_mutex_debug(rt: HostRuntime) {
-    let lot = new_lot(&rt, ROOM);
-    expect_shown(&rt, &new_counter(&rt, &lot, 0), "ReentrantMutex { .. }");
+fn its_owner_alone_has_it(rt: HostRuntime) {
+    let scripts = [
+        "# smoke
+begins 2
+leaves reentrant 2
+reentrant thrice ; reentrant look -> 2",
+        "# is_mutex, whose value is a RefCell there
+leaves reentrant 4950
+thread
+await held ; reentrant look -> 4950
+thread
+reentrant nested",
+        "# trylock_works
+begins 4
+leaves reentrant 4
+thread
+reentrant tries
+thread
+await held ; reentrant refused ; raise done",
+    ];
+    play_each(&rt, &ROOMS, 1, &scripts);
 }

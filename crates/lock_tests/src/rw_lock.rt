@@ -1,276 +1,442 @@
 //! Tests of `RwLock`.
+//!
+//! - `rwlock`: `read`, `read_for TIME`, `read_until TIME`, the same of `read_recursive`,
+//!   `upgradable_read` and `write` (whether the thread has it now), `try_read`,
+//!   `try_read_recursive`, `try_upgradable_read`, `try_write` (whether it had it, which is let go
+//!   at once), `is_locked`, `is_locked_exclusive`, `look` (reads, and tells that no writer is
+//!   caught in the act).
+//! - `reader`, `upgradable`, `writer`: `bump`, `unlocked`, `unlock_fair`, `unlock`, `is_locked`
+//!   (asked of the guard's lock).
+//! - `reader`: `value`, `still` (whether it is as the thread saw or left it). `upgradable`:
+//!   `value`, `downgrade`. `writer`: `downgrade`, `downgrade_to_upgradable`.
+//! - `written`: each call for a value that a mutex's `guard` has.
+//! - `upgrade`: `at_last`, `at_once`, `for TIME`, `until TIME` (whether the thread writes now).
 
-use crate::scenery::{
-    Dropped, Host, ROOM, ROOMS, expect, expect_equal, expect_shown, in_threads, is_shared,
-    new_count, new_lot, new_rw_lock, read,
-};
-use parking_lot::{RwLock, RwLockUpgradableReadGuard, RwLockWriteGuard};
-use std::sync::Arc;
-use std::thread;
+use crate::mutex::change;
+use crate::player::play_each;
+use crate::stage::{BETWEEN, Hand, Host, ROOM, ROOMS, has, instant, keep, time};
+use parking_lot::mutex::Fairness;
+use parking_lot::{RwLock, RwLockReadGuard, RwLockUpgradableReadGuard, RwLockWriteGuard};
+use std::time::{Duration, Instant};
+use test_support::words::Words;
 
-// A value that nobody but a writer may see.
-const BETWEEN: u64 = u64::MAX;
+type Reader<'x, 'l, R> = RwLockReadGuard<'x, 'x, 'l, usize, R>;
 
-type Lock<'l> = RwLock<'l, u64>;
+type Upgradable<'x, 'l, R> = RwLockUpgradableReadGuard<'x, 'x, 'l, usize, R>;
 
-#[test]
-fn smoke(rt: HostRuntime) {
-    let lot = new_lot(&rt, ROOM);
-    let lock = new_rw_lock(&rt, &lot, 0u64);
-    drop(lock.read(&rt));
-    drop(lock.write(&rt));
-    drop(lock.upgradable_read(&rt));
-    drop((lock.read(&rt), lock.read(&rt)));
-    drop((lock.read(&rt), lock.upgradable_read(&rt)));
-    drop(lock.write(&rt));
+type Writer<'x, 'l, R> = RwLockWriteGuard<'x, 'x, 'l, usize, R>;
+
+pub fn use_rwlock<'x, 'l, F: Fairness, R: Host>(
+    rt: &'x R,
+    lock: &'x RwLock<'l, usize>,
+    hand: &mut Hand<'x, 'l, F, R>,
+    words: &mut Words<'_>,
+) -> Option<usize> {
+    let call = words.word()?;
+    let is_well = match call {
+        "write" | "write_for" | "write_until" => write(rt, lock, &mut hand.writer, call, words)?,
+        "upgradable_read" | "upgradable_read_for" | "upgradable_read_until" => {
+            read_upgradable(rt, lock, &mut hand.upgradable, call, words)?
+        }
+        "read"
+        | "read_for"
+        | "read_until"
+        | "read_recursive"
+        | "read_recursive_for"
+        | "read_recursive_until" => read(rt, lock, &mut hand.reader, call, words)?,
+        _ => tries(rt, lock, call)?,
+    };
+    Some(usize::from(is_well))
 }
 
-// Each tenth time it writes, and else it reads.
-fn use_often<'x, R: Host>(rt: &'x R, lock: &'x Lock<'_>, first: usize) {
-    for round in 0..1000usize {
-        if round % 10 == first {
-            drop(lock.write(rt));
-        } else {
-            drop(lock.read(rt));
+fn tries<R: Host>(rt: &R, lock: &RwLock<'_, usize>, call: &str) -> Option<bool> {
+    match call {
+        "try_read" => Some(has(lock.try_read(rt))),
+        "try_read_recursive" => Some(has(lock.try_read_recursive(rt))),
+        "try_upgradable_read" => Some(has(lock.try_upgradable_read(rt))),
+        "try_write" => Some(has(lock.try_write(rt))),
+        "is_locked" => Some(lock.is_locked(rt)),
+        "is_locked_exclusive" => Some(lock.is_locked_exclusive(rt)),
+        "look" => Some(*lock.read(rt) != BETWEEN),
+        _ => None,
+    }
+}
+
+fn read<'x, 'l, R: Host>(
+    rt: &'x R,
+    lock: &'x RwLock<'l, usize>,
+    reader: &mut Option<Reader<'x, 'l, R>>,
+    call: &str,
+    words: &mut Words<'_>,
+) -> Option<bool> {
+    let found = match call {
+        "read" => Some(lock.read(rt)),
+        "read_for" => lock.read_for(rt, time(words)?),
+        "read_until" => lock.read_until(rt, instant(rt, words)?),
+        "read_recursive" => Some(lock.read_recursive(rt)),
+        "read_recursive_for" => lock.read_recursive_for(rt, time(words)?),
+        "read_recursive_until" => lock.read_recursive_until(rt, instant(rt, words)?),
+        _ => return None,
+    };
+    Some(keep(reader, found))
+}
+
+fn read_upgradable<'x, 'l, R: Host>(
+    rt: &'x R,
+    lock: &'x RwLock<'l, usize>,
+    upgradable: &mut Option<Upgradable<'x, 'l, R>>,
+    call: &str,
+    words: &mut Words<'_>,
+) -> Option<bool> {
+    let found = match call {
+        "upgradable_read" => Some(lock.upgradable_read(rt)),
+        "upgradable_read_for" => lock.upgradable_read_for(rt, time(words)?),
+        _ => lock.upgradable_read_until(rt, instant(rt, words)?),
+    };
+    Some(keep(upgradable, found))
+}
+
+fn write<'x, 'l, R: Host>(
+    rt: &'x R,
+    lock: &'x RwLock<'l, usize>,
+    writer: &mut Option<Writer<'x, 'l, R>>,
+    call: &str,
+    words: &mut Words<'_>,
+) -> Option<bool> {
+    let found = match call {
+        "write" => Some(lock.write(rt)),
+        "write_for" => lock.write_for(rt, time(words)?),
+        _ => lock.write_until(rt, instant(rt, words)?),
+    };
+    Some(keep(writer, found))
+}
+
+pub fn use_reader<'x, 'l, R: Host>(
+    rt: &'x R,
+    lock: &'x RwLock<'l, usize>,
+    held: &mut Option<Reader<'x, 'l, R>>,
+    words: &mut Words<'_>,
+    last: &mut usize,
+) -> Option<usize> {
+    let call = words.word()?;
+    let (guard, found) = pass_reader(rt, lock, held.take()?, call, *last);
+    *held = guard;
+    found
+}
+
+fn pass_reader<'x, 'l, R: Host>(
+    rt: &'x R,
+    lock: &'x RwLock<'l, usize>,
+    guard: Reader<'x, 'l, R>,
+    call: &str,
+    last: usize,
+) -> (Option<Reader<'x, 'l, R>>, Option<usize>) {
+    let value = *guard;
+    let found = match call {
+        "value" => Some(value),
+        "still" => Some(usize::from(value == last)),
+        "is_locked" => Some(usize::from(RwLockReadGuard::rwlock(&guard).is_locked(rt))),
+        "bump" => return (Some(RwLockReadGuard::bump(guard)), Some(1)),
+        "unlocked" => {
+            let (guard, found) = RwLockReadGuard::unlocked(guard, || lock.try_write(rt).is_some());
+            return (Some(guard), Some(usize::from(found)));
+        }
+        "unlock_fair" => {
+            RwLockReadGuard::unlock_fair(guard);
+            return (None, Some(1));
+        }
+        "unlock" => {
+            drop(guard);
+            return (None, Some(1));
+        }
+        _ => None,
+    };
+    (Some(guard), found)
+}
+
+pub fn use_upgradable<'x, 'l, F: Fairness, R: Host>(
+    rt: &'x R,
+    lock: &'x RwLock<'l, usize>,
+    hand: &mut Hand<'x, 'l, F, R>,
+    words: &mut Words<'_>,
+) -> Option<usize> {
+    let call = words.word()?;
+    let guard = hand.upgradable.take()?;
+    if call == "downgrade" {
+        hand.reader = Some(RwLockUpgradableReadGuard::downgrade(guard));
+        return Some(1);
+    }
+    hand.last = *guard;
+    let (guard, found) = pass_upgradable(rt, lock, guard, call);
+    hand.upgradable = guard;
+    found
+}
+
+fn pass_upgradable<'x, 'l, R: Host>(
+    rt: &'x R,
+    lock: &'x RwLock<'l, usize>,
+    guard: Upgradable<'x, 'l, R>,
+    call: &str,
+) -> (Option<Upgradable<'x, 'l, R>>, Option<usize>) {
+    let found = match call {
+        "value" => Some(*guard),
+        "is_locked" => {
+            let lock = RwLockUpgradableReadGuard::rwlock(&guard);
+            Some(usize::from(lock.is_locked(rt)))
+        }
+        "bump" => return (Some(RwLockUpgradableReadGuard::bump(guard)), Some(1)),
+        "unlocked" => {
+            let try_to_read = || lock.try_read(rt).is_some();
+            let (guard, found) = RwLockUpgradableReadGuard::unlocked(guard, try_to_read);
+            return (Some(guard), Some(usize::from(found)));
+        }
+        "unlock_fair" => {
+            RwLockUpgradableReadGuard::unlock_fair(guard);
+            return (None, Some(1));
+        }
+        "unlock" => {
+            drop(guard);
+            return (None, Some(1));
+        }
+        _ => None,
+    };
+    (Some(guard), found)
+}
+
+pub fn use_upgrade<'x, 'l, F: Fairness, R: Host>(
+    rt: &'x R,
+    hand: &mut Hand<'x, 'l, F, R>,
+    words: &mut Words<'_>,
+) -> Option<usize> {
+    let call = words.word()?;
+    let time = match call {
+        "at_last" | "at_once" => Duration::from_millis(0),
+        "for" | "until" => time(words)?,
+        _ => return None,
+    };
+    let deadline = Instant::now(rt).ok()?.checked_add(time)?;
+    match upgrade(hand.upgradable.take()?, call, time, deadline) {
+        Ok(guard) => {
+            hand.writer = Some(guard);
+            Some(1)
+        }
+        Err(guard) => {
+            hand.upgradable = Some(guard);
+            Some(0)
         }
     }
 }
 
-#[test]
-fn frob(rt: HostRuntime) {
-    for room in ROOMS {
-        let lot = new_lot(&rt, room);
-        let lock = new_rw_lock(&rt, &lot, 0u64);
-        in_threads(&rt, 10, &|number| use_often(&rt, &lock, number));
+fn upgrade<'x, 'l, R: Host>(
+    guard: Upgradable<'x, 'l, R>,
+    call: &str,
+    time: Duration,
+    deadline: Instant,
+) -> Result<Writer<'x, 'l, R>, Upgradable<'x, 'l, R>> {
+    match call {
+        "at_last" => Ok(RwLockUpgradableReadGuard::upgrade(guard)),
+        "at_once" => RwLockUpgradableReadGuard::try_upgrade(guard),
+        "for" => RwLockUpgradableReadGuard::upgrade_for(guard, time),
+        _ => RwLockUpgradableReadGuard::upgrade_until(guard, deadline),
     }
 }
 
-// Adds one in two writes, with others let run between them.
-fn add_slowly(value: &mut u64) {
-    let old = *value;
-    *value = BETWEEN;
-    thread::yield_now();
-    *value = old.wrapping_add(1);
-}
-
-fn look<R: Host>(rt: &R, lock: &Lock<'_>) {
-    expect(
-        rt,
-        *lock.read(rt) != BETWEEN,
-        "no writer is caught in the act",
-    );
-}
-
-fn upgrade_and_add<R: Host>(rt: &R, lock: &Lock<'_>) {
-    let guard = lock.upgradable_read(rt);
-    let seen = *guard;
-    expect(rt, seen != BETWEEN, "no writer is caught in the act");
-    thread::yield_now();
-    let mut guard = RwLockUpgradableReadGuard::upgrade(guard);
-    expect_equal(rt, *guard, seen);
-    add_slowly(&mut guard);
-}
-
-fn write_ten_times<'x, R: Host>(rt: &'x R, lock: &'x Lock<'_>) {
-    for _ in 0..10usize {
-        add_slowly(&mut lock.write(rt));
+pub fn use_writer<'x, 'l, F: Fairness, R: Host>(
+    rt: &'x R,
+    lock: &'x RwLock<'l, usize>,
+    hand: &mut Hand<'x, 'l, F, R>,
+    words: &mut Words<'_>,
+) -> Option<usize> {
+    let call = words.word()?;
+    if call == "downgrade" {
+        hand.reader = Some(RwLockWriteGuard::downgrade(hand.writer.take()?));
+        return Some(1);
     }
-}
-
-// One writes again and again, five upgrade, and five read.
-fn act<R: Host>(rt: &R, lock: &Lock<'_>, number: usize) {
-    match number {
-        0 => write_ten_times(rt, lock),
-        1..=5 => upgrade_and_add(rt, lock),
-        _ => look(rt, lock),
+    if call == "downgrade_to_upgradable" {
+        let guard = hand.writer.take()?;
+        hand.upgradable = Some(RwLockWriteGuard::downgrade_to_upgradable(guard));
+        return Some(1);
     }
+    let (guard, found) = pass_writer(rt, lock, hand.writer.take()?, call);
+    hand.writer = guard;
+    found
 }
 
-#[test]
-fn ruw_arc(rt: HostRuntime) {
-    for room in ROOMS {
-        let lot = new_lot(&rt, room);
-        let lock = new_rw_lock(&rt, &lot, 0u64);
-        in_threads(&rt, 11, &|number| act(&rt, &lock, number));
-        expect_equal(&rt, *lock.read(&rt), 15);
-    }
+fn pass_writer<'x, 'l, R: Host>(
+    rt: &'x R,
+    lock: &'x RwLock<'l, usize>,
+    guard: Writer<'x, 'l, R>,
+    call: &str,
+) -> (Option<Writer<'x, 'l, R>>, Option<usize>) {
+    let found = match call {
+        "is_locked" => {
+            let lock = RwLockWriteGuard::rwlock(&guard);
+            Some(usize::from(lock.is_locked_exclusive(rt)))
+        }
+        "bump" => return (Some(RwLockWriteGuard::bump(guard)), Some(1)),
+        "unlocked" => {
+            let try_to_read = || lock.try_read(rt).is_some();
+            let (guard, found) = RwLockWriteGuard::unlocked(guard, try_to_read);
+            return (Some(guard), Some(usize::from(found)));
+        }
+        "unlock_fair" => {
+            RwLockWriteGuard::unlock_fair(guard);
+            return (None, Some(1));
+        }
+        "unlock" => {
+            drop(guard);
+            return (None, Some(1));
+        }
+        _ => None,
+    };
+    (Some(guard), found)
 }
 
-// Writes ten times under one guard.
-fn write_long<R: Host>(rt: &R, lock: &Lock<'_>) {
-    let mut guard = lock.write(rt);
-    for _ in 0..10usize {
-        add_slowly(&mut guard);
-    }
+/// Looks at the value that a thread may write, or changes it.
+pub fn use_written<'x, 'l, F: Fairness, R: Host>(
+    hand: &mut Hand<'x, 'l, F, R>,
+    words: &mut Words<'_>,
+) -> Option<usize> {
+    let call = words.word()?;
+    change(hand.writer.as_mut()?, &mut hand.last, call, words)
 }
 
-#[test]
-fn rw_arc(rt: HostRuntime) {
-    for room in ROOMS {
-        let lot = new_lot(&rt, room);
-        let lock = new_rw_lock(&rt, &lot, 0u64);
-        thread::join(
-            &rt,
-            || write_long(&rt, &lock),
-            || in_threads(&rt, 5, &|_| look(&rt, &lock)),
-        );
-        expect_equal(&rt, *lock.read(&rt), 10);
-    }
-}
-
-// Whether a try to read, to write, and to read and upgrade each gets the lock.
-fn expect_tries<R: Host>(rt: &R, lock: &Lock<'_>, wanted: [bool; 3]) {
-    let [reads, writes, upgrades] = wanted;
-    expect(rt, lock.try_read(rt).is_some() == reads, "read or not");
-    expect(rt, lock.try_write(rt).is_some() == writes, "written or not");
-    expect(
-        rt,
-        lock.try_upgradable_read(rt).is_some() == upgrades,
-        "upgradable or not",
-    );
-}
-
-fn expect_locked<R: Host>(rt: &R, lock: &Lock<'_>, is_locked: bool, is_exclusive: bool) {
-    expect(rt, lock.is_locked(rt) == is_locked, "locked or not");
-    expect(
-        rt,
-        lock.is_locked_exclusive(rt) == is_exclusive,
-        "exclusive or not",
-    );
-}
-
-// `test_rwlock_try_read`, `_try_write`, `_try_upgrade` and `test_rw_write_is_locked`.
 #[test]
 fn tries_beside_each_guard(rt: HostRuntime) {
-    let lot = new_lot(&rt, ROOM);
-    let lock = new_rw_lock(&rt, &lot, 0u64);
-    let guard = lock.read(&rt);
-    expect_tries(&rt, &lock, [true, false, true]);
-    expect_locked(&rt, &lock, true, false);
-    drop(guard);
-    let guard = lock.upgradable_read(&rt);
-    expect_tries(&rt, &lock, [true, false, false]);
-    expect_locked(&rt, &lock, true, false);
-    drop(guard);
-    let guard = lock.write(&rt);
-    expect_tries(&rt, &lock, [false, false, false]);
-    expect_locked(&rt, &lock, true, true);
-    drop(guard);
-    expect_tries(&rt, &lock, [true, true, true]);
-    expect_locked(&rt, &lock, false, false);
+    let scripts = [
+        "# smoke
+rwlock read ; reader unlock ; rwlock write ; writer unlock
+rwlock upgradable_read ; upgradable unlock
+rwlock read ; rwlock try_read ; rwlock upgradable_read ; reader unlock ; upgradable unlock
+rwlock write",
+        "# test_rwlock_try_read, _try_write, _try_upgrade, and test_rw_write_is_locked
+rwlock read ; rwlock try_read ; rwlock try_write -> 0 ; rwlock try_upgradable_read
+rwlock is_locked ; rwlock is_locked_exclusive -> 0 ; reader unlock
+rwlock upgradable_read ; rwlock try_read ; rwlock try_write -> 0
+rwlock try_upgradable_read -> 0 ; rwlock is_locked ; rwlock is_locked_exclusive -> 0
+upgradable unlock
+rwlock write ; rwlock try_read -> 0 ; rwlock try_write -> 0 ; rwlock try_upgradable_read -> 0
+rwlock try_read_recursive -> 0 ; rwlock is_locked ; rwlock is_locked_exclusive ; writer unlock
+rwlock try_read ; rwlock try_write ; rwlock try_upgradable_read ; rwlock try_read_recursive
+rwlock is_locked -> 0 ; rwlock is_locked_exclusive -> 0",
+        "# into_inner_and_get_mut
+begins 20
+leaves rwlock 20",
+        "# into_inner
+leaves rwlock 0",
+    ];
+    play_each(&rt, &[ROOM], 1, &scripts);
 }
 
 #[test]
-fn into_inner_and_get_mut(rt: HostRuntime) {
-    let lot = new_lot(&rt, ROOM);
-    let mut lock = new_rw_lock(&rt, &lot, 10u64);
-    *lock.get_mut() = 20;
-    expect_equal(&rt, lock.into_inner(), 20);
-    expect_equal(&rt, new_rw_lock(&rt, &lot, 10u64).into_inner(), 10);
+fn threads_share_a_lock(rt: HostRuntime) {
+    let scripts = [
+        "# frob
+thread 5
+repeat 100 rwlock write ; writer unlock ; rwlock look ; rwlock look ; rwlock look ; \
+rwlock look ; rwlock look ; rwlock look ; rwlock look ; rwlock look ; rwlock look
+thread 5
+repeat 100 rwlock look ; rwlock look ; rwlock look ; rwlock look ; rwlock look ; \
+rwlock look ; rwlock look ; rwlock look ; rwlock look ; rwlock write ; writer unlock",
+        "# test_ruw_arc
+leaves rwlock 15
+thread
+repeat 10 rwlock write ; written slowly ; writer unlock
+thread 5
+rwlock upgradable_read ; upgradable value -> any ; yield ; upgrade at_last ; written still
+written slowly
+thread 5
+rwlock look",
+        "# test_rw_arc
+leaves rwlock 10
+thread
+rwlock write
+repeat 10 written slowly
+thread 5
+rwlock look",
+        "# test_rwlock_downgrade
+leaves rwlock 800
+thread 8
+repeat 100 rwlock write ; written add 1 ; writer downgrade ; reader still ; reader unlock",
+        "# Bumps and fair unlocks lose nothing.
+leaves rwlock 800
+thread 4
+repeat 200 rwlock read ; reader bump ; reader unlocked -> any ; reader is_locked ; \
+reader unlock_fair ; rwlock upgradable_read ; upgradable bump ; upgradable unlocked -> any ; \
+upgradable is_locked ; upgradable unlock_fair ; rwlock write ; writer bump ; \
+writer unlocked -> any ; written add 1 ; writer is_locked ; writer unlock_fair",
+    ];
+    play_each(&rt, &ROOMS, 1, &scripts);
 }
 
 #[test]
-fn into_inner_drop(rt: HostRuntime) {
-    let lot = new_lot(&rt, ROOM);
-    let count = new_count();
-    let lock = new_rw_lock(&rt, &lot, Dropped::counted_by(&count));
-    expect_equal(&rt, read(&count), 0);
-    let value = lock.into_inner();
-    expect_equal(&rt, read(&count), 0);
-    drop(value);
-    expect_equal(&rt, read(&count), 1);
+fn readers_beside_readers_and_a_waiting_writer(rt: HostRuntime) {
+    let scripts = [
+        "# The example of the documentation.
+begins 5
+leaves rwlock 6
+thread 2
+rwlock read ; reader value -> 5 ; raise came ; await came 2
+after
+rwlock write ; written add 1 ; written value -> 6",
+        "# test_rwlock_recursive: a read waits behind the writer, and a recursive one does not.
+thread
+rwlock read ; raise held
+until rwlock try_read -> 0
+rwlock try_read_recursive ; rwlock read_recursive
+thread
+await held ; rwlock write",
+    ];
+    play_each(&rt, &[ROOM], 1, &scripts);
+}
+
+// It refuses a call that leaves the lock closed to others as it gives up.
+#[test]
+fn deadlines_of_a_lock_pass_or_do_not(rt: HostRuntime) {
+    let scripts = [
+        "# Somebody writes, and then nobody.
+rwlock write
+rwlock read_for short -> 0 ; rwlock read_until short -> 0
+rwlock read_recursive_for short -> 0 ; rwlock read_recursive_until short -> 0
+rwlock upgradable_read_for short -> 0 ; rwlock upgradable_read_until short -> 0
+rwlock write_for short -> 0 ; rwlock write_until short -> 0
+writer unlock
+rwlock read_for short ; reader unlock ; rwlock read_until short ; reader unlock
+rwlock read_recursive_for short ; reader unlock ; rwlock read_recursive_until short
+reader unlock
+rwlock upgradable_read_for short ; upgradable unlock ; rwlock upgradable_read_until short
+upgradable unlock
+rwlock write_for short ; writer unlock ; rwlock write_until short",
+        "# Whoever writes lets it go.
+thread
+repeat 8 rwlock write ; raise held ; pause 2 ; writer unlock ; await done ; lower done
+thread
+await held ; lower held ; rwlock read_for long ; reader unlock ; raise done
+await held ; lower held ; rwlock read_until long ; reader unlock ; raise done
+await held ; lower held ; rwlock read_recursive_for long ; reader unlock ; raise done
+await held ; lower held ; rwlock read_recursive_until long ; reader unlock ; raise done
+await held ; lower held ; rwlock upgradable_read_for long ; upgradable unlock ; raise done
+await held ; lower held ; rwlock upgradable_read_until long ; upgradable unlock ; raise done
+await held ; lower held ; rwlock write_for long ; writer unlock ; raise done
+await held ; lower held ; rwlock write_until long ; writer unlock ; raise done",
+    ];
+    play_each(&rt, &ROOMS, 1, &scripts);
 }
 
 #[test]
-fn rwlockguard_sync(rt: HostRuntime) {
-    let lot = new_lot(&rt, ROOM);
-    let lock = new_rw_lock(&rt, &lot, 0u64);
-    is_shared(lock.read(&rt));
-    is_shared(lock.upgradable_read(&rt));
-    is_shared(lock.write(&rt));
-}
-
-fn write_and_downgrade<'x, R: Host>(rt: &'x R, lock: &'x Lock<'_>) {
-    for _ in 0..100usize {
-        let mut guard = lock.write(rt);
-        *guard = guard.wrapping_add(1);
-        let written = *guard;
-        let guard = RwLockWriteGuard::downgrade(guard);
-        expect_equal(rt, *guard, written);
-    }
-}
-
-#[test]
-fn rwlock_downgrade(rt: HostRuntime) {
-    for room in ROOMS {
-        let lot = new_lot(&rt, room);
-        let lock = new_rw_lock(&rt, &lot, 0u64);
-        in_threads(&rt, 8, &|_| write_and_downgrade(&rt, &lock));
-        expect_equal(&rt, *lock.read(&rt), 800);
-    }
-}
-
-// A writer waits for the guard that this thread has. A read waits behind it then, and one that may
-// be recursive does not.
-fn read_beside_a_waiting_writer<R: Host>(rt: &R, lock: &Lock<'_>) {
-    let guard = lock.read(rt);
-    thread::join(
-        rt,
-        || drop(lock.write(rt)),
-        || {
-            for _ in rt.forever() {
-                if lock.try_read(rt).is_none() {
-                    break;
-                }
-                thread::yield_now();
-            }
-            expect(rt, lock.try_read_recursive(rt).is_some(), "it is read");
-            drop(lock.read_recursive(rt));
-            drop(guard);
-        },
-    );
-}
-
-#[test]
-fn rwlock_recursive(rt: HostRuntime) {
-    let lot = new_lot(&rt, ROOM);
-    let lock = new_rw_lock(&rt, &lot, 0u64);
-    read_beside_a_waiting_writer(&rt, &lock);
-}
-
-// Upstream shows the value, or that it is locked. To look takes a runtime here.
-#[test]
-fn rwlock_debug(rt: HostRuntime) {
-    let lot = new_lot(&rt, ROOM);
-    let lock = new_rw_lock(&rt, &lot, 0u64);
-    expect_shown(&rt, &lock, "RwLock { .. }");
-    let _guard = lock.write(&rt);
-    expect_shown(&rt, &lock, "RwLock { .. }");
-}
-
-// It is the `Arc` that is cloned, and not the guard.
-#[test]
-fn clone_of_a_value(rt: HostRuntime) {
-    let lot = new_lot(&rt, ROOM);
-    let shared = Arc::new(rt.alloc(), 1u64).expect(&rt, "memory");
-    let lock = new_rw_lock(&rt, &lot, shared);
-    let guard = lock.read_recursive(&rt);
-    let cloned: Result<_, _> = guard.clone();
-    let cloned = cloned.expect(&rt, "memory");
-    expect_equal(&rt, Arc::strong_count(&cloned) as u64, 2);
-}
-
-// The example of the documentation.
-#[test]
-fn example_of_two_readers_and_a_writer(rt: HostRuntime) {
-    let lot = new_lot(&rt, ROOM);
-    let lock = new_rw_lock(&rt, &lot, 5u64);
-    let (first, second) = (lock.read(&rt), lock.read(&rt));
-    expect_equal(&rt, *first, 5);
-    expect_equal(&rt, *second, 5);
-    drop(first);
-    drop(second);
-    let mut guard = lock.write(&rt);
-    *guard = guard.wrapping_add(1);
-    expect_equal(&rt, *guard, 6);
+fn upgrades_and_downgrades(rt: HostRuntime) {
+    let scripts = [
+        "# A reader keeps an upgrade out, and the guard that may be upgraded comes back.
+rwlock read ; rwlock upgradable_read ; upgrade at_once -> 0
+upgrade for short -> 0 ; upgrade until no_time -> 0
+rwlock try_read ; rwlock try_upgradable_read -> 0
+reader unlock ; upgrade at_once ; writer unlock ; rwlock is_locked -> 0",
+        "# Nobody reads.
+rwlock upgradable_read ; upgrade for long ; writer unlock
+rwlock upgradable_read ; upgrade until long ; writer unlock
+rwlock upgradable_read ; upgradable downgrade ; rwlock try_upgradable_read ; reader unlock
+rwlock write ; writer downgrade_to_upgradable ; rwlock try_read
+rwlock try_upgradable_read -> 0 ; upgradable unlock ; rwlock is_locked -> 0",
+    ];
+    play_each(&rt, &ROOMS, 1, &scripts);
 }

@@ -1,140 +1,133 @@
-//! Tests of `Semaphore`, which upstream does not have.
+//! Tests of `Semaphore`, which upstream does not have. It begins with three permits.
+//!
+//! - `semaphore`: `acquire`, `try_acquire`, `acquire_many N`, `try_acquire_many N`,
+//!   `acquire_for TIME`, `acquire_until TIME`, `acquire_many_until TIME N` (whether the thread has
+//!   permits by it, in place of those that it had), `available_permits`, `add_permits N`.
+//! - `permit`: `permits`, `split N` (whether there are so many; they are given back), `forget`,
+//!   `drop`.
 
-use crate::scenery::{
-    Host, ROOM, ROOMS, expect, expect_equal, expect_shown, far, in_threads, long_time, new_count,
-    new_lot, past, short_time, soon,
-};
-use parking_lot::{Lot, Semaphore, SemaphorePermit};
-use std::sync::atomic::{AtomicUsize, Ordering};
-use std::thread;
+use crate::player::play_each;
+use crate::stage::{Host, ROOM, ROOMS, has, instant, keep, number_or_one, time};
+use parking_lot::{Semaphore, SemaphorePermit};
+use test_support::words::Words;
 
-fn new_semaphore<'l, R: Host>(rt: &R, lot: &'l Lot, permits: usize) -> Semaphore<'l> {
-    Semaphore::new(lot, permits).expect(rt, "a semaphore")
+type Permit<'x, 'l, R> = SemaphorePermit<'x, 'x, 'l, R>;
+
+pub fn use_semaphore<'x, 'l, R: Host>(
+    rt: &'x R,
+    semaphore: &'x Semaphore<'l>,
+    permit: &mut Option<Permit<'x, 'l, R>>,
+    words: &mut Words<'_>,
+) -> Option<usize> {
+    let found = match words.word()? {
+        "available_permits" => return Some(semaphore.available_permits()),
+        "add_permits" => {
+            semaphore.add_permits(rt, words.number()?);
+            return Some(1);
+        }
+        "acquire" => Some(semaphore.acquire(rt)),
+        "try_acquire" => semaphore.try_acquire(rt),
+        "acquire_many" => Some(semaphore.acquire_many(rt, words.number()?)),
+        "try_acquire_many" => semaphore.try_acquire_many(rt, words.number()?),
+        "acquire_for" => semaphore.acquire_for(rt, time(words)?),
+        "acquire_until" => semaphore.acquire_until(rt, instant(rt, words)?),
+        "acquire_many_until" => {
+            let deadline = instant(rt, words)?;
+            semaphore.acquire_many_until(rt, words.number()?, deadline)
+        }
+        _ => return None,
+    };
+    Some(usize::from(keep(permit, found)))
 }
 
-fn expect_available<R: Host>(rt: &R, semaphore: &Semaphore<'_>, permits: u64) {
-    expect_equal(rt, semaphore.available_permits() as u64, permits);
+pub fn use_permit<'x, 'l, R: Host>(
+    held: &mut Option<Permit<'x, 'l, R>>,
+    words: &mut Words<'_>,
+) -> Option<usize> {
+    let call = words.word()?;
+    let number = number_or_one(words);
+    let (permit, found) = pass_permit(held.take()?, call, number);
+    *held = permit;
+    found
+}
+
+fn pass_permit<'x, 'l, R: Host>(
+    held: Permit<'x, 'l, R>,
+    call: &str,
+    number: usize,
+) -> (Option<Permit<'x, 'l, R>>, Option<usize>) {
+    let mut permit = held;
+    match call {
+        "permits" => {
+            let permits = permit.permits();
+            (Some(permit), Some(permits))
+        }
+        "split" => {
+            let is_split = has(permit.split(number));
+            (Some(permit), Some(usize::from(is_split)))
+        }
+        "forget" => {
+            SemaphorePermit::forget(permit);
+            (None, Some(1))
+        }
+        "drop" => {
+            drop(permit);
+            (None, Some(1))
+        }
+        _ => (Some(permit), None),
+    }
 }
 
 #[test]
 fn permits_go_and_come_back(rt: HostRuntime) {
-    let lot = new_lot(&rt, ROOM);
-    let semaphore = new_semaphore(&rt, &lot, 3);
-    expect_shown(&rt, &semaphore, "Semaphore { permits: 3, .. }");
-    let mut two = semaphore.acquire_many(&rt, 2);
-    expect(&rt, two.permits() == 2, "it has two");
-    let one = semaphore.acquire(&rt);
-    expect(&rt, semaphore.try_acquire(&rt).is_none(), "none is left");
-    drop(one);
-    expect(
-        &rt,
-        semaphore.try_acquire_many(&rt, 2).is_none(),
-        "one is left",
-    );
-    expect(&rt, two.split(3).is_none(), "it has two");
-    drop(two.split(1));
-    expect_available(&rt, &semaphore, 2);
-    SemaphorePermit::forget(two);
-    expect_available(&rt, &semaphore, 2);
-    semaphore.add_permits(&rt, 5);
-    expect(
-        &rt,
-        semaphore.try_acquire_many(&rt, 7).is_some(),
-        "seven are there",
-    );
-    expect_available(&rt, &semaphore, 7);
-}
-
-fn gives_up<R: Host>(rt: &R, semaphore: &Semaphore<'_>) {
-    let permit = semaphore.acquire(rt);
-    expect(
-        rt,
-        semaphore.acquire_for(rt, short_time()).is_none(),
-        "none is left",
-    );
-    expect(
-        rt,
-        semaphore.acquire_until(rt, soon(rt)).is_none(),
-        "none is left",
-    );
-    let two = semaphore.acquire_many_until(rt, 2, past(rt));
-    expect(rt, two.is_none(), "none is left");
-    drop(permit);
-    expect(
-        rt,
-        semaphore.acquire_until(rt, past(rt)).is_some(),
-        "one is there",
-    );
-}
-
-// Wants permits that another gives back.
-fn is_given<R: Host>(rt: &R, semaphore: &Semaphore<'_>) {
-    let permit = semaphore.acquire(rt);
-    thread::join(
-        rt,
-        || expect(
-            rt,
-            semaphore.acquire_for(rt, long_time()).is_some(),
-            "given",
-        ),
-        || drop(permit),
-    );
-    let permit = semaphore.acquire(rt);
-    thread::join(
-        rt,
-        || {
-            let two = semaphore.acquire_many_until(rt, 2, far(rt));
-            expect(rt, two.is_some(), "given");
-            drop(two.map(SemaphorePermit::forget));
-        },
-        || {
-            drop(permit);
-            semaphore.add_permits(rt, 1);
-        },
-    );
-    semaphore.add_permits(rt, 1);
+    let scripts = [
+        "# One thread has them.
+semaphore acquire_many 3 ; permit permits -> 3 ; semaphore try_acquire -> 0
+permit split 1 ; permit permits -> 2 ; semaphore available_permits -> 1
+semaphore try_acquire_many 2 -> 0 ; permit split 3 -> 0 ; permit permits -> 2
+permit split 1 ; semaphore available_permits -> 2
+permit forget ; semaphore available_permits -> 2
+semaphore add_permits 5 ; semaphore try_acquire_many 7 ; semaphore available_permits -> 0
+permit drop ; semaphore available_permits -> 7",
+    ];
+    play_each(&rt, &[ROOM], 1, &scripts);
 }
 
 #[test]
-fn deadlines_pass_or_do_not(rt: HostRuntime) {
-    for room in ROOMS {
-        let lot = new_lot(&rt, room);
-        let semaphore = new_semaphore(&rt, &lot, 1);
-        gives_up(&rt, &semaphore);
-        is_given(&rt, &semaphore);
-        expect_available(&rt, &semaphore, 1);
-    }
-}
-
-// Has some permits, and no more than three are had at once.
-fn hold<'x, R: Host>(
-    rt: &'x R,
-    semaphore: &'x Semaphore<'_>,
-    inside: &AtomicUsize,
-    permits: usize,
-) {
-    for _ in 0..300usize {
-        let permit = semaphore.acquire_many(rt, permits);
-        let others = inside.fetch_add(permits, Ordering::SeqCst);
-        expect(
-            rt,
-            others <= 3usize.wrapping_sub(permits),
-            "no more than three",
-        );
-        thread::yield_now();
-        inside.fetch_sub(permits, Ordering::SeqCst);
-        drop(permit);
-    }
+fn deadlines_of_a_semaphore_pass_or_do_not(rt: HostRuntime) {
+    let scripts = [
+        "# None is left.
+semaphore acquire_many 3
+semaphore acquire_for short -> 0 ; semaphore acquire_until short -> 0
+semaphore acquire_many_until no_time 2 -> 0
+permit drop ; semaphore acquire_until no_time",
+        "# Some are given back, or added.
+thread
+semaphore acquire_many 3 ; raise held ; pause 2 ; permit drop ; await done 1
+semaphore acquire_many 3 ; raise held ; pause 2 ; permit split 1 ; semaphore add_permits 1
+thread
+await held 1 ; semaphore acquire_for long ; permit drop ; raise done
+await held 2 ; semaphore acquire_many_until long 2
+after
+semaphore available_permits -> 4",
+    ];
+    play_each(&rt, &ROOMS, 1, &scripts);
 }
 
 #[test]
 fn six_threads_share_three_permits(rt: HostRuntime) {
-    for room in ROOMS {
-        let lot = new_lot(&rt, room);
-        let semaphore = new_semaphore(&rt, &lot, 3);
-        let inside = new_count();
-        let hold_some = |number: usize| hold(&rt, &semaphore, &inside, number % 3 + 1);
-        in_threads(&rt, 6, &hold_some);
-        expect_available(&rt, &semaphore, 3);
-    }
+    let scripts = [
+        "# Nobody has permits that another has, and none is lost.
+thread 2
+repeat 300 semaphore acquire ; raise held 1 -> at_most 3 ; yield ; lower held 1 ; permit drop
+thread 2
+repeat 300 semaphore acquire_many 2 ; raise held 2 -> at_most 3 ; yield ; lower held 2 ; \
+permit drop
+thread 2
+repeat 300 semaphore acquire_many 3 ; raise held 3 -> at_most 3 ; yield ; lower held 3 ; \
+permit drop
+after
+semaphore available_permits -> 3",
+    ];
+    play_each(&rt, &ROOMS, 1, &scripts);
 }

@@ -1,0 +1,187 @@
+//! What kinds of values locks keep, and how locks are shown.
+
+use crate::drops::{leaves_a_lock, leaves_a_mutex};
+use crate::stage::{Host, ROOM, ROOMS, Stage, expect, new_lot};
+use parking_lot::mutex::{Barging, Fairness, InOrder, MutexIn};
+use parking_lot::{Barrier, LazyLock, Lot, OnceLock, ReentrantMutex, RwLock};
+use std::fmt::Debug;
+use std::sync::Arc;
+use std::sync::atomic::{AtomicUsize, Ordering};
+use std::thread;
+
+// It locks a mutex that lies in another mutex, which a spawned thread has in an `Arc`.
+fn looks_inside<F: Fairness, R: Host>(
+    rt: &R,
+    outer: &MutexIn<'static, MutexIn<'static, usize, F>, F>,
+) -> bool {
+    let guard = outer.lock(rt);
+    let inner = guard.lock(rt);
+    *inner == 1
+}
+
+fn nests<F: Fairness + Sync + Send + 'static, R: Host + Copy + Send + 'static>(
+    rt: R,
+    lot: &'static Lot,
+) {
+    let inner: MutexIn<'static, usize, F> = MutexIn::new(lot, 1).expect(&rt, "a mutex");
+    let outer: MutexIn<'static, MutexIn<'static, usize, F>, F> = MutexIn::new(lot, inner).expect(
+        &rt, "a mutex",
+    );
+    let shared = Arc::new(rt.alloc(), outer).expect(&rt, "memory");
+    let cloned: Result<_, _> = shared.clone();
+    let theirs = cloned.expect(&rt, "memory");
+    let spawned = thread::spawn(&rt, move || looks_inside(&rt, &theirs));
+    expect(&rt, looks_inside(&rt, &shared), "it is 1");
+    if let Ok(child) = spawned {
+        expect(&rt, child.join(&rt), "it is 1 in the thread");
+    }
+}
+
+#[test]
+fn arc_nested(rt: HostRuntime) {
+    let lot = Lot::for_ever(rt.alloc(), ROOM).expect(&rt, "a lot");
+    nests::<Barging, _>(rt, lot);
+    nests::<InOrder, _>(rt, lot);
+}
+
+// Expects that the value is shown by this text.
+fn expect_shown<T: Debug, R: Host>(rt: &R, value: &T, wanted: &str) {
+    let shown = format!(in rt.alloc(); "{value:?}").expect(rt, "memory");
+    expect(rt, shown.as_str() == wanted, wanted);
+}
+
+fn expect_all_shown<F: Fairness, R: Host>(rt: &R, stage: &Stage<'_, F>) {
+    let _guard = stage.mutex.lock(rt);
+    let _writer = stage.rwlock.write(rt);
+    expect_shown(rt, &stage.mutex, "Mutex { .. }");
+    expect_shown(rt, &stage.second, "Mutex { .. }");
+    expect_shown(rt, &stage.rwlock, "RwLock { .. }");
+    expect_shown(rt, &stage.reentrant, "ReentrantMutex { .. }");
+    expect_shown(rt, &stage.condvar, "Condvar { .. }");
+    expect_shown(rt, &stage.once, "Once { .. }");
+    expect_shown(rt, &stage.semaphore, "Semaphore { permits: 3, .. }");
+    expect_shown(rt, &stage.cell, "OnceLock(..)");
+}
+
+fn shows_a_stage<F: Fairness, R: Host>(rt: &R, lot: &Lot) {
+    let stage: Stage<'_, F> = Stage::new(rt, lot, lot);
+    expect_all_shown(rt, &stage);
+}
+
+fn shows_a_cell<R: Host>(rt: &R, lot: &Lot) {
+    let mut cell = OnceLock::new(lot).expect(rt, "a cell");
+    expect(rt, cell.set(rt, 5usize).is_ok(), "it is empty");
+    expect_shown(rt, &cell, "OnceLock(5)");
+    if let Some(value) = cell.get_mut() {
+        *value = 8;
+    }
+    expect(rt, cell.into_inner() == Some(8), "it was changed");
+}
+
+fn shows_a_barrier<R: Host>(rt: &R, lot: &Lot) {
+    let barrier = Barrier::new(lot, 1).expect(rt, "a barrier");
+    expect_shown(rt, &barrier, "Barrier { .. }");
+}
+
+fn shows_all<R: Host>(rt: &R) {
+    let lot = new_lot(rt, ROOM);
+    shows_a_stage::<Barging, R>(rt, &lot);
+    shows_a_stage::<InOrder, R>(rt, &lot);
+    shows_a_cell(rt, &lot);
+    shows_a_barrier(rt, &lot);
+}
+
+// `mutex_debug`, `test_rwlock_debug`, `test_debug_condvar`, `once_debug`, and of the reentrant
+// mutex. Upstream shows the value or the state of some. To look takes a runtime here.
+#[test]
+fn locks_are_shown(rt: HostRuntime) {
+    shows_all(&rt);
+}
+
+// A number that takes long to compute.
+fn compute(runs: &AtomicUsize) -> usize {
+    runs.fetch_add(1, Ordering::SeqCst);
+    2
+}
+
+fn ten_force_it<R: Host>(rt: &R, room: usize) {
+    let lot = new_lot(rt, room);
+    let runs = AtomicUsize::new(0);
+    let lazy = LazyLock::new(&lot, || compute(&runs)).expect(rt, "a lock");
+    expect(rt, lazy.get().is_none(), "nobody has wanted it");
+    let force = |_: usize| expect(rt, *lazy.force(rt) == 2, "it is computed");
+    thread::map_indices(rt, rt.alloc(), 10, &force).expect(rt, "threads");
+    expect(rt, runs.load(Ordering::SeqCst) == 1, "it is computed once");
+    expect(rt, lazy.get() == Some(&2), "it is computed");
+    expect_shown(rt, &lazy, "LazyLock(2)");
+    expect(rt, lazy.into_inner() == Some(2), "it is computed");
+}
+
+fn is_computed_once<R: Host>(rt: &R) {
+    for room in ROOMS {
+        for _ in 0..20usize {
+            ten_force_it(rt, room);
+        }
+    }
+}
+
+#[test]
+fn value_is_computed_once(rt: HostRuntime) {
+    is_computed_once(&rt);
+}
+
+// It is the `Arc` that is cloned, and not the guard.
+fn clones_a_value<R: Host>(rt: &R, lot: &Lot) {
+    let shared = Arc::new(rt.alloc(), 1usize).expect(rt, "memory");
+    let lock = RwLock::new(lot, shared).expect(rt, "a lock");
+    let guard = lock.read_recursive(rt);
+    let cloned: Result<_, _> = guard.clone();
+    let cloned = cloned.expect(rt, "memory");
+    expect(rt, Arc::strong_count(&cloned) == 2, "there are two");
+}
+
+// Takes what threads may share.
+fn is_shared<T: Sync>(_value: &T) {}
+
+fn guards_are_shared<F: Fairness + Sync, R: Host>(rt: &R, stage: &Stage<'_, F>) {
+    is_shared(&stage.mutex.lock(rt));
+    is_shared(&stage.rwlock.read(rt));
+    is_shared(&stage.rwlock.upgradable_read(rt));
+    is_shared(&stage.rwlock.write(rt));
+}
+
+fn shares_guards<R: Host>(rt: &R, lot: &Lot) {
+    let stage: Stage<'_, InOrder> = Stage::new(rt, lot, lot);
+    guards_are_shared(rt, &stage);
+}
+
+// An owner that the lot made may lock each reentrant mutex of it.
+fn owner_of_a_lot_locks<R: Host>(rt: &R, lot: &Lot) {
+    let mutex = ReentrantMutex::new(lot, 1usize).expect(rt, "a mutex");
+    let owner = lot.owner();
+    expect(rt, *mutex.lock(rt, &owner) == 1, "it is 1");
+}
+
+fn keeps_values<R: Host>(rt: &R) {
+    let lot = new_lot(rt, ROOM);
+    shares_guards(rt, &lot);
+    clones_a_value(rt, &lot);
+    owner_of_a_lot_locks(rt, &lot);
+    expect(
+        rt,
+        leaves_a_mutex::<Barging, R>(rt, &lot),
+        "into_inner_drop",
+    );
+    expect(
+        rt,
+        leaves_a_mutex::<InOrder, R>(rt, &lot),
+        "into_inner_drop",
+    );
+    expect(rt, leaves_a_lock(rt, &lot), "into_inner_drop");
+}
+
+// `test_mutexguard_sync`, `test_rwlockguard_sync`, `test_clone`, and `test_into_inner_drop`.
+#[test]
+fn values_go_in_and_come_out(rt: HostRuntime) {
+    keeps_values(&rt);
+}
