@@ -27,7 +27,8 @@
 //! - `yield`, `pause MS`: lets others run, or sleeps so many milliseconds.
 //! - `mutex`, `guard`, `condvar`, `other_condvar`, `rwlock`, `reader`, `upgradable`, `upgrade`,
 //!   `writer`, `written`, `semaphore`, `permit`, `once`, `cell`, `reentrant`: a call of a lock, or
-//!   of what the thread holds of it. The modules of the locks tell what comes out of each, and what else there is.
+//!   of what the thread holds of it. The modules of the locks tell what comes out of each, and what
+//!   else there is.
 
 use crate::condvar::use_condvar;
 use crate::mutex::{use_guard, use_mutex};

@@ -3,9 +3,7 @@
 ghost use Rattle.std.specs.Prelude.{◌≡◌, ◌≢◌, None, Some, true, false};
 
 use crate::reentrant_mutex::Owner;
-use lot_threads::{
-    LotError, Member, NoMemory, ParkResult, ParkToken, ParkingLot, WordParker, thread_yield,
-};
+use lot_threads::{LotError, Member, ParkResult, ParkToken, ParkingLot, WordParker, thread_yield};
 use std::alloc::Global;
 use std::io;
 use std::sync::Wait;

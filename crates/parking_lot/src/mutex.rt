@@ -25,8 +25,8 @@
 //! later, or wakes the next as it gives up. All steps are `SeqCst`.
 //!
 //! Upstream has the first two words as bits of one byte, and hands over by leaving the first set. A
-//! thread that waits looks at that byte ten times before it parks. Here a look is an exchange, which
-//! takes the word from the processor of the holder, so there is one.
+//! thread that waits looks at that byte ten times before it parks. Here a look is an exchange,
+//! which takes the word from the processor of the holder, so there is one.
 
 ghost use Rattle.std.specs.Prelude.{◌≡◌, ◌≢◌, None, IfErr, IfSome, IsSome};
 ghost use Rattle.parking_lot.specs.Guards.{mutex_of};

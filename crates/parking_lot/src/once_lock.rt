@@ -8,8 +8,8 @@
 //! - Whoever finds no value takes `state` from `IDLE` to `RUNNING`, and has the right to set one.
 //! - With a value it sets the cell, puts `state` to `DONE`, and **then** wakes the queue. Without
 //!   one, since its closure failed, it puts `state` back to `IDLE`, and **then** wakes the queue.
-//! - Whoever finds `RUNNING` waits in the queue while `state` is that. Whoever waits without a value
-//!   of its own does so while there is no value.
+//! - Whoever finds `RUNNING` waits in the queue while `state` is that. Whoever has no value of its
+//!   own waits there while there is no value.
 //!
 //! Nobody is forgotten: a thread stands in the queue only after a look that found what it waits for
 //! not done. Whoever does it wakes all after that. All steps are `SeqCst`.

@@ -29,11 +29,11 @@
 //! - Who lets a write go looks at `state` **after** that. During an upgrade it wakes the one that
 //!   drains. Else it wakes the first of the list if that is a writer, or the readers up to the
 //!   first writer.
-//! - A fair unlock looks at `state` first. If threads are parked and nobody upgrades, it takes those
-//!   off the list whom an unlock wakes, and in that section it adds them to the count and lets the
-//!   lock go. **Then** it wakes the one that drains. Whoever was woken so is told by its token. It
-//!   takes itself off the count once it has the lock, or once it gives up, and then wakes as who
-//!   lets a write go does.
+//! - A fair unlock looks at `state` first. If threads are parked and nobody upgrades, it takes
+//!   those off the list whom an unlock wakes, and in that section it adds them to the count and
+//!   lets the lock go. **Then** it wakes the one that drains. Whoever was woken so is told by its
+//!   token. It takes itself off the count once it has the lock, or once it gives up; who gives up
+//!   then wakes as who lets a write go does.
 //! - Who goes on reading where others were kept out wakes the readers up to the first writer. That
 //!   is a downgrade, and an upgrade that gives up. A writer that gives up does the same.
 //! - `PARKED` and `WRITER` go down in sections that leave nobody in the list, `WRITER` only if
