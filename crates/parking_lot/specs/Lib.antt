@@ -1,2 +1,3 @@
 -- What the contracts of the locks say.
 pub mod Guards
+pub mod Locks

@@ -19,6 +19,8 @@
 //! nobody comes again before `generation` has changed.
 
 ghost use Rattle.std.specs.Iterator.{at_most};
+ghost use Rattle.std.specs.Prelude.{◌≡◌, ◌+◌, IfNone, IfOk, IfSome};
+ghost use Rattle.parking_lot.specs.Locks.{barrier_of, left_of, parties_of};
 
 use crate::lot::Lot;
 use crate::wait_queue::WaitQueue;
@@ -76,7 +78,9 @@ impl<'l> Barrier<'l> {
     /// # Errors
     ///
     /// `NoMemory` if memory cannot be had. It asks for none by now.
-    pub fn new(lot: &'l Lot, parties: usize) -> Result<Barrier<'l>, NoMemory> {
+    pub fn new(lot: &'l Lot, parties: usize) -> Result<Barrier<'l>, NoMemory>
+        ensures { IfOk result (λ barrier. parties_of barrier ≡ parties) }
+    {
         Ok(Barrier {
             queue: WaitQueue::new(lot),
             parties,
@@ -95,7 +99,10 @@ impl<'l> Barrier<'l> {
     /// }
     /// thread::map_vec(rt, parties, &|mut party: Party<'_, '_>| party.wait(rt).is_leader())?;
     /// ```
-    pub fn parties(&mut self) -> Parties<'_, 'l> {
+    pub fn parties(&mut self) -> Parties<'_, 'l>
+        ensures all { left_of result ≡ parties_of self.old }
+        ensures barrier { barrier_of result ≡ self.old }
+    {
         let barrier: &Barrier<'l> = self;
         Parties {
             barrier,
@@ -133,6 +140,9 @@ impl<'a, 'l> Iterator for Parties<'a, 'l> {
     type Item = Party<'a, 'l>;
 
     ghost remaining = { λ parties. at_most parties.left };
+
+    ghost next_gives = { λ old result new.
+        IfSome result (λ _. left_of new + 1 ≡ left_of old) × IfNone result (left_of old ≡ 0) };
 
     fn next(&mut self) -> Option<Party<'a, 'l>> {
         self.left = self.left.checked_sub(1)?;

@@ -25,6 +25,7 @@ ghost use Rattle.std.specs.Prelude.{◌≡◌, false};
 ghost use Rattle.std.specs.Iterator.Runs.{CallKeepsClosure};
 ghost use Rattle.std.specs.Sync.Condvar.{AnsweredAt, StoppedAt};
 ghost use Rattle.parking_lot.specs.Guards.{mutex_of, value_of};
+ghost use Rattle.parking_lot.specs.Locks.{has_timed_out};
 
 use crate::guard::Guard;
 use crate::lot::{Lot, instant_after, is_past};
@@ -50,7 +51,9 @@ pub struct WaitTimeoutResult {
 
 impl WaitTimeoutResult {
     /// Whether the time was over before a notify came.
-    pub fn timed_out(self) -> bool {
+    pub fn timed_out(self) -> bool
+        ensures { result ≡ has_timed_out self }
+    {
         self.timed_out
     }
 }
@@ -196,7 +199,7 @@ impl<'l> Condvar<'l> {
         requires { C.IsAlwaysCallable condition }
         ensures mutex { mutex_of result.0 ≡ mutex_of guard.entry }
         ensures answered { AnsweredAt C.step (CallKeepsClosure C.FnMut condition) condition
-            result.1.timed_out (value_of result.0) }
+            (has_timed_out result.1) (value_of result.0) }
     {
         let patience = match instant_after(guard.lock().rt, duration) {
             Ok(Some(deadline)) => Patience::Until(deadline),
@@ -217,7 +220,7 @@ impl<'l> Condvar<'l> {
         requires { C.IsAlwaysCallable condition }
         ensures mutex { mutex_of result.0 ≡ mutex_of guard.entry }
         ensures answered { AnsweredAt C.step (CallKeepsClosure C.FnMut condition) condition
-            result.1.timed_out (value_of result.0) }
+            (has_timed_out result.1) (value_of result.0) }
     {
         self.wait_while_at_most(guard, condition, Patience::Until(deadline))
     }
@@ -313,8 +316,8 @@ impl<'l> Condvar<'l> {
         requires { C.IsAlwaysCallable condition }
         ensures mutex { mutex_of result.0 ≡ mutex_of first.entry }
         ensures answered { AnsweredAt C.step (CallKeepsClosure C.FnMut condition) condition
-            result.1.timed_out (value_of result.0) }
-        ensures endless { patience ≡ Patience.Endless → result.1.timed_out ≡ false }
+            (has_timed_out result.1) (value_of result.0) }
+        ensures endless { patience ≡ Patience.Endless → has_timed_out result.1 ≡ false }
     {
         let rt = first.lock().rt;
         let mut guard = first;

@@ -1,9 +1,12 @@
 //! The lot on which the locks of a program wait.
 
-ghost use Rattle.std.specs.Prelude.{◌≡◌, ◌≢◌, None, Some, true, false};
+ghost use Rattle.std.specs.Prelude.{◌≡◌, ◌≢◌, ◌↔◌, ◌<◌, Err, IsErrOf, None, Some, true, false};
+ghost use Rattle.parking_lot.specs.Locks.{lot_of_owner};
 
 use crate::reentrant_mutex::Owner;
-use lot_threads::{LotError, Member, ParkResult, ParkToken, ParkingLot, WordParker, thread_yield};
+use lot_threads::{
+    LotError, MAX_THREADS, Member, ParkResult, ParkToken, ParkingLot, WordParker, thread_yield,
+};
 use std::alloc::Global;
 use std::io;
 use std::sync::Wait;
@@ -37,8 +40,12 @@ impl Lot {
     ///
     /// # Errors
     ///
-    /// Those of `ParkingLot::new`.
-    pub fn new(alloc: Global, threads: usize) -> Result<Lot, LotError> {
+    /// `TooManyThreads` exactly if there are more than `MAX_THREADS`, and else `NoMemory` if memory
+    /// cannot be had.
+    pub fn new(alloc: Global, threads: usize) -> Result<Lot, LotError>
+        ensures too_many { IsErrOf result LotError.TooManyThreads ↔ (MAX_THREADS < threads) }
+        ensures not_full { result ≢ Err LotError.Full }
+    {
         let lot = ParkingLot::new(alloc, threads)?;
         Ok(Lot {
             lot,
@@ -54,8 +61,11 @@ impl Lot {
     ///
     /// # Errors
     ///
-    /// Those of `Lot::new`, and `NoMemory`.
-    pub fn for_ever(alloc: Global, threads: usize) -> Result<&'static Lot, LotError> {
+    /// Those of `Lot::new`.
+    pub fn for_ever(alloc: Global, threads: usize) -> Result<&'static Lot, LotError>
+        ensures too_many { IsErrOf result LotError.TooManyThreads ↔ (MAX_THREADS < threads) }
+        ensures not_full { result ≢ Err LotError.Full }
+    {
         let lot = Box::new(alloc, Lot::new(alloc, threads)?)?;
         Ok(Box::leak(lot))
     }
@@ -64,7 +74,7 @@ impl Lot {
     ///
     /// Upstream has no such call: there a thread is an owner.
     pub fn owner(&self) -> Owner<'_>
-        ensures { result.lot.now ≡ self.now }
+        ensures { lot_of_owner result ≡ self.now }
     {
         Owner::new(self, self.next_owner.fetch_add(1, Ordering::SeqCst))
     }

@@ -19,6 +19,7 @@
 //! between threads, and a guard borrows it, so it stays with its thread while it has the mutex.
 
 ghost use Rattle.std.specs.Prelude.{◌≡◌, None, true, IfOk};
+ghost use Rattle.parking_lot.specs.Locks.{lot_of, lot_of_owner};
 
 use crate::guard::{Guard, Release};
 use crate::lot::{Lot, instant_after};
@@ -49,7 +50,7 @@ pub struct Owner<'l> {
 
 impl<'l> Owner<'l> {
     pub(crate) fn new(lot: &'l Lot, number: usize) -> Owner<'l>
-        ensures { result.lot.now ≡ lot.now }
+        ensures { lot_of_owner result ≡ lot.now }
     {
         Owner {
             lot,
@@ -105,7 +106,7 @@ impl<'l, T> ReentrantMutex<'l, T> {
     ///
     /// Upstream's `new` is a `const fn`.
     pub fn new(lot: &'l Lot, value: T) -> Result<ReentrantMutex<'l, T>, NoMemory>
-        ensures { IfOk result (λ mutex. mutex.queue.lot.now ≡ lot.now) }
+        ensures { IfOk result (λ mutex. lot_of mutex ≡ lot.now) }
     {
         Ok(ReentrantMutex {
             queue: WaitQueue::new(lot),
@@ -119,7 +120,7 @@ impl<'l, T> ReentrantMutex<'l, T> {
     ///
     /// Upstream has no such call: there a thread is an owner.
     pub fn owner(&self) -> Owner<'l>
-        ensures { result.lot.now ≡ self.now.queue.lot.now }
+        ensures { lot_of_owner result ≡ lot_of self.now }
     {
         self.queue.lot().owner()
     }
@@ -131,7 +132,7 @@ impl<'l, T> ReentrantMutex<'l, T> {
         rt: &'r R,
         owner: &'a Owner<'l>,
     ) -> ReentrantMutexGuard<'a, 'r, 'l, T, R>
-        requires same_lot { owner.now.lot.now ≡ self.now.queue.lot.now }
+        requires same_lot { lot_of_owner owner.now ≡ lot_of self.now }
     {
         if !self.try_enter(owner.number) {
             self.queue.wait(rt, || self.try_enter(owner.number));
@@ -146,7 +147,7 @@ impl<'l, T> ReentrantMutex<'l, T> {
         rt: &'r R,
         owner: &'a Owner<'l>,
     ) -> Option<ReentrantMutexGuard<'a, 'r, 'l, T, R>>
-        requires same_lot { owner.now.lot.now ≡ self.now.queue.lot.now }
+        requires same_lot { lot_of_owner owner.now ≡ lot_of self.now }
     {
         if self.try_enter(owner.number) {
             Some(self.guard(rt, owner))
@@ -164,7 +165,7 @@ impl<'l, T> ReentrantMutex<'l, T> {
         owner: &'a Owner<'l>,
         duration: Duration,
     ) -> Option<ReentrantMutexGuard<'a, 'r, 'l, T, R>>
-        requires same_lot { owner.now.lot.now ≡ self.now.queue.lot.now }
+        requires same_lot { lot_of_owner owner.now ≡ lot_of self.now }
     {
         if self.try_enter(owner.number)
             || self.wait_until(rt, owner.number, instant_after(rt, duration).ok()?)
@@ -185,7 +186,7 @@ impl<'l, T> ReentrantMutex<'l, T> {
         owner: &'a Owner<'l>,
         deadline: Instant,
     ) -> Option<ReentrantMutexGuard<'a, 'r, 'l, T, R>>
-        requires same_lot { owner.now.lot.now ≡ self.now.queue.lot.now }
+        requires same_lot { lot_of_owner owner.now ≡ lot_of self.now }
     {
         if self.try_enter(owner.number) || self.wait_until(rt, owner.number, Some(deadline)) {
             Some(self.guard(rt, owner))
@@ -203,7 +204,7 @@ impl<'l, T> ReentrantMutex<'l, T> {
     ///
     /// Upstream has it as `is_owned_by_current_thread`.
     pub fn is_owned_by(&self, owner: &Owner<'l>) -> bool
-        requires same_lot { owner.now.lot.now ≡ self.now.queue.lot.now }
+        requires same_lot { lot_of_owner owner.now ≡ lot_of self.now }
     {
         self.owner.load(Ordering::SeqCst) == owner.number
     }

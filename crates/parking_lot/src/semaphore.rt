@@ -17,6 +17,9 @@
 //! an add, or the leaving of a thread before it, lets it have its permits. Whoever does that serves
 //! the longest beginning of the queue for which there are permits. All steps are `SeqCst`.
 
+ghost use Rattle.std.specs.Prelude.{◌≡◌, ◌+◌, ◌<◌, IfNone, IfSome};
+ghost use Rattle.parking_lot.specs.Locks.{permits_of, semaphore_of};
+
 use crate::lot::{Lot, instant_after};
 use crate::wait_queue::WaitQueue;
 use lot_threads::{FilterOp, NoMemory, ParkToken};
@@ -65,7 +68,10 @@ impl<'l> Semaphore<'l> {
 
     /// Takes a permit, and waits until there is one.
     #[inline]
-    pub fn acquire<'a, 'r, R: Wait + Clock>(&'a self, rt: &'r R) -> SemaphorePermit<'a, 'r, 'l, R> {
+    pub fn acquire<'a, 'r, R: Wait + Clock>(&'a self, rt: &'r R) -> SemaphorePermit<'a, 'r, 'l, R>
+        ensures permits { permits_of result ≡ 1 }
+        ensures semaphore { semaphore_of result ≡ self.now }
+    {
         self.acquire_many(rt, 1)
     }
 
@@ -76,7 +82,10 @@ impl<'l> Semaphore<'l> {
         &'a self,
         rt: &'r R,
         permits: usize,
-    ) -> SemaphorePermit<'a, 'r, 'l, R> {
+    ) -> SemaphorePermit<'a, 'r, 'l, R>
+        ensures permits { permits_of result ≡ permits }
+        ensures semaphore { semaphore_of result ≡ self.now }
+    {
         if !self.try_take(permits) {
             self.wait(rt, permits);
         }
@@ -88,7 +97,10 @@ impl<'l> Semaphore<'l> {
     pub fn try_acquire<'a, 'r, R: Wait>(
         &'a self,
         rt: &'r R,
-    ) -> Option<SemaphorePermit<'a, 'r, 'l, R>> {
+    ) -> Option<SemaphorePermit<'a, 'r, 'l, R>>
+        ensures permits { IfSome result (λ permit. permits_of permit ≡ 1) }
+        ensures semaphore { IfSome result (λ permit. semaphore_of permit ≡ self.now) }
+    {
         self.try_acquire_many(rt, 1)
     }
 
@@ -98,7 +110,10 @@ impl<'l> Semaphore<'l> {
         &'a self,
         rt: &'r R,
         permits: usize,
-    ) -> Option<SemaphorePermit<'a, 'r, 'l, R>> {
+    ) -> Option<SemaphorePermit<'a, 'r, 'l, R>>
+        ensures permits { IfSome result (λ permit. permits_of permit ≡ permits) }
+        ensures semaphore { IfSome result (λ permit. semaphore_of permit ≡ self.now) }
+    {
         self.permit_if(self.try_take(permits), rt, permits)
     }
 
@@ -107,7 +122,10 @@ impl<'l> Semaphore<'l> {
         &'a self,
         rt: &'r R,
         duration: Duration,
-    ) -> Option<SemaphorePermit<'a, 'r, 'l, R>> {
+    ) -> Option<SemaphorePermit<'a, 'r, 'l, R>>
+        ensures permits { IfSome result (λ permit. permits_of permit ≡ 1) }
+        ensures semaphore { IfSome result (λ permit. semaphore_of permit ≡ self.now) }
+    {
         let took = self.try_take(1) || self.wait_until(rt, 1, instant_after(rt, duration).ok()?);
         self.permit_if(took, rt, 1)
     }
@@ -118,7 +136,10 @@ impl<'l> Semaphore<'l> {
         &'a self,
         rt: &'r R,
         deadline: Instant,
-    ) -> Option<SemaphorePermit<'a, 'r, 'l, R>> {
+    ) -> Option<SemaphorePermit<'a, 'r, 'l, R>>
+        ensures permits { IfSome result (λ permit. permits_of permit ≡ 1) }
+        ensures semaphore { IfSome result (λ permit. semaphore_of permit ≡ self.now) }
+    {
         self.acquire_many_until(rt, 1, deadline)
     }
 
@@ -129,7 +150,10 @@ impl<'l> Semaphore<'l> {
         rt: &'r R,
         permits: usize,
         deadline: Instant,
-    ) -> Option<SemaphorePermit<'a, 'r, 'l, R>> {
+    ) -> Option<SemaphorePermit<'a, 'r, 'l, R>>
+        ensures permits { IfSome result (λ permit. permits_of permit ≡ permits) }
+        ensures semaphore { IfSome result (λ permit. semaphore_of permit ≡ self.now) }
+    {
         let took = self.try_take(permits) || self.wait_until(rt, permits, Some(deadline));
         self.permit_if(took, rt, permits)
     }
@@ -154,7 +178,10 @@ impl<'l> Semaphore<'l> {
         &'a self,
         rt: &'r R,
         permits: usize,
-    ) -> SemaphorePermit<'a, 'r, 'l, R> {
+    ) -> SemaphorePermit<'a, 'r, 'l, R>
+        ensures permits { permits_of result ≡ permits }
+        ensures semaphore { semaphore_of result ≡ self.now }
+    {
         SemaphorePermit {
             semaphore: self,
             rt,
@@ -168,7 +195,10 @@ impl<'l> Semaphore<'l> {
         took: bool,
         rt: &'r R,
         permits: usize,
-    ) -> Option<SemaphorePermit<'a, 'r, 'l, R>> {
+    ) -> Option<SemaphorePermit<'a, 'r, 'l, R>>
+        ensures permits { IfSome result (λ permit. permits_of permit ≡ permits) }
+        ensures semaphore { IfSome result (λ permit. semaphore_of permit ≡ self.now) }
+    {
         if took {
             Some(self.permit(rt, permits))
         } else {
@@ -235,7 +265,9 @@ impl<'a, 'r, 'l, R: Wait> SemaphorePermit<'a, 'r, 'l, R> {
     /// How many permits these are.
     ///
     /// tokio has it as `num_permits`.
-    pub fn permits(&self) -> usize {
+    pub fn permits(&self) -> usize
+        ensures { result ≡ permits_of self.now }
+    {
         self.permits
     }
 
@@ -248,8 +280,16 @@ impl<'a, 'r, 'l, R: Wait> SemaphorePermit<'a, 'r, 'l, R> {
         } = permit;
     }
 
-    /// Takes so many of these permits out, if there are as many, as permits of their own.
-    pub fn split(&mut self, permits: usize) -> Option<SemaphorePermit<'a, 'r, 'l, R>> {
+    /// Takes so many of these permits out, if there are as many, as permits of their own. Else it
+    /// leaves them as they are.
+    pub fn split(&mut self, permits: usize) -> Option<SemaphorePermit<'a, 'r, 'l, R>>
+        ensures taken { IfSome result (λ taken. permits_of taken ≡ permits) }
+        ensures left { IfSome result (λ _. permits_of self.new + permits ≡ permits_of self.old) }
+        ensures semaphore { IfSome result (λ taken. semaphore_of taken ≡ semaphore_of self.old) }
+        ensures stays { semaphore_of self.new ≡ semaphore_of self.old }
+        ensures none { IfNone result (permits_of self.old < permits) }
+        ensures unchanged { IfNone result (self.new ≡ self.old) }
+    {
         self.permits = self.permits.checked_sub(permits)?;
         Some(self.semaphore.permit(self.rt, permits))
     }
