@@ -5,6 +5,8 @@
 #[cfg(test)]
 mod bucket;
 #[cfg(test)]
+mod nodes;
+#[cfg(test)]
 mod queue;
 #[cfg(test)]
 mod spinwait;

@@ -1,22 +1,16 @@
 //! Tests of queues of nodes. What each call does to the list of the nodes its clauses say.
 
 use crate::expect;
-use crate::words::with_digit;
-use lot_base::queue::{Node, Queue};
+use crate::nodes::{digits, node};
+use lot_base::queue::Queue;
 use std::alloc::Global;
 use std::process::Abort;
 
 // Puts nodes of the numbers from 1 on behind those of the queue.
 fn push_all(rt: &impl Abort, alloc: Global, queue: &mut Queue, nodes: usize) {
     for index in 0..nodes {
-        let number = index.wrapping_add(1);
-        queue.push_back(Node::new(alloc, number).expect(rt, "memory"));
+        queue.push_back(node(rt, alloc, index.wrapping_add(1), 0, 0));
     }
-}
-
-// The decimal number whose digits are the numbers of the nodes, in order.
-fn digits(queue: &Queue) -> usize {
-    queue.fold(0usize, |digits, node| with_digit(digits, node.number))
 }
 
 // No clause refuses a `Node::new` that always answers `NoMemory`: this does.
@@ -28,7 +22,7 @@ fn nodes_leave_in_the_order_in_which_they_came(rt: HostRuntime) {
     queue.append(&mut other);
     expect(&rt, other.front().is_none(), "the other's nodes are away");
     drop(queue.pop_front());
-    let are_left = digits(&queue) == 2_123 && queue.front().is_some();
+    let are_left = digits(&queue, 0) == 2_123 && queue.front().is_some();
     expect(&rt, are_left, "all but the first are left");
 }
 

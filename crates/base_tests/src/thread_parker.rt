@@ -10,11 +10,11 @@ mod payload;
 mod races;
 
 use crate::expect;
+use crate::nodes::node;
 use lot_base::queue::Node;
 use lot_base::thread_parker::{
     ParkerKey, Slot, ThreadParker, ThreadParkerT, WordParker, YieldParker,
 };
-use lot_base::token::{DEFAULT_PARK_TOKEN, UnparkToken};
 use std::alloc::Global;
 use std::process::Abort;
 use std::sync::Wait;
@@ -32,6 +32,10 @@ fn from_now<R: Clock + Abort>(rt: &R, duration: Duration) -> Instant {
     time.expect(rt, "a time of the clock")
 }
 
+fn is_past<R: Clock + Abort>(rt: &R, time: Instant) -> bool {
+    time <= now(rt)
+}
+
 // The token of the node that comes next, or before the deadline.
 fn token_by<P: ThreadParkerT, R: Wait + Clock>(
     rt: &R,
@@ -42,7 +46,7 @@ fn token_by<P: ThreadParkerT, R: Wait + Clock>(
         None => parker.park(rt).0,
         Some(deadline) => parker.park_until(rt, deadline)?.0,
     };
-    Some(node.unpark_token.0)
+    Some(node.park_token.0)
 }
 
 fn new_parker<P: ThreadParkerT>(rt: &impl Abort, alloc: Global) -> P
@@ -55,12 +59,11 @@ fn new_parker<P: ThreadParkerT>(rt: &impl Abort, alloc: Global) -> P
     P::new(alloc, &key).expect(rt, "memory")
 }
 
+// A node of the owner with this park token.
 fn owners_node(rt: &impl Abort, alloc: Global, token: usize) -> Box<Node>
     ensures { (fields result.value).number ≡ OWNER }
 {
-    let mut node = Node::new(alloc, OWNER).expect(rt, "memory");
-    node.unpark_token = UnparkToken(token);
-    node
+    node(rt, alloc, OWNER, 0, token)
 }
 
 // All that is asked of a parker: whether it costs little to make, and whether it sleeps.
@@ -102,9 +105,7 @@ fn put(rt: &impl Abort, alloc: Global, slot: &mut Slot, key: usize)
     requires { slot.old.owner ≡ OWNER }
     ensures { slot.new.owner ≡ OWNER }
 {
-    let mut node = owners_node(rt, alloc, 42);
-    node.prepare(key, DEFAULT_PARK_TOKEN, false);
-    slot.put(node);
+    slot.put(node(rt, alloc, OWNER, key, 42));
 }
 
 // Takes the first node, and tells its key, or 0 if there is none.

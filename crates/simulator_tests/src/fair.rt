@@ -5,9 +5,8 @@ use crate::plain::fair::PlainFair;
 use crate::plain::pairs::write_list;
 use crate::player::{expect_rows, play_long_list, play_short_lists};
 use crate::words::{expect_text, number, word};
-use lot_base::token::NoMemory;
 use lot_simulator::fair::{FairAnswer, FairCore, FairStep, run_fair};
-use std::alloc::Global;
+use std::alloc::{AllocError, Global};
 use std::fmt::Write;
 use std::process::Abort;
 
@@ -28,7 +27,7 @@ fn fair_step(line: &str) -> Option<FairStep> {
     })
 }
 
-fn write_answer(answer: FairAnswer, text: &mut String) -> Result<(), NoMemory> {
+fn write_answer(answer: FairAnswer, text: &mut String) -> Result<(), AllocError> {
     match answer {
         FairAnswer::Registered(number) => write!(text, "number {number}")?,
         FairAnswer::Full => text.push_str("full")?,

@@ -4,8 +4,7 @@
 use crate::plain::arbitrary::write_line;
 use crate::words::{expect_text, number, word};
 use crate::{fair, interleaved, record, script};
-use lot_base::token::NoMemory;
-use std::alloc::Global;
+use std::alloc::{AllocError, Global};
 use std::fmt::Write;
 use std::process::Abort;
 
@@ -30,7 +29,7 @@ fn play_each_way(rt: &impl Abort, alloc: Global, lines: &str) -> String {
 }
 
 // A row is a line, and its answer behind an equals sign. The first line may have none.
-fn write_rows(rows: &str, (lines, expected): (&mut String, &mut String)) -> Result<(), NoMemory> {
+fn write_rows(rows: &str, (lines, expected): (&mut String, &mut String)) -> Result<(), AllocError> {
     for row in rows.lines() {
         if let Some((asked, answer)) = row.split_once('=') {
             writeln!(lines, "{}", asked.trim())?;
@@ -59,7 +58,7 @@ fn write_list(
     text: &mut String,
     kinds: &[&str],
     (length, code): (usize, usize),
-) -> Result<(), NoMemory> {
+) -> Result<(), AllocError> {
     let mut rest = code;
     for _ in 0..length {
         let kind = rest.checked_rem(kinds.len()).unwrap_or(0);

@@ -2,26 +2,21 @@
 #![tactic(auto, using(crate::proofs::TableSizes::is_table_size_16))]
 
 ghost use Rattle.std.specs.Prelude.{◌≡◌};
-ghost use Rattle.lot_base.specs.Node.{fields};
 ghost use Rattle.lot_base.specs.Place.{place_of};
 
 use crate::expect;
+use crate::nodes::{digits, node};
 use crate::words::{number, with_digit, word};
 use lot_base::bucket::{Bucket, place};
-use lot_base::queue::{Node, Queue};
+use lot_base::queue::Queue;
 use lot_base::token::{FilterOp, ParkToken, RequeueOp, UnparkResult, UnparkToken};
-use std::alloc::{AllocError, Global};
-use std::fmt::Write;
+use std::alloc::Global;
 use std::process::Abort;
 
-// The node of a thread that is about to wait on the key, with its number for a park token.
-fn node(rt: &impl Abort, alloc: Global, number: usize, key: usize) -> Box<Node>
-    ensures { (fields result.value).key ≡ key }
-{
-    let mut node = Node::new(alloc, number).expect(rt, "memory");
-    node.prepare(key, ParkToken(number), false);
-    node
-}
+/// What a step answers, as numbers: a flag is 0 or 1. Behind them stand zeros.
+pub type Answer = [usize; 5];
+
+const NOTHING: Answer = [0; 5];
 
 // The key has the bucket's place, as a step asks of a key that it puts nodes on.
 fn expect_place(rt: &impl Abort, bucket: &Bucket, key: usize)
@@ -31,89 +26,59 @@ fn expect_place(rt: &impl Abort, bucket: &Bucket, key: usize)
 }
 
 /// Threads enter: the key and their numbers, as digits.
-pub fn enter(rt: &impl Abort, alloc: Global, bucket: &mut Bucket, asked: &str) {
+pub fn enter(rt: &impl Abort, alloc: Global, bucket: &mut Bucket, asked: &str) -> Answer {
     let key = number(rt, asked, 1);
     for digit in word(asked, 2).bytes() {
-        let node = node(rt, alloc, usize::from(digit.wrapping_sub(b'0')), key);
+        let thread = usize::from(digit.wrapping_sub(b'0'));
+        let node = node(rt, alloc, thread, key, thread);
         expect_place(rt, bucket, key);
         expect(rt, bucket.enter(node, || true).is_ok(), asked);
     }
+    NOTHING
 }
 
-/// A thread comes with a `validate` that answers false. The node that comes back is written.
-pub fn refuse(
-    rt: &impl Abort,
-    alloc: Global,
-    bucket: &mut Bucket,
-    asked: &str,
-    text: &mut String,
-) -> Result<(), AllocError> {
-    let key = number(rt, asked, 1);
-    let node = node(rt, alloc, number(rt, asked, 2), key);
+/// A thread comes with a `validate` that answers false. The node that comes back is told.
+pub fn refuse(rt: &impl Abort, alloc: Global, bucket: &mut Bucket, asked: &str) -> Answer {
+    let (key, thread) = (number(rt, asked, 1), number(rt, asked, 2));
+    let node = node(rt, alloc, thread, key, thread);
     expect_place(rt, bucket, key);
     match bucket.enter(node, || false) {
-        Ok(()) => text.push_str("entered"),
-        Err(back) => write!(text, "{} {} {}", back.number, back.key, back.park_token.0),
+        Ok(()) => NOTHING,
+        Err(back) => [back.number, back.key, back.park_token.0, 0, 0],
     }
 }
 
 /// The numbers of the threads that wait on the key, as digits.
-pub fn list(
-    rt: &impl Abort,
-    alloc: Global,
-    bucket: &Bucket,
-    asked: &str,
-    text: &mut String,
-) -> Result<(), AllocError> {
-    let found = bucket.list(alloc, number(rt, asked, 1));
-    for number in found.expect(rt, "memory") {
-        write!(text, "{number}")?;
+pub fn list(rt: &impl Abort, alloc: Global, bucket: &Bucket, asked: &str) -> Answer {
+    let mut digits = 0_usize;
+    for number in bucket
+        .list(alloc, number(rt, asked, 1))
+        .expect(rt, "memory")
+    {
+        digits = with_digit(digits, number);
     }
-    Ok(())
-}
-
-// The numbers of the nodes as digits, with 9 for one that has another token.
-fn digits(nodes: &Queue, token: usize) -> usize {
-    nodes.fold(0_usize, |digits, node| {
-        let has_token = node.unpark_token.0 == token;
-        with_digit(digits, if has_token { node.number } else { 9 })
-    })
+    [digits, 0, 0, 0, 0]
 }
 
 // What a step answered, and whom it took.
-fn write_taken(
-    text: &mut String,
-    answered: UnparkResult,
-    nodes: &Queue,
-    token: usize,
-) -> Result<(), AllocError> {
-    let (taken, moved) = (answered.unparked_threads, answered.requeued_threads);
-    let more = answered.have_more_threads;
-    write!(text, "{taken} {moved} {more} {}", digits(nodes, token))
+fn taken(answered: UnparkResult, nodes: &Queue, token: usize) -> Answer {
+    let (unparked, requeued) = (answered.unparked_threads, answered.requeued_threads);
+    let more = usize::from(answered.have_more_threads);
+    [unparked, requeued, more, digits(nodes, token), 0]
 }
 
 /// The first waiter is taken: the key and the token.
-pub fn take_one(
-    rt: &impl Abort,
-    bucket: &mut Bucket,
-    asked: &str,
-    text: &mut String,
-) -> Result<(), AllocError> {
+pub fn take_one(rt: &impl Abort, bucket: &mut Bucket, asked: &str) -> Answer {
     let token = number(rt, asked, 2);
-    let (result, taken) = bucket.take_one(number(rt, asked, 1), |_| UnparkToken(token));
-    write_taken(text, result, &taken, token)
+    let (result, nodes) = bucket.take_one(number(rt, asked, 1), |_| UnparkToken(token));
+    taken(result, &nodes, token)
 }
 
 /// Every waiter is taken: the key and the token.
-pub fn take_all(
-    rt: &impl Abort,
-    bucket: &mut Bucket,
-    asked: &str,
-    text: &mut String,
-) -> Result<(), AllocError> {
+pub fn take_all(rt: &impl Abort, bucket: &mut Bucket, asked: &str) -> Answer {
     let token = number(rt, asked, 2);
-    let (count, taken) = bucket.take_all(number(rt, asked, 1), UnparkToken(token));
-    write!(text, "{count} {}", digits(&taken, token))
+    let (count, nodes) = bucket.take_all(number(rt, asked, 1), UnparkToken(token));
+    [count, digits(&nodes, token), 0, 0, 0]
 }
 
 fn decision(decisions: &str, index: usize) -> FilterOp {
@@ -130,21 +95,16 @@ fn filter<F: FnMut(ParkToken) -> FilterOp>(
     key: usize,
     filter: F,
     token: usize,
-    text: &mut String,
-) -> Result<(), AllocError>
+) -> Answer
     requires { (state : F) (park_token : _) → F.pre state park_token }
 {
-    let (result, taken) = bucket.take_filter(key, filter, |_| UnparkToken(token));
-    write_taken(text, result, &taken, token)
+    let (result, nodes) = bucket.take_filter(key, filter, |_| UnparkToken(token));
+    taken(result, &nodes, token)
 }
 
-/// A filter: the key, its decisions, behind which it skips, and the token.
-pub fn take_filter(
-    rt: &impl Abort,
-    bucket: &mut Bucket,
-    asked: &str,
-    text: &mut String,
-) -> Result<(), AllocError> {
+/// A filter: the key, its decisions, behind which it skips, and the token. The park tokens about
+/// which it was asked are told last, as digits.
+pub fn take_filter(rt: &impl Abort, bucket: &mut Bucket, asked: &str) -> Answer {
     let decisions = word(asked, 2);
     let (mut calls, mut tokens) = (0_usize, 0_usize);
     let decide = |token: ParkToken| {
@@ -153,9 +113,9 @@ pub fn take_filter(
         tokens = with_digit(tokens, token.0);
         op
     };
-    let (key, token) = (number(rt, asked, 1), number(rt, asked, 3));
-    filter(bucket, key, decide, token, text)?;
-    write!(text, " asked {tokens}")
+    let mut answer = filter(bucket, number(rt, asked, 1), decide, number(rt, asked, 3));
+    answer[4] = tokens;
+    answer
 }
 
 fn requeue_op(name: &str) -> RequeueOp {
@@ -188,43 +148,31 @@ fn requeue_with(
 }
 
 /// A requeue: the first key and the second, what it does, and the token.
-pub fn requeue(
-    rt: &impl Abort,
-    buckets: (&mut Bucket, &mut Bucket),
-    asked: &str,
-    text: &mut String,
-) -> Result<(), AllocError> {
+pub fn requeue(rt: &impl Abort, buckets: (&mut Bucket, &mut Bucket), asked: &str) -> Answer {
     let keys = (number(rt, asked, 1), number(rt, asked, 2));
     let (op, token) = (requeue_op(word(asked, 3)), number(rt, asked, 4));
-    let (result, taken) = requeue_with(rt, buckets, keys, op, token);
-    write_taken(text, result, &taken, token)
+    let (result, nodes) = requeue_with(rt, buckets, keys, op, token);
+    taken(result, &nodes, token)
 }
 
 /// A removal whose `timed_out` answers 77: the key and the number. The number, this answer, and
-/// what it was handed are written.
-pub fn remove(
-    rt: &impl Abort,
-    bucket: &mut Bucket,
-    asked: &str,
-    text: &mut String,
-) -> Result<(), AllocError> {
+/// what it was handed are told.
+pub fn remove(rt: &impl Abort, bucket: &mut Bucket, asked: &str) -> Answer {
     let mut told = (0_usize, false);
     let removed = bucket.remove(number(rt, asked, 2), number(rt, asked, 1), |key, last| {
         told = (key, last);
         77_usize
     });
     match removed {
-        Some((node, answered)) => {
-            write!(text, "{} {answered} {} {}", node.number, told.0, told.1)
-        }
-        None => text.push_str("nobody"),
+        Some((node, answered)) => [node.number, answered, told.0, usize::from(told.1), 0],
+        None => NOTHING,
     }
 }
 
-/// The first node of the bucket is taken. Its number and key are written.
-pub fn pop(bucket: &mut Bucket, text: &mut String) -> Result<(), AllocError> {
+/// The first node of the bucket is taken. Its number and key are told.
+pub fn pop(bucket: &mut Bucket) -> Answer {
     match bucket.pop() {
-        Some(node) => write!(text, "{} {}", node.number, node.key),
-        None => text.push_str("nobody"),
+        Some(node) => [node.number, node.key, 0, 0, 0],
+        None => NOTHING,
     }
 }

@@ -4,7 +4,7 @@ ghost use Rattle.std.specs.Prelude.{◌≡◌};
 ghost use Rattle.lot_base.specs.Node.{fields};
 
 use super::meeting::{Meeting, TestClock};
-use super::{OWNER, from_now, new_parker, now, owners_node, token_by};
+use super::{OWNER, from_now, is_past, new_parker, now, owners_node, token_by};
 use crate::{expect, expect_each};
 use lot_base::queue::Node;
 use lot_base::thread_parker::{ThreadParkerT, UnparkHandleT};
@@ -20,7 +20,7 @@ fn expect_empty<P: ThreadParkerT, R: Wait + Abort>(rt: &R, parker: &P, cause: &s
 
 // The first node that comes has this token.
 fn expect_token<P: ThreadParkerT, R: Wait + Abort>(rt: &R, parker: &P, token: usize) {
-    let found = parker.park(rt).0.unpark_token.0;
+    let found = parker.park(rt).0.park_token.0;
     expect_each(rt, found == token, "the token of the first node", token);
 }
 
@@ -88,7 +88,7 @@ fn waits_to_the_deadline<P: ThreadParkerT, R: Wait + Clock + Abort>(rt: &R, allo
     let parker: P = new_parker(rt, alloc);
     let soon = from_now(rt, Duration::from_millis(20));
     expect_none(rt, &parker, soon, "nobody puts a node");
-    expect(rt, soon <= now(rt), "the deadline has passed");
+    expect(rt, is_past(rt, soon), "the deadline has passed");
     expect_none(rt, &parker, soon, "the deadline passed before");
     expect_empty(rt, &parker, "nobody has put a node");
     let in_an_hour = from_now(rt, Duration::from_hours(1));

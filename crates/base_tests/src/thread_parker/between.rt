@@ -1,13 +1,11 @@
 //! What a parker does where another thread commits a node while its owner waits.
 
 ghost use Rattle.std.specs.Prelude.{◌≡◌};
-ghost use Rattle.lot_base.specs.Node.{fields};
 
 use super::alone::expect_none;
 use super::meeting::{Meeting, TestClock};
-use super::{from_now, new_parker, now, owners_node, token_by};
+use super::{OWNER, from_now, is_past, new_parker, now, owners_node, token_by};
 use crate::{expect, expect_each};
-use lot_base::queue::Node;
 use lot_base::thread_parker::{ThreadParkerT, UnparkHandleT};
 use std::alloc::Global;
 use std::process::Abort;
@@ -60,14 +58,10 @@ impl Plan {
 // sleeps for longer than is left until its deadline.
 fn ends_in_time<P: ThreadParkerT, R: Wait + Clock + Abort>(rt: &R, parker: &P) {
     let deadline = from_now(rt, Duration::from_millis(500));
+    let latest = from_now(rt, Duration::from_millis(800));
     expect_none(rt, parker, deadline, "nobody puts a node");
-    let past = now(rt).checked_duration_since(deadline);
-    let past = past.expect(rt, "a wait until the deadline");
-    expect(
-        rt,
-        past < Duration::from_millis(300),
-        "a wait that ends in time",
-    );
+    let is_in_time = is_past(rt, deadline) && !is_past(rt, latest);
+    expect(rt, is_in_time, "a wait that ends in time");
 }
 
 // The token of the node that the owner finds, if it finds one.
@@ -94,16 +88,19 @@ fn wait<P: ThreadParkerT, R: Wait + Clock + Abort>(
     token
 }
 
-// Puts the node once the owner has begun, and tells whether the deadline was still to come.
-fn commit<P: ThreadParkerT, R: Wait + Clock>(
+// Puts a node with this token once the owner has begun, and tells whether the deadline was still to
+// come.
+fn commit<P: ThreadParkerT, R: Wait + Clock + Abort>(
     rt: &R,
+    alloc: Global,
     parker: &P,
-    node: Box<Node>,
+    token: usize,
     plan: &Plan,
     meeting: &Meeting,
 ) -> bool
-    requires { (fields node.value).number ≡ P.owner parker.now }
+    requires { P.owner parker.now ≡ OWNER }
 {
+    let node = owners_node(rt, alloc, token);
     meeting.wait_for(1);
     thread::sleep(rt, plan.pause);
     let handle = parker.unpark_lock(rt, node, ());
@@ -112,32 +109,33 @@ fn commit<P: ThreadParkerT, R: Wait + Clock>(
         thread::sleep(rt, pause);
         handle.unpark(parker);
     }
-    match (plan.deadline, Instant::now(rt)) {
-        (Some(deadline), Ok(now)) => now < deadline,
-        _ => true,
+    match plan.deadline {
+        Some(deadline) => !is_past(rt, deadline),
+        None => true,
     }
 }
 
-// The token that the owner finds, and whether the node was put before the deadline.
+// The token that the owner finds, and whether the node with this token was put before the deadline.
 fn meet<P: ThreadParkerT + Sync, R: Threads + Wait + Clock + Abort + Sync>(
     rt: &R,
+    alloc: Global,
     parker: &P,
-    node: Box<Node>,
+    token: usize,
     plan: &Plan,
     meeting: &Meeting,
 ) -> (Option<usize>, bool)
-    requires { (fields node.value).number ≡ P.owner parker.now }
+    requires { P.owner parker.now ≡ OWNER }
 {
     thread::join(
         rt,
         || wait(rt, parker, plan, meeting),
         ||
-            requires { (fields node.value).number ≡ P.owner parker.now }
-        { commit(rt, parker, node, plan, meeting) },
+            requires { P.owner parker.now ≡ OWNER }
+        { commit(rt, alloc, parker, token, plan, meeting) },
     )
 }
 
-// The same for a parker and a node with this token, which are made here.
+// The same for a parker that is made here.
 fn found<P: ThreadParkerT + Sync, R: Threads + Wait + Clock + Abort + Sync>(
     rt: &R,
     alloc: Global,
@@ -145,8 +143,7 @@ fn found<P: ThreadParkerT + Sync, R: Threads + Wait + Clock + Abort + Sync>(
     plan: &Plan,
 ) -> (Option<usize>, bool) {
     let parker: P = new_parker(rt, alloc);
-    let node = owners_node(rt, alloc, token);
-    meet(rt, &parker, node, plan, &Meeting::new())
+    meet(rt, alloc, &parker, token, plan, &Meeting::new())
 }
 
 // No clause says that a wake reaches anybody. With an `unpark` that notifies nobody, this ends no
@@ -173,9 +170,8 @@ fn wakes_a_sleeper<P: ThreadParkerT + Sync, R: Threads + Wait + Clock + Sync + A
     let parker: P = new_parker(rt, alloc);
     let soon = from_now(rt, Duration::from_millis(2));
     expect_none(rt, &parker, soon, "nobody puts a node");
-    let node = owners_node(rt, alloc, 42);
     let plan = Plan::until(deadline, Duration::from_millis(5));
-    let (token, _) = meet(rt, &parker, node, &plan, &Meeting::new());
+    let (token, _) = meet(rt, alloc, &parker, 42, &plan, &Meeting::new());
     expect(rt, token == Some(42), "a sleeper");
 }
 
@@ -186,7 +182,7 @@ fn wakes<P: ThreadParkerT + Sync, R: Threads + Wait + Clock + Sync + Abort>(rt: 
         wakes_its_thread::<P, _>(rt, alloc, deadline);
         wakes_a_sleeper::<P, _>(rt, alloc, deadline);
     }
-    expect(rt, now(rt) < late, "no wait lasted to the deadline");
+    expect(rt, !is_past(rt, late), "no wait lasted to the deadline");
 }
 
 // This refuses a `park_until` that lets its lock go, reads the clock, and answers `None` without a
@@ -200,8 +196,7 @@ fn looks_after_the_clock<P: ThreadParkerT + Sync, R: Threads + Wait + Clock + Ab
     let mut plan = Plan::until(Some(now(rt)), Duration::ZERO);
     plan.is_slow = true;
     plan.wake_after = None;
-    let node = owners_node(rt, alloc, 42);
-    let (token, _) = meet(rt, &parker, node, &plan, &meeting);
+    let (token, _) = meet(rt, alloc, &parker, 42, &plan, &meeting);
     let is_found = token == Some(42) || !meeting.was_seen();
     expect(rt, is_found, "a node that came before the clock was read");
     expect(

@@ -7,7 +7,7 @@ use super::{OWNER, owners_node};
 use crate::expect_each;
 use lot_base::queue::Node;
 use lot_base::thread_parker::{ParkerKey, ParkerT, Payload, ThreadParker, WordParker, YieldParker};
-use lot_base::token::UnparkToken;
+use lot_base::token::ParkToken;
 use std::alloc::Global;
 use std::process::Abort;
 use std::sync::Wait;
@@ -15,7 +15,7 @@ use std::sync::Wait;
 // A payload that has the token of its node.
 #[derive(Drop)]
 struct Parcel {
-    token: UnparkToken,
+    token: ParkToken,
 }
 
 impl Payload for Parcel {
@@ -23,16 +23,16 @@ impl Payload for Parcel {
 
     ghost use Rattle.std.specs.Prelude.{◌≡◌};
 
-    ghost fits = { λ _ node parcel. parcel.token ≡ node.unpark_token };
+    ghost fits = { λ _ node parcel. parcel.token ≡ node.park_token };
 }
 
 // A node of the owner with this token, and a payload that fits it.
 fn node_and_parcel(rt: &impl Abort, alloc: Global, token: usize) -> (Box<Node>, Parcel)
     ensures number { (fields result.0.value).number ≡ OWNER }
-    ensures fits { result.1.token ≡ (fields result.0.value).unpark_token }
+    ensures fits { result.1.token ≡ (fields result.0.value).park_token }
 {
     let node = owners_node(rt, alloc, token);
-    let token = node.unpark_token;
+    let token = node.park_token;
     (node, Parcel { token })
 }
 
@@ -48,7 +48,7 @@ fn expect_back<P: ParkerT<Payload = Parcel>, R: Wait + Abort>(
         Some(parcel) => beside == Some(parcel.token.0),
         None => beside.is_none(),
     };
-    let is_back = comes && node.unpark_token.0 == token;
+    let is_back = comes && node.park_token.0 == token;
     expect_each(rt, is_back, "a node and what comes beside it", token);
 }
 

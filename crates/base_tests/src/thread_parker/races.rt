@@ -3,7 +3,7 @@
 ghost use Rattle.std.specs.Prelude.{◌≡◌};
 
 use super::meeting::Meeting;
-use super::{OWNER, from_now, new_parker, now, owners_node};
+use super::{OWNER, from_now, is_past, new_parker, owners_node};
 use crate::expect;
 use lot_base::thread_parker::{ThreadParkerT, UnparkHandleT, WordParker};
 use std::alloc::Global;
@@ -25,7 +25,7 @@ fn park_often<P: ThreadParkerT, R: Wait>(rt: &R, parker: &P, meeting: &Meeting) 
     for round in 0..ROUNDS {
         meeting.begin();
         let (node, _) = parker.park(rt);
-        all = all && node.unpark_token.0 == round;
+        all = all && node.park_token.0 == round;
         if meeting.has_come() {
             break;
         }
@@ -50,7 +50,7 @@ fn commit_often<P: ThreadParkerT, R: Wait + Clock + Abort>(
         for _ in 0..round % 128 {
             hint::spin_loop();
         }
-        let is_last = now(rt) >= end;
+        let is_last = is_past(rt, end);
         if is_last {
             meeting.come();
         }

@@ -1,7 +1,7 @@
 //! Arbitrary steps as lines, the same in each run.
 
 use crate::words::{behind, number, word};
-use lot_base::token::NoMemory;
+use std::alloc::AllocError;
 use std::fmt::Write;
 
 // A number below the bound, by a linear congruential generator with this state.
@@ -59,7 +59,7 @@ fn write_word(
     first: &str,
     wanted: &str,
     text: &mut String,
-) -> Result<(), NoMemory> {
+) -> Result<(), AllocError> {
     let bound = match wanted {
         "T" => number(first, 1).wrapping_add(1),
         "C" => number(first, 2),
@@ -82,7 +82,7 @@ pub fn write_line(
     first: &str,
     count: usize,
     text: &mut String,
-) -> Result<(), NoMemory> {
+) -> Result<(), AllocError> {
     let (forms, places) = match word(first, 0) {
         "fair" => (FAIR_STEPS, 40),
         "interleaved" => (FINE_STEPS, 69),

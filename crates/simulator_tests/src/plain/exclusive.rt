@@ -4,11 +4,11 @@
 //!
 //! It knows no bucket, no node and no place, and no lot.
 
-use super::pairs::{beside, put, say, take, write_list};
+use super::pairs::{beside, put, take, write_list};
 use crate::words::{number, word};
-use lot_base::token::{NoMemory, UnparkToken};
+use lot_base::token::UnparkToken;
 use lot_machine::status::Status;
-use std::alloc::Global;
+use std::alloc::{AllocError, Global};
 use std::fmt::Write;
 use std::mem;
 
@@ -71,12 +71,12 @@ impl Plain {
     }
 
     /// Gives the number another status than `Free`.
-    pub fn set_status(&mut self, number: usize, status: Status) -> Result<(), NoMemory> {
+    pub fn set_status(&mut self, number: usize, status: Status) -> Result<(), AllocError> {
         put(&mut self.statuses, number, status)
     }
 
     /// The threads that wait on the key, in order.
-    pub fn list(&self, key: usize) -> Result<Vec<usize>, NoMemory> {
+    pub fn list(&self, key: usize) -> Result<Vec<usize>, AllocError> {
         let mut list = Vec::new(self.alloc);
         for (thread, of) in &self.waiting {
             if *of == key {
@@ -99,7 +99,7 @@ impl Plain {
     }
 
     /// Does what the line says by its rule, and writes the answer.
-    pub fn answer(&mut self, line: &str, text: &mut String) -> Result<(), NoMemory> {
+    pub fn answer(&mut self, line: &str, text: &mut String) -> Result<(), AllocError> {
         let (of, key) = (number(line, 1), number(line, 2));
         let status = self.status(of);
         let is_running = status == Status::Running;
@@ -109,42 +109,42 @@ impl Plain {
             "list" | "records" | "size" => self.reply(line, text),
             "trim" => {
                 self.size = self.size.min(self.least_size());
-                say(text, "trimmed")
+                text.push_str("trimmed")
             }
             "enter" if is_running => self.enter(line, text),
             "deadline" if status == (Status::Waiting { timed: true }) => {
                 self.set_status(of, Status::Late)?;
-                say(text, "late")
+                text.push_str("late")
             }
             "resolve" if status == Status::Late => self.time_out(of, text),
             "resolve" | "return" => self.give_back(of, text),
             "acquire" if is_running => {
                 self.records.push((of, key))?;
-                say(text, "recorded")
+                text.push_str("recorded")
             }
             "release" if is_running => {
                 self.forget((of, key), "release")?;
-                say(text, "released")
+                text.push_str("released")
             }
             "retire" if is_running => {
                 self.forget((of, key), "retire")?;
                 take(&mut self.statuses, of);
-                say(text, "retired")
+                text.push_str("retired")
             }
-            _ => say(text, "misfit"),
+            _ => text.push_str("misfit"),
         }
     }
 
-    fn give_back(&mut self, thread: usize, text: &mut String) -> Result<(), NoMemory> {
+    fn give_back(&mut self, thread: usize, text: &mut String) -> Result<(), AllocError> {
         let Status::Taken(token) = self.status(thread) else {
-            return Ok(text.push_str("misfit")?);
+            return text.push_str("misfit");
         };
         self.set_status(thread, Status::Running)?;
-        Ok(write!(text, "unparked {}", token.0)?)
+        write!(text, "unparked {}", token.0)
     }
 
     // The answer to a question.
-    fn reply(&self, line: &str, text: &mut String) -> Result<(), NoMemory> {
+    fn reply(&self, line: &str, text: &mut String) -> Result<(), AllocError> {
         let (of, key) = (number(line, 1), number(line, 2));
         let (size, threads) = (self.size, self.statuses.len());
         match word(line, 0) {
@@ -165,30 +165,30 @@ impl Plain {
         times
     }
 
-    fn register(&mut self, text: &mut String) -> Result<(), NoMemory> {
+    fn register(&mut self, text: &mut String) -> Result<(), AllocError> {
         for number in 0..self.max_threads {
             if self.status(number) == Status::Free {
                 self.set_status(number, Status::Running)?;
                 self.size = self.size.max(self.least_size());
-                return Ok(write!(text, "number {number}")?);
+                return write!(text, "number {number}");
             }
         }
-        Ok(text.push_str("full")?)
+        text.push_str("full")
     }
 
-    fn enter(&mut self, line: &str, text: &mut String) -> Result<(), NoMemory> {
+    fn enter(&mut self, line: &str, text: &mut String) -> Result<(), AllocError> {
         let (thread, key) = (number(line, 1), number(line, 2));
         if word(line, 3) != "yes" {
-            return Ok(text.push_str("invalid")?);
+            return text.push_str("invalid");
         }
         self.waiting.push((thread, key))?;
         let timed = word(line, 5) == "timed";
         self.set_status(thread, Status::Waiting { timed })?;
-        Ok(text.push_str("entered")?)
+        text.push_str("entered")
     }
 
     /// A late thread leaves its list.
-    pub fn time_out(&mut self, thread: usize, text: &mut String) -> Result<(), NoMemory> {
+    pub fn time_out(&mut self, thread: usize, text: &mut String) -> Result<(), AllocError> {
         self.set_status(thread, Status::Running)?;
         if let Some(key) = take(&mut self.waiting, thread) {
             write!(text, "timed out {key} {}", self.list(key)?.is_empty())?;
@@ -198,7 +198,7 @@ impl Plain {
 
     // A thread that releases a key forgets its first record of it, and one that retires all of its
     // records.
-    fn forget(&mut self, of: (usize, usize), step: &str) -> Result<(), NoMemory> {
+    fn forget(&mut self, of: (usize, usize), step: &str) -> Result<(), AllocError> {
         let mut others = Vec::new(self.alloc);
         let mut is_released = false;
         for record in &self.records {
@@ -216,16 +216,16 @@ impl Plain {
     }
 
     // An unpark. Those who are taken get the token, and those who are moved come behind the others.
-    fn unpark(&mut self, line: &str, text: &mut String) -> Result<(), NoMemory> {
+    fn unpark(&mut self, line: &str, text: &mut String) -> Result<(), AllocError> {
         let before = mem::replace(&mut self.waiting, Vec::new(self.alloc));
         let mut moved = Vec::new(self.alloc);
         let (taken, left) = self.part(line, before.as_slice(), &mut moved)?;
         self.waiting.extend_from_slice(moved.as_slice())?;
         if word(line, 0) == "all" {
-            return Ok(write!(text, "count {taken}")?);
+            return write!(text, "count {taken}");
         }
         let (requeued, more) = (moved.len(), left != 0 && word(line, 3) != "abort");
-        Ok(write!(text, "unparked {taken} requeued {requeued} more {more}")?)
+        write!(text, "unparked {taken} requeued {requeued} more {more}")
     }
 
     // Counts whom an unpark takes and whom it leaves of those who waited before it.
@@ -234,7 +234,7 @@ impl Plain {
         line: &str,
         before: &[(usize, usize)],
         moved: &mut Vec<(usize, usize)>,
-    ) -> Result<(usize, usize), NoMemory> {
+    ) -> Result<(usize, usize), AllocError> {
         let (from, to, token) = keys_and_token(line);
         let (mut taken, mut left) = (0_usize, 0_usize);
         for (thread, key) in before {

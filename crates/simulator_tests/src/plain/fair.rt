@@ -1,11 +1,10 @@
 //! The machine of a fair mutex and its condition variable, as plain as docs/MODEL.md tells it. It
 //! knows no lot, and moves threads one by one.
 
-use super::pairs::{beside, put, say, take, write_list};
+use super::pairs::{beside, put, take, write_list};
 use crate::words::{number, word};
-use lot_base::token::NoMemory;
 use lot_simulator::fair::FairStatus;
-use std::alloc::Global;
+use std::alloc::{AllocError, Global};
 use std::fmt::Write;
 
 /// The plain machine.
@@ -47,32 +46,32 @@ impl PlainFair {
     }
 
     /// Does the step by its rule, and writes the answer; or that to a question.
-    pub fn answer(&mut self, line: &str, text: &mut String) -> Result<(), NoMemory> {
+    pub fn answer(&mut self, line: &str, text: &mut String) -> Result<(), AllocError> {
         let (thread, sleepers) = (number(line, 1), self.sleepers.len());
         match (word(line, 0), self.status(thread)) {
             ("waiters", _) => write_list(text, self.waiters.as_slice()),
             ("sleepers", _) => write_list(text, self.sleepers.as_slice()),
-            ("status", status) => Ok(write!(text, "{} {status:?}", self.is_locked())?),
+            ("status", status) => write!(text, "{} {status:?}", self.is_locked()),
             ("register", _) => self.register(text),
             ("notify-one", _) => self.notify(1, text),
             ("notify-all", _) => self.notify(sleepers, text),
             ("retire", FairStatus::Idle) => {
                 take(&mut self.statuses, thread);
-                say(text, "retired")
+                text.push_str("retired")
             }
             ("lock", FairStatus::Idle) if self.is_locked() => {
                 put(&mut self.statuses, thread, FairStatus::Queued)?;
                 self.waiters.push(thread)?;
-                say(text, "queued")
+                text.push_str("queued")
             }
             ("lock", FairStatus::Idle) | ("return", FairStatus::Handed) => {
                 put(&mut self.statuses, thread, FairStatus::Holding)?;
-                say(text, "locked")
+                text.push_str("locked")
             }
             ("wait", FairStatus::Holding) => {
                 put(&mut self.statuses, thread, FairStatus::Leaving)?;
                 self.sleepers.push(thread)?;
-                say(text, "waiting")
+                text.push_str("waiting")
             }
             ("unlock", FairStatus::Holding) => {
                 put(&mut self.statuses, thread, FairStatus::Idle)?;
@@ -82,32 +81,32 @@ impl PlainFair {
                 put(&mut self.statuses, thread, FairStatus::Queued)?;
                 self.hand_on(text)
             }
-            _ => say(text, "misfit"),
+            _ => text.push_str("misfit"),
         }
     }
 
-    fn register(&mut self, text: &mut String) -> Result<(), NoMemory> {
+    fn register(&mut self, text: &mut String) -> Result<(), AllocError> {
         for number in 0..self.max_threads {
             if self.status(number) == FairStatus::Free {
                 put(&mut self.statuses, number, FairStatus::Idle)?;
-                return Ok(write!(text, "number {number}")?);
+                return write!(text, "number {number}");
             }
         }
-        Ok(text.push_str("full")?)
+        text.push_str("full")
     }
 
     // The mutex, which nobody holds now, goes to the first who waits for it.
-    fn hand_on(&mut self, text: &mut String) -> Result<(), NoMemory> {
+    fn hand_on(&mut self, text: &mut String) -> Result<(), AllocError> {
         if self.waiters.is_empty() {
-            return Ok(text.push_str("freed")?);
+            return text.push_str("freed");
         }
         let first = self.waiters.remove(0);
         put(&mut self.statuses, first, FairStatus::Handed)?;
-        Ok(text.push_str("handed")?)
+        text.push_str("handed")
     }
 
     // Moves so many threads off the condition variable, if there are so many.
-    fn notify(&mut self, count: usize, text: &mut String) -> Result<(), NoMemory> {
+    fn notify(&mut self, count: usize, text: &mut String) -> Result<(), AllocError> {
         let (mut unparked, mut requeued) = (0_usize, 0_usize);
         for _ in 0..count {
             if self.sleepers.is_empty() {
@@ -123,6 +122,6 @@ impl PlainFair {
             }
         }
         let more = !self.sleepers.is_empty();
-        Ok(write!(text, "notified {unparked} requeued {requeued} more {more}")?)
+        write!(text, "notified {unparked} requeued {requeued} more {more}")
     }
 }

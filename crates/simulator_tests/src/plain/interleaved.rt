@@ -4,11 +4,11 @@
 //! It knows no bucket and no node, and of a table only its size.
 
 use super::exclusive::{Plain, keys_and_token};
-use super::pairs::{beside, put, say, take};
+use super::pairs::{beside, put, take};
 use crate::words::{behind, number, word};
-use lot_base::token::{NoMemory, UnparkToken};
+use lot_base::token::UnparkToken;
 use lot_machine::status::Status;
-use std::alloc::Global;
+use std::alloc::{AllocError, Global};
 use std::fmt::Write;
 
 /// The plain interleaved machine, and the sequential steps of all that was done, with their
@@ -64,7 +64,7 @@ impl FinePlain {
     }
 
     /// Does the step by its rule, writes the answer, and notes the sequential step.
-    pub fn answer(&mut self, line: &str, text: &mut String) -> Result<(), NoMemory> {
+    pub fn answer(&mut self, line: &str, text: &mut String) -> Result<(), AllocError> {
         let before = text.len();
         self.do_step(line, text)?;
         let given = text.as_str().get(before..).unwrap_or("");
@@ -74,31 +74,31 @@ impl FinePlain {
         Ok(())
     }
 
-    fn do_step(&mut self, line: &str, text: &mut String) -> Result<(), NoMemory> {
+    fn do_step(&mut self, line: &str, text: &mut String) -> Result<(), AllocError> {
         let (step, of) = (word(line, 0), number(line, 1));
         let slot = beside(self.slots.as_slice(), of);
         match step {
             "begin" => self.begin(of, behind(behind(line)), text),
             "commit" => self.commit(of, text),
-            "end" | "wake" => say(text, self.go_on(step, of)),
+            "end" | "wake" => text.push_str(self.go_on(step, of)),
             "enter" => self.enter(line, text),
-            "deadline" if slot.is_some() => say(text, "misfit"),
+            "deadline" if slot.is_some() => text.push_str("misfit"),
             "read" => self.read(of, text),
             "steps" => self.write_steps(text),
             "look" => self.look(of, text),
             "return" if slot.is_some() && self.view.status(of) != Status::Late => {
                 self.take_slot(of, text)
             }
-            "return" => say(text, "misfit"),
-            "register" | "trim" if self.is_blocked(step) => say(text, "blocked"),
+            "return" => text.push_str("misfit"),
+            "register" | "trim" if self.is_blocked(step) => text.push_str("blocked"),
             _ => self.view.answer(line, text),
         }
     }
 
-    fn enter(&mut self, line: &str, text: &mut String) -> Result<(), NoMemory> {
+    fn enter(&mut self, line: &str, text: &mut String) -> Result<(), AllocError> {
         let (of, key) = (number(line, 1), number(line, 2));
         if self.view.status(of) == Status::Running && self.is_held(key) {
-            return say(text, "blocked");
+            return text.push_str("blocked");
         }
         self.view.answer(line, text)?;
         if text.as_str().ends_with("entered") {
@@ -108,13 +108,13 @@ impl FinePlain {
     }
 
     // A late thread reads its key word.
-    fn read(&mut self, thread: usize, text: &mut String) -> Result<(), NoMemory> {
+    fn read(&mut self, thread: usize, text: &mut String) -> Result<(), AllocError> {
         if self.view.status(thread) != Status::Late {
-            return say(text, "misfit");
+            return text.push_str("misfit");
         }
         let key = beside(self.key_words.as_slice(), thread).unwrap_or(0);
         put(&mut self.keys_read, thread, key)?;
-        Ok(write!(text, "read {key}")?)
+        write!(text, "read {key}")
     }
 
     fn is_held(&self, key: usize) -> bool {
@@ -139,15 +139,15 @@ impl FinePlain {
         is_changed && !self.held.is_empty()
     }
 
-    fn begin(&mut self, caller: usize, op: &str, text: &mut String) -> Result<(), NoMemory> {
+    fn begin(&mut self, caller: usize, op: &str, text: &mut String) -> Result<(), AllocError> {
         let (from, to, token) = keys_and_token(op);
         let has_section = beside(self.held.as_slice(), caller).is_some();
         let is_to_wake = beside(self.wakes.as_slice(), caller).is_some();
         if caller >= self.callers || has_section || is_to_wake {
-            return Ok(text.push_str("misfit")?);
+            return text.push_str("misfit");
         }
         if self.is_held(from) || self.is_held(to) {
-            return Ok(text.push_str("blocked")?);
+            return text.push_str("blocked");
         }
         let size = self.view.size;
         self.held.push((caller, place(from, size)))?;
@@ -167,7 +167,7 @@ impl FinePlain {
         op: &str,
         (from, token): (usize, usize),
         text: &mut String,
-    ) -> Result<(), NoMemory> {
+    ) -> Result<(), AllocError> {
         let waiters = self.view.list(from)?;
         let before = Vec::from_slice(self.alloc, self.view.statuses.as_slice())?;
         self.view.answer(op, text)?;
@@ -179,7 +179,7 @@ impl FinePlain {
         (caller, token): (usize, usize),
         waiters: &[usize],
         before: &[(usize, Status)],
-    ) -> Result<(), NoMemory> {
+    ) -> Result<(), AllocError> {
         for thread in waiters {
             if let (Status::Taken(_), Some(status)) = (
                 self.view.status(*thread),
@@ -194,14 +194,14 @@ impl FinePlain {
     }
 
     // The first thread that the section has gets its node, with its token.
-    fn commit(&mut self, caller: usize, text: &mut String) -> Result<(), NoMemory> {
+    fn commit(&mut self, caller: usize, text: &mut String) -> Result<(), AllocError> {
         let Some(first) = take(&mut self.taken, caller) else {
-            return Ok(text.push_str("misfit")?);
+            return text.push_str("misfit");
         };
         let token = take(&mut self.tokens, first).unwrap_or(0);
         self.slots.push((first, token))?;
         self.wakes.push((caller, first))?;
-        Ok(write!(text, "committed {first}")?)
+        write!(text, "committed {first}")
     }
 
     // Ends a section that has nobody left, or wakes a thread.
@@ -219,22 +219,22 @@ impl FinePlain {
     }
 
     // The thread takes its node, with the token, and runs.
-    fn take_slot(&mut self, thread: usize, text: &mut String) -> Result<(), NoMemory> {
+    fn take_slot(&mut self, thread: usize, text: &mut String) -> Result<(), AllocError> {
         let token = take(&mut self.slots, thread).unwrap_or(0);
         self.view.set_status(thread, Status::Running)?;
-        Ok(write!(text, "unparked {token}")?)
+        write!(text, "unparked {token}")
     }
 
-    fn look(&mut self, thread: usize, text: &mut String) -> Result<(), NoMemory> {
+    fn look(&mut self, thread: usize, text: &mut String) -> Result<(), AllocError> {
         let Some(key) = beside(self.keys_read.as_slice(), thread) else {
-            return Ok(text.push_str("misfit")?);
+            return text.push_str("misfit");
         };
         if self.is_held(key) {
-            return Ok(text.push_str("blocked")?);
+            return text.push_str("blocked");
         }
         take(&mut self.keys_read, thread);
         if beside(self.key_words.as_slice(), thread) != Some(key) {
-            return Ok(text.push_str("retry")?);
+            return text.push_str("retry");
         }
         if beside(self.slots.as_slice(), thread).is_some() {
             return self.take_slot(thread, text);
@@ -252,7 +252,7 @@ impl FinePlain {
     }
 
     /// Writes the sequential steps of all that was done.
-    pub fn write_steps(&self, text: &mut String) -> Result<(), NoMemory> {
+    pub fn write_steps(&self, text: &mut String) -> Result<(), AllocError> {
         text.push_str("told")?;
         for step in self.steps.lines() {
             write!(text, " {step};")?;
@@ -261,7 +261,7 @@ impl FinePlain {
     }
 
     /// The view becomes the sequential one.
-    pub fn go_over(&mut self) -> Result<(), NoMemory> {
+    pub fn go_over(&mut self) -> Result<(), AllocError> {
         for thread in 0..self.view.max_threads {
             if let Some(token) = self.token(thread) {
                 let status = Status::Taken(UnparkToken(token));
@@ -273,7 +273,7 @@ impl FinePlain {
 
     // Notes the sequential step of a step that fits and was answered so, if there is one. A
     // deadline of a thread that is taken is none.
-    fn note_sequential(&mut self, line: &str, given: &str) -> Result<(), NoMemory> {
+    fn note_sequential(&mut self, line: &str, given: &str) -> Result<(), AllocError> {
         let of = number(line, 1);
         match word(line, 0) {
             "begin" => writeln!(self.steps, "{}", behind(behind(line)))?,
@@ -283,6 +283,6 @@ impl FinePlain {
             "deadline" if self.token(of).is_some() => return Ok(()),
             _ => writeln!(self.steps, "{line}")?,
         }
-        Ok(writeln!(self.answers, "{given}")?)
+        writeln!(self.answers, "{given}")
     }
 }

@@ -1,7 +1,7 @@
 //! Lists of numbers, each with what stands beside it, of which the plain machines are made, and
 //! lists of numbers.
 
-use lot_base::token::NoMemory;
+use std::alloc::AllocError;
 use std::fmt::Write;
 
 /// What stands beside the number, where it comes first.
@@ -28,20 +28,17 @@ pub fn take<T: Copy>(pairs: &mut Vec<(usize, T)>, number: usize) -> Option<T> {
 }
 
 /// Puts this beside the number, in place of what stood beside it where it came first.
-pub fn put<T: Copy>(pairs: &mut Vec<(usize, T)>, number: usize, second: T) -> Result<(), NoMemory> {
+pub fn put<T: Copy>(
+    pairs: &mut Vec<(usize, T)>,
+    number: usize,
+    second: T,
+) -> Result<(), AllocError> {
     take(pairs, number);
-    pairs.push((number, second))?;
-    Ok(())
-}
-
-/// Writes an answer of these words.
-pub fn say(text: &mut String, words: &str) -> Result<(), NoMemory> {
-    text.push_str(words)?;
-    Ok(())
+    Ok(pairs.push((number, second))?)
 }
 
 /// Writes the answer that tells a list.
-pub fn write_list(text: &mut String, threads: &[usize]) -> Result<(), NoMemory> {
+pub fn write_list(text: &mut String, threads: &[usize]) -> Result<(), AllocError> {
     text.push_str("waiters")?;
     for thread in threads {
         write!(text, " {thread}")?;

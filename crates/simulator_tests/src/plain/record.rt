@@ -1,10 +1,10 @@
 //! The plain machine with a journal: how many entries it has, and how many are set aside.
 
 use super::exclusive::Plain;
-use super::pairs::{say, take};
+use super::pairs::take;
 use crate::words::{number, word};
-use lot_base::token::NoMemory;
 use lot_machine::status::Status;
+use std::alloc::AllocError;
 
 // Whether the step fits and needs more entries than these. Those that end a park, or tell of its
 // deadline, have their entries set aside.
@@ -24,7 +24,7 @@ fn set_aside(
     aside: &mut Vec<(usize, usize)>,
     line: &str,
     is_entered: bool,
-) -> Result<(), NoMemory> {
+) -> Result<(), AllocError> {
     let thread = number(line, 1);
     match word(line, 0) {
         "enter" if is_entered => {
@@ -53,10 +53,10 @@ pub fn answer(
     (entries, capacity): (&mut usize, usize),
     line: &str,
     text: &mut String,
-) -> Result<(), NoMemory> {
+) -> Result<(), AllocError> {
     let left = capacity.wrapping_sub(*entries).wrapping_sub(aside.len());
     if is_full_for(plain, line, left) {
-        return say(text, "journal is full");
+        return text.push_str("journal is full");
     }
     let before = text.len();
     plain.answer(line, text)?;

@@ -3,7 +3,7 @@
 
 use crate::player::{play, play_long_list, play_short_lists};
 use crate::words::expect;
-use lot_base::token::NoMemory;
+use std::alloc::AllocError;
 use std::fmt::Write;
 
 // The steps that the short lists are made of. The keys 0 and 13 have place 0 of 16.
@@ -84,7 +84,7 @@ fn long_lists_are_those_of_the_plain_machine(rt: HostRuntime) {
 }
 
 // Of three hundred threads on a key, a filter leaves one more than a byte counts.
-fn write_crowd(text: &mut String) -> Result<(), NoMemory> {
+fn write_crowd(text: &mut String) -> Result<(), AllocError> {
     text.push_str("lot 300\n")?;
     for thread in 0..300 {
         write!(text, "register\nenter {thread} 1 yes 0 untimed\n")?;
