@@ -8,7 +8,7 @@
 //!   `counts N`, which adds 1 at each look and then asks whether the value is not N.
 
 use crate::player::play_both;
-use crate::stage::{Hand, Host, ROOM, ROOMS, time};
+use crate::stage::{Hand, Host, ROOM, ROOMS, hold, time};
 use parking_lot::Condvar;
 use parking_lot::mutex::{Fairness, MutexGuardIn};
 use std::time::{Duration, Instant};
@@ -49,7 +49,7 @@ fn wait<'x, 'l, F: Fairness, R: Host>(
     } else {
         wait_once(condvar, held.take()?, call, (time, deadline))
     };
-    *held = Some(guard);
+    hold(held, guard);
     Some(usize::from(is_in_time))
 }
 

@@ -1,8 +1,7 @@
 //! Values that are dropped.
 
 use crate::stage::Host;
-use parking_lot::mutex::{Fairness, MutexIn};
-use parking_lot::{Lot, RwLock};
+use parking_lot::{Lot, Mutex, RwLock};
 use std::sync::atomic::{AtomicUsize, Ordering};
 
 // A value that counts when it is dropped.
@@ -24,10 +23,10 @@ fn is_dropped_once(value: Dropped<'_>, count: &AtomicUsize) -> bool {
     before == 0 && count.load(Ordering::SeqCst) == 1
 }
 
-pub fn leaves_a_mutex<F: Fairness, R: Host>(rt: &R, lot: &Lot) -> bool {
+pub fn leaves_a_mutex<R: Host>(rt: &R, lot: &Lot) -> bool {
     let count = AtomicUsize::new(0);
     let value = Dropped { count: &count };
-    let mutex: MutexIn<'_, Dropped<'_>, F> = MutexIn::new(lot, value).expect(rt, "a mutex");
+    let mutex = Mutex::new(lot, value).expect(rt, "a mutex");
     is_dropped_once(mutex.into_inner(), &count)
 }
 

@@ -10,7 +10,7 @@
 //!   `leak` (which writes 2).
 
 use crate::player::play_both;
-use crate::stage::{BETWEEN, Hand, Host, ROOM, ROOMS, Stage, instant, keep, time};
+use crate::stage::{BETWEEN, Hand, Host, ROOM, ROOMS, Stage, has, hold, instant, keep, time};
 use parking_lot::mutex::{Fairness, MutexGuardIn, MutexIn};
 use std::thread;
 use test_support::words::Words;
@@ -56,25 +56,49 @@ pub fn use_guard<'x, 'l, F: Fairness, R: Host>(
 ) -> Option<usize> {
     let call = words.word()?;
     match call {
-        "is_locked" | "bump" | "unlocked" | "unlock" | "unlock_fair" | "hand_over" | "leak" => {
-            Some(use_held(rt, hand.mutex, &mut hand.guard, call))
+        "is_locked" | "bump" | "unlocked" => pass_on(rt, hand.mutex, &mut hand.guard, call),
+        "unlock" | "unlock_fair" | "hand_over" | "leak" => {
+            Some(usize::from(ends(rt, &mut hand.guard, call)))
         }
         _ => change(hand.guard.as_mut()?, &mut hand.last, call, words),
     }
 }
 
-fn use_held<'x, 'l, F: Fairness, R: Host>(
+// Calls after which the thread has the mutex still.
+fn pass_on<'x, 'l, F: Fairness, R: Host>(
     rt: &'x R,
     mutex: &'x MutexIn<'l, usize, F>,
     held: &mut Option<Held<'x, 'l, F, R>>,
     call: &str,
-) -> usize {
-    let Some(guard) = held.take() else {
-        return 0;
+) -> Option<usize> {
+    if call == "is_locked" {
+        let mutex = MutexGuardIn::mutex(held.as_ref()?);
+        return Some(usize::from(mutex.is_locked(rt)));
+    }
+    let (guard, found) = match call {
+        "bump" => (MutexGuardIn::bump(held.take()?), true),
+        _ => MutexGuardIn::unlocked(held.take()?, || has(mutex.try_lock(rt))),
     };
-    let (guard, found) = pass_on(rt, mutex, guard, call);
-    *held = guard;
-    found
+    hold(held, guard);
+    Some(usize::from(found))
+}
+
+// Calls after which it has it no longer. Tells whether it had it.
+fn ends<'x, 'l, F: Fairness, R: Host>(
+    rt: &'x R,
+    held: &mut Option<Held<'x, 'l, F, R>>,
+    call: &str,
+) -> bool {
+    let Some(guard) = held.take() else {
+        return false;
+    };
+    match call {
+        "leak" => return is_leaked(rt, guard),
+        "hand_over" if !F::IS_FAIR => MutexGuardIn::unlock_fair(guard),
+        "unlock_fair" => MutexGuardIn::unlock_fair(guard),
+        _ => drop(guard),
+    }
+    true
 }
 
 /// Looks at a value or changes it.
@@ -108,37 +132,13 @@ fn add_slowly(value: &mut usize) {
     *value = old.wrapping_add(1);
 }
 
-fn pass_on<'x, 'l, F: Fairness, R: Host>(
-    rt: &'x R,
-    mutex: &'x MutexIn<'l, usize, F>,
-    guard: Held<'x, 'l, F, R>,
-    call: &str,
-) -> (Option<Held<'x, 'l, F, R>>, usize) {
-    match call {
-        "is_locked" => {
-            let is_locked = MutexGuardIn::mutex(&guard).is_locked(rt);
-            return (Some(guard), usize::from(is_locked));
-        }
-        "bump" => return (Some(MutexGuardIn::bump(guard)), 1),
-        "unlocked" => {
-            let (guard, found) = MutexGuardIn::unlocked(guard, || mutex.try_lock(rt).is_some());
-            return (Some(guard), usize::from(found));
-        }
-        "leak" => return (None, usize::from(is_leaked(rt, guard))),
-        "hand_over" if !F::IS_FAIR => MutexGuardIn::unlock_fair(guard),
-        "unlock_fair" => MutexGuardIn::unlock_fair(guard),
-        _ => drop(guard),
-    }
-    (None, 1)
-}
-
 fn is_leaked<F: Fairness, R: Host>(rt: &R, guard: Held<'_, '_, F, R>) -> bool {
-    match MutexGuardIn::leak(guard, rt.alloc()) {
-        Ok(value) => {
+    match MutexGuardIn::leak(guard, rt.alloc()).ok() {
+        Some(value) => {
             *value = 2;
             true
         }
-        Err(_guard) => false,
+        None => false,
     }
 }
 

@@ -1,8 +1,8 @@
 //! Guards of a part of a value. Upstream has no test of them.
 
-use crate::stage::{Host, ROOM, expect, new_lot};
-use parking_lot::mutex::{Barging, Fairness, InOrder, MutexIn};
-use parking_lot::{Guard, Lens, Lot, RwLock};
+use crate::stage::{Host, ROOM, expect, has, new_lot};
+use parking_lot::{Guard, Lens, Mutex, RwLock};
+use std::ops::{Deref, DerefMut};
 
 type Pair = (usize, usize);
 
@@ -27,46 +27,63 @@ fn choose_second(pair: &Pair) -> Option<Second> {
     if pair.0 == 1 { None } else { Some(Second) }
 }
 
-fn writes_a_part<F: Fairness, R: Host>(rt: &R, mutex: &MutexIn<'_, Pair, F>) {
+// The second number of the pair that a guard shows, which is let go.
+fn second_of<G: Deref<Target = Pair> + Drop>(guard: G) -> usize {
+    guard.1
+}
+
+// Changes the first number, if there is a guard, which is let go, and tells whether there is.
+fn sets_first<G: DerefMut<Target = Pair> + Drop>(found: Option<G>) -> bool {
+    match found {
+        Some(mut guard) => {
+            guard.0 = 2;
+            true
+        }
+        None => false,
+    }
+}
+
+fn part_of_a_mutex<R: Host>(rt: &R, mutex: &Mutex<'_, Pair>) {
     let mut part = Guard::map(mutex.lock(rt), Second);
     expect(rt, *part == 2 && mutex.is_locked(rt), "the part is held");
     *part = 3;
     drop(part);
-    let Err(mut guard) = Guard::try_map(mutex.lock(rt), choose_second) else {
-        return expect(rt, false, "no part was chosen");
-    };
-    expect(rt, guard.1 == 3, "it was written");
-    guard.0 = 2;
-    let part = Guard::try_map(guard, choose_second);
-    expect(rt, part.is_ok(), "a part was chosen");
-    drop(part);
+    expect(rt, second_of(mutex.lock(rt)) == 3, "it was written");
+}
+
+fn chosen_part_of_a_mutex<R: Host>(rt: &R, mutex: &Mutex<'_, Pair>) {
+    let refused = Guard::try_map(mutex.lock(rt), choose_second).err();
+    expect(rt, sets_first(refused), "no part was chosen");
+    let chosen = Guard::try_map(mutex.lock(rt), choose_second).ok();
+    expect(rt, mutex.is_locked(rt), "the part is held");
+    expect(rt, has(chosen), "a part was chosen");
     expect(rt, !mutex.is_locked(rt), "it was let go");
 }
 
-fn has_parts<F: Fairness, R: Host>(rt: &R, lot: &Lot) {
-    let mutex: MutexIn<'_, Pair, F> = MutexIn::new(lot, (1, 2)).expect(rt, "a mutex");
-    writes_a_part(rt, &mutex);
-}
-
-fn reads_and_writes_a_part<R: Host>(rt: &R, lock: &RwLock<'_, Pair>) {
+fn part_to_read<R: Host>(rt: &R, lock: &RwLock<'_, Pair>) {
     let part = Guard::map(lock.read(rt), Second);
     expect(rt, *part == 2, "it is read");
-    expect(rt, lock.try_read(rt).is_some(), "it is read");
-    expect(rt, lock.try_write(rt).is_none(), "it is read");
+    expect(rt, has(lock.try_read(rt)), "others read");
+    expect(rt, !has(lock.try_write(rt)), "nobody writes");
     drop(part);
+}
+
+fn part_to_write<R: Host>(rt: &R, lock: &RwLock<'_, Pair>) {
     let mut part = Guard::map(lock.write(rt), Second);
     *part = 3;
-    expect(rt, lock.try_read(rt).is_none(), "it is written");
+    expect(rt, !has(lock.try_read(rt)), "nobody reads");
     drop(part);
-    expect(rt, lock.read(rt).1 == 3, "it was written");
+    expect(rt, second_of(lock.read(rt)) == 3, "it was written");
 }
 
 fn parts_of_each<R: Host>(rt: &R) {
     let lot = new_lot(rt, ROOM);
-    has_parts::<Barging, R>(rt, &lot);
-    has_parts::<InOrder, R>(rt, &lot);
+    let mutex = Mutex::new(&lot, (1, 2)).expect(rt, "a mutex");
+    part_of_a_mutex(rt, &mutex);
+    chosen_part_of_a_mutex(rt, &mutex);
     let lock = RwLock::new(&lot, (1, 2)).expect(rt, "a lock");
-    reads_and_writes_a_part(rt, &lock);
+    part_to_read(rt, &lock);
+    part_to_write(rt, &lock);
 }
 
 #[test]

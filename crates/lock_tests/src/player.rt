@@ -64,7 +64,7 @@ fn outcome<'x, 'l, F: Fairness, R: Host>(
         "condvar" => use_condvar(rt, &stage.condvar, hand, words),
         "other_condvar" => use_condvar(rt, &stage.other_condvar, hand, words),
         "rwlock" => use_rwlock(rt, &stage.rwlock, hand, words),
-        "reader" => use_reader(rt, &stage.rwlock, &mut hand.reader, words, &mut hand.last),
+        "reader" => use_reader(rt, &stage.rwlock, &mut hand.reader, words, hand.last),
         "upgradable" => use_upgradable(rt, &stage.rwlock, hand, words),
         "upgrade" => use_upgrade(rt, hand, words),
         "writer" => use_writer(rt, &stage.rwlock, hand, words),

@@ -2,11 +2,12 @@
 //!
 //! `reentrant`: `thrice` (locks the value 2 thrice, and tells whether it is unlocked at last),
 //! `nested` (raises `held`, and adds each number below 100 while it has the mutex already), `look`
-//! (the value), `tries` (whether each way to lock it gets it thrice; raises `held` then, and waits
-//! for `done`), `refused` (whether each way to lock it is refused, since another owner has it).
+//! (the value), `tries` (whether each way to lock it gets it, also where it has it already; raises
+//! `held` while it has it, and waits for `done`), `refused` (whether each way to lock it is
+//! refused, since another owner has it).
 
 use crate::player::play_each;
-use crate::stage::{Host, ROOMS, Stage, expect};
+use crate::stage::{Host, ROOMS, Stage, expect, has};
 use parking_lot::ReentrantMutex;
 use parking_lot::mutex::Fairness;
 use std::sync::atomic::{AtomicUsize, Ordering};
@@ -60,7 +61,9 @@ fn add_nested<R: Host>(rt: &R, mutex: &Counter<'_>, is_held: &AtomicUsize) -> bo
     let guard = mutex.lock(rt, &owner);
     is_held.fetch_add(1, Ordering::SeqCst);
     for number in 0..100usize {
-        mutex.lock(rt, &owner).fetch_add(number, Ordering::SeqCst);
+        let nested = mutex.lock(rt, &owner);
+        nested.fetch_add(number, Ordering::SeqCst);
+        drop(nested);
     }
     drop(guard);
     true
@@ -68,7 +71,10 @@ fn add_nested<R: Host>(rt: &R, mutex: &Counter<'_>, is_held: &AtomicUsize) -> bo
 
 fn look<R: Host>(rt: &R, mutex: &Counter<'_>) -> usize {
     let owner = mutex.owner();
-    mutex.lock(rt, &owner).load(Ordering::SeqCst)
+    let guard = mutex.lock(rt, &owner);
+    let value = value_of(&guard);
+    drop(guard);
+    value
 }
 
 fn gets_it_in_each_way<F: Fairness, R: Host>(
@@ -80,11 +86,12 @@ fn gets_it_in_each_way<F: Fairness, R: Host>(
     let time = Duration::from_secs(20);
     let deadline = Instant::now(rt).expect(rt, "a clock");
     let first = mutex.try_lock(rt, &owner);
-    let second = mutex.lock_for(rt, &owner, time);
-    let third = mutex.lock_until(rt, &owner, deadline);
-    let has_it = first.is_some() && second.is_some() && third.is_some();
+    let has_it_for = has(mutex.lock_for(rt, &owner, time));
+    let has_it_until = has(mutex.lock_until(rt, &owner, deadline));
     stage.held.fetch_add(1, Ordering::SeqCst);
-    has_it && comes_to(&stage.done, 1) && mutex.try_lock(rt, &owner).is_some()
+    let is_done = comes_to(&stage.done, 1);
+    let has_it_again = has(mutex.try_lock(rt, &owner));
+    has(first) && has_it_for && has_it_until && is_done && has_it_again
 }
 
 fn is_refused<R: Host>(rt: &R, mutex: &Counter<'_>) -> bool {

@@ -14,7 +14,9 @@
 
 use crate::mutex::change;
 use crate::player::play_each;
-use crate::stage::{BETWEEN, Hand, Host, ROOM, ROOMS, has, instant, keep, time};
+use crate::stage::{
+    BETWEEN, Hand, Host, ROOM, ROOMS, has, hold, instant, keep, let_go, time, value_in,
+};
 use parking_lot::mutex::Fairness;
 use parking_lot::{RwLock, RwLockReadGuard, RwLockUpgradableReadGuard, RwLockWriteGuard};
 use std::time::{Duration, Instant};
@@ -57,7 +59,7 @@ fn tries<R: Host>(rt: &R, lock: &RwLock<'_, usize>, call: &str) -> Option<bool> 
         "try_write" => Some(has(lock.try_write(rt))),
         "is_locked" => Some(lock.is_locked(rt)),
         "is_locked_exclusive" => Some(lock.is_locked_exclusive(rt)),
-        "look" => Some(*lock.read(rt) != BETWEEN),
+        "look" => Some(value_in(lock.read(rt)) != BETWEEN),
         _ => None,
     }
 }
@@ -116,42 +118,30 @@ pub fn use_reader<'x, 'l, R: Host>(
     lock: &'x RwLock<'l, usize>,
     held: &mut Option<Reader<'x, 'l, R>>,
     words: &mut Words<'_>,
-    last: &mut usize,
-) -> Option<usize> {
-    let call = words.word()?;
-    let (guard, found) = pass_reader(rt, lock, held.take()?, call, *last);
-    *held = guard;
-    found
-}
-
-fn pass_reader<'x, 'l, R: Host>(
-    rt: &'x R,
-    lock: &'x RwLock<'l, usize>,
-    guard: Reader<'x, 'l, R>,
-    call: &str,
     last: usize,
-) -> (Option<Reader<'x, 'l, R>>, Option<usize>) {
-    let value = *guard;
-    let found = match call {
-        "value" => Some(value),
-        "still" => Some(usize::from(value == last)),
-        "is_locked" => Some(usize::from(RwLockReadGuard::rwlock(&guard).is_locked(rt))),
-        "bump" => return (Some(RwLockReadGuard::bump(guard)), Some(1)),
+) -> Option<usize> {
+    match words.word()? {
+        "value" => return Some(**held.as_ref()?),
+        "still" => return Some(usize::from(**held.as_ref()? == last)),
+        "is_locked" => {
+            let lock = RwLockReadGuard::rwlock(held.as_ref()?);
+            return Some(usize::from(lock.is_locked(rt)));
+        }
+        "bump" => {
+            let guard = RwLockReadGuard::bump(held.take()?);
+            hold(held, guard);
+        }
         "unlocked" => {
-            let (guard, found) = RwLockReadGuard::unlocked(guard, || lock.try_write(rt).is_some());
-            return (Some(guard), Some(usize::from(found)));
+            let try_to_write = || has(lock.try_write(rt));
+            let (guard, found) = RwLockReadGuard::unlocked(held.take()?, try_to_write);
+            hold(held, guard);
+            return Some(usize::from(found));
         }
-        "unlock_fair" => {
-            RwLockReadGuard::unlock_fair(guard);
-            return (None, Some(1));
-        }
-        "unlock" => {
-            drop(guard);
-            return (None, Some(1));
-        }
-        _ => None,
-    };
-    (Some(guard), found)
+        "unlock_fair" => RwLockReadGuard::unlock_fair(held.take()?),
+        "unlock" => return Some(usize::from(let_go(held))),
+        _ => return None,
+    }
+    Some(1)
 }
 
 pub fn use_upgradable<'x, 'l, F: Fairness, R: Host>(
@@ -160,47 +150,46 @@ pub fn use_upgradable<'x, 'l, F: Fairness, R: Host>(
     hand: &mut Hand<'x, 'l, F, R>,
     words: &mut Words<'_>,
 ) -> Option<usize> {
-    let call = words.word()?;
-    let guard = hand.upgradable.take()?;
-    if call == "downgrade" {
-        hand.reader = Some(RwLockUpgradableReadGuard::downgrade(guard));
-        return Some(1);
+    match words.word()? {
+        "value" => {
+            hand.last = **hand.upgradable.as_ref()?;
+            Some(hand.last)
+        }
+        "downgrade" => {
+            let guard = RwLockUpgradableReadGuard::downgrade(hand.upgradable.take()?);
+            hold(&mut hand.reader, guard);
+            Some(1)
+        }
+        call => pass_upgradable(rt, lock, &mut hand.upgradable, call),
     }
-    hand.last = *guard;
-    let (guard, found) = pass_upgradable(rt, lock, guard, call);
-    hand.upgradable = guard;
-    found
 }
 
 fn pass_upgradable<'x, 'l, R: Host>(
     rt: &'x R,
     lock: &'x RwLock<'l, usize>,
-    guard: Upgradable<'x, 'l, R>,
+    held: &mut Option<Upgradable<'x, 'l, R>>,
     call: &str,
-) -> (Option<Upgradable<'x, 'l, R>>, Option<usize>) {
-    let found = match call {
-        "value" => Some(*guard),
+) -> Option<usize> {
+    match call {
         "is_locked" => {
-            let lock = RwLockUpgradableReadGuard::rwlock(&guard);
-            Some(usize::from(lock.is_locked(rt)))
+            let lock = RwLockUpgradableReadGuard::rwlock(held.as_ref()?);
+            return Some(usize::from(lock.is_locked(rt)));
         }
-        "bump" => return (Some(RwLockUpgradableReadGuard::bump(guard)), Some(1)),
+        "bump" => {
+            let guard = RwLockUpgradableReadGuard::bump(held.take()?);
+            hold(held, guard);
+        }
         "unlocked" => {
-            let try_to_read = || lock.try_read(rt).is_some();
-            let (guard, found) = RwLockUpgradableReadGuard::unlocked(guard, try_to_read);
-            return (Some(guard), Some(usize::from(found)));
+            let try_to_read = || has(lock.try_read(rt));
+            let (guard, found) = RwLockUpgradableReadGuard::unlocked(held.take()?, try_to_read);
+            hold(held, guard);
+            return Some(usize::from(found));
         }
-        "unlock_fair" => {
-            RwLockUpgradableReadGuard::unlock_fair(guard);
-            return (None, Some(1));
-        }
-        "unlock" => {
-            drop(guard);
-            return (None, Some(1));
-        }
-        _ => None,
-    };
-    (Some(guard), found)
+        "unlock_fair" => RwLockUpgradableReadGuard::unlock_fair(held.take()?),
+        "unlock" => return Some(usize::from(let_go(held))),
+        _ => return None,
+    }
+    Some(1)
 }
 
 pub fn use_upgrade<'x, 'l, F: Fairness, R: Host>(
@@ -217,11 +206,11 @@ pub fn use_upgrade<'x, 'l, F: Fairness, R: Host>(
     let deadline = Instant::now(rt).ok()?.checked_add(time)?;
     match upgrade(hand.upgradable.take()?, call, time, deadline) {
         Ok(guard) => {
-            hand.writer = Some(guard);
+            hold(&mut hand.writer, guard);
             Some(1)
         }
         Err(guard) => {
-            hand.upgradable = Some(guard);
+            hold(&mut hand.upgradable, guard);
             Some(0)
         }
     }
@@ -247,49 +236,47 @@ pub fn use_writer<'x, 'l, F: Fairness, R: Host>(
     hand: &mut Hand<'x, 'l, F, R>,
     words: &mut Words<'_>,
 ) -> Option<usize> {
-    let call = words.word()?;
-    if call == "downgrade" {
-        hand.reader = Some(RwLockWriteGuard::downgrade(hand.writer.take()?));
-        return Some(1);
+    match words.word()? {
+        "downgrade" => {
+            let guard = RwLockWriteGuard::downgrade(hand.writer.take()?);
+            hold(&mut hand.reader, guard);
+            Some(1)
+        }
+        "downgrade_to_upgradable" => {
+            let guard = RwLockWriteGuard::downgrade_to_upgradable(hand.writer.take()?);
+            hold(&mut hand.upgradable, guard);
+            Some(1)
+        }
+        call => pass_writer(rt, lock, &mut hand.writer, call),
     }
-    if call == "downgrade_to_upgradable" {
-        let guard = hand.writer.take()?;
-        hand.upgradable = Some(RwLockWriteGuard::downgrade_to_upgradable(guard));
-        return Some(1);
-    }
-    let (guard, found) = pass_writer(rt, lock, hand.writer.take()?, call);
-    hand.writer = guard;
-    found
 }
 
 fn pass_writer<'x, 'l, R: Host>(
     rt: &'x R,
     lock: &'x RwLock<'l, usize>,
-    guard: Writer<'x, 'l, R>,
+    held: &mut Option<Writer<'x, 'l, R>>,
     call: &str,
-) -> (Option<Writer<'x, 'l, R>>, Option<usize>) {
-    let found = match call {
+) -> Option<usize> {
+    match call {
         "is_locked" => {
-            let lock = RwLockWriteGuard::rwlock(&guard);
-            Some(usize::from(lock.is_locked_exclusive(rt)))
+            let lock = RwLockWriteGuard::rwlock(held.as_ref()?);
+            return Some(usize::from(lock.is_locked_exclusive(rt)));
         }
-        "bump" => return (Some(RwLockWriteGuard::bump(guard)), Some(1)),
+        "bump" => {
+            let guard = RwLockWriteGuard::bump(held.take()?);
+            hold(held, guard);
+        }
         "unlocked" => {
-            let try_to_read = || lock.try_read(rt).is_some();
-            let (guard, found) = RwLockWriteGuard::unlocked(guard, try_to_read);
-            return (Some(guard), Some(usize::from(found)));
+            let try_to_read = || has(lock.try_read(rt));
+            let (guard, found) = RwLockWriteGuard::unlocked(held.take()?, try_to_read);
+            hold(held, guard);
+            return Some(usize::from(found));
         }
-        "unlock_fair" => {
-            RwLockWriteGuard::unlock_fair(guard);
-            return (None, Some(1));
-        }
-        "unlock" => {
-            drop(guard);
-            return (None, Some(1));
-        }
-        _ => None,
-    };
-    (Some(guard), found)
+        "unlock_fair" => RwLockWriteGuard::unlock_fair(held.take()?),
+        "unlock" => return Some(usize::from(let_go(held))),
+        _ => return None,
+    }
+    Some(1)
 }
 
 /// Looks at the value that a thread may write, or changes it.

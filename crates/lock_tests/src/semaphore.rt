@@ -7,7 +7,7 @@
 //!   `drop`.
 
 use crate::player::play_each;
-use crate::stage::{Host, ROOM, ROOMS, has, instant, keep, number_or_one, time};
+use crate::stage::{Host, ROOM, ROOMS, has, instant, keep, let_go, time};
 use parking_lot::{Semaphore, SemaphorePermit};
 use test_support::words::Words;
 
@@ -44,37 +44,18 @@ pub fn use_permit<'x, 'l, R: Host>(
     held: &mut Option<Permit<'x, 'l, R>>,
     words: &mut Words<'_>,
 ) -> Option<usize> {
-    let call = words.word()?;
-    let number = number_or_one(words);
-    let (permit, found) = pass_permit(held.take()?, call, number);
-    *held = permit;
-    found
-}
-
-fn pass_permit<'x, 'l, R: Host>(
-    held: Permit<'x, 'l, R>,
-    call: &str,
-    number: usize,
-) -> (Option<Permit<'x, 'l, R>>, Option<usize>) {
-    let mut permit = held;
-    match call {
-        "permits" => {
-            let permits = permit.permits();
-            (Some(permit), Some(permits))
-        }
+    match words.word()? {
+        "permits" => Some(held.as_ref()?.permits()),
         "split" => {
-            let is_split = has(permit.split(number));
-            (Some(permit), Some(usize::from(is_split)))
+            let number = words.number()?;
+            Some(usize::from(has(held.as_mut()?.split(number))))
         }
         "forget" => {
-            SemaphorePermit::forget(permit);
-            (None, Some(1))
+            SemaphorePermit::forget(held.take()?);
+            Some(1)
         }
-        "drop" => {
-            drop(permit);
-            (None, Some(1))
-        }
-        _ => (Some(permit), None),
+        "drop" => Some(usize::from(let_go(held))),
+        _ => None,
     }
 }
 

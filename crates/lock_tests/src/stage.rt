@@ -6,6 +6,7 @@ use parking_lot::{
     RwLockUpgradableReadGuard, RwLockWriteGuard, Semaphore, SemaphorePermit,
 };
 use std::alloc::AllocGlobal;
+use std::ops::Deref;
 use std::process::Abort;
 use std::sync::Wait;
 use std::sync::atomic::{AtomicUsize, Ordering};
@@ -163,6 +164,11 @@ pub fn expect(rt: &impl Abort, is_so: bool, case: &str) {
     assert!(rt; is_so, "{case}");
 }
 
+/// Has a thread hold this, in place of what it holds.
+pub fn hold<G: Drop>(held: &mut Option<G>, guard: G) {
+    *held = Some(guard);
+}
+
 /// Has a thread hold what it found, in place of what it holds, and tells whether it found it.
 pub fn keep<G: Drop>(held: &mut Option<G>, found: Option<G>) -> bool {
     let is_found = found.is_some();
@@ -175,6 +181,16 @@ pub fn keep<G: Drop>(held: &mut Option<G>, found: Option<G>) -> bool {
 /// Whether something was found, which is let go.
 pub fn has<G: Drop>(found: Option<G>) -> bool {
     found.is_some()
+}
+
+/// Has a thread let go what it holds, and tells whether it held it.
+pub fn let_go<G: Drop>(held: &mut Option<G>) -> bool {
+    has(held.take())
+}
+
+/// The value that a guard shows, which is let go.
+pub fn value_in<G: Deref<Target = usize> + Drop>(guard: G) -> usize {
+    *guard
 }
 
 /// The next word if it is a number, and else 1.

@@ -1,32 +1,30 @@
 //! What kinds of values locks keep, and how locks are shown.
 
 use crate::drops::{leaves_a_lock, leaves_a_mutex};
-use crate::stage::{Host, ROOM, ROOMS, Stage, expect, new_lot};
-use parking_lot::mutex::{Barging, Fairness, InOrder, MutexIn};
-use parking_lot::{Barrier, LazyLock, Lot, OnceLock, ReentrantMutex, RwLock};
+use crate::stage::{Host, ROOM, ROOMS, Stage, expect, new_lot, value_in};
+use parking_lot::mutex::Barging;
+use parking_lot::{
+    Barrier, FairMutexGuard, LazyLock, Lot, Mutex, MutexGuard, OnceLock, ReentrantMutex, RwLock,
+    RwLockReadGuard, RwLockUpgradableReadGuard, RwLockWriteGuard,
+};
 use std::fmt::Debug;
 use std::sync::Arc;
 use std::sync::atomic::{AtomicUsize, Ordering};
 use std::thread;
 
+type Nested = Mutex<'static, Mutex<'static, usize>>;
+
 // It locks a mutex that lies in another mutex, which a spawned thread has in an `Arc`.
-fn looks_inside<F: Fairness, R: Host>(
-    rt: &R,
-    outer: &MutexIn<'static, MutexIn<'static, usize, F>, F>,
-) -> bool {
+fn looks_inside<R: Host>(rt: &R, outer: &Nested) -> bool {
     let guard = outer.lock(rt);
-    let inner = guard.lock(rt);
-    *inner == 1
+    let value = value_in(guard.lock(rt));
+    drop(guard);
+    value == 1
 }
 
-fn nests<F: Fairness + Sync + Send + 'static, R: Host + Copy + Send + 'static>(
-    rt: R,
-    lot: &'static Lot,
-) {
-    let inner: MutexIn<'static, usize, F> = MutexIn::new(lot, 1).expect(&rt, "a mutex");
-    let outer: MutexIn<'static, MutexIn<'static, usize, F>, F> = MutexIn::new(lot, inner).expect(
-        &rt, "a mutex",
-    );
+fn nests<R: Host + Copy + Send + 'static>(rt: R, lot: &'static Lot) {
+    let inner = Mutex::new(lot, 1usize).expect(&rt, "a mutex");
+    let outer: Nested = Mutex::new(lot, inner).expect(&rt, "a mutex");
     let shared = Arc::new(rt.alloc(), outer).expect(&rt, "memory");
     let cloned: Result<_, _> = shared.clone();
     let theirs = cloned.expect(&rt, "memory");
@@ -40,8 +38,7 @@ fn nests<F: Fairness + Sync + Send + 'static, R: Host + Copy + Send + 'static>(
 #[test]
 fn arc_nested(rt: HostRuntime) {
     let lot = Lot::for_ever(rt.alloc(), ROOM).expect(&rt, "a lot");
-    nests::<Barging, _>(rt, lot);
-    nests::<InOrder, _>(rt, lot);
+    nests(rt, lot);
 }
 
 // Expects that the value is shown by this text.
@@ -50,22 +47,24 @@ fn expect_shown<T: Debug, R: Host>(rt: &R, value: &T, wanted: &str) {
     expect(rt, shown.as_str() == wanted, wanted);
 }
 
-fn expect_all_shown<F: Fairness, R: Host>(rt: &R, stage: &Stage<'_, F>) {
-    let _guard = stage.mutex.lock(rt);
-    let _writer = stage.rwlock.write(rt);
+fn expect_all_shown<R: Host>(rt: &R, stage: &Stage<'_, Barging>) {
+    let guard = stage.mutex.lock(rt);
+    let writer = stage.rwlock.write(rt);
     expect_shown(rt, &stage.mutex, "Mutex { .. }");
-    expect_shown(rt, &stage.second, "Mutex { .. }");
     expect_shown(rt, &stage.rwlock, "RwLock { .. }");
     expect_shown(rt, &stage.reentrant, "ReentrantMutex { .. }");
     expect_shown(rt, &stage.condvar, "Condvar { .. }");
     expect_shown(rt, &stage.once, "Once { .. }");
     expect_shown(rt, &stage.semaphore, "Semaphore { permits: 3, .. }");
     expect_shown(rt, &stage.cell, "OnceLock(..)");
+    drop(guard);
+    drop(writer);
 }
 
-fn shows_a_stage<F: Fairness, R: Host>(rt: &R, lot: &Lot) {
-    let stage: Stage<'_, F> = Stage::new(rt, lot, lot);
+fn shows_a_stage<R: Host>(rt: &R, lot: &Lot) {
+    let stage = Stage::new(rt, lot, lot);
     expect_all_shown(rt, &stage);
+    stage.end();
 }
 
 fn shows_a_cell<R: Host>(rt: &R, lot: &Lot) {
@@ -85,8 +84,7 @@ fn shows_a_barrier<R: Host>(rt: &R, lot: &Lot) {
 
 fn shows_all<R: Host>(rt: &R) {
     let lot = new_lot(rt, ROOM);
-    shows_a_stage::<Barging, R>(rt, &lot);
-    shows_a_stage::<InOrder, R>(rt, &lot);
+    shows_a_stage(rt, &lot);
     shows_a_cell(rt, &lot);
     shows_a_barrier(rt, &lot);
 }
@@ -135,48 +133,36 @@ fn clones_a_value<R: Host>(rt: &R, lot: &Lot) {
     let shared = Arc::new(rt.alloc(), 1usize).expect(rt, "memory");
     let lock = RwLock::new(lot, shared).expect(rt, "a lock");
     let guard = lock.read_recursive(rt);
-    let cloned: Result<_, _> = guard.clone();
+    let cloned: Result<Arc<usize>, _> = guard.clone();
+    drop(guard);
     let cloned = cloned.expect(rt, "memory");
     expect(rt, Arc::strong_count(&cloned) == 2, "there are two");
 }
 
-// Takes what threads may share.
-fn is_shared<T: Sync>(_value: &T) {}
+// It compiles for values that threads may share.
+fn is_shared<T: Sync>() {}
 
-fn guards_are_shared<F: Fairness + Sync, R: Host>(rt: &R, stage: &Stage<'_, F>) {
-    is_shared(&stage.mutex.lock(rt));
-    is_shared(&stage.rwlock.read(rt));
-    is_shared(&stage.rwlock.upgradable_read(rt));
-    is_shared(&stage.rwlock.write(rt));
-}
-
-fn shares_guards<R: Host>(rt: &R, lot: &Lot) {
-    let stage: Stage<'_, InOrder> = Stage::new(rt, lot, lot);
-    guards_are_shared(rt, &stage);
+fn guards_are_shared<'a, R: Host + 'a>() {
+    is_shared::<MutexGuard<'a, 'a, 'a, usize, R>>();
+    is_shared::<FairMutexGuard<'a, 'a, 'a, usize, R>>();
+    is_shared::<RwLockReadGuard<'a, 'a, 'a, usize, R>>();
+    is_shared::<RwLockUpgradableReadGuard<'a, 'a, 'a, usize, R>>();
+    is_shared::<RwLockWriteGuard<'a, 'a, 'a, usize, R>>();
 }
 
 // An owner that the lot made may lock each reentrant mutex of it.
 fn owner_of_a_lot_locks<R: Host>(rt: &R, lot: &Lot) {
     let mutex = ReentrantMutex::new(lot, 1usize).expect(rt, "a mutex");
     let owner = lot.owner();
-    expect(rt, *mutex.lock(rt, &owner) == 1, "it is 1");
+    expect(rt, value_in(mutex.lock(rt, &owner)) == 1, "it is 1");
 }
 
 fn keeps_values<R: Host>(rt: &R) {
     let lot = new_lot(rt, ROOM);
-    shares_guards(rt, &lot);
+    guards_are_shared::<R>();
     clones_a_value(rt, &lot);
     owner_of_a_lot_locks(rt, &lot);
-    expect(
-        rt,
-        leaves_a_mutex::<Barging, R>(rt, &lot),
-        "into_inner_drop",
-    );
-    expect(
-        rt,
-        leaves_a_mutex::<InOrder, R>(rt, &lot),
-        "into_inner_drop",
-    );
+    expect(rt, leaves_a_mutex(rt, &lot), "into_inner_drop");
     expect(rt, leaves_a_lock(rt, &lot), "into_inner_drop");
 }
 

@@ -31,20 +31,20 @@ impl<P: ThreadParkerT> Stage<'_, P> {
     }
 
     pub fn use_queue<R: Wait + Clock>(&self, rt: &R, words: &mut Words<'_>) -> Option<usize> {
-        if words.reads("put") {
-            self.put_all(rt, words.number()?);
-            Some(1)
-        } else if words.reads("take") {
-            Some(usize::from(self.take_all(rt, words.number()?)))
-        } else if words.reads("put_for") {
-            let duration = Duration::from_millis(words.number()? as u64);
-            Some(usize::from(self.queue.put_for(rt, 1, duration).is_ok()))
-        } else if words.reads("take_for") {
-            let duration = Duration::from_millis(words.number()? as u64);
-            Some(usize::from(self.queue.take_for(rt, duration).is_some()))
-        } else {
-            None
-        }
+        let call = words.word()?;
+        let number = words.number()?;
+        let duration = Duration::from_millis(number as u64);
+        let is_well = match call {
+            "put" => {
+                self.put_all(rt, number);
+                true
+            }
+            "take" => self.take_all(rt, number),
+            "put_for" => self.queue.put_for(rt, 1, duration).is_ok(),
+            "take_for" => self.queue.take_for(rt, duration).is_some(),
+            _ => return None,
+        };
+        Some(usize::from(is_well))
     }
 }
 

@@ -121,20 +121,14 @@ impl<P: ThreadParkerT> Stage<'_, P> {
         member: &mut Member<'_, P>,
         words: &mut Words<'_>,
     ) -> Option<usize> {
-        let is_well = if words.reads("count") {
-            self.lock_and_count(rt, member)
-        } else if words.reads("lock_often") {
-            self.lock_often(rt, member)?
-        } else if words.reads("hand_over") {
-            self.hand_over(rt, alloc, words.number()?)
-        } else if words.reads("hold") {
-            self.hold(rt, alloc, member)
-        } else if words.reads("relock") {
-            self.relock(rt, alloc)
-        } else if words.reads("free") {
-            self.is_locked_once(rt)
-        } else {
-            return None;
+        let is_well = match words.word()? {
+            "count" => self.lock_and_count(rt, member),
+            "lock_often" => self.lock_often(rt, member)?,
+            "hand_over" => self.hand_over(rt, alloc, words.number()?),
+            "hold" => self.hold(rt, alloc, member),
+            "relock" => self.relock(rt, alloc),
+            "free" => self.is_locked_once(rt),
+            _ => return None,
         };
         Some(usize::from(is_well))
     }

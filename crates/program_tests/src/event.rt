@@ -44,16 +44,12 @@ impl<P: ThreadParkerT> Stage<'_, P> {
         member: &mut Member<'_, P>,
         words: &mut Words<'_>,
     ) -> Option<usize> {
-        if words.reads("wait") {
-            Some(self.see_it_set(rt, member, None))
-        } else if words.reads("wait_until_now") {
-            Some(self.see_it_set(rt, member, Some(now(rt)?)))
-        } else if words.reads("set") {
-            Some(self.event.set(rt, &self.lot))
-        } else if words.reads("exchange") {
-            self.exchange_events(rt, member, words.number()?)
-        } else {
-            None
+        match words.word()? {
+            "wait" => Some(self.see_it_set(rt, member, None)),
+            "wait_until_now" => Some(self.see_it_set(rt, member, Some(now(rt)?))),
+            "set" => Some(self.event.set(rt, &self.lot)),
+            "exchange" => self.exchange_events(rt, member, words.number()?),
+            _ => None,
         }
     }
 }

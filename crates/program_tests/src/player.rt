@@ -33,16 +33,12 @@ use test_support::waits::come_by_turns;
 use test_support::words::Words;
 
 fn key_of(words: &mut Words<'_>) -> Option<usize> {
-    if words.reads("gate") {
-        Some(GATE)
-    } else if words.reads("mutex") {
-        Some(MUTEX_KEY)
-    } else if words.reads("event") {
-        Some(EVENT_KEY)
-    } else if words.reads("semaphore") {
-        Some(SEMAPHORE_KEY)
-    } else {
-        None
+    match words.word()? {
+        "gate" => Some(GATE),
+        "mutex" => Some(MUTEX_KEY),
+        "event" => Some(EVENT_KEY),
+        "semaphore" => Some(SEMAPHORE_KEY),
+        _ => None,
     }
 }
 
@@ -71,35 +67,24 @@ where
     P: ThreadParkerT + Send + Sync,
     R: Threads + Wait + Clock + Abort + Sync,
 {
-    if words.reads("waiting") {
-        await_waiters(rt, alloc, stage, words)
-    } else if words.reads("pause") {
-        thread::sleep(rt, Duration::from_millis(words.number()? as u64));
-        Some(1)
-    } else if words.reads("gate") {
-        Some(usize::from(wait(rt, member, GATE, None).is_unparked()))
-    } else if words.reads("mutex") {
-        stage.use_mutex(rt, alloc, member, words)
-    } else if words.reads("event") {
-        stage.use_event(rt, member, words)
-    } else if words.reads("semaphore") {
-        stage.use_semaphore(rt, member, words)
-    } else if words.reads("queue") {
-        stage.use_queue(rt, words)
-    } else if words.reads("table") {
-        stage.use_table(rt, alloc, words)
-    } else if words.reads("pool") {
-        stage.use_pool(rt, &stage.pool, words)
-    } else if words.reads("other") {
-        stage.use_pool(rt, &stage.other_pool, words)
-    } else if words.reads("jobs") {
-        stage.do_all_jobs(rt, alloc)
-    } else if words.reads("token") {
-        Some(token_passed(rt, alloc, &stage.lot))
-    } else if words.reads("heard") {
-        Some(woken_by_word(rt, alloc, &stage.lot))
-    } else {
-        stage.use_count(words)
+    match words.word()? {
+        "waiting" => await_waiters(rt, alloc, stage, words),
+        "pause" => {
+            thread::sleep(rt, Duration::from_millis(words.number()? as u64));
+            Some(1)
+        }
+        "gate" => Some(usize::from(wait(rt, member, GATE, None).is_unparked())),
+        "mutex" => stage.use_mutex(rt, alloc, member, words),
+        "event" => stage.use_event(rt, member, words),
+        "semaphore" => stage.use_semaphore(rt, member, words),
+        "queue" => stage.use_queue(rt, words),
+        "table" => stage.use_table(rt, alloc, words),
+        "pool" => stage.use_pool(rt, &stage.pool, words),
+        "other" => stage.use_pool(rt, &stage.other_pool, words),
+        "jobs" => stage.do_all_jobs(rt, alloc),
+        "token" => Some(token_passed(rt, alloc, &stage.lot)),
+        "heard" => Some(woken_by_word(rt, alloc, &stage.lot)),
+        call => stage.use_count(call, words),
     }
 }
 
@@ -234,7 +219,7 @@ fn play_as<P, R>(
     rt: &R,
     alloc: Global,
     stage: &Stage<'_, P>,
-    mut member: Member<'_, P>,
+    member: Member<'_, P>,
     script: &str,
     size: usize,
 )
@@ -242,7 +227,9 @@ where
     P: ThreadParkerT + Send + Sync,
     R: Threads + Wait + Clock + Abort + Sync,
 {
+    let mut member = member;
     play_lines(rt, alloc, stage, &mut member, script, size);
+    drop(member);
 }
 
 fn members_play<P, R>(

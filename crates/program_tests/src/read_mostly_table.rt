@@ -70,24 +70,23 @@ impl<P: ThreadParkerT> Stage<'_, P> {
         alloc: Global,
         words: &mut Words<'_>,
     ) -> Option<usize> {
-        if words.reads("insert") {
-            let key = words.number()? as u64;
-            let value = twice(words.number()?);
-            Some(number_of(self.table.insert(rt, key, value).ok()?))
-        } else if words.reads("get") {
-            let key = words.number()? as u64;
-            Some(number_of(self.table.get(rt, key)))
-        } else if words.reads("remove") {
-            let key = words.number()? as u64;
-            Some(number_of(self.table.remove(rt, key)))
-        } else if words.reads("entries") {
-            Some(self.table.entries(rt, alloc).ok()?.len())
-        } else if words.reads("read") {
-            let key = words.number()? as u64;
-            let last = words.number()?;
-            Some(usize::from(self.read_until(rt, alloc, key, last)?))
-        } else {
-            None
+        let call = words.word()?;
+        if call == "entries" {
+            return Some(self.table.entries(rt, alloc).ok()?.len());
+        }
+        let key = words.number()? as u64;
+        match call {
+            "insert" => {
+                let value = twice(words.number()?);
+                Some(number_of(self.table.insert(rt, key, value).ok()?))
+            }
+            "get" => Some(number_of(self.table.get(rt, key))),
+            "remove" => Some(number_of(self.table.remove(rt, key))),
+            "read" => {
+                let last = words.number()?;
+                Some(usize::from(self.read_until(rt, alloc, key, last)?))
+            }
+            _ => None,
         }
     }
 }

@@ -1,6 +1,7 @@
 //! The examples without a lot of threads. Their contracts say what comes out; no clause says that
 //! anything does, rather than want of memory, nor what two threads record.
 
+use crate::stage::expect;
 use examples::interleaving::interleave;
 use examples::recording::{record_two, replay};
 use examples::simulation::{two_tasks, wait_in_vain};
@@ -20,7 +21,7 @@ where
 {
     let capacity = capacity.min(1_000);
     let recorded = record_two(rt, alloc, KEY, turns, capacity).expect(rt, "a record");
-    assert!(rt; replay(alloc, &recorded).is_ok(), "a lot");
+    expect(rt, replay(alloc, &recorded).is_ok(), "a lot");
     recorded.journal().len()
 }
 
@@ -33,10 +34,7 @@ fn two_threads_record_their_turns_as_far_as_the_journal_has_room(rt: HostRuntime
         (1, 1_000, 6, 8),
     ] {
         let steps = count_recorded(&rt, rt.alloc(), turns, capacity);
-        assert!(rt;
-            least <= steps && steps <= most,
-            "{turns} turns: {steps} steps"
-        );
+        expect(&rt, least <= steps && steps <= most, "steps of the journal");
     }
 }
 
@@ -52,7 +50,12 @@ fn waits_in_vain(alloc: Global, lot: &mut Lot, thread: usize) -> bool {
 fn each_simulation_comes_to_its_end(rt: HostRuntime) {
     let mut lot = Lot::new(rt.alloc(), 1).expect(&rt, "a lot");
     let thread = lot.register().expect(&rt, "a number");
-    assert!(rt; waits_in_vain(rt.alloc(), &mut lot, thread));
-    assert!(rt; two_tasks(rt.alloc(), true).is_ok());
-    assert!(rt; interleave(rt.alloc(), 1, 1, &[FineStep::Register]).is_ok());
+    expect(
+        &rt,
+        waits_in_vain(rt.alloc(), &mut lot, thread),
+        "a wait in vain",
+    );
+    expect(&rt, two_tasks(rt.alloc(), true).is_ok(), "two tasks");
+    let interleaved = interleave(rt.alloc(), 1, 1, &[FineStep::Register]);
+    expect(&rt, interleaved.is_ok(), "an interleaving");
 }

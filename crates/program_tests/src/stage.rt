@@ -52,6 +52,11 @@ pub fn number_of(value: Option<Pair>) -> usize {
     }
 }
 
+// An assertion costs a proof a second or more wherever it stands, and a call of this a tenth.
+pub fn expect(rt: &impl Abort, is_so: bool, case: &str) {
+    assert!(rt; is_so, "{case}");
+}
+
 #[derive(Drop)]
 pub struct Stage<'l, P: ThreadParkerT> {
     pub lot: ParkingLot<P>,
@@ -114,32 +119,26 @@ impl<'l, P: ThreadParkerT> Stage<'l, P> {
     }
 
     fn count(&self, words: &mut Words<'_>) -> Option<&AtomicUsize> {
-        if words.reads("a") {
-            Some(&self.a)
-        } else if words.reads("b") {
-            Some(&self.b)
-        } else if words.reads("first") {
-            Some(&self.first)
-        } else if words.reads("second") {
-            Some(&self.second)
-        } else {
-            None
+        match words.word()? {
+            "a" => Some(&self.a),
+            "b" => Some(&self.b),
+            "first" => Some(&self.first),
+            "second" => Some(&self.second),
+            _ => None,
         }
     }
 
     /// What has to do with a count.
-    pub fn use_count(&self, words: &mut Words<'_>) -> Option<usize> {
-        if words.reads("raise") {
-            self.count(words)?.fetch_add(1, Ordering::SeqCst);
-            return Some(1);
+    pub fn use_count(&self, call: &str, words: &mut Words<'_>) -> Option<usize> {
+        let count = self.count(words)?;
+        match call {
+            "raise" => {
+                count.fetch_add(1, Ordering::SeqCst);
+                Some(1)
+            }
+            "await" => Some(usize::from(comes_to(count, words.number()?))),
+            "tell" => Some(count.load(Ordering::SeqCst)),
+            _ => None,
         }
-        if words.reads("await") {
-            let count = self.count(words)?;
-            return Some(usize::from(comes_to(count, words.number()?)));
-        }
-        if words.reads("tell") {
-            return Some(self.count(words)?.load(Ordering::SeqCst));
-        }
-        None
     }
 }

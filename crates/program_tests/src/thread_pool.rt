@@ -21,13 +21,14 @@ const WORKERS: usize = 4;
 const JOBS: usize = 500;
 
 // Whether each place has one output, which is 1.
-fn are_done_once(alloc: Global, done: &[Done<usize>]) -> Option<bool> {
-    let mut sums = vec![in alloc; 0usize; JOBS].ok()?;
+fn are_done_once(done: &[Done<usize>]) -> bool {
+    let mut sums = [0usize; JOBS];
     for each in done {
-        let sum = sums.get_mut(each.place)?;
-        *sum = sum.wrapping_add(each.output);
+        if let Some(sum) = sums.get_mut(each.place) {
+            *sum = sum.wrapping_add(each.output);
+        }
     }
-    Some(sums.iter().all(|sum| *sum == 1))
+    done.len() == JOBS && sums.iter().all(|sum| *sum == 1)
 }
 
 impl<P: ThreadParkerT> Stage<'_, P> {
@@ -44,7 +45,10 @@ impl<P: ThreadParkerT> Stage<'_, P> {
             &[(); JOBS],
             &|_: &()| 1usize,
         );
-        Some(usize::from(are_done_once(alloc, &done.ok()?)?))
+        match done {
+            Ok(done) => Some(usize::from(are_done_once(&done))),
+            Err(_) => None,
+        }
     }
 
     fn answer_all<R: Wait + Clock>(&self, rt: &R) -> bool {
@@ -65,18 +69,18 @@ impl<P: ThreadParkerT> Stage<'_, P> {
         pool: &ThreadPool<'_, Pair>,
         words: &mut Words<'_>,
     ) -> Option<usize> {
-        if words.reads("submit") {
-            let job = twice(words.number()?);
-            Some(usize::from(pool.submit(rt, job).is_ok()))
-        } else if words.reads("take") {
-            Some(number_of(pool.take(rt)))
-        } else if words.reads("close") {
-            pool.close(rt);
-            Some(1)
-        } else if words.reads("answer") {
-            Some(usize::from(self.answer_all(rt)))
-        } else {
-            None
+        match words.word()? {
+            "submit" => {
+                let job = twice(words.number()?);
+                Some(usize::from(pool.submit(rt, job).is_ok()))
+            }
+            "take" => Some(number_of(pool.take(rt))),
+            "close" => {
+                pool.close(rt);
+                Some(1)
+            }
+            "answer" => Some(usize::from(self.answer_all(rt))),
+            _ => None,
         }
     }
 }

@@ -42,17 +42,15 @@ impl<P: ThreadParkerT> Stage<'_, P> {
         member: &mut Member<'_, P>,
         words: &mut Words<'_>,
     ) -> Option<usize> {
-        if words.reads("visit") {
-            Some(usize::from(self.visit(rt, member, words.number()?)))
-        } else if words.reads("acquire") {
-            Some(self.semaphore.acquire(rt, member))
-        } else if words.reads("release") {
-            Some(usize::from(self.semaphore.release(rt, &self.lot)))
-        } else if words.reads("exchange") {
-            self.exchange_permits(rt, member);
-            Some(1)
-        } else {
-            None
+        match words.word()? {
+            "visit" => Some(usize::from(self.visit(rt, member, words.number()?))),
+            "acquire" => Some(self.semaphore.acquire(rt, member)),
+            "release" => Some(usize::from(self.semaphore.release(rt, &self.lot))),
+            "exchange" => {
+                self.exchange_permits(rt, member);
+                Some(1)
+            }
+            _ => None,
         }
     }
 }

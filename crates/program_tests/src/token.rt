@@ -19,7 +19,9 @@ where
 {
     let sleeper = Member::register(rt, alloc, lot).expect(rt, "a number");
     let waker = Member::register(rt, alloc, lot).expect(rt, "a number");
-    let (given, _sleeper, _waker) = pass_token(rt, sleeper, waker, KEY, UnparkToken(42));
+    let (given, sleeper, waker) = pass_token(rt, sleeper, waker, KEY, UnparkToken(42));
+    drop(sleeper);
+    drop(waker);
     given.0
 }
 
