@@ -11,29 +11,25 @@ fn is_turn_of_other(tally: &Tally, side: usize) -> bool {
 
 impl Locks<'_> {
     /// Counts one in each round, when the count is even or odd as the side says, and then notifies
-    /// the other side. Answers the last count.
-    pub fn counts_by_turns<R: Wait + Clock>(&self, rt: &R, side: usize, rounds: usize) -> u64 {
+    /// the other side, or notifies it while it holds the mutex. Answers the last count.
+    pub fn counts_by_turns<R: Wait + Clock>(
+        &self,
+        rt: &R,
+        side: usize,
+        rounds: usize,
+        is_held: bool,
+    ) -> u64 {
         let mut last = 0u64;
         for _ in 0..rounds {
             let is_early = |tally: &mut Tally| is_turn_of_other(tally, side);
             let mut tally = self.condvar.wait_while(self.mutex.lock(rt), is_early);
-            tally.count_one(0);
-            last = tally.count;
-            drop(tally);
-            self.condvar.notify_one(rt);
-        }
-        last
-    }
-
-    /// The same, but it notifies while it holds the mutex.
-    pub fn counts_by_turns_held<R: Wait + Clock>(&self, rt: &R, side: usize, rounds: usize) -> u64 {
-        let mut last = 0u64;
-        for _ in 0..rounds {
-            let is_early = |tally: &mut Tally| is_turn_of_other(tally, side);
-            let mut tally = self.condvar.wait_while(self.mutex.lock(rt), is_early);
-            tally.count_one(0);
-            last = tally.count;
-            self.condvar.notify_one_held(&tally);
+            last = tally.count_one(0);
+            if is_held {
+                self.condvar.notify_one_held(&tally);
+            } else {
+                drop(tally);
+                self.condvar.notify_one(rt);
+            }
         }
         last
     }
@@ -46,8 +42,7 @@ impl Locks<'_> {
             let mut tally = self
                 .std_condvar
                 .wait_while(rt, self.std_mutex.lock(rt), is_early);
-            tally.count_one(0);
-            last = tally.count;
+            last = tally.count_one(0);
             drop(tally);
             self.std_condvar.notify_one();
         }

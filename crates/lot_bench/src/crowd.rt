@@ -1,11 +1,10 @@
 //! Threads that wait on one key, and one that leads them.
 
-use crate::alone::nothing;
 use crate::measure::nanoseconds_since;
 use crate::scene::Scene;
-use crate::turns::{OVER, comes_to, park_while};
+use crate::turns::{OVER, comes_and_parks, comes_to, register, retire};
 use lot_threads::{
-    DEFAULT_UNPARK_TOKEN, Member, RequeueOp, ThreadParkerT, UnparkResult, UnparkToken, unpark_all,
+    DEFAULT_UNPARK_TOKEN, RequeueOp, ThreadParkerT, UnparkResult, UnparkToken, unpark_all,
     unpark_requeue,
 };
 use std::alloc::Global;
@@ -33,26 +32,15 @@ fn no_token(_: RequeueOp, _: UnparkResult) -> UnparkToken {
 impl<P: ThreadParkerT> Scene<'_, '_, P> {
     /// Parks in each run, until all is over. False says that the thread could not be registered.
     pub fn waits<R: Wait + Clock>(&self, rt: &R, alloc: Global) -> bool {
-        let Ok(mut member) = Member::register(rt, alloc, self.lot) else {
+        let Some(mut member) = register(rt, alloc, self.lot) else {
             return false;
         };
-        self.parks_often(rt, &mut member);
-        member.retire(rt);
-        true
-    }
-
-    fn parks_often<R: Wait + Clock>(&self, rt: &R, member: &mut Member<'_, P>) {
         for _ in 0..self.row.runs {
-            self.parks_once(rt, member);
+            comes_and_parks(rt, &mut member, HERE, &self.word, &self.parked);
             self.awake.fetch_add(1, Ordering::SeqCst);
         }
-    }
-
-    fn parks_once<R: Wait + Clock>(&self, rt: &R, member: &mut Member<'_, P>) {
-        let comes = || {
-            self.parked.fetch_add(1, Ordering::SeqCst);
-        };
-        park_while(rt, member, HERE, &self.word, 0, comes);
+        retire(rt, member);
+        true
     }
 
     /// Waits until all have come, and then some time. False says that they did not come.

@@ -27,15 +27,12 @@ impl<P: ThreadParkerT> Scene<'_, '_, P> {
         }
     }
 
-    /// Notifies all who sleep: how long it takes until each has held the mutex. Who has it knows
-    /// that they have left it.
+    /// Notifies all who sleep: how long it takes until each has held the mutex.
     pub fn notifies_all<R: Wait + Clock>(&self, rt: &R) -> Option<u64> {
-        let tally = self.locks.fair_mutex.lock(rt);
         self.parked.store(0, Ordering::SeqCst);
         self.awake.store(0, Ordering::SeqCst);
         let start = Instant::now(rt).ok();
-        let notified = self.locks.condvar.notify_all_held(&tally);
-        drop(tally);
+        let notified = self.notifies(rt);
         if notified == self.row.threads && comes_to(&self.awake, self.row.threads) {
             nanoseconds_since(rt, start)
         } else {
@@ -43,9 +40,10 @@ impl<P: ThreadParkerT> Scene<'_, '_, P> {
         }
     }
 
-    /// Notifies whoever sleeps still, once all is over.
-    pub fn ends_sleep<R: Wait + Clock>(&self, rt: &R) {
+    /// Notifies whoever sleeps, and answers how many do. Who has the mutex knows that they have
+    /// left it.
+    pub fn notifies<R: Wait + Clock>(&self, rt: &R) -> usize {
         let tally = self.locks.fair_mutex.lock(rt);
-        self.locks.condvar.notify_all_held(&tally);
+        self.locks.condvar.notify_all_held(&tally)
     }
 }

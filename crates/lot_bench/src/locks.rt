@@ -9,6 +9,7 @@ use lot_base::word_lock::{Fits, WordLock};
 use lot_threads::NoMemory;
 use parking_lot::mutex::{Fairness, MutexIn};
 use parking_lot::{Condvar, FairMutex, Lot, Mutex, Once, RwLock, Semaphore};
+use std::alloc::Global;
 use std::sync;
 use std::sync::Wait;
 use std::time::Clock;
@@ -25,13 +26,14 @@ pub struct Locks<'l> {
     pub once: Once<'l>,
     pub semaphore: Semaphore<'l>,
     pub queue: Queue<'l>,
+    pub word_lock: WordLock<Tally>,
     pub std_mutex: sync::Mutex<Tally>,
     pub std_rw_lock: sync::RwLock<Tally>,
     pub std_condvar: sync::Condvar,
 }
 
 impl<'l> Locks<'l> {
-    pub fn new(lot: &'l Lot) -> Result<Locks<'l>, NoMemory> {
+    pub fn new(lot: &'l Lot, alloc: Global) -> Result<Locks<'l>, NoMemory> {
         Ok(Locks {
             mutex: Mutex::new(lot, Tally::new())?,
             fair_mutex: FairMutex::new(lot, Tally::new())?,
@@ -40,6 +42,7 @@ impl<'l> Locks<'l> {
             once: Once::new(lot)?,
             semaphore: Semaphore::new(lot, 1)?,
             queue: Queue::new(lot)?,
+            word_lock: WordLock::new(alloc, Tally::new(), &())?,
             std_mutex: sync::Mutex::new(Tally::new()),
             std_rw_lock: sync::RwLock::new(Tally::new()),
             std_condvar: sync::Condvar::new(),
@@ -70,21 +73,25 @@ impl Tally {
         }
     }
 
-    /// Counts one, and mixes a number so often.
+    /// Counts one, mixes a number so often, and answers what was counted by then.
     #[inline]
-    pub fn count_one(&mut self, turns: usize) {
+    pub fn count_one(&mut self, turns: usize) -> u64 {
         self.count = self.count.wrapping_add(1);
         for _ in 0..turns {
             self.mixed = (self.mixed ^ (self.mixed >> 32)).wrapping_mul(MULTIPLIER);
         }
+        self.count
     }
 }
 
 /// A lock around a tally.
 pub trait TallyLock {
-    /// Counts one under the lock, and mixes a number so often.
-    fn count_one<R: Wait + Clock>(&self, rt: &R, turns: usize);
+    /// Counts one under the lock, mixes a number so often, and answers what was counted by then.
+    fn count_one<R: Wait + Clock>(&self, rt: &R, turns: usize) -> u64;
+}
 
+/// A lock that several may have to read.
+pub trait TallyRwLock: TallyLock {
     /// What was counted.
     fn count<R: Wait + Clock>(&self, rt: &R) -> u64;
 }
@@ -92,39 +99,29 @@ pub trait TallyLock {
 // The tally stays in its place, as in the driver.
 impl TallyLock for WordLock<Tally> {
     #[inline]
-    fn count_one<R: Wait + Clock>(&self, rt: &R, turns: usize) {
+    fn count_one<R: Wait + Clock>(&self, rt: &R, turns: usize) -> u64 {
         let mut claim = self.claim(rt);
-        self.lend(&mut claim, |tally: &mut Tally| tally.count_one(turns));
+        let count = self.lend(&mut claim, |tally: &mut Tally| tally.count_one(turns));
         self.release(claim);
-    }
-
-    #[inline]
-    fn count<R: Wait + Clock>(&self, rt: &R) -> u64 {
-        let held = self.lock(rt);
-        let count = held.value.count;
-        self.unlock(held);
         count
     }
 }
 
 impl TallyLock for sync::Mutex<Tally> {
     #[inline]
-    fn count_one<R: Wait + Clock>(&self, rt: &R, turns: usize) {
-        self.lock(rt).count_one(turns);
-    }
-
-    #[inline]
-    fn count<R: Wait + Clock>(&self, rt: &R) -> u64 {
-        self.lock(rt).count
+    fn count_one<R: Wait + Clock>(&self, rt: &R, turns: usize) -> u64 {
+        self.lock(rt).count_one(turns)
     }
 }
 
 impl TallyLock for sync::RwLock<Tally> {
     #[inline]
-    fn count_one<R: Wait + Clock>(&self, rt: &R, turns: usize) {
-        self.write(rt).count_one(turns);
+    fn count_one<R: Wait + Clock>(&self, rt: &R, turns: usize) -> u64 {
+        self.write(rt).count_one(turns)
     }
+}
 
+impl TallyRwLock for sync::RwLock<Tally> {
     #[inline]
     fn count<R: Wait + Clock>(&self, rt: &R) -> u64 {
         self.read(rt).count
@@ -133,37 +130,43 @@ impl TallyLock for sync::RwLock<Tally> {
 
 impl<F: Fairness> TallyLock for MutexIn<'_, Tally, F> {
     #[inline]
-    fn count_one<R: Wait + Clock>(&self, rt: &R, turns: usize) {
-        self.lock(rt).count_one(turns);
-    }
-
-    #[inline]
-    fn count<R: Wait + Clock>(&self, rt: &R) -> u64 {
-        self.lock(rt).count
+    fn count_one<R: Wait + Clock>(&self, rt: &R, turns: usize) -> u64 {
+        self.lock(rt).count_one(turns)
     }
 }
 
 impl TallyLock for RwLock<'_, Tally> {
     #[inline]
-    fn count_one<R: Wait + Clock>(&self, rt: &R, turns: usize) {
-        self.write(rt).count_one(turns);
+    fn count_one<R: Wait + Clock>(&self, rt: &R, turns: usize) -> u64 {
+        self.write(rt).count_one(turns)
     }
+}
 
+impl TallyRwLock for RwLock<'_, Tally> {
     #[inline]
     fn count<R: Wait + Clock>(&self, rt: &R) -> u64 {
         self.read(rt).count
     }
 }
 
+/// Counts as the row says, and answers what was counted by then.
+pub fn count_under<L: TallyLock, R: Wait + Clock>(rt: &R, lock: &L, row: &Row) -> u64 {
+    let (counts, turns) = (row.counts, row.turns);
+    let mut last = 0u64;
+    for _ in 0..row.calls.wrapping_mul(counts) {
+        last = lock.count_one(rt, turns);
+    }
+    last
+}
+
 /// Counts and reads as the row says. It answers 0 if it read less than before.
-pub fn use_lock<L: TallyLock, R: Wait + Clock>(rt: &R, lock: &L, row: &Row<'_>) -> u64 {
+pub fn count_and_read<L: TallyRwLock, R: Wait + Clock>(rt: &R, lock: &L, row: &Row) -> u64 {
     let (counts, turns, reads) = (row.counts, row.turns, row.reads);
-    let mut is_ordered = true;
+    let (mut last, mut is_ordered) = (0u64, true);
     for _ in 0..row.calls {
         for _ in 0..counts {
             lock.count_one(rt, turns);
         }
-        let mut last = 0u64;
         for _ in 0..reads {
             let count = lock.count(rt);
             is_ordered &= last <= count;

@@ -1,12 +1,11 @@
 //! What one operation of a row costs.
 
-use crate::locks::{Locks, Tally};
-use crate::row::Row;
+use crate::locks::Locks;
+use crate::row::{Deed, Row};
 use crate::scene::Scene;
-use crate::tables::register;
+use crate::tables::register_all;
 use crate::thousand::thousand_threads;
 use crate::word_mutex::WordMutex;
-use lot_base::word_lock::WordLock;
 use lot_threads::{MAX_THREADS, ParkingLot, ThreadParkerT};
 use parking_lot::Lot;
 use std::alloc::Global;
@@ -20,37 +19,89 @@ pub fn nanoseconds_since<R: Clock>(rt: &R, start: Option<Instant>) -> Option<u64
     u64::try_from(start?.elapsed(rt).ok()?.as_nanos()).ok()
 }
 
+/// The times of those runs of a row that count.
+#[derive(Drop)]
+pub struct Times {
+    counted: Vec<u64>,
+    // How many runs are still to come that do not count.
+    uncounted: usize,
+}
+
+impl Times {
+    pub fn new(alloc: Global, row: &Row) -> Option<Times> {
+        Some(Times {
+            counted: Vec::with_capacity(alloc, row.runs).ok()?,
+            uncounted: row.uncounted,
+        })
+    }
+
+    /// Takes the time of the next run, for which there is room.
+    pub fn add(&mut self, time: u64) {
+        if self.uncounted > 0 {
+            self.uncounted -= 1;
+        } else {
+            let _ = self.counted.push(time);
+        }
+    }
+
+    pub fn median(&mut self) -> Option<u64> {
+        self.counted.sort_unstable();
+        self.counted.get(self.counted.len() / 2).copied()
+    }
+}
+
 /// Hundredths of a nanosecond for each operation. `None` says that memory, a thread or the clock
 /// could not be had, or that a wait by turns or a call did not end as it should.
-pub fn measure<P, R>(rt: &R, alloc: Global, row: &Row<'_>) -> Option<u64>
+pub fn measure<P, R>(rt: &R, alloc: Global, row: &Row) -> Option<u64>
 where
     P: ThreadParkerT + Send + Sync,
     R: Threads + Wait + Clock + Copy + Send + Sync + 'static,
 {
     let nanoseconds = match row.deed {
-        "thousand" => thousand_threads(rt, alloc, row.threads)?,
+        Deed::Thousand => thousand_threads(rt, alloc, row.threads)?,
         _ => time_of::<P, R>(rt, alloc, row)?,
     };
     let hundredths = nanoseconds.checked_mul(100)?;
     hundredths.checked_div(row.operations as u64)
 }
 
-// The lot has room for those who register twice, and for the one who leads. The locks have a lot of
-// their own.
-fn time_of<P, R>(rt: &R, alloc: Global, row: &Row<'_>) -> Option<u64>
+// The lot has room for the threads, for the others, and for the one who leads.
+fn time_of<P, R>(rt: &R, alloc: Global, row: &Row) -> Option<u64>
 where
     P: ThreadParkerT + Send + Sync,
     R: Threads + Wait + Clock + Sync,
 {
-    let room = row.threads.checked_mul(2)?.checked_add(row.others)?;
-    let lot = ParkingLot::<P>::new(alloc, room.checked_add(1)?.min(MAX_THREADS)).ok()?;
+    let room = row.threads.checked_add(row.others)?.checked_add(1)?;
+    let lot = ParkingLot::<P>::new(alloc, room.min(MAX_THREADS)).ok()?;
+    time_on(rt, alloc, row, &lot)
+}
+
+// The locks have a lot of their own.
+fn time_on<P, R>(rt: &R, alloc: Global, row: &Row, lot: &ParkingLot<P>) -> Option<u64>
+where
+    P: ThreadParkerT + Send + Sync,
+    R: Threads + Wait + Clock + Sync,
+{
     let locks_lot = Lot::new(alloc, row.threads.checked_add(1)?).ok()?;
-    let word_lock = WordLock::new(alloc, Tally::new(), &()).ok()?;
+    time_with(rt, alloc, row, lot, &locks_lot)
+}
+
+fn time_with<P, R>(
+    rt: &R,
+    alloc: Global,
+    row: &Row,
+    lot: &ParkingLot<P>,
+    locks_lot: &Lot,
+) -> Option<u64>
+where
+    P: ThreadParkerT + Send + Sync,
+    R: Threads + Wait + Clock + Sync,
+{
+    let locks = Locks::new(locks_lot, alloc).ok()?;
     let scene = Scene {
         row,
-        lot: &lot,
-        locks: Locks::new(&locks_lot).ok()?,
-        word_lock: &word_lock,
+        lot,
+        locks: &locks,
         word_mutex: WordMutex::new(),
         begins: Barrier::new(row.threads),
         runs: AtomicU64::new(0),
@@ -73,7 +124,7 @@ where
 {
     let row = scene.row;
     if !row.is_led() {
-        register(rt, alloc, scene.lot, row.others)?;
+        register_all(rt, alloc, scene.lot, row.others)?;
     }
     let time = scene.time(rt, alloc);
     if scene.has_counted() { time } else { None }

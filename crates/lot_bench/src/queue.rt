@@ -15,6 +15,33 @@ struct Things {
     taken: u64,
 }
 
+// What a thread does with things.
+#[derive(Clone, Copy)]
+enum Side {
+    Puts,
+    Takes,
+}
+
+impl Things {
+    // Whether no thing can be put, or none be taken.
+    fn keep_out(&self, side: Side) -> bool {
+        match side {
+            Side::Puts => self.queued == PLACES,
+            Side::Takes => self.queued == 0,
+        }
+    }
+
+    fn pass_one(&mut self, side: Side) {
+        match side {
+            Side::Puts => self.queued = self.queued.wrapping_add(1),
+            Side::Takes => {
+                self.queued = self.queued.wrapping_sub(1);
+                self.taken = self.taken.wrapping_add(1);
+            }
+        }
+    }
+}
+
 /// The queue, of which the things are counted alone.
 #[derive(Drop)]
 pub struct Queue<'l> {
@@ -38,30 +65,29 @@ impl<'l> Queue<'l> {
 
     /// Puts so many things, or takes as many at an odd place. Answers how many were taken then.
     pub fn pass<R: Wait + Clock>(&self, rt: &R, place: usize, calls: usize) -> u64 {
-        for _ in 0..calls {
-            if place % 2 == 0 {
-                self.put(rt);
-            } else {
-                self.take(rt);
-            }
+        if place % 2 == 0 {
+            self.pass_all(rt, Side::Puts, &self.emptied, &self.filled, calls);
+        } else {
+            self.pass_all(rt, Side::Takes, &self.filled, &self.emptied, calls);
         }
         self.things.lock(rt).taken
     }
 
-    fn put<R: Wait + Clock>(&self, rt: &R) {
-        let is_full = |things: &mut Things| things.queued == PLACES;
-        let mut things = self.emptied.wait_while(self.things.lock(rt), is_full);
-        things.queued = things.queued.wrapping_add(1);
-        drop(things);
-        self.filled.notify_one(rt);
-    }
-
-    fn take<R: Wait + Clock>(&self, rt: &R) {
-        let is_empty = |things: &mut Things| things.queued == 0;
-        let mut things = self.filled.wait_while(self.things.lock(rt), is_empty);
-        things.queued = things.queued.wrapping_sub(1);
-        things.taken = things.taken.wrapping_add(1);
-        drop(things);
-        self.emptied.notify_one(rt);
+    // Waits here before each thing, and notifies there after it.
+    fn pass_all<R: Wait + Clock>(
+        &self,
+        rt: &R,
+        side: Side,
+        here: &Condvar<'_>,
+        there: &Condvar<'_>,
+        calls: usize,
+    ) {
+        for _ in 0..calls {
+            let is_early = |things: &mut Things| things.keep_out(side);
+            let mut things = here.wait_while(self.things.lock(rt), is_early);
+            things.pass_one(side);
+            drop(things);
+            there.notify_one(rt);
+        }
     }
 }

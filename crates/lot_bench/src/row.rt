@@ -58,18 +58,89 @@ std_condvar_turns          std_condvar     5 1    2     0    5000    5000    600
 sync_queue_two             queue           5 1    2     0   10000   10000    60000
 sync_queue_eight           queue           5 1    8     0   10000   40000   240000
 sync_semaphore_alone       semaphore       7 1    1     0 1000000 1000000
-many_keys                  many_keys       7 1    1   998  100000  100000
+many_keys                  many_keys       7 1    1   999  100000  100000
 thousand_threads           thousand        1 0 1000     0       1    1000
 register_all               register        7 1    0 16384       1   16384
 trim                       trim            7 1    5   678       1       1
 trim_exclusive             trim_exclusive  7 1    0   678       5       1
 unpark_in_small_table      unpark_keys     7 1    1     0 1000000 1000000
 unpark_in_large_table      unpark_keys     7 1    1 10922 1000000 1000000";
+/// What is done in a row.
+#[derive(Clone, Copy)]
+pub enum Deed {
+    Unpark,
+    UnparkApart,
+    UnparkKeys,
+    ParkInvalid,
+    ParkLate,
+    Strict,
+    ByWord,
+    Mutex,
+    ManyKeys,
+    Once,
+    Semaphore,
+    WordLock,
+    StdMutex,
+    StdRwLock,
+    SyncMutex,
+    SyncRwLock,
+    Fair,
+    Condvar,
+    CondvarHeld,
+    StdCondvar,
+    Queue,
+    Call,
+    Awake,
+    Requeue,
+    Notify,
+    Trim,
+    TrimExclusive,
+    Register,
+    Thousand,
+}
+
+impl Deed {
+    fn named(word: &str) -> Option<Deed> {
+        Some(match word {
+            "unpark" => Deed::Unpark,
+            "unpark_apart" => Deed::UnparkApart,
+            "unpark_keys" => Deed::UnparkKeys,
+            "park_invalid" => Deed::ParkInvalid,
+            "park_late" => Deed::ParkLate,
+            "strict" => Deed::Strict,
+            "by_word" => Deed::ByWord,
+            "mutex" => Deed::Mutex,
+            "many_keys" => Deed::ManyKeys,
+            "once" => Deed::Once,
+            "semaphore" => Deed::Semaphore,
+            "word_lock" => Deed::WordLock,
+            "std_mutex" => Deed::StdMutex,
+            "std_rw_lock" => Deed::StdRwLock,
+            "sync_mutex" => Deed::SyncMutex,
+            "sync_rw_lock" => Deed::SyncRwLock,
+            "fair" => Deed::Fair,
+            "condvar" => Deed::Condvar,
+            "condvar_held" => Deed::CondvarHeld,
+            "std_condvar" => Deed::StdCondvar,
+            "queue" => Deed::Queue,
+            "call" => Deed::Call,
+            "awake" => Deed::Awake,
+            "requeue" => Deed::Requeue,
+            "notify" => Deed::Notify,
+            "trim" => Deed::Trim,
+            "trim_exclusive" => Deed::TrimExclusive,
+            "register" => Deed::Register,
+            "thousand" => Deed::Thousand,
+            _ => return None,
+        })
+    }
+}
+
 /// What is measured, and how often.
 #[derive(Drop)]
-pub struct Row<'t> {
+pub struct Row {
     /// What is done.
-    pub deed: &'t str,
+    pub deed: Deed,
 
     /// How many runs count. The cost is their median.
     pub runs: usize,
@@ -100,13 +171,24 @@ pub struct Row<'t> {
     pub reads: usize,
 }
 
-impl Row<'_> {
+impl Row {
     /// Whether one thread leads the others, and measures what it does.
     pub fn is_led(&self) -> bool {
         matches!(
             self.deed,
-            "call" | "awake" | "requeue" | "notify" | "trim" | "trim_exclusive" | "register"
+            Deed::Call
+                | Deed::Awake
+                | Deed::Requeue
+                | Deed::Notify
+                | Deed::Trim
+                | Deed::TrimExclusive
+                | Deed::Register
         )
+    }
+
+    /// How many runs there are, counted or not.
+    pub fn all_runs(&self) -> usize {
+        self.runs.wrapping_add(self.uncounted)
     }
 }
 
@@ -115,9 +197,9 @@ pub fn name_of(line: &str) -> &str {
     line.split_whitespace().next().unwrap_or("")
 }
 
-impl Row<'static> {
+impl Row {
     /// The row of this name.
-    pub fn named(name: &str) -> Option<Row<'static>> {
+    pub fn named(name: &str) -> Option<Row> {
         for line in ROWS.lines() {
             if name_of(line) == name {
                 return Row::of(line);
@@ -126,10 +208,10 @@ impl Row<'static> {
         None
     }
 
-    fn of(line: &'static str) -> Option<Row<'static>> {
+    fn of(line: &str) -> Option<Row> {
         let mut words = line.split_whitespace().skip(1);
         Some(Row {
-            deed: words.next()?,
+            deed: Deed::named(words.next()?)?,
             runs: number(words.next())?,
             uncounted: number(words.next())?,
             threads: number(words.next())?,

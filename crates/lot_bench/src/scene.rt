@@ -1,16 +1,12 @@
 //! What the threads of a row share, and what each of them does.
 
-use crate::alone::{
-    calls_once, parks, takes_permits, unparks_itself_on_each, unparks_nobody,
-    unparks_nobody_on_each,
-};
-use crate::locks::{Locks, Tally, use_lock};
-use crate::measure::nanoseconds_since;
-use crate::row::Row;
+use crate::alone::{calls_once, parks, takes_permits, unparks_itself_on_each, unparks_nobody};
+use crate::locks::{Locks, count_and_read, count_under};
+use crate::measure::{Times, nanoseconds_since};
+use crate::row::{Deed, Row};
 use crate::tables::{registers, trims, trims_exclusive_lot};
-use crate::turns::{OVER, takes_turns_by_word, takes_turns_strictly};
+use crate::turns::{OVER, register, retire, takes_turns_by_word, takes_turns_strictly};
 use crate::word_mutex::WordMutex;
-use lot_base::word_lock::WordLock;
 use lot_threads::{Member, ParkResult, ParkingLot, ThreadParkerT};
 use std::alloc::Global;
 use std::sync::atomic::{AtomicU64, Ordering};
@@ -22,10 +18,9 @@ use std::time::{Clock, Instant};
 /// What the threads share. A row uses some of it.
 #[derive(Drop)]
 pub struct Scene<'a, 'l, P: ThreadParkerT> {
-    pub row: &'a Row<'a>,
+    pub row: &'a Row,
     pub lot: &'a ParkingLot<P>,
-    pub locks: Locks<'l>,
-    pub word_lock: &'a WordLock<Tally>,
+    pub locks: &'a Locks<'l>,
     pub word_mutex: WordMutex,
 
     /// Where threads wait until all of them begin a run.
@@ -63,15 +58,14 @@ impl<P: ThreadParkerT> Scene<'_, '_, P> {
     }
 
     // Parks with a deadline that has passed, or where the validation answers false.
-    fn parks<R: Wait + Clock>(&self, rt: &R, alloc: Global, is_late: bool) -> bool {
+    fn parks<R: Wait + Clock>(&self, rt: &R, member: &mut Member<'_, P>, is_late: bool) -> bool {
         let (timeout, expected) = if is_late {
             (Instant::now(rt).ok(), ParkResult::TimedOut)
         } else {
             self.word.store(OVER, Ordering::SeqCst);
             (None, ParkResult::Invalid)
         };
-        let calls = self.row.calls;
-        parks(rt, alloc, self.lot, &self.word, timeout, expected, calls)
+        parks(rt, member, &self.word, timeout, expected, self.row.calls)
     }
 
     // Locks and unlocks the mutex, and in the first run counts under it.
@@ -86,44 +80,42 @@ impl<P: ThreadParkerT> Scene<'_, '_, P> {
 
     // What the thread at this place does in a run. False says that it went otherwise than it has
     // to.
-    fn acts<R: Wait + Clock>(
-        &self,
-        rt: &R,
-        alloc: Global,
-        member: &mut Member<'_, P>,
-        place: usize,
-    ) -> bool {
+    fn acts<R: Wait + Clock>(&self, rt: &R, member: &mut Member<'_, P>, place: usize) -> bool {
         let row = self.row;
         match row.deed {
-            "unpark" => unparks_nobody(rt, self.lot, 1, row.calls),
-            "unpark_apart" => unparks_nobody(rt, self.lot, place.wrapping_add(1), row.calls),
-            "unpark_keys" => unparks_nobody_on_each(rt, self.lot, row.calls),
-            "park_invalid" => self.parks(rt, alloc, false),
-            "park_late" => self.parks(rt, alloc, true),
-            "strict" => { takes_turns_strictly(rt, self.lot, member, &self.word, place, row.calls) }
-            "by_word" => { takes_turns_by_word(rt, self.lot, member, &self.word, place, row.calls) }
-            "mutex" => self.uses_word_mutex(rt, member),
-            "many_keys" => unparks_itself_on_each(rt, alloc, self.lot, row.calls),
-            "once" => calls_once(rt, &self.locks.once, row.calls),
-            "semaphore" => takes_permits(rt, &self.locks.semaphore, row.calls),
+            Deed::Unpark => unparks_nobody(rt, self.lot, 1, 0, row.calls),
+            Deed::UnparkApart => unparks_nobody(rt, self.lot, place.wrapping_add(1), 0, row.calls),
+            Deed::UnparkKeys => unparks_nobody(rt, self.lot, 0, 1, row.calls),
+            Deed::ParkInvalid => self.parks(rt, member, false),
+            Deed::ParkLate => self.parks(rt, member, true),
+            Deed::Strict => {
+                takes_turns_strictly(rt, self.lot, member, &self.word, place, row.calls)
+            }
+            Deed::ByWord => {
+                takes_turns_by_word(rt, self.lot, member, &self.word, place, row.calls)
+            }
+            Deed::Mutex => self.uses_word_mutex(rt, member),
+            Deed::ManyKeys => unparks_itself_on_each(rt, member, &self.word, row.calls),
+            Deed::Once => calls_once(rt, &self.locks.once, row.calls),
+            Deed::Semaphore => takes_permits(rt, &self.locks.semaphore, row.calls),
             _ => self.uses_locks(rt, place),
         }
     }
 
     // Counts with the locks, as the thread at this place. False says that the row's deed is none.
     fn uses_locks<R: Wait + Clock>(&self, rt: &R, place: usize) -> bool {
-        let (row, locks) = (self.row, &self.locks);
+        let (row, locks) = (self.row, self.locks);
         self.notes(match row.deed {
-            "word_lock" => use_lock(rt, self.word_lock, row),
-            "std_mutex" => use_lock(rt, &locks.std_mutex, row),
-            "std_rw_lock" => use_lock(rt, &locks.std_rw_lock, row),
-            "sync_mutex" => use_lock(rt, &locks.mutex, row),
-            "sync_rw_lock" => use_lock(rt, &locks.rw_lock, row),
-            "fair" => use_lock(rt, &locks.fair_mutex, row),
-            "condvar" => locks.counts_by_turns(rt, place, row.calls),
-            "condvar_held" => locks.counts_by_turns_held(rt, place, row.calls),
-            "std_condvar" => locks.counts_by_std_turns(rt, place, row.calls),
-            "queue" => locks.queue.pass(rt, place, row.calls),
+            Deed::WordLock => count_under(rt, &locks.word_lock, row),
+            Deed::StdMutex => count_under(rt, &locks.std_mutex, row),
+            Deed::StdRwLock => count_and_read(rt, &locks.std_rw_lock, row),
+            Deed::SyncMutex => count_under(rt, &locks.mutex, row),
+            Deed::SyncRwLock => count_and_read(rt, &locks.rw_lock, row),
+            Deed::Fair => count_under(rt, &locks.fair_mutex, row),
+            Deed::Condvar => locks.counts_by_turns(rt, place, row.calls, false),
+            Deed::CondvarHeld => locks.counts_by_turns(rt, place, row.calls, true),
+            Deed::StdCondvar => locks.counts_by_std_turns(rt, place, row.calls),
+            Deed::Queue => locks.queue.pass(rt, place, row.calls),
             _ => return false,
         })
     }
@@ -131,13 +123,13 @@ impl<P: ThreadParkerT> Scene<'_, '_, P> {
     // Does its part of a run, and notes when that began and ended. It registers before all begin
     // and retires after the end, so that neither counts. `None` says that it went otherwise.
     fn plays<R: Wait + Clock>(&self, rt: &R, alloc: Global, place: usize) -> Option<u64> {
-        let member = Member::register(rt, alloc, self.lot).ok();
+        let member = register(rt, alloc, self.lot);
         self.begins.wait(rt);
         let mut member = member?;
         let start = nanoseconds_since(rt, self.epoch);
-        let is_well = self.acts(rt, alloc, &mut member, place);
+        let is_well = self.acts(rt, &mut member, place);
         let end = nanoseconds_since(rt, self.epoch);
-        member.retire(rt);
+        retire(rt, member);
         self.start.fetch_min(start?, Ordering::SeqCst);
         self.end.fetch_max(end?, Ordering::SeqCst);
         if is_well { Some(0) } else { None }
@@ -152,74 +144,73 @@ impl<P: ThreadParkerT> Scene<'_, '_, P> {
         self.runs.fetch_add(1, Ordering::SeqCst);
         self.start.store(u64::MAX, Ordering::SeqCst);
         self.end.store(0, Ordering::SeqCst);
-        let play = |place| self.plays(rt, alloc, place);
-        let played = thread::map_indices(rt, alloc, self.row.threads, &play).ok()?;
-        first_of_all(played.as_slice())?;
+        self.time_of_all(rt, alloc)?;
         let end = self.end.load(Ordering::SeqCst);
         end.checked_sub(self.start.load(Ordering::SeqCst))
+    }
+
+    // Lets each thread do its part, and answers what the first of them answered.
+    fn time_of_all<R>(&self, rt: &R, alloc: Global) -> Option<u64>
+    where
+        P: Send + Sync,
+        R: Threads + Wait + Clock + Sync,
+    {
+        let is_led = self.row.is_led();
+        let part = |place| {
+            if is_led {
+                self.takes_part(rt, alloc, place)
+            } else {
+                self.plays(rt, alloc, place)
+            }
+        };
+        let threads = self.row.threads.wrapping_add(usize::from(is_led));
+        let times = thread::map_indices(rt, alloc, threads, &part).ok()?;
+        first_of_all(times.as_slice())
     }
 
     // What the one who leads does in a run, and how long that takes.
     fn leads<R: Wait + Clock>(&self, rt: &R, alloc: Global) -> Option<u64> {
         let row = self.row;
         match row.deed {
-            "register" => return registers(rt, alloc, self.lot, row.others),
-            "trim_exclusive" => return trims_exclusive_lot(rt, alloc, row.calls, row.others),
+            Deed::Register => return registers(rt, alloc, self.lot, row.others),
+            Deed::TrimExclusive => return trims_exclusive_lot(rt, alloc, row.calls, row.others),
             _ => (),
         }
         if !self.have_come(rt) {
             return None;
         }
         match row.deed {
-            "call" => self.wakes_all(rt, false),
-            "awake" => self.wakes_all(rt, true),
-            "requeue" => self.moves_all(rt),
-            "notify" => self.notifies_all(rt),
-            "trim" => trims(rt, alloc, self.lot, row.others),
+            Deed::Call => self.wakes_all(rt, false),
+            Deed::Awake => self.wakes_all(rt, true),
+            Deed::Requeue => self.moves_all(rt),
+            Deed::Notify => self.notifies_all(rt),
+            Deed::Trim => trims(rt, alloc, self.lot, row.others),
             _ => None,
         }
     }
 
-    // The median time of the runs that count.
-    fn median<R>(&self, rt: &R, alloc: Global) -> Option<u64>
-    where
-        P: Send + Sync,
-        R: Threads + Wait + Clock + Sync,
-    {
-        let (runs, uncounted) = (self.row.runs, self.row.uncounted);
-        let mut times = Vec::with_capacity(alloc, runs).ok()?;
-        for run in 0..runs.wrapping_add(uncounted) {
-            let time = if self.row.is_led() {
-                self.leads(rt, alloc)?
-            } else {
-                self.time_of_run(rt, alloc)?
-            };
-            if run >= uncounted {
-                times.push(time).ok()?;
-            }
-        }
-        times.sort_unstable();
-        times.get(times.len() / 2).copied()
-    }
-
     // The one who leads answers the median of the runs, the others 0. `None` says that one was
     // refused.
-    fn takes_part<R>(&self, rt: &R, alloc: Global, place: usize) -> Option<u64>
-    where
-        P: Send + Sync,
-        R: Threads + Wait + Clock + Sync,
-    {
+    fn takes_part<R: Wait + Clock>(&self, rt: &R, alloc: Global, place: usize) -> Option<u64> {
         if place == 0 {
-            let median = self.median(rt, alloc);
+            let median = self.leads_each_run(rt, alloc);
             self.ends(rt);
-            self.ends_sleep(rt);
+            self.notifies(rt);
             return median;
         }
-        if self.row.deed == "notify" {
+        if matches!(self.row.deed, Deed::Notify) {
             self.sleeps(rt);
             return Some(0);
         }
         if self.waits(rt, alloc) { Some(0) } else { None }
+    }
+
+    fn leads_each_run<R: Wait + Clock>(&self, rt: &R, alloc: Global) -> Option<u64> {
+        let mut times = Times::new(alloc, self.row)?;
+        for _ in 0..self.row.all_runs() {
+            times.add(self.leads(rt, alloc)?);
+        }
+        times.median()
     }
 
     /// The median time of a run.
@@ -228,13 +219,14 @@ impl<P: ThreadParkerT> Scene<'_, '_, P> {
         P: Send + Sync,
         R: Threads + Wait + Clock + Sync,
     {
-        if !self.row.is_led() {
-            return self.median(rt, alloc);
+        if self.row.is_led() {
+            return self.time_of_all(rt, alloc);
         }
-        let part = |place| self.takes_part(rt, alloc, place);
-        let threads = self.row.threads.wrapping_add(1);
-        let times = thread::map_indices(rt, alloc, threads, &part).ok()?;
-        first_of_all(times.as_slice())
+        let mut times = Times::new(alloc, self.row)?;
+        for _ in 0..self.row.all_runs() {
+            times.add(self.time_of_run(rt, alloc)?);
+        }
+        times.median()
     }
 }
 

@@ -1,6 +1,7 @@
 //! Lots with very many threads, and tables that change their size.
 
 use crate::measure::nanoseconds_since;
+use crate::turns::{register, retire};
 use lot_simulator::lot::Lot;
 use lot_threads::{DEFAULT_PARK_TOKEN, Member, ParkingLot, ThreadParkerT};
 use std::alloc::Global;
@@ -8,39 +9,45 @@ use std::sync::Wait;
 use std::time::{Clock, Instant};
 
 /// Registers so many threads, which keep their numbers.
-pub fn register<P: ThreadParkerT, R: Wait>(
+pub fn register_all<P: ThreadParkerT, R: Wait>(
     rt: &R,
     alloc: Global,
     lot: &ParkingLot<P>,
     threads: usize,
 ) -> Option<()> {
     for _ in 0..threads {
-        Member::register(rt, alloc, lot).ok()?;
+        register(rt, alloc, lot)?;
     }
     Some(())
 }
 
-/// Registers so many threads, and retires them.
-pub fn come_and_go<P: ThreadParkerT, R: Wait>(
+// Registers so many threads, and retires them.
+fn come_and_go<P: ThreadParkerT, R: Wait>(
     rt: &R,
     alloc: Global,
     lot: &ParkingLot<P>,
     threads: usize,
 ) -> Option<()> {
     let mut registered = Vec::with_capacity(alloc, threads).ok()?;
-    for _ in 0..threads {
-        let Ok(member) = Member::register(rt, alloc, lot) else {
-            break;
-        };
-        if registered.push(member).is_err() {
-            break;
-        }
-    }
-    let are_all = registered.len() == threads;
+    let are_all = register_into(rt, alloc, lot, &mut registered, threads);
     for member in registered {
-        member.retire(rt);
+        retire(rt, member);
     }
-    if are_all { Some(()) } else { None }
+    are_all
+}
+
+fn register_into<'a, P: ThreadParkerT, R: Wait>(
+    rt: &R,
+    alloc: Global,
+    lot: &'a ParkingLot<P>,
+    registered: &mut Vec<Member<'a, P>>,
+    threads: usize,
+) -> Option<()> {
+    for _ in 0..threads {
+        let member = register(rt, alloc, lot)?;
+        registered.push(member).ok()?;
+    }
+    Some(())
 }
 
 /// Registers so many threads, and retires them: how long that takes.
@@ -78,7 +85,11 @@ pub fn trims_exclusive_lot<R: Clock>(
 ) -> Option<u64> {
     let threads = waiters.checked_add(others)?;
     let mut lot = Lot::new(alloc, threads).ok()?;
-    fill(&mut lot, waiters, threads)?;
+    trims_full_lot(rt, &mut lot, waiters, threads)
+}
+
+fn trims_full_lot<R: Clock>(rt: &R, lot: &mut Lot, waiters: usize, threads: usize) -> Option<u64> {
+    fill(lot, waiters, threads)?;
     let start = Instant::now(rt).ok();
     lot.trim().ok()?;
     let spent = nanoseconds_since(rt, start);

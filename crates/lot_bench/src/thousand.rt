@@ -1,10 +1,8 @@
 //! A thousand threads that start, park and end.
 
 use crate::measure::nanoseconds_since;
-use crate::turns::{comes_to, park_while};
-use lot_threads::{
-    DEFAULT_UNPARK_TOKEN, Member, ParkingLot, ThreadParkerT, WordParker, unpark_all,
-};
+use crate::turns::{comes_and_parks, comes_to, register, retire};
+use lot_threads::{DEFAULT_UNPARK_TOKEN, ParkingLot, ThreadParkerT, WordParker, unpark_all};
 use std::alloc::Global;
 use std::sync::atomic::{AtomicU64, Ordering};
 use std::sync::{Arc, Wait};
@@ -91,15 +89,12 @@ fn waits_on<P: ThreadParkerT, R: Wait + Clock>(
     parked: &AtomicU64,
     key: usize,
 ) -> bool {
-    let Ok(mut member) = Member::register(rt, alloc, lot) else {
+    let Some(mut member) = register(rt, alloc, lot) else {
         return false;
     };
     let word = AtomicU64::new(0);
-    let comes = || {
-        parked.fetch_add(1, Ordering::SeqCst);
-    };
-    let is_unparked = park_while(rt, &mut member, key, &word, 0, comes);
-    member.retire(rt);
+    let is_unparked = comes_and_parks(rt, &mut member, key, &word, parked);
+    retire(rt, member);
     is_unparked
 }
 

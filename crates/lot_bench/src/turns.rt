@@ -1,14 +1,15 @@
 //! Two threads that hand a turn to each other.
 
-use crate::alone::{ignore, nothing};
+use crate::alone::nothing;
 use lot_base::token::UnparkResult;
 use lot_threads::{
     DEFAULT_PARK_TOKEN, DEFAULT_UNPARK_TOKEN, Member, ParkResult, ParkingLot, ThreadParkerT,
     UnparkToken, unpark_all, unpark_one,
 };
+use std::alloc::Global;
 use std::sync::Wait;
 use std::sync::atomic::{AtomicU64, Ordering};
-use std::time::Clock;
+use std::time::{Clock, Instant};
 use std::{hint, thread};
 
 /// How often a loop that waits by turns looks before it has failed.
@@ -33,7 +34,22 @@ pub fn comes_to(word: &AtomicU64, value: usize) -> bool {
     false
 }
 
-/// Parks if the word has this value. False says that it had another.
+/// Registers a thread, if it can. It promises nothing of the lot's history, and nor does `retire`:
+/// what owns members is proved sooner so.
+pub fn register<'a, P: ThreadParkerT, R: Wait>(
+    rt: &R,
+    alloc: Global,
+    lot: &'a ParkingLot<P>,
+) -> Option<Member<'a, P>> {
+    Member::register(rt, alloc, lot).ok()
+}
+
+/// Retires the thread.
+pub fn retire<P: ThreadParkerT, R: Wait>(rt: &R, member: Member<'_, P>) {
+    member.retire(rt);
+}
+
+/// Parks if the word has this value.
 pub fn park_while<P: ThreadParkerT, R: Wait + Clock, B: FnOnce()>(
     rt: &R,
     member: &mut Member<'_, P>,
@@ -41,19 +57,36 @@ pub fn park_while<P: ThreadParkerT, R: Wait + Clock, B: FnOnce()>(
     word: &AtomicU64,
     value: u64,
     before_sleep: B,
-) -> bool
+    timeout: Option<Instant>,
+) -> ParkResult
     requires { B.pre before_sleep }
 {
-    let result = member.park(
+    member.park(
         rt,
         key,
         || word.load(Ordering::SeqCst) == value,
         before_sleep,
         ignore,
         DEFAULT_PARK_TOKEN,
-        None,
-    );
-    result != ParkResult::Invalid
+        timeout,
+    )
+}
+
+// What a thread does whose deadline passes: nothing more.
+fn ignore(_: usize, _: bool) {}
+
+/// Parks while the word is 0, and counts that it has come. False says that it was not let in.
+pub fn comes_and_parks<P: ThreadParkerT, R: Wait + Clock>(
+    rt: &R,
+    member: &mut Member<'_, P>,
+    key: usize,
+    word: &AtomicU64,
+    parked: &AtomicU64,
+) -> bool {
+    let comes = || {
+        parked.fetch_add(1, Ordering::SeqCst);
+    };
+    park_while(rt, member, key, word, 0, comes, None).is_unparked()
 }
 
 /// Unparks the other side until it was parked, and then parks, in each round; the side 1 parks
@@ -70,7 +103,7 @@ pub fn takes_turns_strictly<P: ThreadParkerT, R: Wait + Clock>(
         let is_well = if turn % 2 == side {
             unparks_surely(rt, lot, word, side ^ 1)
         } else {
-            park_while(rt, member, side, word, 0, nothing)
+            park_while(rt, member, side, word, 0, nothing, None).is_unparked()
         };
         if !is_well {
             return false;
@@ -133,7 +166,7 @@ fn awaits_turn<P: ThreadParkerT, R: Wait + Clock>(
         if whose != other {
             return whose == side as u64;
         }
-        park_while(rt, member, side, word, other, nothing);
+        park_while(rt, member, side, word, other, nothing, None);
     }
     false
 }

@@ -72,7 +72,7 @@ impl WordMutex {
                 spun += 1;
                 spin(spun);
             } else if state == CONTENDED || self.exchange(LOCKED, CONTENDED) {
-                park_while(rt, member, KEY, &self.state, CONTENDED, nothing);
+                park_while(rt, member, KEY, &self.state, CONTENDED, nothing, None);
                 spun = 0;
             }
         }

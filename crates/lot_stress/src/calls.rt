@@ -1,9 +1,10 @@
 //! Calls of a lot whose closures answer the same for each thread, or by its park token alone.
 
 use lot_threads::{
-    DEFAULT_PARK_TOKEN, FilterOp, Member, ParkResult, ParkToken, ParkingLot, RequeueOp,
+    DEFAULT_PARK_TOKEN, FilterOp, LotError, Member, ParkResult, ParkToken, ParkingLot, RequeueOp,
     ThreadParkerT, UnparkResult, UnparkToken, unpark_chosen, unpark_one, unpark_requeue,
 };
+use std::alloc::Global;
 use std::sync::Wait;
 use std::time::{Clock, Instant};
 
@@ -20,6 +21,21 @@ pub type Sieve = (Option<ParkToken>, usize, usize);
 
 /// The sieve for threads that all have the default token, which unparks them.
 pub const ALL: Sieve = (Some(DEFAULT_PARK_TOKEN), 0, 0);
+
+/// Registers a thread. It promises nothing of the lot's history, and nor does `retire`: what owns
+/// members is proved sooner so.
+pub fn register<'a, P: ThreadParkerT, R: Wait>(
+    rt: &R,
+    alloc: Global,
+    lot: &'a ParkingLot<P>,
+) -> Result<Member<'a, P>, LotError> {
+    Member::register(rt, alloc, lot)
+}
+
+/// Retires the thread.
+pub fn retire<P: ThreadParkerT, R: Wait>(rt: &R, thread: Member<'_, P>) {
+    thread.retire(rt);
+}
 
 /// Parks the thread so.
 pub fn park<P: ThreadParkerT, R: Wait + Clock, B: FnOnce()>(

@@ -39,27 +39,31 @@ const ENTRIES: usize = 1 + 3 * PARKS;
 /// interleaved one and in journals of so many.
 pub fn run(alloc: Global) -> Result<(), Fault> {
     for number in 0..LOTS {
-        let mut lot = Lot::new(alloc, THREADS)?;
-        work_in(&mut lot, number == 0)?;
+        work_in_new_lot(alloc, number == 0)?;
     }
-    let mut lot = FineLot::new(alloc, THREADS, 1)?;
-    requeue_all(alloc, &mut lot)?;
+    requeue_in_new_lot(alloc)?;
     for _ in 0..JOURNALS {
-        let mut recorded = Record::new(alloc, THREADS, ENTRIES)?;
-        fill_journal(&mut recorded)?;
+        fill_new_journal(alloc)?;
     }
     Ok(())
 }
 
-// Registers all threads. In one of the lots it then retires and registers one of them; unparks all
-// one by one from one key; and records many keys, which it releases from the last to the first.
+fn work_in_new_lot(alloc: Global, is_long: bool) -> Result<(), Fault> {
+    let mut lot = Lot::new(alloc, THREADS)?;
+    work_in(&mut lot, is_long)
+}
+
+// Registers all threads. In one of the lots it then works on.
 fn work_in(lot: &mut Lot, is_long: bool) -> Result<(), Fault> {
     for _ in 0..THREADS {
         lot.register()?;
     }
-    if !is_long {
-        return Ok(());
-    }
+    if is_long { work_long(lot) } else { Ok(()) }
+}
+
+// Retires and registers one of the threads; unparks all one by one from one key; and records many
+// keys, which it releases from the last to the first.
+fn work_long(lot: &mut Lot) -> Result<(), Fault> {
     for _ in 0..RETIREMENTS {
         lot.retire(THREADS - 1)?;
         lot.register()?;
@@ -97,10 +101,19 @@ fn park_and_unpark_all(lot: &mut Lot) -> Result<(), Fault> {
     Ok(())
 }
 
-// Lets all threads wait on one key, and requeues them to another and back, again and again. Each
-// waiter is looked at once.
-fn requeue_all(alloc: Global, lot: &mut FineLot) -> Result<(), Fault> {
+fn requeue_in_new_lot(alloc: Global) -> Result<(), Fault> {
+    let mut lot = FineLot::new(alloc, THREADS, 1)?;
     let (mut answers, mut sequential) = (Vec::new(alloc), Vec::new(alloc));
+    park_all(&mut lot, &mut answers, &mut sequential)?;
+    requeue_all(&mut lot, &mut answers, &mut sequential)
+}
+
+// Lets all threads wait on one key.
+fn park_all(
+    lot: &mut FineLot,
+    answers: &mut Vec<FineAnswer>,
+    sequential: &mut Vec<Step>,
+) -> Result<(), Fault> {
     for thread in 0..THREADS {
         let enter = FineStep::Enter {
             thread,
@@ -109,16 +122,20 @@ fn requeue_all(alloc: Global, lot: &mut FineLot) -> Result<(), Fault> {
             park_token: DEFAULT_PARK_TOKEN,
             timed: false,
         };
-        run_fine(
-            lot,
-            &[FineStep::Register, enter],
-            &mut answers,
-            &mut sequential,
-        )?;
+        run_fine(lot, &[FineStep::Register, enter], answers, sequential)?;
     }
+    Ok(())
+}
+
+// Requeues all to another key and back, again and again. Each waiter is looked at once.
+fn requeue_all(
+    lot: &mut FineLot,
+    answers: &mut Vec<FineAnswer>,
+    sequential: &mut Vec<Step>,
+) -> Result<(), Fault> {
     for turn in 0..REQUEUES {
         answers.clear();
-        run_fine(lot, &requeue(turn), &mut answers, &mut sequential)?;
+        run_fine(lot, &requeue(turn), answers, sequential)?;
         match answers.first() {
             Some(FineAnswer::Answer(Answer::Unpark(result)))
                 if result.requeued_threads == THREADS => {}
@@ -145,6 +162,11 @@ fn requeue(turn: usize) -> [FineStep; 2] {
         FineStep::Begin { caller: 0, op },
         FineStep::End { caller: 0 },
     ]
+}
+
+fn fill_new_journal(alloc: Global) -> Result<(), Fault> {
+    let mut recorded = Record::new(alloc, THREADS, ENTRIES)?;
+    fill_journal(&mut recorded)
 }
 
 // One thread of very many parks again and again, each time until its deadline. Each of its steps

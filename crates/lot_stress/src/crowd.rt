@@ -1,6 +1,6 @@
 //! Twelve threads that park four times together and are unparked in each way, between marks.
 
-use crate::calls::{ALL, park, requeue, unpark_first, unpark_through};
+use crate::calls::{ALL, park, register, requeue, retire, unpark_first, unpark_through};
 use crate::fault::Fault;
 use crate::marks;
 use crate::threads::{comes_to, sum_of};
@@ -137,9 +137,9 @@ fn wait<P: ThreadParkerT, R: Wait + Clock>(
     lot: &ParkingLot<P>,
     steps: &AtomicUsize,
 ) -> Option<usize> {
-    let mut member = Member::register(rt, alloc, lot).ok()?;
+    let mut member = register(rt, alloc, lot).ok()?;
     let tokens = park_each_time(rt, &mut member, steps);
-    member.retire(rt);
+    retire(rt, member);
     step(steps);
     if comes_to(steps, OVER) { tokens } else { None }
 }

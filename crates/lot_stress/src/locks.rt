@@ -9,6 +9,7 @@ use crate::fault::Fault;
 use crate::marks;
 use crate::threads::sum_of;
 use deeds::{DEEDS, KINDS, Patience};
+use parking_lot::mutex::{Fairness, MutexIn};
 use parking_lot::{Condvar, FairMutex, Lot, Mutex, RwLock, Semaphore};
 use queue::Shelf;
 use std::alloc::Global;
@@ -35,7 +36,7 @@ struct Locks<'l> {
     changed: Condvar<'l>,
     filled: Condvar<'l>,
     emptied: Condvar<'l>,
-    fair: FairMutex<'l, usize>,
+    fair: FairMutex<'l, Shelf>,
     lock: RwLock<'l, usize>,
     semaphore: Semaphore<'l>,
     lent: AtomicUsize,
@@ -54,7 +55,7 @@ pub fn run<R: Print + Eprint + Threads + Wait + Clock + Sync>(
     let mut counted = 0usize;
     for round in 0..rounds {
         let seed = first_seed.wrapping_add(round);
-        match play(rt, alloc, seed) {
+        match play(rt, alloc, PLACES[seed as usize % 4], Players::Several(seed)) {
             Ok(more) => counted = counted.wrapping_add(more),
             Err(fault) => {
                 eprintln!(rt; "a round failed: lot_stress locks 1 {seed}")?;
@@ -66,27 +67,43 @@ pub fn run<R: Print + Eprint + Threads + Wait + Clock + Sync>(
     Ok(())
 }
 
-// Answers how often the threads of a round counted, which is what they counted.
-fn play<R: Threads + Wait + Clock + Sync>(
-    rt: &R,
-    alloc: Global,
-    seed: u64,
-) -> Result<usize, Fault> {
-    let lot = Lot::new(alloc, PLACES[seed as usize % 4])?;
-    let locks = Locks::new(&lot)?;
-    let act = |index: usize| locks.take_part(rt, seed, index);
-    let counted = sum_of(rt, alloc, THREADS[seed as usize % 3], &act);
-    locks.judge(rt, counted)
+// Who uses the locks of a round.
+#[derive(Clone, Copy)]
+enum Players {
+    // One thread, which does each operation with each patience. The instant has passed.
+    One(Instant),
+    // As many as the seed says, which draw what they do.
+    Several(u64),
 }
 
 /// Makes the locks, and does each operation with each patience in one thread, between marks.
 /// Answers how often it counted.
-pub fn act_alone<R: Wait + Clock>(rt: &R, alloc: Global) -> Result<usize, Fault> {
+pub fn act_alone<R: Threads + Wait + Clock + Sync>(rt: &R, alloc: Global) -> Result<usize, Fault> {
     let past = Instant::now(rt)?;
-    let lot = Lot::new(alloc, 1)?;
+    play(rt, alloc, 1, Players::One(past))
+}
+
+// Plays a round with so many places. Answers how often its threads counted, which is what they
+// counted.
+fn play<R: Threads + Wait + Clock + Sync>(
+    rt: &R,
+    alloc: Global,
+    places: usize,
+    players: Players,
+) -> Result<usize, Fault> {
+    let lot = Lot::new(alloc, places)?;
+    play_on(rt, alloc, &lot, players)
+}
+
+fn play_on<R: Threads + Wait + Clock + Sync>(
+    rt: &R,
+    alloc: Global,
+    lot: &Lot,
+    players: Players,
+) -> Result<usize, Fault> {
     marks::begin(alloc);
-    let locks = Locks::new(&lot)?;
-    let counted = locks.act_each_way(rt, past);
+    let locks = Locks::new(lot)?;
+    let counted = locks.count(rt, alloc, players);
     marks::end(alloc);
     locks.judge(rt, counted)
 }
@@ -98,12 +115,34 @@ impl<'l> Locks<'l> {
             changed: Condvar::new(lot)?,
             filled: Condvar::new(lot)?,
             emptied: Condvar::new(lot)?,
-            fair: FairMutex::new(lot, 0)?,
+            fair: FairMutex::new(lot, Shelf::new())?,
             lock: RwLock::new(lot, 0)?,
             semaphore: Semaphore::new(lot, PERMITS)?,
             lent: AtomicUsize::new(0),
             permitted: AtomicUsize::new(0),
         })
+    }
+
+    fn count<R: Threads + Wait + Clock + Sync>(
+        &self,
+        rt: &R,
+        alloc: Global,
+        players: Players,
+    ) -> Option<usize> {
+        match players {
+            Players::One(past) => self.act_each_way(rt, past),
+            Players::Several(seed) => self.act_in_threads(rt, alloc, seed),
+        }
+    }
+
+    fn act_in_threads<R: Threads + Wait + Clock + Sync>(
+        &self,
+        rt: &R,
+        alloc: Global,
+        seed: u64,
+    ) -> Option<usize> {
+        let act = |index: usize| self.take_part(rt, seed, index);
+        sum_of(rt, alloc, THREADS[seed as usize % 3], &act)
     }
 
     // Answers how often the thread of this index counted, or nothing if a lock was wrong. Even then
@@ -138,20 +177,21 @@ impl<'l> Locks<'l> {
 
     // Whether the locks are around as much as was counted, with nothing queued and nothing lent.
     fn judge<R: Wait + Clock>(&self, rt: &R, counted: Option<usize>) -> Result<usize, Fault> {
-        let shelf = self.mutex.lock(rt);
-        let (locked, queued) = (shelf.count, shelf.queued);
-        drop(shelf);
-        let sum = self
-            .permitted
-            .load(Ordering::SeqCst)
-            .wrapping_add(locked)
-            .wrapping_add(*self.fair.lock(rt))
+        let shelf = value_in(rt, &self.mutex);
+        let sum = shelf
+            .count
+            .wrapping_add(value_in(rt, &self.fair).count)
+            .wrapping_add(self.permitted.load(Ordering::SeqCst))
             .wrapping_add(*self.lock.read(rt));
         let is_free = self.semaphore.available_permits() == PERMITS;
-        if counted == Some(sum) && queued == 0 && is_free {
+        if counted == Some(sum) && shelf.queued == 0 && is_free {
             Ok(sum)
         } else {
             Err(Fault("what the locks are around"))
         }
     }
+}
+
+fn value_in<F: Fairness, R: Wait + Clock>(rt: &R, mutex: &MutexIn<'_, Shelf, F>) -> Shelf {
+    *mutex.lock(rt)
 }

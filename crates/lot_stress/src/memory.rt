@@ -46,29 +46,77 @@ const MOMENT: u64 = 5;
 // How often each of the threads locks that share a word lock.
 const LOCKS: usize = 500;
 
-/// How many numbers the scenario's lot has.
-pub fn threads_of(name: &str) -> usize {
-    if name == "all_registered_twice" {
-        MAX_THREADS
-    } else {
-        MOST
+/// A scenario of this list.
+#[derive(Clone, Copy)]
+pub enum Scenario {
+    ParkingLotNew,
+    ThreadData,
+    Registrations,
+    ParkingLotList,
+    AcquireResource,
+    AllRegisteredTwice,
+    WordLockNew,
+    LotNew,
+    ParkingLotTrimFar,
+    Park,
+    LockCalls,
+    Threads,
+    WordLock,
+    LotSteps,
+    SpinWait,
+}
+
+impl Scenario {
+    /// The scenario of this name.
+    pub fn named(name: &str) -> Result<Scenario, Fault> {
+        Ok(match name {
+            "parking_lot_new" => Scenario::ParkingLotNew,
+            "thread_data" => Scenario::ThreadData,
+            "registrations" => Scenario::Registrations,
+            "parking_lot_list" => Scenario::ParkingLotList,
+            "acquire_resource" => Scenario::AcquireResource,
+            "all_registered_twice" => Scenario::AllRegisteredTwice,
+            "word_lock_new" => Scenario::WordLockNew,
+            "lot_new" => Scenario::LotNew,
+            "parking_lot_trim_far" => Scenario::ParkingLotTrimFar,
+            "park" => Scenario::Park,
+            "lock_calls" => Scenario::LockCalls,
+            "threads" => Scenario::Threads,
+            "word_lock" => Scenario::WordLock,
+            "lot_steps" => Scenario::LotSteps,
+            "spin_wait" => Scenario::SpinWait,
+            _ => return Err(Fault("no scenario of this name")),
+        })
+    }
+
+    /// How many numbers its lot has.
+    pub fn threads(self) -> usize {
+        match self {
+            Scenario::AllRegisteredTwice => MAX_THREADS,
+            _ => MOST,
+        }
     }
 }
 
 /// Does the scenario on a new lot, prints what it saw, and answers how much was done. It gives back
 /// all memory that it had.
-pub fn play<P, R>(rt: &R, alloc: Global, lot: &ParkingLot<P>, name: &str) -> Result<usize, Fault>
+pub fn play<P, R>(
+    rt: &R,
+    alloc: Global,
+    lot: &ParkingLot<P>,
+    scenario: Scenario,
+) -> Result<usize, Fault>
 where
     P: ThreadParkerT + Send + Sync,
     R: Print + Threads + Wait + Clock + Sync,
 {
     let moment = Duration::from_millis(MOMENT);
-    let answer = match name {
-        "threads" => crowd::gather(rt, alloc, lot, Duration::ZERO)?,
-        "word_lock" => word_lock::count_together(rt, alloc, LOCKS, moment)?,
-        "lock_calls" => locks::act_alone(rt, alloc)?,
-        "lot_steps" => exclusive::do_steps(alloc)?,
-        _ => return one_thread::play(rt, alloc, lot, name),
+    let answer = match scenario {
+        Scenario::Threads => crowd::gather(rt, alloc, lot, Duration::ZERO)?,
+        Scenario::WordLock => word_lock::count_together(rt, alloc, LOCKS, moment)?,
+        Scenario::LockCalls => locks::act_alone(rt, alloc)?,
+        Scenario::LotSteps => exclusive::do_steps(alloc)?,
+        _ => return one_thread::play(rt, alloc, lot, scenario),
     };
     tell(rt, Ok(answer))
 }

@@ -33,11 +33,21 @@ pub fn run<R: Print + Wait + Clock>(
 ) -> Result<(), Fault> {
     let past = Instant::now(rt)?;
     for shape in if is_deep { [MANY, ALL] } else { [FEW, SOME] } {
-        let lot = ParkingLot::<WordParker>::new(alloc, shape.0)?;
-        compare(rt, alloc, &lot, shape, seed, past)?;
+        walk_on_new_lot(rt, alloc, shape, seed, past)?;
         println!(rt; "{} threads: as in the exclusive lot", shape.0)?;
     }
     Ok(())
+}
+
+fn walk_on_new_lot<R: Wait + Clock>(
+    rt: &R,
+    alloc: Global,
+    shape: Shape,
+    seed: u64,
+    past: Instant,
+) -> Result<(), Fault> {
+    let lot = ParkingLot::<WordParker>::new(alloc, shape.0)?;
+    compare(rt, alloc, &lot, shape, seed, past)
 }
 
 // Walks, and fails unless both lots answered the same.
@@ -52,21 +62,20 @@ fn compare<R: Wait + Clock>(
     let mut walk = Walk::new(alloc, lot, shape, seed, past)?;
     for _ in 0..shape.2 {
         if walk.parks_left > 0 {
-            nest(rt, alloc, &mut walk, shape.0);
+            nest(rt, alloc, &mut walk, shape.0.saturating_add(1));
         }
     }
     walk.judge()
 }
 
-// Lets a thread park. While it waits, other threads do the same once or twice, as deep as this; and
-// it is unparked before it sleeps, if it has no timeout and was not unparked yet.
+// Lets a thread park. While it waits, other threads do the same once or twice, until there are no
+// more, so the depth is that of all threads and one; and it is unparked before it sleeps, if it has
+// no timeout and was not unparked yet.
 fn nest<R: Wait + Clock>(rt: &R, alloc: Global, walk: &mut Walk<'_, WordParker>, depth: usize) {
     if depth == 0 {
-        walk.last_calls(rt, alloc);
         return;
     }
-    let Some(mut thread) = walk.take_thread(rt, alloc) else {
-        walk.last_calls(rt, alloc);
+    let Some(mut thread) = walk.next_thread(rt, alloc) else {
         return;
     };
     let number = thread.number();
@@ -79,7 +88,5 @@ fn nest<R: Wait + Clock>(rt: &R, alloc: Global, walk: &mut Walk<'_, WordParker>,
         }
         walk.free(rt, number, entry);
     });
-    walk.end(number, ended);
-    walk.calls(rt, alloc);
-    walk.give_thread(rt, thread);
+    walk.leave(rt, alloc, thread, ended);
 }

@@ -1,6 +1,7 @@
 //! What is done with one parker, on a new lot. The parkers are named here alone.
 
 use crate::fault::Fault;
+use crate::memory::Scenario;
 use crate::{marks, memory, parks, race, rest};
 use lot_base::thread_parker as lower;
 use lot_threads::{ParkingLot, ThreadParker, ThreadParkerT, WordParker, YieldParker};
@@ -8,6 +9,15 @@ use std::alloc::Global;
 use std::sync::Wait;
 use std::thread::Threads;
 use std::time::Clock;
+
+/// What is done with a parker, and a number: a seed, a count or a time.
+#[derive(Clone, Copy)]
+pub enum Task {
+    Race,
+    Parks,
+    Rest,
+    Memory(Scenario),
+}
 
 /// The number of the parker of this name. Any other name is that of the one that yields.
 pub fn numbered(name: &str) -> u64 {
@@ -18,14 +28,13 @@ pub fn numbered(name: &str) -> u64 {
     }
 }
 
-/// Does the task of this name with the parker of this number, modulo three: one of one word, one of
-/// a slot, and one that yields. The task is handed a number that is a count, a time or a seed.
-/// Answers how much was done.
+/// Does the task with the parker of this number, modulo three: one of one word, one of a slot, and
+/// one that yields. Answers how much was done.
 pub fn perform<R: Print + Eprint + Threads + Wait + Clock + Sync>(
     rt: &R,
     alloc: Global,
     parker: u64,
-    task: &str,
+    task: Task,
     number: u64,
 ) -> Result<usize, Fault> {
     marks::enter(alloc);
@@ -39,7 +48,7 @@ pub fn perform<R: Print + Eprint + Threads + Wait + Clock + Sync>(
 }
 
 // With parkers of the first type in a lot, and of the second without one.
-fn perform_with<P, Q, R>(rt: &R, alloc: Global, task: &str, number: u64) -> Result<usize, Fault>
+fn perform_with<P, Q, R>(rt: &R, alloc: Global, task: Task, number: u64) -> Result<usize, Fault>
 where
     P: ThreadParkerT + Send + Sync,
     Q: lower::ThreadParkerT + Sync,
@@ -50,21 +59,20 @@ where
 }
 
 // How many numbers the lot has.
-fn threads_of(task: &str) -> usize {
+fn threads_of(task: Task) -> usize {
     match task {
-        "race" => race::MOST,
-        "parks" => 1,
-        "rest" => rest::MOST,
-        _ => memory::threads_of(task),
+        Task::Race => race::MOST,
+        Task::Parks => 1,
+        Task::Rest => rest::MOST,
+        Task::Memory(scenario) => scenario.threads(),
     }
 }
 
-// A name that is no task's is that of a scenario of memory.
 fn perform_on<P, Q, R>(
     rt: &R,
     alloc: Global,
     lot: &ParkingLot<P>,
-    task: &str,
+    task: Task,
     number: u64,
 ) -> Result<usize, Fault>
 where
@@ -73,9 +81,9 @@ where
     R: Print + Eprint + Threads + Wait + Clock + Sync,
 {
     match task {
-        "race" => race::run_round(rt, alloc, lot, number),
-        "parks" => parks::run(rt, alloc, lot, number as usize),
-        "rest" => rest::run::<P, Q, R>(rt, alloc, lot, number),
-        _ => memory::play(rt, alloc, lot, task),
+        Task::Race => race::run_round(rt, alloc, lot, number),
+        Task::Parks => parks::run(rt, alloc, lot, number as usize),
+        Task::Rest => rest::run::<P, Q, R>(rt, alloc, lot, number),
+        Task::Memory(scenario) => memory::play(rt, alloc, lot, scenario),
     }
 }

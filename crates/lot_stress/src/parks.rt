@@ -1,7 +1,7 @@
 //! `lot_stress parks`: one thread that parks so often that memory which its parks would keep shows
 //! in the size of the process.
 
-use crate::calls::{ALL, Ended, park, requeue, unpark_first, unpark_through};
+use crate::calls::{ALL, Ended, park, register, requeue, unpark_first, unpark_through};
 use crate::fault::Fault;
 use lot_threads::{
     DEFAULT_PARK_TOKEN, Member, ParkResult, ParkingLot, RequeueOp, ThreadParkerT, UnparkToken,
@@ -19,7 +19,7 @@ pub fn run<P: ThreadParkerT, R: Wait + Clock>(
     count: usize,
 ) -> Result<usize, Fault> {
     let past = Instant::now(rt)?;
-    let mut member = Member::register(rt, alloc, lot)?;
+    let mut member = register(rt, alloc, lot)?;
     if park_often(rt, &mut member, count, past) == count {
         Ok(count)
     } else {

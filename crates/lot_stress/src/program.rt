@@ -1,8 +1,8 @@
 //! The commands of the program.
 
 use crate::fault::Fault;
-use crate::memory::SCENARIOS;
-use crate::parkers::{numbered, perform};
+use crate::memory::{SCENARIOS, Scenario};
+use crate::parkers::{Task, numbered, perform};
 use crate::{cost, locks, nested};
 use std::alloc::Global;
 use std::env;
@@ -42,17 +42,16 @@ fn follow_words<R: Env + Print + Eprint + AllocGlobal + Threads + Wait + Clock +
         return Err(Fault(USAGE));
     };
     let mut words = words.skip(1);
-    let Some(command) = words.next() else {
-        return Err(Fault(USAGE));
-    };
-    let Some(first) = words.next() else {
-        return follow(rt, rt.alloc(), command.as_str(), "", "");
-    };
-    let Some(second) = words.next() else {
-        return follow(rt, rt.alloc(), command.as_str(), first.as_str(), "");
-    };
-    let (command, first) = (command.as_str(), first.as_str());
-    follow(rt, rt.alloc(), command, first, second.as_str())
+    let (command, first, second) = (words.next(), words.next(), words.next());
+    follow(rt, rt.alloc(), text(&command), text(&first), text(&second))
+}
+
+// There is none behind the last word.
+fn text(word: &Option<String>) -> &str {
+    match word {
+        Some(word) => word.as_str(),
+        None => "",
+    }
 }
 
 fn follow<R: Print + Eprint + Threads + Wait + Clock + Sync>(
@@ -63,21 +62,22 @@ fn follow<R: Print + Eprint + Threads + Wait + Clock + Sync>(
     second: &str,
 ) -> Result<(), Fault> {
     match command {
-        "memory" if first.is_empty() => print!(rt; "{SCENARIOS}")?,
+        "memory" if first.is_empty() => Ok(print!(rt; "{SCENARIOS}")?),
         "memory" => {
-            perform(rt, alloc, numbered(second), first, 0)?;
+            let task = Task::Memory(Scenario::named(first)?);
+            perform(rt, alloc, numbered(second), task, 0)?;
+            Ok(())
         }
-        "cost" => cost::run(alloc)?,
-        "parks" => perform_each(rt, alloc, 3, command, number(first)?)?,
+        "cost" => cost::run(alloc),
+        "parks" => perform_each(rt, alloc, 3, Task::Parks, command, number(first)?),
         // A parker that yields does not sleep.
-        "rest" => perform_each(rt, alloc, 2, command, number(first)?)?,
-        "race" => run_races(rt, alloc, number(first)?, number(second)?)?,
-        "locks" => locks::run(rt, alloc, number(first)?, number(second)?)?,
-        "nested" => nested::run(rt, alloc, false, number(first)?)?,
-        "deep" => nested::run(rt, alloc, true, number(first)?)?,
-        _ => return Err(Fault(USAGE)),
+        "rest" => perform_each(rt, alloc, 2, Task::Rest, command, number(first)?),
+        "race" => run_races(rt, alloc, number(first)?, number(second)?),
+        "locks" => locks::run(rt, alloc, number(first)?, number(second)?),
+        "nested" => nested::run(rt, alloc, false, number(first)?),
+        "deep" => nested::run(rt, alloc, true, number(first)?),
+        _ => Err(Fault(USAGE)),
     }
-    Ok(())
 }
 
 fn number(word: &str) -> Result<u64, Fault> {
@@ -92,13 +92,14 @@ fn perform_each<R: Print + Eprint + Threads + Wait + Clock + Sync>(
     rt: &R,
     alloc: Global,
     parkers: u64,
-    task: &str,
+    task: Task,
+    command: &str,
     number: u64,
 ) -> Result<(), Fault> {
     for parker in 0..parkers {
         perform(rt, alloc, parker, task, number)?;
     }
-    println!(rt; "{task} {number}: as it should be with {parkers} parkers")?;
+    println!(rt; "{command} {number}: as it should be with {parkers} parkers")?;
     Ok(())
 }
 
@@ -117,7 +118,7 @@ fn run_races<R: Print + Eprint + Threads + Wait + Clock + Sync>(
         if start.elapsed(rt)? >= Duration::from_secs(seconds) {
             break;
         }
-        match perform(rt, alloc, seed, "race", seed) {
+        match perform(rt, alloc, seed, Task::Race, seed) {
             Ok(more) => done = done.wrapping_add(more),
             Err(fault) => {
                 eprintln!(rt; "a round failed: lot_stress race 1 {seed}")?;

@@ -1,7 +1,7 @@
 //! `lot_stress race`: threads that park, unpark, requeue, register and retire on one lot, while the
 //! tokens that were handed out are compared with those that were told.
 
-use crate::calls::{requeue, unpark_first, unpark_through};
+use crate::calls::{register, requeue, retire, unpark_first, unpark_through};
 use crate::draws::{draw, draw_op, draw_sieve, mixed};
 use crate::fault::Fault;
 use crate::threads::sum_of;
@@ -160,17 +160,27 @@ fn register_and_park<P: ThreadParkerT, R: Wait + Clock>(
     unparked: &AtomicUsize,
     draws: &mut u64,
 ) -> Option<usize> {
-    let mut member = Member::register(rt, alloc, lot).ok()?;
-    let (mut tokens, mut woken) = (0usize, 0usize);
+    let mut member = register(rt, alloc, lot).ok()?;
+    let tokens = park_often(rt, &mut member, state, unparked, draws);
+    retire(rt, member);
+    tokens
+}
+
+fn park_often<P: ThreadParkerT, R: Wait + Clock>(
+    rt: &R,
+    member: &mut Member<'_, P>,
+    state: &AtomicUsize,
+    unparked: &AtomicUsize,
+    draws: &mut u64,
+) -> Option<usize> {
+    let mut tokens = 0usize;
     for _ in 0..PARKS {
         let start = Instant::now(rt).ok()?;
-        if let ParkResult::Unparked(token) = park(rt, &mut member, state, start, draws) {
+        if let ParkResult::Unparked(token) = park(rt, member, state, start, draws) {
             tokens = tokens.wrapping_sub(sum_for(token, 1));
-            woken = woken.wrapping_add(1);
+            unparked.fetch_add(1, Ordering::SeqCst);
         }
     }
-    member.retire(rt);
-    unparked.fetch_add(woken, Ordering::SeqCst);
     Some(tokens)
 }
 
@@ -231,14 +241,14 @@ fn register_and_retire<P: ThreadParkerT, R: Wait + Clock>(
 ) -> Option<usize> {
     let mut held = Vec::new(alloc);
     for _ in 0..HELD {
-        if let Ok(member) = Member::register(rt, alloc, lot) {
+        if let Ok(member) = register(rt, alloc, lot) {
             let _ = held.push(member);
         }
         pause(rt, draws);
     }
     let is_right = held.len() == HELD;
     for member in held {
-        member.retire(rt);
+        retire(rt, member);
     }
     is_right.then_some(0)
 }

@@ -43,23 +43,39 @@ pub fn count_together<R: Threads + Wait + Clock + Sync>(
     rest: Duration,
 ) -> Result<usize, Fault> {
     let lock = WordLock::new(alloc, Count(0), &())?;
-    let steps = AtomicUsize::new(0);
-    let act = |index: usize| {
-        if index == 0 {
-            hold(rt, alloc, &lock, rest, &steps)
-        } else {
-            count_often(rt, &lock, locks, &steps)
-        }
-    };
-    let have_counted = sum_of(rt, alloc, THREADS + 1, &act).is_some();
-    let held = lock.lock(rt);
-    let count = held.value.0;
-    lock.unlock(held);
+    let have_counted = count_in_threads(rt, alloc, &lock, locks, rest);
+    let count = counted(rt, &lock);
     if have_counted && count == locks.wrapping_mul(THREADS) {
         Ok(count)
     } else {
         Err(Fault("the count of the threads that locked"))
     }
+}
+
+// Whether each thread did what it has to.
+fn count_in_threads<R: Threads + Wait + Clock + Sync>(
+    rt: &R,
+    alloc: Global,
+    lock: &WordLock<Count>,
+    locks: usize,
+    rest: Duration,
+) -> bool {
+    let steps = AtomicUsize::new(0);
+    let act = |index: usize| {
+        if index == 0 {
+            hold(rt, alloc, lock, rest, &steps)
+        } else {
+            count_often(rt, lock, locks, &steps)
+        }
+    };
+    sum_of(rt, alloc, THREADS + 1, &act).is_some()
+}
+
+fn counted<R: Wait>(rt: &R, lock: &WordLock<Count>) -> usize {
+    let held = lock.lock(rt);
+    let count = held.value.0;
+    lock.unlock(held);
+    count
 }
 
 // Holds the lock while the threads come and wait so long.

@@ -3,7 +3,7 @@
 use super::Locks;
 use super::queue::Shelf;
 use crate::draws::draw;
-use parking_lot::{FairMutexGuard, MutexGuard};
+use parking_lot::mutex::{Fairness, MutexGuardIn, MutexIn};
 use std::sync::Wait;
 use std::thread;
 use std::time::{Clock, Duration, Instant};
@@ -77,7 +77,7 @@ impl Patience {
     }
 }
 
-impl<'l> Locks<'l> {
+impl Locks<'_> {
     /// Answers how often the thread counted, or nothing if a lock was wrong.
     pub(super) fn act<R: Wait + Clock>(
         &self,
@@ -87,12 +87,12 @@ impl<'l> Locks<'l> {
     ) -> Option<usize> {
         match deed {
             Deed::Lock | Deed::UnlockFair | Deed::Bump => {
-                Some(self.count_locked(rt, deed, patience))
+                Some(count_locked(rt, &self.mutex, deed, patience))
             }
             Deed::Sleep => Some(self.sleep(rt, patience)),
             Deed::NotifyOne | Deed::NotifyAll => Some(self.notify(rt, deed)),
             Deed::NotifyOneHeld | Deed::NotifyAllHeld => Some(self.notify_held(rt, deed)),
-            Deed::LockFair => Some(self.count_in_order(rt, patience)),
+            Deed::LockFair => Some(count_locked(rt, &self.fair, deed, patience)),
             Deed::Read => self.read(rt, patience),
             Deed::Write | Deed::Downgrade | Deed::DowngradeToUpgradable => {
                 self.count_written(rt, deed, patience)
@@ -101,32 +101,6 @@ impl<'l> Locks<'l> {
             Deed::Acquire => self.count_permitted(rt, 1, patience),
             Deed::AcquireTwo => self.count_permitted(rt, 2, patience),
         }
-    }
-
-    fn lock<'a, R: Wait + Clock>(
-        &'a self,
-        rt: &'a R,
-        patience: Patience,
-    ) -> Option<MutexGuard<'a, 'a, 'l, Shelf, R>> {
-        match patience {
-            Patience::Over => self.mutex.try_lock(rt),
-            Patience::Until(deadline) => self.mutex.lock_until(rt, deadline),
-            Patience::Endless => Some(self.mutex.lock(rt)),
-        }
-    }
-
-    fn count_locked<R: Wait + Clock>(&self, rt: &R, deed: Deed, patience: Patience) -> usize {
-        let Some(mut shelf) = self.lock(rt, patience) else {
-            return 0;
-        };
-        shelf.count_one();
-        thread::yield_now();
-        match deed {
-            Deed::UnlockFair => MutexGuard::unlock_fair(shelf),
-            Deed::Bump => drop(MutexGuard::bump(shelf)),
-            _ => drop(shelf),
-        }
-        1
     }
 
     // Counts after a sleep on the condition variable.
@@ -161,25 +135,37 @@ impl<'l> Locks<'l> {
         }
         1
     }
+}
 
-    fn lock_in_order<'a, R: Wait + Clock>(
-        &'a self,
-        rt: &'a R,
-        patience: Patience,
-    ) -> Option<FairMutexGuard<'a, 'a, 'l, usize, R>> {
-        match patience {
-            Patience::Over => self.fair.try_lock(rt),
-            Patience::Until(deadline) => self.fair.lock_until(rt, deadline),
-            Patience::Endless => Some(self.fair.lock(rt)),
-        }
+// Locks the mutex, fair or not, with this patience.
+fn lock<'a, 'l, T, F: Fairness, R: Wait + Clock>(
+    rt: &'a R,
+    mutex: &'a MutexIn<'l, T, F>,
+    patience: Patience,
+) -> Option<MutexGuardIn<'a, 'a, 'l, T, R, F>> {
+    match patience {
+        Patience::Over => mutex.try_lock(rt),
+        Patience::Until(deadline) => mutex.lock_until(rt, deadline),
+        Patience::Endless => Some(mutex.lock(rt)),
     }
+}
 
-    fn count_in_order<R: Wait + Clock>(&self, rt: &R, patience: Patience) -> usize {
-        let Some(mut count) = self.lock_in_order(rt, patience) else {
-            return 0;
-        };
-        *count = count.wrapping_add(1);
-        thread::yield_now();
-        1
+// Counts under the mutex, fair or not, and lets it go in the way of the deed.
+fn count_locked<F: Fairness, R: Wait + Clock>(
+    rt: &R,
+    mutex: &MutexIn<'_, Shelf, F>,
+    deed: Deed,
+    patience: Patience,
+) -> usize {
+    let Some(mut shelf) = lock(rt, mutex, patience) else {
+        return 0;
+    };
+    shelf.count_one();
+    thread::yield_now();
+    match deed {
+        Deed::UnlockFair => MutexGuardIn::unlock_fair(shelf),
+        Deed::Bump => drop(MutexGuardIn::bump(shelf)),
+        _ => drop(shelf),
     }
+    1
 }

@@ -1,6 +1,7 @@
 //! Threads that wait without a deadline: half of them queue things, which the others take.
 
 use super::Locks;
+use parking_lot::Condvar;
 use std::sync::Wait;
 use std::time::Clock;
 
@@ -10,7 +11,7 @@ const ROOM: usize = 2;
 const THINGS: usize = 2_000;
 
 /// What the mutex is around: a count, and how many things are queued.
-#[derive(Drop)]
+#[derive(Clone, Copy)]
 pub(super) struct Shelf {
     pub(super) count: usize,
     pub(super) queued: usize,
@@ -27,45 +28,61 @@ impl Shelf {
     pub(super) fn count_one(&mut self) {
         self.count = self.count.wrapping_add(1);
     }
+
+    fn is_full_or_empty(&self, side: Side) -> bool {
+        match side {
+            Side::Puts => self.queued == ROOM,
+            Side::Takes => self.queued == 0,
+        }
+    }
+
+    fn pass_one(&mut self, side: Side) {
+        match side {
+            Side::Puts => self.queued = self.queued.wrapping_add(1),
+            Side::Takes => {
+                self.queued = self.queued.wrapping_sub(1);
+                self.count_one();
+            }
+        }
+    }
+}
+
+// What a thread does with things.
+#[derive(Clone, Copy)]
+enum Side {
+    Puts,
+    Takes,
 }
 
 impl Locks<'_> {
     /// Puts or takes all things, as the index says. Answers how many it counted as it took them.
     pub(super) fn pass<R: Wait + Clock>(&self, rt: &R, index: usize) -> usize {
         if index % 2 == 0 {
-            self.put_all(rt);
+            self.pass_all(rt, Side::Puts, &self.emptied, &self.filled);
             0
         } else {
-            self.take_all(rt);
+            self.pass_all(rt, Side::Takes, &self.filled, &self.emptied);
             THINGS
         }
     }
 
-    fn put_all<R: Wait + Clock>(&self, rt: &R) {
+    // Waits here before each thing, and notifies there after it.
+    fn pass_all<R: Wait + Clock>(
+        &self,
+        rt: &R,
+        side: Side,
+        here: &Condvar<'_>,
+        there: &Condvar<'_>,
+    ) {
         for thing in 0..THINGS {
-            let is_full = |shelf: &mut Shelf| shelf.queued == ROOM;
-            let mut shelf = self.emptied.wait_while(self.mutex.lock(rt), is_full);
-            shelf.queued = shelf.queued.wrapping_add(1);
+            let is_early = |shelf: &mut Shelf| shelf.is_full_or_empty(side);
+            let mut shelf = here.wait_while(self.mutex.lock(rt), is_early);
+            shelf.pass_one(side);
             if thing % 2 == 0 {
-                self.filled.notify_one_held(&shelf);
+                there.notify_one_held(&shelf);
             } else {
                 drop(shelf);
-                self.filled.notify_one(rt);
-            }
-        }
-    }
-
-    fn take_all<R: Wait + Clock>(&self, rt: &R) {
-        for thing in 0..THINGS {
-            let is_empty = |shelf: &mut Shelf| shelf.queued == 0;
-            let mut shelf = self.filled.wait_while(self.mutex.lock(rt), is_empty);
-            shelf.queued = shelf.queued.wrapping_sub(1);
-            shelf.count_one();
-            if thing % 2 == 0 {
-                self.emptied.notify_one_held(&shelf);
-            } else {
-                drop(shelf);
-                self.emptied.notify_one(rt);
+                there.notify_one(rt);
             }
         }
     }

@@ -38,41 +38,42 @@ fn wait_and_wake(alloc: Global, lot: &mut Lot) -> usize {
             timed: true,
         });
     }
-    let key = KEYS[2];
-    let mut woken = 0usize;
-    for op in [
-        requeue(KEYS[0], KEYS[1], RequeueOp::RequeueAll),
-        requeue(KEYS[1], KEYS[2], RequeueOp::UnparkOneRequeueRest),
-        requeue(KEYS[2], KEYS[0], RequeueOp::RequeueOne),
-        Op::One {
-            key,
-            token: DEFAULT_UNPARK_TOKEN,
-        },
-        Op::Filter {
-            key,
-            decisions: Vec::new(alloc),
-            token: DEFAULT_UNPARK_TOKEN,
-        },
-        Op::All {
-            key,
-            token: DEFAULT_UNPARK_TOKEN,
-        },
-    ] {
-        match lot.apply(&Step::Unpark(op)) {
-            Answer::Unpark(result) => woken = woken.wrapping_add(result.unparked_threads),
-            Answer::Count(count) => woken = woken.wrapping_add(count),
-            _ => (),
-        }
-    }
-    woken
+    let token = DEFAULT_UNPARK_TOKEN;
+    let [first, second, key] = KEYS;
+    requeue(lot, first, second, RequeueOp::RequeueAll)
+        .wrapping_add(requeue(lot, second, key, RequeueOp::UnparkOneRequeueRest))
+        .wrapping_add(requeue(lot, key, first, RequeueOp::RequeueOne))
+        .wrapping_add(unpark(lot, Op::One { key, token }))
+        .wrapping_add(unpark(
+            lot,
+            Op::Filter {
+                key,
+                decisions: Vec::new(alloc),
+                token,
+            },
+        ))
+        .wrapping_add(unpark(lot, Op::All { key, token }))
 }
 
-fn requeue(from: usize, to: usize, op: RequeueOp) -> Op {
-    Op::Requeue {
-        from,
-        to,
-        op,
-        token: DEFAULT_UNPARK_TOKEN,
+fn requeue(lot: &mut Lot, from: usize, to: usize, op: RequeueOp) -> usize {
+    let token = DEFAULT_UNPARK_TOKEN;
+    unpark(
+        lot,
+        Op::Requeue {
+            from,
+            to,
+            op,
+            token,
+        },
+    )
+}
+
+// How many threads the operation wakes.
+fn unpark(lot: &mut Lot, op: Op) -> usize {
+    match lot.apply(&Step::Unpark(op)) {
+        Answer::Unpark(result) => result.unparked_threads,
+        Answer::Count(count) => count,
+        _ => 0,
     }
 }
 

@@ -1,7 +1,7 @@
 //! Scenarios on the lot of threads, and on what is made, with one thread.
 
-use super::{MOST, tell};
-use crate::calls::park;
+use super::{MOST, Scenario, tell};
+use crate::calls::{self, park};
 use crate::fault::{Fault, NO_MEMORY};
 use crate::marks;
 use crate::parks::park_often;
@@ -35,11 +35,11 @@ pub(super) fn play<P: ThreadParkerT, R: Print + Wait + Clock>(
     rt: &R,
     alloc: Global,
     lot: &ParkingLot<P>,
-    name: &str,
+    scenario: Scenario,
 ) -> Result<usize, Fault> {
     let past = Instant::now(rt)?;
     let mut members = Vec::with_capacity(alloc, lot.max_threads())?;
-    play_with(rt, alloc, lot, &mut members, name, past)
+    play_with(rt, alloc, lot, &mut members, scenario, past)
 }
 
 fn play_with<'a, P: ThreadParkerT, R: Print + Wait + Clock>(
@@ -47,13 +47,13 @@ fn play_with<'a, P: ThreadParkerT, R: Print + Wait + Clock>(
     alloc: Global,
     lot: &'a ParkingLot<P>,
     members: &mut Vec<Member<'a, P>>,
-    name: &str,
+    scenario: Scenario,
     past: Instant,
 ) -> Result<usize, Fault> {
-    prepare(rt, alloc, lot, members, name)?;
+    prepare(rt, alloc, lot, members, scenario)?;
     show(rt, "before", members.len(), records_of(members))?;
     marks::begin(alloc);
-    let answer = call(rt, alloc, lot, members, name, past);
+    let answer = call(rt, alloc, lot, members, scenario, past);
     marks::end(alloc);
     tell(rt, answer)?;
     show(rt, "after", members.len(), records_of(members))?;
@@ -66,12 +66,12 @@ fn prepare<'a, P: ThreadParkerT, R: Wait>(
     alloc: Global,
     lot: &'a ParkingLot<P>,
     members: &mut Vec<Member<'a, P>>,
-    name: &str,
+    scenario: Scenario,
 ) -> Result<(), Fault> {
-    match name {
-        "registrations" => (),
-        "all_registered_twice" => register_often(rt, alloc, lot, members, 1)?,
-        "parking_lot_trim_far" => {
+    match scenario {
+        Scenario::Registrations => (),
+        Scenario::AllRegisteredTwice => register_often(rt, alloc, lot, members, 1)?,
+        Scenario::ParkingLotTrimFar => {
             register_often(rt, alloc, lot, members, MOST)?;
             retire_all_but(rt, members, FEW);
         }
@@ -96,30 +96,30 @@ fn call<'a, P: ThreadParkerT, R: Wait + Clock>(
     alloc: Global,
     lot: &'a ParkingLot<P>,
     members: &mut Vec<Member<'a, P>>,
-    name: &str,
+    scenario: Scenario,
     past: Instant,
 ) -> Result<usize, Fault> {
-    match name {
-        "thread_data" => register_often(rt, alloc, lot, members, 1)?,
-        "registrations" => {
+    match scenario {
+        Scenario::ThreadData => register_often(rt, alloc, lot, members, 1)?,
+        Scenario::Registrations => {
             for _ in 0..MOST {
                 let _ = register(rt, alloc, lot, members);
             }
         }
-        "all_registered_twice" => {
+        Scenario::AllRegisteredTwice => {
             register_often(rt, alloc, lot, members, MAX_THREADS - 1)?;
             retire_all_but(rt, members, 1);
             lot.trim(rt);
             register_often(rt, alloc, lot, members, MAX_THREADS - 1)?;
         }
         // The rows that the first registrations made are found again.
-        "parking_lot_trim_far" => {
+        Scenario::ParkingLotTrimFar => {
             lot.trim(rt);
             register_often(rt, alloc, lot, members, MOST - FEW)?;
         }
         _ => {
             return match members.first_mut() {
-                Some(member) => call_of_one(rt, alloc, member, name, past),
+                Some(member) => call_of_one(rt, alloc, member, scenario, past),
                 None => Err(Fault("nobody who is registered")),
             };
         }
@@ -131,13 +131,13 @@ fn call_of_one<P: ThreadParkerT, R: Wait + Clock>(
     rt: &R,
     alloc: Global,
     member: &mut Member<'_, P>,
-    name: &str,
+    scenario: Scenario,
     past: Instant,
 ) -> Result<usize, Fault> {
-    match name {
-        "parking_lot_list" => list_in_a_park(rt, alloc, member, KEYS[0]),
-        "acquire_resource" => Ok(record_often(member)),
-        "park" => {
+    match scenario {
+        Scenario::ParkingLotList => list_in_a_park(rt, alloc, member, KEYS[0]),
+        Scenario::AcquireResource => Ok(record_often(member)),
+        Scenario::Park => {
             let right = park_often(rt, member, PARKS, past);
             member.release_resource(KEYS[0]);
             member.release_resource(KEYS[0]);
@@ -145,18 +145,18 @@ fn call_of_one<P: ThreadParkerT, R: Wait + Clock>(
             let listed = member.list(rt, alloc, KEYS[0])?;
             Ok(right.wrapping_add(listed.len()))
         }
-        "spin_wait" => Ok(spin_each_way()),
-        _ => make::<P>(alloc, name),
+        Scenario::SpinWait => Ok(spin_each_way()),
+        _ => make::<P>(alloc, scenario),
     }
 }
 
-// Makes what the name says, and drops it.
-fn make<P: ThreadParkerT>(alloc: Global, name: &str) -> Result<usize, Fault> {
-    let is_made = match name {
-        "parking_lot_new" => ParkingLot::<P>::new(alloc, SOME).is_ok(),
-        "word_lock_new" => WordLock::new(alloc, Count(0), &()).is_ok(),
-        "lot_new" => Lot::new(alloc, SOME).is_ok(),
-        _ => return Err(Fault("no scenario of this name")),
+// Makes what the scenario says, and drops it.
+fn make<P: ThreadParkerT>(alloc: Global, scenario: Scenario) -> Result<usize, Fault> {
+    let is_made = match scenario {
+        Scenario::ParkingLotNew => ParkingLot::<P>::new(alloc, SOME).is_ok(),
+        Scenario::WordLockNew => WordLock::new(alloc, Count(0), &()).is_ok(),
+        Scenario::LotNew => Lot::new(alloc, SOME).is_ok(),
+        _ => return Err(Fault("a scenario that makes nothing")),
     };
     if is_made {
         Ok(1)
@@ -186,13 +186,9 @@ fn register<'a, P: ThreadParkerT, R: Wait>(
     lot: &'a ParkingLot<P>,
     members: &mut Vec<Member<'a, P>>,
 ) -> Result<(), Fault> {
-    match Member::register(rt, alloc, lot) {
-        Ok(member) => {
-            let _ = members.push(member);
-            Ok(())
-        }
-        Err(error) => Err(Fault::from(error)),
-    }
+    let member = calls::register(rt, alloc, lot)?;
+    let _ = members.push(member);
+    Ok(())
 }
 
 fn retire_all_but<P: ThreadParkerT, R: Wait>(
@@ -202,7 +198,7 @@ fn retire_all_but<P: ThreadParkerT, R: Wait>(
 ) {
     for _ in left..members.len() {
         if let Some(member) = members.pop() {
-            member.retire(rt);
+            calls::retire(rt, member);
         }
     }
 }

@@ -1,6 +1,8 @@
 //! A walk: a lot that threads share and the exclusive one, side by side, and what was compared.
 
-use crate::calls::{Ended, Entry, Sieve, decide, requeue, unpark_first, unpark_through};
+use crate::calls::{
+    Ended, Entry, Sieve, decide, register, requeue, retire, unpark_first, unpark_through,
+};
 use crate::draws::{draw, draw_below, draw_op, draw_sieve, mixed};
 use crate::fault::Fault;
 use lot_simulator::lot::{Lot, Status};
@@ -147,8 +149,8 @@ impl<'a, P: ThreadParkerT> Walk<'a, P> {
         self.parks_left > 0 && draw_below(&mut self.draws, SELDOM) == 0
     }
 
-    /// Compares how a park ended with how it ends in the exclusive lot.
-    pub(super) fn end(&mut self, thread: usize, ended: Ended) {
+    // Compares how a park ended with how it ends in the exclusive lot.
+    fn end(&mut self, thread: usize, ended: Ended) {
         match ended {
             (ParkResult::Unparked(token), None) => {
                 self.expect(Step::Return { thread }, Answer::Unparked(token));
@@ -169,19 +171,25 @@ impl<'a, P: ThreadParkerT> Walk<'a, P> {
         }
     }
 
-    /// Makes a few calls, or none.
-    pub(super) fn calls<R: Wait>(&mut self, rt: &R, alloc: Global) {
-        if draw_below(&mut self.draws, self.shape.3) != 0 {
-            return;
+    /// The thread has parked, and the park ended so: it is compared, a few calls are made, or none,
+    /// and the thread idles or retires.
+    pub(super) fn leave<R: Wait>(
+        &mut self,
+        rt: &R,
+        alloc: Global,
+        thread: Member<'a, P>,
+        ended: Ended,
+    ) {
+        self.end(thread.number(), ended);
+        if draw_below(&mut self.draws, self.shape.3) == 0 {
+            let count = draw_below(&mut self.draws, MOST_CALLS);
+            self.calls(rt, alloc, count);
         }
-        for _ in 0..draw_below(&mut self.draws, MOST_CALLS) {
-            self.call(rt, alloc);
-        }
+        self.give_thread(rt, thread);
     }
 
-    /// Makes many calls.
-    pub(super) fn last_calls<R: Wait>(&mut self, rt: &R, alloc: Global) {
-        for _ in 0..LAST_CALLS {
+    fn calls<R: Wait>(&mut self, rt: &R, alloc: Global, count: usize) {
+        for _ in 0..count {
             self.call(rt, alloc);
         }
     }
@@ -257,9 +265,17 @@ impl<'a, P: ThreadParkerT> Walk<'a, P> {
         self.trim(rt);
     }
 
-    /// A thread for the next park, if there is to be one: one that is idle, or one that registers
-    /// now.
-    pub(super) fn take_thread<R: Wait>(&mut self, rt: &R, alloc: Global) -> Option<Member<'a, P>> {
+    /// A thread for the next park. If there is to be none, many calls are made.
+    pub(super) fn next_thread<R: Wait>(&mut self, rt: &R, alloc: Global) -> Option<Member<'a, P>> {
+        let thread = self.take_thread(rt, alloc);
+        if thread.is_none() {
+            self.calls(rt, alloc, LAST_CALLS);
+        }
+        thread
+    }
+
+    // One that is idle, or one that registers now.
+    fn take_thread<R: Wait>(&mut self, rt: &R, alloc: Global) -> Option<Member<'a, P>> {
         if self.parks_left == 0 {
             return None;
         }
@@ -277,7 +293,7 @@ impl<'a, P: ThreadParkerT> Walk<'a, P> {
 
     // Registers a thread with both lots.
     fn register<R: Wait>(&mut self, rt: &R, alloc: Global) -> Option<Member<'a, P>> {
-        let (answer, thread) = match Member::register(rt, alloc, self.lot) {
+        let (answer, thread) = match register(rt, alloc, self.lot) {
             Ok(thread) => (Answer::Registered(thread.number()), Some(thread)),
             Err(LotError::Full) => (Answer::Full, None),
             Err(_) => (Answer::NoMemory, None),
@@ -289,12 +305,12 @@ impl<'a, P: ThreadParkerT> Walk<'a, P> {
     // Retires a thread from both lots.
     fn retire<R: Wait>(&mut self, rt: &R, member: Member<'a, P>) {
         let thread = member.number();
-        member.retire(rt);
+        retire(rt, member);
         self.expect(Step::Retire { thread }, Answer::Retired);
     }
 
-    /// Keeps the thread for later, or retires it.
-    pub(super) fn give_thread<R: Wait>(&mut self, rt: &R, thread: Member<'a, P>) {
+    // Keeps the thread for later, or retires it.
+    fn give_thread<R: Wait>(&mut self, rt: &R, thread: Member<'a, P>) {
         if draw_below(&mut self.draws, 4) == 0 || self.idle.len() == self.idle.capacity() {
             self.retire(rt, thread);
         } else {

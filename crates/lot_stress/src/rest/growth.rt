@@ -1,5 +1,6 @@
 //! Threads that come to a table while it grows.
 
+use crate::calls::register;
 use crate::fault::Fault;
 use crate::threads::{comes_to, sum_of};
 use lot_threads::{DEFAULT_UNPARK_TOKEN, ParkingLot, ThreadParkerT, unpark_all, unpark_one};
@@ -34,7 +35,7 @@ pub(super) fn come_to_a_growth<P: ThreadParkerT + Sync, R: Threads + Wait + Cloc
     rest: Duration,
 ) -> Result<usize, Fault> {
     for _ in 1..REGISTERED {
-        drop(lot.thread_data(rt, alloc));
+        drop(register(rt, alloc, lot));
     }
     let is_held = AtomicUsize::new(0);
     let act = |index: usize| act(rt, alloc, lot, index, &is_held, rest);
@@ -63,7 +64,7 @@ fn act<P: ThreadParkerT, R: Wait + Clock>(
     }
     let is_in_time = comes_to(is_held, 1);
     if index == 1 {
-        drop(lot.thread_data(rt, alloc));
+        drop(register(rt, alloc, lot));
     } else {
         thread::sleep(rt, Duration::from_millis(MOMENT));
         unpark_all(rt, lot, OTHER_KEY, DEFAULT_UNPARK_TOKEN);
