@@ -92,15 +92,15 @@ fn lead<P: ThreadParkerT, R: Wait + Clock>(
     steps: &AtomicUsize,
     rest: Duration,
 ) -> Option<usize> {
-    let have_come = comes_to(steps, WAITERS);
+    let have_come = comes_to(rt, steps, WAITERS);
     marks::begin(alloc);
     step(steps);
     for turn in [FIRST, SECOND, THIRD] {
-        comes_to(steps, turn);
+        comes_to(rt, steps, turn);
         thread::sleep(rt, rest);
         unpark_each_way(rt, lot, turn);
     }
-    let are_done = comes_to(steps, RETIRED);
+    let are_done = comes_to(rt, steps, RETIRED);
     marks::end(alloc);
     step(steps);
     (have_come && are_done).then_some(0)
@@ -141,7 +141,7 @@ fn wait<P: ThreadParkerT, R: Wait + Clock>(
     let tokens = park_each_time(rt, &mut member, steps);
     retire(rt, member);
     step(steps);
-    if comes_to(steps, OVER) { tokens } else { None }
+    if comes_to(rt, steps, OVER) { tokens } else { None }
 }
 
 // A wait whose deadline passed leaves nothing behind that keeps the thread awake.
@@ -155,7 +155,7 @@ fn park_each_time<P: ThreadParkerT, R: Wait + Clock>(
     let now = Instant::now(rt).ok()?;
     let soon = now.checked_add(Duration::from_millis(SOON_MILLISECONDS))?;
     let far = now.checked_add(Duration::from_secs(FAR_SECONDS))?;
-    comes_to(steps, OPEN);
+    comes_to(rt, steps, OPEN);
     let mut tokens = 0usize;
     for (key, timeout) in [
         (LATE_KEY, Some(soon)),

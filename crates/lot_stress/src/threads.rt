@@ -1,21 +1,23 @@
-//! Threads that act at the same time, and waits by turns: a look, and a yield if it does not see
-//! what it waits for.
+//! Threads that act at the same time, and waits that look once a millisecond, so that they take
+//! little of a processor.
 
 use std::alloc::Global;
+use std::sync::Wait;
 use std::sync::atomic::{AtomicUsize, Ordering};
 use std::thread;
 use std::thread::Threads;
+use std::time::{Clock, Duration};
 
 // How often a wait looks before it has failed.
-const TURNS: usize = 20_000_000;
+const LOOKS: usize = 120_000;
 
-/// Waits until there are so many. False says that the turns are over.
-pub fn comes_to(count: &AtomicUsize, least: usize) -> bool {
-    for _ in 0..TURNS {
+/// Waits until there are so many. False says that it has looked for two minutes.
+pub fn comes_to<R: Wait + Clock>(rt: &R, count: &AtomicUsize, least: usize) -> bool {
+    for _ in 0..LOOKS {
         if count.load(Ordering::SeqCst) >= least {
             return true;
         }
-        thread::yield_now();
+        thread::sleep(rt, Duration::from_millis(1));
     }
     false
 }

@@ -86,27 +86,27 @@ fn hold<R: Wait + Clock>(
     rest: Duration,
     steps: &AtomicUsize,
 ) -> Option<usize> {
-    let have_come = comes_to(steps, THREADS);
+    let have_come = comes_to(rt, steps, THREADS);
     marks::begin(alloc);
     let held = lock.lock(rt);
     steps.fetch_add(1, Ordering::SeqCst);
     thread::sleep(rt, rest);
     lock.unlock(held);
-    let are_done = comes_to(steps, COUNTED);
+    let are_done = comes_to(rt, steps, COUNTED);
     marks::end(alloc);
     steps.fetch_add(1, Ordering::SeqCst);
     (have_come && are_done).then_some(0)
 }
 
 // Counts under the lock once it is held, and yields there, so that the others wait.
-fn count_often<R: Wait>(
+fn count_often<R: Wait + Clock>(
     rt: &R,
     lock: &WordLock<Count>,
     locks: usize,
     steps: &AtomicUsize,
 ) -> Option<usize> {
     steps.fetch_add(1, Ordering::SeqCst);
-    let is_held = comes_to(steps, HELD);
+    let is_held = comes_to(rt, steps, HELD);
     for _ in 0..locks {
         let mut held = lock.lock(rt);
         held.value.0 = held.value.0.wrapping_add(1);
@@ -114,5 +114,5 @@ fn count_often<R: Wait>(
         lock.unlock(held);
     }
     steps.fetch_add(1, Ordering::SeqCst);
-    (comes_to(steps, OVER) && is_held).then_some(0)
+    (comes_to(rt, steps, OVER) && is_held).then_some(0)
 }

@@ -103,17 +103,17 @@ fn put_each<P: ThreadParkerT, R: Wait + Clock>(
 )
     requires { P.owner parker.now ≡ OWNER }
 {
-    comes_to(steps, 1);
+    comes_to(rt, steps, 1);
     put(rt, alloc, parker, rest);
-    comes_to(steps, 2);
+    comes_to(rt, steps, 2);
     put(rt, alloc, parker, rest);
-    comes_to(steps, 3);
+    comes_to(rt, steps, 3);
     let Ok(node) = Node::new(alloc, OWNER) else {
         return;
     };
     thread::sleep(rt, Duration::from_millis(MOMENT));
     let late = parker.unpark_lock(rt, node, ());
-    comes_to(steps, 4);
+    comes_to(rt, steps, 4);
     thread::sleep(rt, Duration::from_millis(MOMENT));
     late.unpark(parker);
     put(rt, alloc, parker, rest);

@@ -62,7 +62,7 @@ fn act<P: ThreadParkerT, R: Wait + Clock>(
         });
         return Some(0);
     }
-    let is_in_time = comes_to(is_held, 1);
+    let is_in_time = comes_to(rt, is_held, 1);
     if index == 1 {
         drop(register(rt, alloc, lot));
     } else {
