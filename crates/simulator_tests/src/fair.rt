@@ -2,11 +2,12 @@
 //! beside the plain machine.
 
 use crate::plain::fair::PlainFair;
-use crate::plain::pairs::write_list;
 use crate::player::{expect_rows, play_long_list, play_short_lists};
+use crate::told::{Told, said, say, told_of, write_list};
 use crate::words::{expect_text, number, word};
+use lot_base::token::UnparkResult;
 use lot_simulator::fair::{FairAnswer, FairCore, FairStep, run_fair};
-use std::alloc::{AllocError, Global};
+use std::alloc::Global;
 use std::fmt::Write;
 use std::process::Abort;
 
@@ -27,70 +28,82 @@ fn fair_step(line: &str) -> Option<FairStep> {
     })
 }
 
-fn write_answer(answer: FairAnswer, text: &mut String) -> Result<(), AllocError> {
+fn told_by(answer: FairAnswer) -> Told {
     match answer {
-        FairAnswer::Registered(number) => write!(text, "number {number}")?,
-        FairAnswer::Full => text.push_str("full")?,
-        FairAnswer::NoMemory => text.push_str("no memory")?,
-        FairAnswer::Retired => text.push_str("retired")?,
-        FairAnswer::Locked => text.push_str("locked")?,
-        FairAnswer::Queued => text.push_str("queued")?,
-        FairAnswer::Unlocked { handed: true } => text.push_str("handed")?,
-        FairAnswer::Unlocked { handed: false } => text.push_str("freed")?,
-        FairAnswer::Waiting => text.push_str("waiting")?,
-        FairAnswer::Notified(told) => {
-            let (unparked, requeued) = (told.unparked_threads, told.requeued_threads);
-            let more = told.have_more_threads;
-            write!(text, "notified {unparked} requeued {requeued} more {more}")?;
-        }
-        FairAnswer::Misfit => text.push_str("misfit")?,
-    }
-    Ok(())
-}
-
-fn write_answers(rt: &impl Abort, answers: &[FairAnswer], text: &mut String) {
-    for answer in answers {
-        write_answer(*answer, text).expect(rt, "memory");
-        text.push_str("\n").expect(rt, "memory");
+        FairAnswer::Registered(number) => told_of("number #\n", number, 0),
+        FairAnswer::Full => said("full\n"),
+        FairAnswer::NoMemory => said("no memory\n"),
+        FairAnswer::Retired => said("retired\n"),
+        FairAnswer::Locked => said("locked\n"),
+        FairAnswer::Queued => said("queued\n"),
+        FairAnswer::Unlocked { handed: true } => said("handed\n"),
+        FairAnswer::Unlocked { handed: false } => said("freed\n"),
+        FairAnswer::Waiting => said("waiting\n"),
+        FairAnswer::Notified(told) => told_of_notify(told),
+        FairAnswer::Misfit => said("misfit\n"),
     }
 }
 
-// Writes what the core answers to the questions, which stand behind the steps.
-fn write_replies(rt: &impl Abort, core: &FairCore, lines: &str, text: &mut String) {
-    for line in lines.lines() {
-        let threads = match word(line, 0) {
-            "waiters" => core.waiters().expect(rt, "memory"),
-            "sleepers" => core.sleepers().expect(rt, "memory"),
-            "status" => {
-                let (is_locked, status) = (core.is_locked(), core.status(number(line, 1)));
-                writeln!(text, "{is_locked} {status:?}").expect(rt, "memory");
-                continue;
-            }
-            _ => continue,
-        };
-        write_list(text, threads.as_slice()).expect(rt, "memory");
-        text.push_str("\n").expect(rt, "memory");
+fn told_of_notify(told: UnparkResult) -> Told {
+    let (unparked, requeued) = (told.unparked_threads, told.requeued_threads);
+    if told.have_more_threads {
+        told_of("notified # requeued # more true\n", unparked, requeued)
+    } else {
+        told_of("notified # requeued # more false\n", unparked, requeued)
     }
 }
 
-/// Plays the lines on both. The first one tells for how many threads. It refuses a `run_fair` that
-/// always answers `NoMemory`.
-pub fn play(rt: &impl Abort, alloc: Global, lines: &str) -> String {
-    let threads = number(lines, 1);
-    let mut core = FairCore::new(alloc, threads).expect(rt, "memory");
-    let mut plain = PlainFair::new(alloc, threads);
+// Writes what the core answers if the line is a question. Questions stand behind the steps.
+fn write_reply(rt: &impl Abort, core: &FairCore, line: &str, text: &mut String) {
+    match word(line, 0) {
+        "waiters" => write_list(text, core.waiters().expect(rt, "memory").as_slice()),
+        "sleepers" => write_list(text, core.sleepers().expect(rt, "memory").as_slice()),
+        "status" => write_status(rt, core, number(line, 1), text),
+        _ => return,
+    }
+    say(text, "\n");
+}
+
+fn write_status(rt: &impl Abort, core: &FairCore, thread: usize, text: &mut String) {
+    let (is_locked, status) = (core.is_locked(), core.status(thread));
+    write!(text, "{is_locked} {status:?}").expect(rt, "memory");
+}
+
+// What the core answers to the lines. It refuses a `run_fair` that always answers `NoMemory`.
+fn answers_to(rt: &impl Abort, alloc: Global, core: &mut FairCore, lines: &str) -> String {
     let (mut steps, mut answers) = (Vec::new(alloc), Vec::new(alloc));
-    let (mut found, mut expected) = (String::new(alloc), String::new(alloc));
     for line in lines.lines().skip(1) {
-        plain.answer(line, &mut expected).expect(rt, "memory");
-        expected.push_str("\n").expect(rt, "memory");
         if let Some(step) = fair_step(line) {
             steps.push(step).expect(rt, "memory");
         }
     }
-    run_fair(&mut core, steps.as_slice(), &mut answers).expect(rt, "memory");
-    write_answers(rt, answers.as_slice(), &mut found);
-    write_replies(rt, &core, lines, &mut found);
+    run_fair(core, steps.as_slice(), &mut answers).expect(rt, "memory");
+    let mut text = String::new(alloc);
+    for answer in &answers {
+        told_by(*answer).write(&mut text);
+    }
+    text
+}
+
+// What the plain machine answers to the lines.
+fn expected_of(alloc: Global, plain: &mut PlainFair, lines: &str) -> String {
+    let mut text = String::new(alloc);
+    for line in lines.lines().skip(1) {
+        plain.answer(line, &mut text);
+        say(&mut text, "\n");
+    }
+    text
+}
+
+/// Plays the lines on both. The first one tells for how many threads.
+pub fn play(rt: &impl Abort, alloc: Global, lines: &str) -> String {
+    let threads = number(lines, 1);
+    let mut core = FairCore::new(alloc, threads).expect(rt, "memory");
+    let mut found = answers_to(rt, alloc, &mut core, lines);
+    for line in lines.lines() {
+        write_reply(rt, &core, line, &mut found);
+    }
+    let expected = expected_of(alloc, &mut PlainFair::new(alloc, threads), lines);
     expect_text(rt, lines, found.as_str(), expected.as_str());
     found
 }
@@ -158,10 +171,10 @@ fn the_mutex_and_the_condition_variable_are_fair(rt: HostRuntime) {
 
 #[test]
 fn lists_of_fair_steps_are_those_of_the_plain_machine(rt: HostRuntime) {
-    for before in BEGINNINGS {
-        play_short_lists(&rt, rt.alloc(), (before, QUESTIONS), STEPS.as_slice(), 2);
+    for before in &BEGINNINGS {
+        play_short_lists(&rt, rt.alloc(), (*before, QUESTIONS), STEPS.as_slice(), 2);
     }
-    for first in ["fair 1\n", "fair 2\n", "fair 5\n"] {
-        play_long_list(&rt, rt.alloc(), (first, QUESTIONS), 4_000);
+    for first in &["fair 1\n", "fair 2\n", "fair 5\n"] {
+        play_long_list(&rt, rt.alloc(), (*first, QUESTIONS), 4_000);
     }
 }

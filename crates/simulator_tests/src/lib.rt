@@ -28,4 +28,6 @@ mod table;
 #[cfg(test)]
 mod terminal;
 #[cfg(test)]
+mod told;
+#[cfg(test)]
 mod words;

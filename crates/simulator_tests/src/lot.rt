@@ -14,14 +14,11 @@ const LINES: &str = "register\nregister\nregister\nenter 0 1 yes 0 timed\nenter 
 fn expect_laws(rt: &impl Abort, alloc: Global, lot: &mut Lot) {
     for line in LINES.lines() {
         let answer = lot.apply(&step(rt, alloc, line));
-        expect(
-            rt,
-            answer != Answer::Misfit && answer != Answer::NoMemory,
-            line,
-        );
+        let is_done = !matches!(answer, Answer::Misfit | Answer::NoMemory);
+        expect(rt, is_done, line);
     }
     let recorded = laws::acquire_and_release(lot, 2, 5);
-    expect(rt, recorded == Ok(()), "a record that is released");
+    expect(rt, recorded.is_ok(), "a record that is released");
     let moved = laws::requeue_all_to_itself(lot, 1).requeued_threads;
     let unparked = laws::unpark_all_by_filter(lot, 1, UnparkToken(42)).unparked_threads;
     expect(

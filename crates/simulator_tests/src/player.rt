@@ -2,10 +2,9 @@
 //! lines, and long lists of arbitrary ones.
 
 use crate::plain::arbitrary::write_line;
-use crate::words::{expect_text, number, word};
+use crate::words::{expect_text, number, push, push_line, word};
 use crate::{fair, interleaved, record, script};
-use std::alloc::{AllocError, Global};
-use std::fmt::Write;
+use std::alloc::Global;
 use std::process::Abort;
 
 /// Plays the lines, the first of which names a machine and its size, and answers what both have
@@ -29,16 +28,14 @@ fn play_each_way(rt: &impl Abort, alloc: Global, lines: &str) -> String {
 }
 
 // A row is a line, and its answer behind an equals sign. The first line may have none.
-fn write_rows(rows: &str, (lines, expected): (&mut String, &mut String)) -> Result<(), AllocError> {
+fn write_rows(rt: &impl Abort, rows: &str, (lines, expected): (&mut String, &mut String)) {
     for row in rows.lines() {
-        if let Some((asked, answer)) = row.split_once('=') {
-            writeln!(lines, "{}", asked.trim())?;
-            writeln!(expected, "{}", answer.trim())?;
-        } else {
-            writeln!(lines, "{}", row.trim())?;
+        let (asked, answer) = row.split_once('=').unwrap_or((row, ""));
+        push_line(rt, lines, asked.trim());
+        if !answer.is_empty() {
+            push_line(rt, expected, answer.trim());
         }
     }
-    Ok(())
 }
 
 /// Plays each text of rows behind those rows with which all begin, and compares the answers with
@@ -46,26 +43,21 @@ fn write_rows(rows: &str, (lines, expected): (&mut String, &mut String)) -> Resu
 pub fn expect_rows(rt: &impl Abort, alloc: Global, before: &str, texts: &[&str]) {
     for rows in texts {
         let (mut lines, mut expected) = (String::new(alloc), String::new(alloc));
-        write_rows(before, (&mut lines, &mut expected)).expect(rt, "memory");
-        write_rows(rows, (&mut lines, &mut expected)).expect(rt, "memory");
+        write_rows(rt, before, (&mut lines, &mut expected));
+        write_rows(rt, rows, (&mut lines, &mut expected));
         let found = play_each_way(rt, alloc, lines.as_str());
         expect_text(rt, rows, found.as_str(), expected.as_str());
     }
 }
 
 // The list of so many of these lines whose kinds are the digits of the code.
-fn write_list(
-    text: &mut String,
-    kinds: &[&str],
-    (length, code): (usize, usize),
-) -> Result<(), AllocError> {
+fn write_list(rt: &impl Abort, text: &mut String, kinds: &[&str], (length, code): (usize, usize)) {
     let mut rest = code;
     for _ in 0..length {
         let kind = rest.checked_rem(kinds.len()).unwrap_or(0);
-        writeln!(text, "{}", kinds.get(kind).copied().unwrap_or(""))?;
+        push_line(rt, text, kinds.get(kind).copied().unwrap_or(""));
         rest = rest.checked_div(kinds.len()).unwrap_or(0);
     }
-    Ok(())
 }
 
 // How many lists of so many lines there are.
@@ -88,9 +80,9 @@ pub fn play_short_lists(
 ) {
     for code in 0..lists_of(kinds.len(), length) {
         let mut text = String::new(alloc);
-        text.push_str(before).expect(rt, "memory");
-        write_list(&mut text, kinds, (length, code)).expect(rt, "memory");
-        text.push_str(questions).expect(rt, "memory");
+        push(rt, &mut text, before);
+        write_list(rt, &mut text, kinds, (length, code));
+        push(rt, &mut text, questions);
         play(rt, alloc, text.as_str());
     }
 }
@@ -105,10 +97,10 @@ pub fn play_long_list(
 ) -> String {
     let mut state = length.wrapping_add(number(first, 2));
     let mut text = String::new(alloc);
-    text.push_str(first).expect(rt, "memory");
+    push(rt, &mut text, first);
     for count in 0..length {
-        write_line(&mut state, first, count, &mut text).expect(rt, "memory");
+        write_line(&mut state, first, count, &mut text);
     }
-    text.push_str(questions).expect(rt, "memory");
+    push(rt, &mut text, questions);
     play_each_way(rt, alloc, text.as_str())
 }

@@ -1,8 +1,8 @@
 //! Records: worked rows, and records beside the plain machine.
 
-use crate::plain::exclusive::Plain;
-use crate::plain::record::answer;
+use crate::plain::record::PlainRecord;
 use crate::player::{expect_rows, play_long_list};
+use crate::told::say;
 use crate::words::{expect, expect_text, number, step, write_answer};
 use lot_machine::step::Answer;
 use lot_simulator::lot::Lot;
@@ -34,22 +34,36 @@ pub fn expect_replay(rt: &impl Abort, alloc: Global, record: &Record, threads: u
     expect(rt, are_as_many, "the registered threads");
 }
 
+// What the record answers to the lines.
+fn answers_to(rt: &impl Abort, alloc: Global, record: &mut Record, lines: &str) -> String {
+    let mut text = String::new(alloc);
+    for line in lines.lines().skip(1) {
+        let told = record.step(step(rt, alloc, line));
+        write_told(rt, alloc, told, &mut text);
+        say(&mut text, "\n");
+    }
+    text
+}
+
+// What the plain machine answers to the lines.
+fn expected_of(alloc: Global, plain: &mut PlainRecord, lines: &str) -> String {
+    let mut text = String::new(alloc);
+    for line in lines.lines().skip(1) {
+        plain.step(line).write(&mut text);
+        say(&mut text, "\n");
+    }
+    text
+}
+
 /// Plays the lines on both. The first one tells for how many threads, and entries.
 pub fn play(rt: &impl Abort, alloc: Global, lines: &str) -> String {
     let (threads, room) = (number(lines, 1), number(lines, 2).min(MAX_JOURNAL));
     let mut record = Record::new(alloc, threads, room).expect(rt, "memory");
-    let (mut plain, mut aside, mut entries) = (Plain::new(alloc, threads), Vec::new(alloc), 0);
-    let (mut found, mut expected) = (String::new(alloc), String::new(alloc));
-    for line in lines.lines().skip(1) {
-        let told = record.step(step(rt, alloc, line));
-        write_told(rt, alloc, told, &mut found);
-        let (machine, journal) = ((&mut plain, &mut aside), (&mut entries, room));
-        answer(machine, journal, line, &mut expected).expect(rt, "memory");
-        found.push_str("\n").expect(rt, "memory");
-        expected.push_str("\n").expect(rt, "memory");
-    }
+    let mut plain = PlainRecord::new(alloc, threads, room);
+    let found = answers_to(rt, alloc, &mut record, lines);
+    let expected = expected_of(alloc, &mut plain, lines);
     expect_text(rt, lines, found.as_str(), expected.as_str());
-    let is_as_long = record.journal().len() == entries;
+    let is_as_long = record.journal().len() == plain.entries;
     expect(rt, is_as_long && record.max_threads() == threads, lines);
     expect_replay(rt, alloc, &record, threads);
     found

@@ -70,16 +70,21 @@ where
     );
 }
 
-// The last step is taken once the threads have ended. Answers how many entries, tokens and wakes
-// the tickets count.
-fn end_of<C: Ledger, W: Ledger, U: Ledger, R: Wait + Abort>(
+// The last step is taken once the threads have ended.
+fn take_last_step<C: Ledger, W: Ledger, U: Ledger, R: Wait + Abort>(
     rt: &R,
     lot: &RecordingLot<C, W, U>,
     tickets: &mut [Ticket<C, W, U>],
-) -> (usize, usize, usize) {
+) {
     let last = tickets.first_mut().expect(rt, "a ticket");
-    let is_told = lot.step(rt, last, Step::Trim) == Ok(Answer::Trimmed);
-    expect(rt, is_told, "the last step");
+    let told = lot.step(rt, last, Step::Trim);
+    expect(rt, matches!(told, Ok(Answer::Trimmed)), "the last step");
+}
+
+// How many entries, tokens and wakes the tickets count.
+fn counts_of<C: Ledger, W: Ledger, U: Ledger>(
+    tickets: &[Ticket<C, W, U>],
+) -> (usize, usize, usize) {
     let (mut entries, mut taken, mut woken) = (0_usize, 0_usize, 0_usize);
     for ticket in tickets {
         entries = entries.wrapping_add(ticket.count());
@@ -128,7 +133,8 @@ where
         unparked,
     ).expect(rt, "memory");
     call_from_each(rt, &lot, tickets.as_mut_slice());
-    let counted = end_of(rt, &lot, tickets.as_mut_slice());
+    take_last_step(rt, &lot, tickets.as_mut_slice());
+    let counted = counts_of(tickets.as_slice());
     let recorded = lot.close(tickets);
     expect_recorded(rt, alloc, &recorded, counted);
 }

@@ -6,10 +6,11 @@ mod refused;
 mod rows;
 
 use crate::plain::exclusive::Plain;
+use crate::told::say;
 use crate::words::{expect_text, number, push_written};
 use lot_script::script::{ScriptedLot, buffered_script, script};
 use std::alloc::Global;
-use std::fmt::Write;
+use std::io::Write;
 use std::process::Abort;
 
 /// What a script answers to this input, with its fault. It may be one that has buffers of its own.
@@ -20,26 +21,28 @@ pub fn answers_of(rt: &impl Abort, alloc: Global, input: &[u8], is_buffered: boo
     } else {
         script(alloc, input, &mut written)
     };
-    let mut text = String::new(alloc);
-    push_written(rt, written.as_slice(), &mut text);
     if let Err(fault) = ended {
-        writeln!(text, "{fault}").expect(rt, "memory");
+        writeln!(written, "{fault}").expect(rt, "memory");
     }
-    text
+    text_of(rt, alloc, written.as_slice())
 }
 
 // What a lot answers to which the lines are given one by one. A line that is refused has its cause
 // for an answer.
 fn answers_by_line(rt: &impl Abort, alloc: Global, input: &str) -> String {
     let mut scripted = ScriptedLot::new(alloc);
-    let mut text = String::new(alloc);
+    let mut written = Vec::new(alloc);
     for line in input.lines() {
-        let mut written = Vec::new(alloc);
         if let Err(cause) = scripted.answer(line.as_bytes(), &mut written) {
-            writeln!(text, "{cause}").expect(rt, "memory");
+            writeln!(written, "{cause}").expect(rt, "memory");
         }
-        push_written(rt, written.as_slice(), &mut text);
     }
+    text_of(rt, alloc, written.as_slice())
+}
+
+fn text_of(rt: &impl Abort, alloc: Global, written: &[u8]) -> String {
+    let mut text = String::new(alloc);
+    push_written(rt, written, &mut text);
     text
 }
 
@@ -47,10 +50,10 @@ fn answers_by_line(rt: &impl Abort, alloc: Global, input: &str) -> String {
 pub fn play(rt: &impl Abort, alloc: Global, lines: &str) -> String {
     let mut plain = Plain::new(alloc, number(lines, 1));
     let mut expected = String::new(alloc);
-    expected.push_str("ok\n").expect(rt, "memory");
+    say(&mut expected, "ok\n");
     for line in lines.lines().skip(1) {
-        plain.answer(line, &mut expected).expect(rt, "memory");
-        expected.push_str("\n").expect(rt, "memory");
+        plain.answer(line, &mut expected);
+        say(&mut expected, "\n");
     }
     let found = answers_of(rt, alloc, lines.as_bytes(), false);
     expect_text(rt, lines, found.as_str(), expected.as_str());

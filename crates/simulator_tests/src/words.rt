@@ -22,6 +22,16 @@ pub fn behind(line: &str) -> &str {
     rest
 }
 
+/// Whether the word is one of these, which have a blank between them.
+pub fn is_one_of(word: &str, words: &str) -> bool {
+    for each in words.split(' ') {
+        if each == word {
+            return true;
+        }
+    }
+    false
+}
+
 /// The step of a lot that the line is.
 pub fn step(rt: &impl Abort, alloc: Global, line: &str) -> Step {
     match Command::of(alloc, line.as_bytes()) {
@@ -33,10 +43,21 @@ pub fn step(rt: &impl Abort, alloc: Global, line: &str) -> Step {
     }
 }
 
+/// Adds these words to the text.
+pub fn push(rt: &impl Abort, text: &mut String, words: &str) {
+    text.push_str(words).expect(rt, "memory");
+}
+
+/// Adds a line of these words to the text.
+pub fn push_line(rt: &impl Abort, text: &mut String, words: &str) {
+    push(rt, text, words);
+    push(rt, text, "\n");
+}
+
 /// Adds what was written to the text.
 pub fn push_written(rt: &impl Abort, written: &[u8], text: &mut String) {
     let given = str::from_utf8(written).unwrap_or("no text");
-    text.push_str(given).expect(rt, "memory");
+    push(rt, text, given);
 }
 
 /// Writes what a script answers where a step of the lot answers this.

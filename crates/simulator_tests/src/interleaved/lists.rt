@@ -74,7 +74,7 @@ fn short_interleaved_lists_amount_to_their_sequential_steps(rt: HostRuntime) {
 
 #[test]
 fn races_amount_to_their_sequential_steps(rt: HostRuntime) {
-    for before in [
+    for before in &[
         "begin 0 one 0 98\n",
         "begin 0 all 0 98\ncommit 0\n",
         "begin 1 requeue 0 13 all 99\n",
@@ -83,8 +83,8 @@ fn races_amount_to_their_sequential_steps(rt: HostRuntime) {
         "deadline 0\nread 0\nbegin 0 requeue 0 1 all 99\nend 0\n",
         "begin 0 one 0 98\ndeadline 0\nread 0\ncommit 0\nend 0\n",
     ] {
-        play_lists(&rt, rt.alloc(), before, STEPS.as_slice(), 1);
-        play_lists(&rt, rt.alloc(), before, RACE.as_slice(), 3);
+        play_lists(&rt, rt.alloc(), *before, STEPS.as_slice(), 1);
+        play_lists(&rt, rt.alloc(), *before, RACE.as_slice(), 3);
     }
 }
 
@@ -108,7 +108,7 @@ const ANSWERS: [&str; 12] = [
 fn long_interleaved_lists_amount_to_their_sequential_steps(rt: HostRuntime) {
     let long = ("interleaved 12 4\n", QUESTIONS);
     let found = play_long_list(&rt, rt.alloc(), long, 12_000);
-    for answer in ANSWERS {
-        expect(&rt, found.as_str().contains(answer), answer);
+    for answer in &ANSWERS {
+        expect(&rt, found.as_str().contains(*answer), *answer);
     }
 }

@@ -1,8 +1,7 @@
 //! Arbitrary steps as lines, the same in each run.
 
+use crate::told::{say, say_number};
 use crate::words::{behind, number, word};
-use std::alloc::AllocError;
-use std::fmt::Write;
 
 // A number below the bound, by a linear congruential generator with this state.
 fn below(state: &mut usize, bound: usize) -> usize {
@@ -54,35 +53,29 @@ fn form_at(forms: &str, place: usize) -> &str {
 
 // Writes the word of a form, or what it stands for. One thread more than the machine has comes up,
 // so that some steps are of nobody.
-fn write_word(
-    state: &mut usize,
-    first: &str,
-    wanted: &str,
-    text: &mut String,
-) -> Result<(), AllocError> {
-    let bound = match wanted {
-        "T" => number(first, 1).wrapping_add(1),
-        "C" => number(first, 2),
-        _ => 1_000,
-    };
+fn write_word(state: &mut usize, first: &str, wanted: &str, text: &mut String) {
     match wanted {
-        "T" | "C" | "U" => write!(text, "{}", below(state, bound))?,
-        "K" => text.push_str(word(KEYS, below(state, 5)))?,
-        "DS" => text.push_str(word(DECISIONS, below(state, 27)))?,
-        "R" => text.push_str(word(REQUEUES, below(state, 5)))?,
-        _ => text.push_str(wanted)?,
+        "T" => say_number(text, " ", below(state, number(first, 1).wrapping_add(1))),
+        "C" => say_number(text, " ", below(state, number(first, 2))),
+        "U" => say_number(text, " ", below(state, 1_000)),
+        "K" => write_one_of(state, KEYS, 5, text),
+        "DS" => write_one_of(state, DECISIONS, 27, text),
+        "R" => write_one_of(state, REQUEUES, 5, text),
+        _ => {
+            say(text, " ");
+            say(text, wanted);
+        }
     }
-    Ok(())
 }
 
-/// The line of this number of a list for the machine that the first line names. Of each 2,000
-/// lines, threads leave in the last 500: none enters then, and none registers.
-pub fn write_line(
-    state: &mut usize,
-    first: &str,
-    count: usize,
-    text: &mut String,
-) -> Result<(), AllocError> {
+fn write_one_of(state: &mut usize, words: &str, count: usize, text: &mut String) {
+    say(text, " ");
+    say(text, word(words, below(state, count)));
+}
+
+/// Writes the line of this number of a list for the machine that the first line names. Of each
+/// 2,000 lines, threads leave in the last 500: none enters then, and none registers.
+pub fn write_line(state: &mut usize, first: &str, count: usize, text: &mut String) {
     let (forms, places) = match word(first, 0) {
         "fair" => (FAIR_STEPS, 40),
         "interleaved" => (FINE_STEPS, 69),
@@ -92,14 +85,9 @@ pub fn write_line(
     let chosen = form_at(forms, below(state, places));
     let stays = count % 2_000 < 1_500 || !matches!(word(chosen, 0), "register" | "enter");
     let form = if stays { chosen } else { "retire T" };
-    let mut is_first = true;
-    for wanted in form.split(' ') {
-        if !is_first {
-            text.push_str(" ")?;
-        }
-        write_word(state, first, wanted, text)?;
-        is_first = false;
+    say(text, word(form, 0));
+    for wanted in form.split(' ').skip(1) {
+        write_word(state, first, wanted, text);
     }
-    text.push_str("\n")?;
-    Ok(())
+    say(text, "\n");
 }

@@ -4,12 +4,12 @@
 //!
 //! It knows no bucket, no node and no place, and no lot.
 
-use super::pairs::{beside, put, take, write_list};
+use super::pairs::{add, beside, put, take};
+use crate::told::{Told, said, told_of, write_list};
 use crate::words::{number, word};
 use lot_base::token::UnparkToken;
 use lot_machine::status::Status;
-use std::alloc::{AllocError, Global};
-use std::fmt::Write;
+use std::alloc::Global;
 use std::mem;
 
 /// The plain machine.
@@ -30,15 +30,40 @@ pub struct Plain {
     pub(super) size: usize,
 }
 
-// What becomes of the waiter at this place of a list. The decisions of a filter go with the waiters
-// in order, up to the first stop.
-fn after_unpark(line: &str, index: usize) -> &'static str {
-    let decisions = word(line, 2).split('X').next().unwrap_or("");
-    match (word(line, 0), word(line, 3), index) {
-        ("one", _, 0) | ("all", _, _) | ("requeue", "one" | "one-rest", 0) => "taken",
-        ("requeue", "all" | "one-rest", _) | ("requeue", "requeue-one", 0) => "moved",
-        ("filter", _, _) if decisions.as_bytes().get(index) == Some(&b'U') => "taken",
-        _ => "left",
+// What becomes of a waiter.
+enum Fate {
+    Taken,
+    Moved,
+    Left,
+}
+
+// What becomes of the waiter at this place of a list.
+fn after_unpark(line: &str, index: usize) -> Fate {
+    match word(line, 0) {
+        "all" => Fate::Taken,
+        "one" if index == 0 => Fate::Taken,
+        "filter" => after_filter(word(line, 2), index),
+        "requeue" => after_requeue(word(line, 3), index),
+        _ => Fate::Left,
+    }
+}
+
+// The decisions of a filter go with the waiters in order, up to the first stop.
+fn after_filter(decisions: &str, index: usize) -> Fate {
+    let seen = decisions.split('X').next().unwrap_or("");
+    if seen.as_bytes().get(index) == Some(&b'U') {
+        Fate::Taken
+    } else {
+        Fate::Left
+    }
+}
+
+fn after_requeue(op: &str, index: usize) -> Fate {
+    match op {
+        "one" | "one-rest" if index == 0 => Fate::Taken,
+        "requeue-one" if index == 0 => Fate::Moved,
+        "all" | "one-rest" => Fate::Moved,
+        _ => Fate::Left,
     }
 }
 
@@ -70,20 +95,15 @@ impl Plain {
         beside(self.statuses.as_slice(), number).unwrap_or(Status::Free)
     }
 
-    /// Gives the number another status than `Free`.
-    pub fn set_status(&mut self, number: usize, status: Status) -> Result<(), AllocError> {
-        put(&mut self.statuses, number, status)
-    }
-
     /// The threads that wait on the key, in order.
-    pub fn list(&self, key: usize) -> Result<Vec<usize>, AllocError> {
+    pub fn list(&self, key: usize) -> Vec<usize> {
         let mut list = Vec::new(self.alloc);
         for (thread, of) in &self.waiting {
             if *of == key {
-                list.push(*thread)?;
+                add(&mut list, *thread);
             }
         }
-        Ok(list)
+        list
     }
 
     /// The least of 16, 32, 64 and so on that is three for each registered thread.
@@ -98,61 +118,76 @@ impl Plain {
         size
     }
 
-    /// Does what the line says by its rule, and writes the answer.
-    pub fn answer(&mut self, line: &str, text: &mut String) -> Result<(), AllocError> {
-        let (of, key) = (number(line, 1), number(line, 2));
+    /// Does what the line says by its rule, or what it asks, and writes the answer.
+    pub fn answer(&mut self, line: &str, text: &mut String) {
+        if word(line, 0) == "list" {
+            write_list(text, self.list(number(line, 1)).as_slice());
+        } else {
+            self.step(line).write(text);
+        }
+    }
+
+    /// The answer to a step, or to a question that is not for a list.
+    pub fn step(&mut self, line: &str) -> Told {
+        let of = number(line, 1);
         let status = self.status(of);
-        let is_running = status == Status::Running;
         match word(line, 0) {
-            "register" => self.register(text),
-            "one" | "all" | "filter" | "requeue" => self.unpark(line, text),
-            "list" | "records" | "size" => self.reply(line, text),
-            "trim" => {
-                self.size = self.size.min(self.least_size());
-                text.push_str("trimmed")
-            }
-            "enter" if is_running => self.enter(line, text),
+            "register" => self.register(),
+            "one" | "all" | "filter" | "requeue" => self.hand_out(line),
+            "trim" => self.trim(),
+            "size" => told_of("buckets # threads #", self.size, self.statuses.len()),
+            "records" => told_of("records #", self.count_records(of, number(line, 2)), 0),
             "deadline" if status == (Status::Waiting { timed: true }) => {
-                self.set_status(of, Status::Late)?;
-                text.push_str("late")
+                self.set_status(of, Status::Late);
+                said("late")
             }
-            "resolve" if status == Status::Late => self.time_out(of, text),
-            "resolve" | "return" => self.give_back(of, text),
-            "acquire" if is_running => {
-                self.records.push((of, key))?;
-                text.push_str("recorded")
-            }
-            "release" if is_running => {
-                self.forget((of, key), "release")?;
-                text.push_str("released")
-            }
-            "retire" if is_running => {
-                self.forget((of, key), "retire")?;
-                take(&mut self.statuses, of);
-                text.push_str("retired")
-            }
-            _ => text.push_str("misfit"),
+            "resolve" if status == Status::Late => self.time_out(of),
+            "resolve" | "return" => self.give_back(of),
+            step if status == Status::Running => self.run(step, line),
+            _ => said("misfit"),
         }
     }
 
-    fn give_back(&mut self, thread: usize, text: &mut String) -> Result<(), AllocError> {
+    fn give_back(&mut self, thread: usize) -> Told {
         let Status::Taken(token) = self.status(thread) else {
-            return text.push_str("misfit");
+            return said("misfit");
         };
-        self.set_status(thread, Status::Running)?;
-        write!(text, "unparked {}", token.0)
+        self.set_status(thread, Status::Running);
+        told_of("unparked #", token.0, 0)
     }
 
-    // The answer to a question.
-    fn reply(&self, line: &str, text: &mut String) -> Result<(), AllocError> {
-        let (of, key) = (number(line, 1), number(line, 2));
-        let (size, threads) = (self.size, self.statuses.len());
-        match word(line, 0) {
-            "list" => write_list(text, self.list(of)?.as_slice())?,
-            "records" => write!(text, "records {}", self.count_records(of, key))?,
-            _ => write!(text, "buckets {size} threads {threads}")?,
+    // The step of a thread that runs.
+    fn run(&mut self, step: &str, line: &str) -> Told {
+        let (thread, key) = (number(line, 1), number(line, 2));
+        match step {
+            "enter" => self.enter(line),
+            "acquire" => {
+                add(&mut self.records, (thread, key));
+                said("recorded")
+            }
+            "release" => {
+                self.forget((thread, key));
+                said("released")
+            }
+            "retire" => {
+                for _ in 0..self.records.len() {
+                    take(&mut self.records, thread);
+                }
+                take(&mut self.statuses, thread);
+                said("retired")
+            }
+            _ => said("misfit"),
         }
-        Ok(())
+    }
+
+    /// Gives the number another status than `Free`.
+    pub fn set_status(&mut self, number: usize, status: Status) {
+        put(&mut self.statuses, number, status);
+    }
+
+    fn trim(&mut self) -> Told {
+        self.size = self.size.min(self.least_size());
+        said("trimmed")
     }
 
     fn count_records(&self, thread: usize, key: usize) -> usize {
@@ -165,93 +200,106 @@ impl Plain {
         times
     }
 
-    fn register(&mut self, text: &mut String) -> Result<(), AllocError> {
+    fn register(&mut self) -> Told {
         for number in 0..self.max_threads {
             if self.status(number) == Status::Free {
-                self.set_status(number, Status::Running)?;
+                self.set_status(number, Status::Running);
                 self.size = self.size.max(self.least_size());
-                return write!(text, "number {number}");
+                return told_of("number #", number, 0);
             }
         }
-        text.push_str("full")
+        said("full")
     }
 
-    fn enter(&mut self, line: &str, text: &mut String) -> Result<(), AllocError> {
-        let (thread, key) = (number(line, 1), number(line, 2));
+    fn enter(&mut self, line: &str) -> Told {
         if word(line, 3) != "yes" {
-            return text.push_str("invalid");
+            return said("invalid");
         }
-        self.waiting.push((thread, key))?;
+        let thread = number(line, 1);
+        add(&mut self.waiting, (thread, number(line, 2)));
         let timed = word(line, 5) == "timed";
-        self.set_status(thread, Status::Waiting { timed })?;
-        text.push_str("entered")
+        self.set_status(thread, Status::Waiting { timed });
+        said("entered")
     }
 
     /// A late thread leaves its list.
-    pub fn time_out(&mut self, thread: usize, text: &mut String) -> Result<(), AllocError> {
-        self.set_status(thread, Status::Running)?;
-        if let Some(key) = take(&mut self.waiting, thread) {
-            write!(text, "timed out {key} {}", self.list(key)?.is_empty())?;
+    pub fn time_out(&mut self, thread: usize) -> Told {
+        self.set_status(thread, Status::Running);
+        let key = take(&mut self.waiting, thread).unwrap_or(0);
+        if self.list(key).is_empty() {
+            told_of("timed out # true", key, 0)
+        } else {
+            told_of("timed out # false", key, 0)
         }
-        Ok(())
     }
 
-    // A thread that releases a key forgets its first record of it, and one that retires all of its
-    // records.
-    fn forget(&mut self, of: (usize, usize), step: &str) -> Result<(), AllocError> {
-        let mut others = Vec::new(self.alloc);
+    // A thread that releases a key forgets its first record of it.
+    fn forget(&mut self, of: (usize, usize)) {
+        let before = mem::replace(&mut self.records, Vec::new(self.alloc));
         let mut is_released = false;
-        for record in &self.records {
-            if record.0 == of.0 && step == "retire" {
-                continue;
-            }
+        for record in &before {
             if *record == of && !is_released {
                 is_released = true;
             } else {
-                others.push(*record)?;
+                add(&mut self.records, *record);
             }
         }
-        self.records = others;
-        Ok(())
     }
 
-    // An unpark. Those who are taken get the token, and those who are moved come behind the others.
-    fn unpark(&mut self, line: &str, text: &mut String) -> Result<(), AllocError> {
-        let before = mem::replace(&mut self.waiting, Vec::new(self.alloc));
-        let mut moved = Vec::new(self.alloc);
-        let (taken, left) = self.part(line, before.as_slice(), &mut moved)?;
-        self.waiting.extend_from_slice(moved.as_slice())?;
-        if word(line, 0) == "all" {
-            return write!(text, "count {taken}");
+    // An unpark hands its token to those whom it takes.
+    fn hand_out(&mut self, line: &str) -> Told {
+        let mut taken = Vec::new(self.alloc);
+        let answer = self.unpark(line, &mut taken);
+        let (_, _, token) = keys_and_token(line);
+        for thread in &taken {
+            self.set_status(*thread, Status::Taken(UnparkToken(token)));
         }
-        let (requeued, more) = (moved.len(), left != 0 && word(line, 3) != "abort");
-        write!(text, "unparked {taken} requeued {requeued} more {more}")
+        answer
     }
 
-    // Counts whom an unpark takes and whom it leaves of those who waited before it.
+    /// Takes the threads off their lists that an unpark takes, but leaves them their statuses. Those
+    /// who are moved come behind the others.
+    pub fn unpark(&mut self, line: &str, taken: &mut Vec<usize>) -> Told {
+        let mut moved = Vec::new(self.alloc);
+        let left = self.part(line, taken, &mut moved);
+        for waiter in &moved {
+            add(&mut self.waiting, *waiter);
+        }
+        let (unparked, requeued) = (taken.len(), moved.len());
+        if word(line, 0) == "all" {
+            told_of("count #", unparked, 0)
+        } else if left == 0 || word(line, 3) == "abort" {
+            told_of("unparked # requeued # more false", unparked, requeued)
+        } else {
+            told_of("unparked # requeued # more true", unparked, requeued)
+        }
+    }
+
+    // Parts those who wait, and counts who of the list is left there.
     fn part(
         &mut self,
         line: &str,
-        before: &[(usize, usize)],
+        taken: &mut Vec<usize>,
         moved: &mut Vec<(usize, usize)>,
-    ) -> Result<(usize, usize), AllocError> {
-        let (from, to, token) = keys_and_token(line);
-        let (mut taken, mut left) = (0_usize, 0_usize);
-        for (thread, key) in before {
-            let index = taken.wrapping_add(left).wrapping_add(moved.len());
+    ) -> usize {
+        let before = mem::replace(&mut self.waiting, Vec::new(self.alloc));
+        let (from, to, _) = keys_and_token(line);
+        let mut left: usize = 0;
+        for (thread, key) in &before {
+            if *key != from {
+                add(&mut self.waiting, (*thread, *key));
+                continue;
+            }
+            let index = left.wrapping_add(taken.len()).wrapping_add(moved.len());
             match after_unpark(line, index) {
-                _ if *key != from => self.waiting.push((*thread, *key))?,
-                "taken" => {
-                    taken = taken.wrapping_add(1);
-                    self.set_status(*thread, Status::Taken(UnparkToken(token)))?;
-                }
-                "moved" => moved.push((*thread, to))?,
-                _ => {
+                Fate::Taken => add(taken, *thread),
+                Fate::Moved => add(moved, (*thread, to)),
+                Fate::Left => {
                     left = left.wrapping_add(1);
-                    self.waiting.push((*thread, *key))?;
+                    add(&mut self.waiting, (*thread, from));
                 }
             }
         }
-        Ok((taken, left))
+        left
     }
 }

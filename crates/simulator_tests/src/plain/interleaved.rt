@@ -4,12 +4,12 @@
 //! It knows no bucket and no node, and of a table only its size.
 
 use super::exclusive::{Plain, keys_and_token};
-use super::pairs::{beside, put, take};
-use crate::words::{behind, number, word};
+use super::pairs::{add, beside, put, take};
+use crate::told::{Told, said, say, told_of};
+use crate::words::{behind, is_one_of, number, word};
 use lot_base::token::UnparkToken;
 use lot_machine::status::Status;
-use std::alloc::{AllocError, Global};
-use std::fmt::Write;
+use std::alloc::Global;
 
 /// The plain interleaved machine, and the sequential steps of all that was done, with their
 /// answers. A number has no pair in a list, or one, but that a caller may have several.
@@ -63,58 +63,73 @@ impl FinePlain {
         }
     }
 
-    /// Does the step by its rule, writes the answer, and notes the sequential step.
-    pub fn answer(&mut self, line: &str, text: &mut String) -> Result<(), AllocError> {
-        let before = text.len();
-        self.do_step(line, text)?;
-        let given = text.as_str().get(before..).unwrap_or("");
-        if given != "misfit" && given != "blocked" && given != "retry" {
-            self.note_sequential(line, given)?;
-        }
-        Ok(())
-    }
-
-    fn do_step(&mut self, line: &str, text: &mut String) -> Result<(), AllocError> {
-        let (step, of) = (word(line, 0), number(line, 1));
-        let slot = beside(self.slots.as_slice(), of);
-        match step {
-            "begin" => self.begin(of, behind(behind(line)), text),
-            "commit" => self.commit(of, text),
-            "end" | "wake" => text.push_str(self.go_on(step, of)),
-            "enter" => self.enter(line, text),
-            "deadline" if slot.is_some() => text.push_str("misfit"),
-            "read" => self.read(of, text),
+    /// Does the step by its rule, writes the answer, and notes the sequential step; or answers a
+    /// question.
+    pub fn answer(&mut self, line: &str, text: &mut String) {
+        match word(line, 0) {
+            "list" => self.view.answer(line, text),
             "steps" => self.write_steps(text),
-            "look" => self.look(of, text),
-            "return" if slot.is_some() && self.view.status(of) != Status::Late => {
-                self.take_slot(of, text)
+            _ => {
+                let answer = self.step(line);
+                answer.write(text);
+                self.note_sequential(line, answer);
             }
-            "return" => text.push_str("misfit"),
-            "register" | "trim" if self.is_blocked(step) => text.push_str("blocked"),
-            _ => self.view.answer(line, text),
         }
     }
 
-    fn enter(&mut self, line: &str, text: &mut String) -> Result<(), AllocError> {
+    fn step(&mut self, line: &str) -> Told {
+        let of = number(line, 1);
+        match word(line, 0) {
+            "begin" => self.begin(of, behind(behind(line))),
+            "commit" => self.commit(of),
+            "end" => self.end(of),
+            "wake" => said(if take(&mut self.wakes, of).is_some() {
+                "woken"
+            } else {
+                "misfit"
+            }),
+            "enter" => self.enter(line),
+            "read" => self.read(of),
+            "look" => self.look(of),
+            "register" | "trim" if self.is_blocked(line) => said("blocked"),
+            "deadline" | "return" => self.end_park(line),
+            _ => self.view.step(line),
+        }
+    }
+
+    // A thread's deadline passes, or it returns. In the threads' view nobody is taken, so what
+    // returns there does not fit.
+    fn end_park(&mut self, line: &str) -> Told {
+        let thread = number(line, 1);
+        if beside(self.slots.as_slice(), thread).is_none() {
+            return self.view.step(line);
+        }
+        if word(line, 0) == "deadline" || self.view.status(thread) == Status::Late {
+            return said("misfit");
+        }
+        self.take_slot(thread)
+    }
+
+    fn enter(&mut self, line: &str) -> Told {
         let (of, key) = (number(line, 1), number(line, 2));
         if self.view.status(of) == Status::Running && self.is_held(key) {
-            return text.push_str("blocked");
+            return said("blocked");
         }
-        self.view.answer(line, text)?;
-        if text.as_str().ends_with("entered") {
-            put(&mut self.key_words, of, key)?;
+        let answer = self.view.step(line);
+        if answer.form == "entered" {
+            put(&mut self.key_words, of, key);
         }
-        Ok(())
+        answer
     }
 
     // A late thread reads its key word.
-    fn read(&mut self, thread: usize, text: &mut String) -> Result<(), AllocError> {
+    fn read(&mut self, thread: usize) -> Told {
         if self.view.status(thread) != Status::Late {
-            return text.push_str("misfit");
+            return said("misfit");
         }
         let key = beside(self.key_words.as_slice(), thread).unwrap_or(0);
-        put(&mut self.keys_read, thread, key)?;
-        write!(text, "read {key}")
+        put(&mut self.keys_read, thread, key);
+        told_of("read #", key, 0)
     }
 
     fn is_held(&self, key: usize) -> bool {
@@ -139,107 +154,79 @@ impl FinePlain {
         is_changed && !self.held.is_empty()
     }
 
-    fn begin(&mut self, caller: usize, op: &str, text: &mut String) -> Result<(), AllocError> {
-        let (from, to, token) = keys_and_token(op);
+    fn begin(&mut self, caller: usize, op: &str) -> Told {
+        let (from, to, _) = keys_and_token(op);
         let has_section = beside(self.held.as_slice(), caller).is_some();
         let is_to_wake = beside(self.wakes.as_slice(), caller).is_some();
         if caller >= self.callers || has_section || is_to_wake {
-            return text.push_str("misfit");
+            return said("misfit");
         }
         if self.is_held(from) || self.is_held(to) {
-            return text.push_str("blocked");
+            return said("blocked");
         }
-        let size = self.view.size;
-        self.held.push((caller, place(from, size)))?;
-        self.held.push((caller, place(to, size)))?;
-        self.unpark(caller, op, (from, token), text)?;
-        let moved = self.view.list(to)?;
-        for thread in &moved {
-            put(&mut self.key_words, *thread, to)?;
-        }
-        Ok(())
+        add(&mut self.held, (caller, place(from, self.view.size)));
+        add(&mut self.held, (caller, place(to, self.view.size)));
+        self.unpark(caller, op)
     }
 
     // The section has those whom the machine's step takes, who go on to wait in the threads' view.
-    fn unpark(
-        &mut self,
-        caller: usize,
-        op: &str,
-        (from, token): (usize, usize),
-        text: &mut String,
-    ) -> Result<(), AllocError> {
-        let waiters = self.view.list(from)?;
-        let before = Vec::from_slice(self.alloc, self.view.statuses.as_slice())?;
-        self.view.answer(op, text)?;
-        self.take_back((caller, token), waiters.as_slice(), before.as_slice())
-    }
-
-    fn take_back(
-        &mut self,
-        (caller, token): (usize, usize),
-        waiters: &[usize],
-        before: &[(usize, Status)],
-    ) -> Result<(), AllocError> {
-        for thread in waiters {
-            if let (Status::Taken(_), Some(status)) = (
-                self.view.status(*thread),
-                beside(before, *thread),
-            ) {
-                self.view.set_status(*thread, status)?;
-                self.taken.push((caller, *thread))?;
-                self.tokens.push((*thread, token))?;
-            }
+    fn unpark(&mut self, caller: usize, op: &str) -> Told {
+        let mut taken = Vec::new(self.alloc);
+        let answer = self.view.unpark(op, &mut taken);
+        let (_, to, token) = keys_and_token(op);
+        for thread in &taken {
+            add(&mut self.taken, (caller, *thread));
+            add(&mut self.tokens, (*thread, token));
         }
-        Ok(())
+        for thread in &self.view.list(to) {
+            put(&mut self.key_words, *thread, to);
+        }
+        answer
     }
 
     // The first thread that the section has gets its node, with its token.
-    fn commit(&mut self, caller: usize, text: &mut String) -> Result<(), AllocError> {
+    fn commit(&mut self, caller: usize) -> Told {
         let Some(first) = take(&mut self.taken, caller) else {
-            return text.push_str("misfit");
+            return said("misfit");
         };
         let token = take(&mut self.tokens, first).unwrap_or(0);
-        self.slots.push((first, token))?;
-        self.wakes.push((caller, first))?;
-        write!(text, "committed {first}")
+        add(&mut self.slots, (first, token));
+        add(&mut self.wakes, (caller, first));
+        told_of("committed #", first, 0)
     }
 
-    // Ends a section that has nobody left, or wakes a thread.
-    fn go_on(&mut self, step: &str, caller: usize) -> &'static str {
-        if step == "wake" {
-            let woken = take(&mut self.wakes, caller);
-            return if woken.is_some() { "woken" } else { "misfit" };
-        }
+    // Ends a section that has nobody left.
+    fn end(&mut self, caller: usize) -> Told {
         if beside(self.taken.as_slice(), caller).is_some() {
-            return "misfit";
+            return said("misfit");
         }
         let first = take(&mut self.held, caller);
         take(&mut self.held, caller);
-        if first.is_some() { "ended" } else { "misfit" }
+        said(if first.is_some() { "ended" } else { "misfit" })
     }
 
     // The thread takes its node, with the token, and runs.
-    fn take_slot(&mut self, thread: usize, text: &mut String) -> Result<(), AllocError> {
+    fn take_slot(&mut self, thread: usize) -> Told {
         let token = take(&mut self.slots, thread).unwrap_or(0);
-        self.view.set_status(thread, Status::Running)?;
-        write!(text, "unparked {token}")
+        self.view.set_status(thread, Status::Running);
+        told_of("unparked #", token, 0)
     }
 
-    fn look(&mut self, thread: usize, text: &mut String) -> Result<(), AllocError> {
+    fn look(&mut self, thread: usize) -> Told {
         let Some(key) = beside(self.keys_read.as_slice(), thread) else {
-            return text.push_str("misfit");
+            return said("misfit");
         };
         if self.is_held(key) {
-            return text.push_str("blocked");
+            return said("blocked");
         }
         take(&mut self.keys_read, thread);
         if beside(self.key_words.as_slice(), thread) != Some(key) {
-            return text.push_str("retry");
+            return said("retry");
         }
         if beside(self.slots.as_slice(), thread).is_some() {
-            return self.take_slot(thread, text);
+            return self.take_slot(thread);
         }
-        self.view.time_out(thread, text)
+        self.view.time_out(thread)
     }
 
     // The token of a thread that an open section has, or whose slot is full. Such a thread is taken
@@ -252,37 +239,55 @@ impl FinePlain {
     }
 
     /// Writes the sequential steps of all that was done.
-    pub fn write_steps(&self, text: &mut String) -> Result<(), AllocError> {
-        text.push_str("told")?;
+    pub fn write_steps(&self, text: &mut String) {
+        say(text, "told");
         for step in self.steps.lines() {
-            write!(text, " {step};")?;
+            say(text, " ");
+            say(text, step);
+            say(text, ";");
         }
-        Ok(())
     }
 
     /// The view becomes the sequential one.
-    pub fn go_over(&mut self) -> Result<(), AllocError> {
+    pub fn go_over(&mut self) {
         for thread in 0..self.view.max_threads {
             if let Some(token) = self.token(thread) {
-                let status = Status::Taken(UnparkToken(token));
-                self.view.set_status(thread, status)?;
+                self.view
+                    .set_status(thread, Status::Taken(UnparkToken(token)));
             }
         }
-        Ok(())
     }
 
-    // Notes the sequential step of a step that fits and was answered so, if there is one. A
-    // deadline of a thread that is taken is none.
-    fn note_sequential(&mut self, line: &str, given: &str) -> Result<(), AllocError> {
-        let of = number(line, 1);
-        match word(line, 0) {
-            "begin" => writeln!(self.steps, "{}", behind(behind(line)))?,
-            "look" if given.starts_with("timed") => writeln!(self.steps, "resolve {of}")?,
-            "look" => writeln!(self.steps, "return {of}")?,
-            "commit" | "end" | "wake" | "read" | "list" | "size" | "steps" => return Ok(()),
-            "deadline" if self.token(of).is_some() => return Ok(()),
-            _ => writeln!(self.steps, "{line}")?,
+    // Notes the sequential step of a step that was answered so, if there is one.
+    fn note_sequential(&mut self, line: &str, answer: Told) {
+        if !self.is_sequential(line, answer.form) {
+            return;
         }
-        writeln!(self.answers, "{given}")
+        let (step, operands) = sequential(line, answer.form);
+        say(&mut self.steps, step);
+        say(&mut self.steps, operands);
+        say(&mut self.steps, "\n");
+        answer.write(&mut self.answers);
+        say(&mut self.answers, "\n");
+    }
+
+    // Whether a step that was answered so has a sequential one. What did not fit or has to be done
+    // again has none, nor has a deadline of a thread that is taken.
+    fn is_sequential(&self, line: &str, form: &str) -> bool {
+        let step = word(line, 0);
+        if step == "deadline" && self.token(number(line, 1)).is_some() {
+            return false;
+        }
+        !is_one_of(form, "misfit blocked retry") && !is_one_of(step, "commit end wake read size")
+    }
+}
+
+// The word of the sequential step, and what stands behind it.
+fn sequential<'l>(line: &'l str, form: &str) -> (&'static str, &'l str) {
+    match word(line, 0) {
+        "begin" => ("", behind(behind(line))),
+        "look" if form.starts_with("timed") => ("resolve ", behind(line)),
+        "look" => ("return ", behind(line)),
+        _ => ("", line),
     }
 }

@@ -1,8 +1,14 @@
-//! Lists of numbers, each with what stands beside it, of which the plain machines are made, and
-//! lists of numbers.
+//! Lists of numbers, each with what stands beside it, of which the plain machines are made.
+//!
+//! A list for which there is no memory is emptied. What the machine answers is another text then
+//! than what it is compared with, so no call has to say that memory ran out.
 
-use std::alloc::AllocError;
-use std::fmt::Write;
+/// Adds to the end of a list.
+pub fn add<T: Copy>(list: &mut Vec<T>, last: T) {
+    if list.push(last).is_err() {
+        list.clear();
+    }
+}
 
 /// What stands beside the number, where it comes first.
 pub fn beside<T: Copy>(pairs: &[(usize, T)], number: usize) -> Option<T> {
@@ -28,20 +34,7 @@ pub fn take<T: Copy>(pairs: &mut Vec<(usize, T)>, number: usize) -> Option<T> {
 }
 
 /// Puts this beside the number, in place of what stood beside it where it came first.
-pub fn put<T: Copy>(
-    pairs: &mut Vec<(usize, T)>,
-    number: usize,
-    second: T,
-) -> Result<(), AllocError> {
+pub fn put<T: Copy>(pairs: &mut Vec<(usize, T)>, number: usize, second: T) {
     take(pairs, number);
-    Ok(pairs.push((number, second))?)
-}
-
-/// Writes the answer that tells a list.
-pub fn write_list(text: &mut String, threads: &[usize]) -> Result<(), AllocError> {
-    text.push_str("waiters")?;
-    for thread in threads {
-        write!(text, " {thread}")?;
-    }
-    Ok(())
+    add(pairs, (number, second));
 }

@@ -57,8 +57,8 @@ const QUESTIONS: &str = "list 0\nlist 13\nrecords 1 13\nresolve 0\nresolve 1\n";
 
 #[test]
 fn short_lists_are_those_of_the_plain_machine(rt: HostRuntime) {
-    for before in BEGINNINGS {
-        play_short_lists(&rt, rt.alloc(), (before, QUESTIONS), STEPS.as_slice(), 2);
+    for before in &BEGINNINGS {
+        play_short_lists(&rt, rt.alloc(), (*before, QUESTIONS), STEPS.as_slice(), 2);
     }
 }
 
@@ -76,8 +76,8 @@ const FIRST_LINES: [&str; 7] = [
 #[test]
 fn long_lists_are_those_of_the_plain_machine(rt: HostRuntime) {
     let mut found = String::new(rt.alloc());
-    for first in FIRST_LINES {
-        found = play_long_list(&rt, rt.alloc(), (first, QUESTIONS), 2_000);
+    for first in &FIRST_LINES {
+        found = play_long_list(&rt, rt.alloc(), (*first, QUESTIONS), 2_000);
     }
     let (_, behind) = found.as_str().split_once("buckets 128").unwrap_or(("", ""));
     expect(&rt, behind.contains("buckets 64"), "the sizes");

@@ -47,9 +47,9 @@ fn a_line_without_a_form_ends_a_script(rt: HostRuntime) {
         ("lot 1\n", NO_FORMS),
         "ok\nline 2: bad step\n",
     );
-    for (input, expected) in INPUTS {
-        let found = answers_of(&rt, rt.alloc(), input, false);
-        expect_text(&rt, "an input", found.as_str(), expected);
+    for (input, expected) in &INPUTS {
+        let found = answers_of(&rt, rt.alloc(), *input, false);
+        expect_text(&rt, "an input", found.as_str(), *expected);
     }
 }
 
@@ -70,18 +70,20 @@ fn a_line_that_is_refused_leaves_lot_and_answers(rt: HostRuntime) {
     expect_text(&rt, LINES, found.as_str(), ANSWERS);
 }
 
+fn is_read(alloc: Global) -> bool {
+    let read = Command::of(alloc, b"records 3 18446744073709551615");
+    matches!(read, Ok(Command::Records { thread: 3, key }) if key == usize::MAX)
+}
+
+fn is_too_long(alloc: Global) -> bool {
+    let read = Command::of(alloc, &[b' '; 4_097]);
+    matches!(read, Err(Cause::BadStep))
+}
+
 #[test]
 fn a_line_is_read_alone_and_a_fault_has_its_text(rt: HostRuntime) {
-    let read = Command::of(rt.alloc(), b"records 3 18446744073709551615");
-    let key = usize::MAX;
-    let is_read = matches!(read, Ok(Command::Records { thread: 3, key: read }) if read == key);
-    expect(&rt, is_read, "a question for records");
-    let refused = Command::of(rt.alloc(), &[b' '; 4_097]);
-    expect(
-        &rt,
-        refused.err() == Some(Cause::BadStep),
-        "a line that is too long",
-    );
+    expect(&rt, is_read(rt.alloc()), "a question for records");
+    expect(&rt, is_too_long(rt.alloc()), "a line that is too long");
     let fault = Fault {
         line: 7,
         cause: Cause::NoMemory,
