@@ -1,65 +1,84 @@
 //! The commands of the program.
 
-use crate::measure::measure;
-use crate::row::{ROWS, Row, name_of};
-use lot_threads::WordParker;
+use crate::fault::Fault;
+use crate::{rows, stress};
+use std::alloc::Global;
+use std::env;
 use std::process::ExitCode;
 use std::rt::Env;
 use std::sync::Wait;
 use std::thread::Threads;
 use std::time::Clock;
-use std::{env, io};
+
+const USAGE: &str = "usage: lot_bench [ROW]
+       lot_bench stress memory [SCENARIO word|thread|yield]
+       lot_bench stress cost
+       lot_bench stress parks COUNT
+       lot_bench stress rest MILLISECONDS
+       lot_bench stress race SECONDS SEED
+       lot_bench stress locks ROUNDS SEED
+       lot_bench stress nested SEED
+       lot_bench stress deep SEED";
 
 const USAGE_STATUS: u8 = 2;
 
-/// Measures the row that the argument names and prints its name and cost, or prints the names of
-/// all rows if there is no argument. Any other words are answered by the usage line on the error
-/// output and the status 2.
+/// Follows the arguments. A failure is told on the error output, with the status 1; words that name
+/// no command are answered by the usage lines there, with the status 2.
 pub fn run<
     R: Env + Print + Eprint + AllocGlobal + Threads + Wait + Clock + Copy + Send + Sync + 'static,
 >(rt: &R) -> ExitCode {
+    match follow_words(rt) {
+        Ok(()) => ExitCode::SUCCESS,
+        Err(fault) => tell(rt, fault),
+    }
+}
+
+fn tell<R: Eprint>(rt: &R, fault: Fault) -> ExitCode {
+    let (what, status) = match fault {
+        Fault::UnknownWords => (USAGE, ExitCode::from(USAGE_STATUS)),
+        Fault::NoMemory => ("NoMemory", ExitCode::FAILURE),
+        Fault::Wrong(what) => (what, ExitCode::FAILURE),
+    };
+    let _ = eprintln!(rt; "{what}");
+    status
+}
+
+fn follow_words<
+    R: Env + Print + Eprint + AllocGlobal + Threads + Wait + Clock + Copy + Send + Sync + 'static,
+>(rt: &R) -> Result<(), Fault> {
     let Ok(words) = env::args(rt) else {
-        return tell_usage(rt);
+        return Err(Fault::UnknownWords);
     };
     let mut words = words.skip(1);
-    match (words.next(), words.next()) {
-        (None, _) => report(print_names(rt)),
-        (Some(name), None) => print_cost(rt, name.as_str()),
-        _ => tell_usage(rt),
+    let (first, second) = (words.next(), words.next());
+    let (third, fourth) = (words.next(), words.next());
+    let last = (text(&third), text(&fourth));
+    follow(rt, rt.alloc(), text(&first), text(&second), last)
+}
+
+// There is none behind the last word.
+fn text(word: &Option<String>) -> &str {
+    match word {
+        Some(word) => word.as_str(),
+        None => "",
     }
 }
 
-fn tell_usage<R: Eprint>(rt: &R) -> ExitCode {
-    let _ = eprintln!(rt; "usage: lot_bench [ROW]");
-    ExitCode::from(USAGE_STATUS)
-}
-
-fn print_names<R: Print>(rt: &R) -> io::Result<()> {
-    for line in ROWS.lines() {
-        println!(rt; "{}", name_of(line))?;
-    }
-    Ok(())
-}
-
-// Prints hundredths of a nanosecond.
-fn print_cost<
-    R: Print + Eprint + AllocGlobal + Threads + Wait + Clock + Copy + Send + Sync + 'static,
->(rt: &R, name: &str) -> ExitCode {
-    let Some(row) = Row::named(name) else {
-        return tell_usage(rt);
-    };
-    match measure::<WordParker, R>(rt, rt.alloc(), &row) {
-        Some(cost) => report(println!(rt; "{name} {}.{:02}", cost / 100, cost % 100)),
-        None => {
-            let _ = eprintln!(rt; "{name} failed");
-            ExitCode::FAILURE
-        }
-    }
-}
-
-fn report(written: io::Result<()>) -> ExitCode {
-    match written {
-        Ok(()) => ExitCode::SUCCESS,
-        Err(_) => ExitCode::FAILURE,
+// Follows the first word, the second, and those behind them.
+fn follow<R: Print + Eprint + Threads + Wait + Clock + Copy + Send + Sync + 'static>(
+    rt: &R,
+    alloc: Global,
+    first: &str,
+    second: &str,
+    last: (&str, &str),
+) -> Result<(), Fault> {
+    if first == "stress" {
+        stress::run(rt, alloc, second, last.0, last.1)
+    } else if !second.is_empty() {
+        Err(Fault::UnknownWords)
+    } else if first.is_empty() {
+        rows::print_names(rt)
+    } else {
+        rows::print_cost(rt, alloc, first)
     }
 }

@@ -5,14 +5,12 @@ use parking_lot::{Condvar, Lot, Mutex};
 use std::sync::Wait;
 use std::time::Clock;
 
-// How many things may be queued at once.
-const PLACES: u64 = 16;
-
-// How many things are queued, and how many were taken.
-#[derive(Drop)]
-struct Things {
-    queued: u64,
-    taken: u64,
+/// How many things are queued, and a count: of those that were taken, and of what else whoever has
+/// the mutex counts.
+#[derive(Clone, Copy)]
+pub struct Things {
+    pub queued: u64,
+    pub count: u64,
 }
 
 // What a thread does with things.
@@ -22,11 +20,32 @@ enum Side {
     Takes,
 }
 
+/// When a thread notifies another of what it put or took.
+#[derive(Clone, Copy)]
+pub enum Notice {
+    /// Once it has let the mutex go.
+    Late,
+
+    /// The same, but before that where the thing has an even number.
+    ByTurns,
+}
+
 impl Things {
+    pub fn none() -> Things {
+        Things {
+            queued: 0,
+            count: 0,
+        }
+    }
+
+    pub fn count_one(&mut self) {
+        self.count = self.count.wrapping_add(1);
+    }
+
     // Whether no thing can be put, or none be taken.
-    fn keep_out(&self, side: Side) -> bool {
+    fn keep_out(&self, side: Side, places: u64) -> bool {
         match side {
-            Side::Puts => self.queued == PLACES,
+            Side::Puts => self.queued == places,
             Side::Takes => self.queued == 0,
         }
     }
@@ -36,7 +55,7 @@ impl Things {
             Side::Puts => self.queued = self.queued.wrapping_add(1),
             Side::Takes => {
                 self.queued = self.queued.wrapping_sub(1);
-                self.taken = self.taken.wrapping_add(1);
+                self.count_one();
             }
         }
     }
@@ -45,49 +64,48 @@ impl Things {
 /// The queue, of which the things are counted alone.
 #[derive(Drop)]
 pub struct Queue<'l> {
-    things: Mutex<'l, Things>,
+    pub things: Mutex<'l, Things>,
     filled: Condvar<'l>,
     emptied: Condvar<'l>,
+    // How many things may be queued at once.
+    places: u64,
 }
 
 impl<'l> Queue<'l> {
-    pub fn new(lot: &'l Lot) -> Result<Queue<'l>, NoMemory> {
-        let things = Things {
-            queued: 0,
-            taken: 0,
-        };
+    pub fn new(lot: &'l Lot, places: u64) -> Result<Queue<'l>, NoMemory> {
         Ok(Queue {
-            things: Mutex::new(lot, things)?,
+            things: Mutex::new(lot, Things::none())?,
             filled: Condvar::new(lot)?,
             emptied: Condvar::new(lot)?,
+            places,
         })
     }
 
-    /// Puts so many things, or takes as many at an odd place. Answers how many were taken then.
-    pub fn pass<R: Wait + Clock>(&self, rt: &R, place: usize, calls: usize) -> u64 {
+    /// Puts so many things, or takes as many at an odd place.
+    pub fn pass<R: Wait + Clock>(&self, rt: &R, place: usize, calls: usize, notice: Notice) {
         if place % 2 == 0 {
-            self.pass_all(rt, Side::Puts, &self.emptied, &self.filled, calls);
+            self.pass_all(rt, Side::Puts, calls, notice);
         } else {
-            self.pass_all(rt, Side::Takes, &self.filled, &self.emptied, calls);
+            self.pass_all(rt, Side::Takes, calls, notice);
         }
-        self.things.lock(rt).taken
     }
 
-    // Waits here before each thing, and notifies there after it.
-    fn pass_all<R: Wait + Clock>(
-        &self,
-        rt: &R,
-        side: Side,
-        here: &Condvar<'_>,
-        there: &Condvar<'_>,
-        calls: usize,
-    ) {
-        for _ in 0..calls {
-            let is_early = |things: &mut Things| things.keep_out(side);
+    // Waits on one condition before each thing, and notifies on the other after it.
+    fn pass_all<R: Wait + Clock>(&self, rt: &R, side: Side, calls: usize, notice: Notice) {
+        let (places, here, there) = match side {
+            Side::Puts => (self.places, &self.emptied, &self.filled),
+            Side::Takes => (self.places, &self.filled, &self.emptied),
+        };
+        for call in 0..calls {
+            let is_early = |things: &mut Things| things.keep_out(side, places);
             let mut things = here.wait_while(self.things.lock(rt), is_early);
             things.pass_one(side);
-            drop(things);
-            there.notify_one(rt);
+            if matches!(notice, Notice::ByTurns) && call % 2 == 0 {
+                there.notify_one_held(&things);
+            } else {
+                drop(things);
+                there.notify_one(rt);
+            }
         }
     }
 }

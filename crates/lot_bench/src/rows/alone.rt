@@ -1,0 +1,90 @@
+//! What one thread does with the lot, again and again.
+
+use crate::calls::unpark_first;
+use crate::rows::turns::park_while;
+use lot_threads::{DEFAULT_UNPARK_TOKEN, Member, ParkResult, ParkingLot, ThreadParkerT};
+use parking_lot::{Once, Semaphore};
+use std::sync::Wait;
+use std::sync::atomic::AtomicU64;
+use std::time::{Clock, Instant};
+
+/// Before a thread sleeps it does nothing.
+pub fn nothing() {}
+
+/// Unparks one on a key, and on the keys behind it by such steps, where nobody waits. False says
+/// that somebody did.
+pub fn unparks_nobody<P: ThreadParkerT, R: Wait>(
+    rt: &R,
+    lot: &ParkingLot<P>,
+    first: usize,
+    step: usize,
+    calls: usize,
+) -> bool {
+    let (mut key, mut unparked) = (first, 0usize);
+    for _ in 0..calls {
+        let result = unpark_first(rt, lot, key, DEFAULT_UNPARK_TOKEN);
+        unparked = unparked.wrapping_add(result.unparked_threads);
+        key = key.wrapping_add(step);
+    }
+    unparked == 0
+}
+
+/// Parks where the validation answers false unless the word is 0. False says that a park did not
+/// end with this result.
+pub fn parks<P: ThreadParkerT, R: Wait + Clock>(
+    rt: &R,
+    member: &mut Member<'_, P>,
+    word: &AtomicU64,
+    timeout: Option<Instant>,
+    expected: ParkResult,
+    calls: usize,
+) -> bool {
+    let mut ended = 0usize;
+    for _ in 0..calls {
+        let result = park_while(rt, member, 1, word, 0, nothing, timeout);
+        ended = ended.wrapping_add(usize::from(result == expected));
+    }
+    ended == calls
+}
+
+/// Parks on one key after another, where it unparks itself before it sleeps. False says that it was
+/// not unparked.
+pub fn unparks_itself_on_each<P: ThreadParkerT, R: Wait + Clock>(
+    rt: &R,
+    member: &mut Member<'_, P>,
+    word: &AtomicU64,
+    keys: usize,
+) -> bool {
+    let lot = member.lot();
+    let mut unparked = 0usize;
+    for key in 0..keys {
+        let unpark_itself = || {
+            unpark_first(rt, lot, key, DEFAULT_UNPARK_TOKEN);
+        };
+        let result = park_while(rt, member, key, word, 0, unpark_itself, None);
+        unparked = unparked.wrapping_add(usize::from(result.is_unparked()));
+    }
+    unparked == keys
+}
+
+/// Calls a once that is done, if only by the first call. False says that it called a closure again.
+pub fn calls_once<R: Wait + Clock>(rt: &R, once: &Once<'_>, calls: usize) -> bool {
+    once.call_once(rt, |_| ());
+    let mut called = 0usize;
+    for _ in 0..calls {
+        once.call_once(rt, |_| called = called.wrapping_add(1));
+    }
+    called == 0
+}
+
+/// Takes the one permit and gives it back. False says that it is not there then.
+pub fn takes_permits<'a, R: Wait + Clock>(
+    rt: &'a R,
+    semaphore: &'a Semaphore<'_>,
+    calls: usize,
+) -> bool {
+    for _ in 0..calls {
+        drop(semaphore.acquire(rt));
+    }
+    semaphore.available_permits() == 1
+}
