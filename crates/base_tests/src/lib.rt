@@ -1,9 +1,11 @@
-//! Tests of the parts of a lot: tokens, queues, buckets, spinning and thread parkers. All by their
-//! public calls alone.
+//! Tests of the parts of a lot: tokens, queues, buckets, spinning and thread parkers, and of the
+//! search for faults of protocols. All by their public calls alone.
 #![tactic(auto)]
 
 #[cfg(test)]
 mod bucket;
+#[cfg(test)]
+mod litmus;
 #[cfg(test)]
 mod nodes;
 #[cfg(test)]

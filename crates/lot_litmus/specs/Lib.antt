@@ -1,0 +1,11 @@
+-- In the order of reading, after the types of src/code.rt, src/state.rt and src/test.rt.
+pub mod Configuration
+pub mod Steps
+pub mod Schedule
+-- Then what a search keeps.
+pub mod Queues
+pub mod View
+pub mod Performing
+pub mod Outcomes
+pub mod Certificate
+pub mod Found

@@ -1,0 +1,113 @@
+//! The words that the language itself uses.
+
+/// A word that cannot be a name.
+#[derive(Clone, Copy, PartialEq, Eq)]
+pub(super) enum Keyword {
+    Test,
+    Let,
+    Word,
+    Key,
+    Beside,
+    Macro,
+    Thread,
+    Forall,
+    Never,
+    Exists,
+    Expect,
+    For,
+    In,
+    On,
+    If,
+    Else,
+    While,
+    Loop,
+    Break,
+    Continue,
+    Return,
+    Await,
+    Assert,
+    Enter,
+    Shared,
+    Leave,
+    Count,
+    Cas,
+    Swap,
+    Add,
+    Sub,
+    And,
+    Or,
+    Xor,
+    Park,
+    Validate,
+    Timeout,
+    BeforeSleep,
+    UnparkOne,
+    UnparkAll,
+    Filter,
+    Unpark,
+    Skip,
+    Stop,
+    Requeue,
+    Callback,
+}
+
+const KEYWORDS: [(&str, Keyword); 46] = [
+    ("test", Keyword::Test),
+    ("let", Keyword::Let),
+    ("word", Keyword::Word),
+    ("key", Keyword::Key),
+    ("beside", Keyword::Beside),
+    ("macro", Keyword::Macro),
+    ("thread", Keyword::Thread),
+    ("forall", Keyword::Forall),
+    ("never", Keyword::Never),
+    ("exists", Keyword::Exists),
+    ("expect", Keyword::Expect),
+    ("for", Keyword::For),
+    ("in", Keyword::In),
+    ("on", Keyword::On),
+    ("if", Keyword::If),
+    ("else", Keyword::Else),
+    ("while", Keyword::While),
+    ("loop", Keyword::Loop),
+    ("break", Keyword::Break),
+    ("continue", Keyword::Continue),
+    ("return", Keyword::Return),
+    ("await", Keyword::Await),
+    ("assert", Keyword::Assert),
+    ("enter", Keyword::Enter),
+    ("shared", Keyword::Shared),
+    ("leave", Keyword::Leave),
+    ("count", Keyword::Count),
+    ("cas", Keyword::Cas),
+    ("swap", Keyword::Swap),
+    ("add", Keyword::Add),
+    ("sub", Keyword::Sub),
+    ("and", Keyword::And),
+    ("or", Keyword::Or),
+    ("xor", Keyword::Xor),
+    ("park", Keyword::Park),
+    ("validate", Keyword::Validate),
+    ("timeout", Keyword::Timeout),
+    ("before_sleep", Keyword::BeforeSleep),
+    ("unpark_one", Keyword::UnparkOne),
+    ("unpark_all", Keyword::UnparkAll),
+    ("filter", Keyword::Filter),
+    ("unpark", Keyword::Unpark),
+    ("skip", Keyword::Skip),
+    ("stop", Keyword::Stop),
+    ("requeue", Keyword::Requeue),
+    ("callback", Keyword::Callback),
+];
+
+impl Keyword {
+    /// The keyword that this word is.
+    pub(super) fn of(word: &[u8]) -> Option<Keyword> {
+        for (text, keyword) in KEYWORDS.iter() {
+            if text.as_bytes() == word {
+                return Some(*keyword);
+            }
+        }
+        None
+    }
+}

@@ -1,0 +1,188 @@
+//! The queue of a key, which is copied as it is.
+
+ghost use Rattle.std.specs.Prelude.{◌≡◌, ◌+◌, ◌-◌, ◌<◌, ◌≤◌, ◌++◌, ◌∷◌, [], drop, length, slice_get, Some};
+
+use crate::code::{THREADS, Thread, Timing};
+
+/// A thread in a queue.
+#[derive(Clone, Copy)]
+pub struct Entry {
+    /// Which thread it is.
+    pub thread: Thread,
+
+    /// Its park token.
+    pub token: u8,
+
+    /// Whether it has a deadline.
+    pub timing: Timing,
+}
+
+impl Entry {
+    /// What stands behind the end of a queue.
+    pub const NOBODY: Entry = Entry {
+        thread: Thread { number: 0 },
+        token: 0,
+        timing: Timing::Endless,
+    };
+}
+
+/// The threads that wait on a key, first in first.
+#[derive(Clone, Copy)]
+pub struct Queue {
+    entries: [Entry; THREADS],
+    length: u8,
+    ghost fits: { length ≤ 6 },
+}
+
+/// What becomes of those in a queue.
+#[derive(Clone, Copy)]
+pub struct Parts {
+    /// They leave it.
+    pub taken: Queue,
+
+    /// They go to another.
+    pub moved: Queue,
+
+    /// They stay.
+    pub left: Queue,
+}
+
+/// Who is taken and who is moved: the first of a queue has the lowest bit, and so on. One that is
+/// taken is not moved.
+#[derive(Clone, Copy)]
+pub struct Chosen {
+    pub taken: u8,
+    pub moved: u8,
+}
+
+impl Parts {
+    ghost use Rattle.lot_litmus.specs.Queues.{entries_of, with_part, no_parts};
+
+    // Puts one behind the others of its part, as the lowest bits say.
+    fn put(&mut self, entry: Entry, chosen: Chosen)
+        requires taken { length (entries_of self.old.taken) < 6 }
+        requires moved { length (entries_of self.old.moved) < 6 }
+        requires left { length (entries_of self.old.left) < 6 }
+        ensures taken { entries_of self.new.taken ≡ entries_of self.old.taken
+            ++ (with_part chosen.taken chosen.moved entry no_parts).taken }
+        ensures moved { entries_of self.new.moved ≡ entries_of self.old.moved
+            ++ (with_part chosen.taken chosen.moved entry no_parts).moved }
+        ensures left { entries_of self.new.left ≡ entries_of self.old.left
+            ++ (with_part chosen.taken chosen.moved entry no_parts).left }
+    {
+        if chosen.taken % 2 == 1 {
+            self.taken.push(entry);
+        } else if chosen.moved % 2 == 1 {
+            self.moved.push(entry);
+        } else {
+            self.left.push(entry);
+        }
+    }
+}
+
+impl Queue {
+    ghost use Rattle.lot_litmus.specs.Queues.{entries_of, has_thread, without_thread, parted, Parted};
+
+    /// A queue in which nobody waits.
+    pub fn new() -> Queue
+        ensures { entries_of result ≡ [] }
+    {
+        Queue {
+            entries: [Entry::NOBODY; THREADS],
+            length: 0,
+        }
+    }
+
+    /// How many wait.
+    pub fn len(&self) -> u8
+        ensures { result ≡ length (entries_of self.now) }
+    {
+        self.length
+    }
+
+    /// The one who waits at this index.
+    pub fn get(&self, index: usize) -> Option<Entry>
+        ensures { result ≡ slice_get (entries_of self.now) index }
+    {
+        if index < self.length as usize {
+            Some(self.entries[index])
+        } else {
+            None
+        }
+    }
+
+    /// The one who waits at this index.
+    pub fn entry(&self, index: u8) -> Entry
+        requires { index < length (entries_of self.now) }
+        ensures { slice_get (entries_of self.now) index ≡ Some result }
+    {
+        self.entries[index as usize]
+    }
+
+    /// Puts one behind the others.
+    pub fn push(&mut self, entry: Entry)
+        requires { length (entries_of self.old) < 6 }
+        ensures { entries_of self.new ≡ entries_of self.old ++ entry ∷ [] }
+    {
+        self.entries[self.length as usize] = entry;
+        self.length += 1;
+    }
+
+    /// Puts those of another queue from this index on behind the others.
+    pub fn append(&mut self, other: &Queue, first: u8)
+        requires { length (entries_of self.old) + (length (entries_of other.now) - first) ≤ 6 }
+        ensures { entries_of self.new ≡ entries_of self.old ++ drop first (entries_of other.now) }
+    {
+        for index in first..other.length {
+            self.push(other.entry(index));
+        }
+    }
+
+    /// Whether the thread waits here.
+    pub fn has(&self, thread: Thread) -> bool
+        ensures { result ≡ has_thread thread.number (entries_of self.now) }
+    {
+        for index in 0..self.length {
+            if self.entry(index).thread.number == thread.number {
+                return true;
+            }
+        }
+        false
+    }
+
+    /// The queue without the thread, or all of it if the thread does not wait here.
+    pub fn without(&self, thread: Thread) -> Queue
+        ensures { entries_of result ≡ without_thread thread.number (entries_of self.now) }
+    {
+        let mut left = Queue::new();
+        for index in 0..self.length {
+            let entry = self.entry(index);
+            if entry.thread.number == thread.number {
+                left.append(self, index + 1);
+                return left;
+            }
+            left.push(entry);
+        }
+        left
+    }
+
+    /// Parts those who wait, each part in order.
+    pub fn part(&self, chosen: Chosen) -> Parts
+        ensures { Parted result (parted chosen.taken chosen.moved (entries_of self.now)) }
+    {
+        let mut parts = Parts {
+            taken: Queue::new(),
+            moved: Queue::new(),
+            left: Queue::new(),
+        };
+        let mut rest = chosen;
+        for index in 0..self.length {
+            parts.put(self.entry(index), rest);
+            rest = Chosen {
+                taken: rest.taken / 2,
+                moved: rest.moved / 2,
+            };
+        }
+        parts
+    }
+}
