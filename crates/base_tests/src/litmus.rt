@@ -1,5 +1,5 @@
-//! Searches of a mutex of one byte, as instructions and as a text: 0 is free, 1 locked, and 3 locked
-//! while others may wait. Whoever lets it go writes 0, and unparks if it was 3.
+//! Searches of a mutex of one byte, as instructions and as a text: 0 is free, 1 locked, and 3
+//! locked while others may wait. Whoever lets it go writes 0, and unparks if it was 3.
 
 mod text;
 

@@ -1,5 +1,7 @@
 -- What a state stands for once one of its parts is another.
-use Rattle.std.proofs.Common.{◌≡◌, ◌≢◌, ℕ, suc, ◌+◌, ◌-◌, ◌<◌, ◌≤◌, ◌/◌, ◌%◌, ◌==◌, ◌||◌, Bool, true, false, not, if◌then◌else◌, List, [], ◌∷◌, ◌++◌, length, map, take, drop, sym, ap, refl, length-append, ◌∙◌, ⊎_elim, arith}
+use Rattle.std.proofs.Common.{◌≡◌, ◌≢◌, ℕ, suc, ◌+◌, ◌-◌, ◌<◌, ◌≤◌, ◌/◌, ◌%◌, ◌==◌, ◌||◌, Bool, true, false, not}
+use Rattle.std.proofs.Common.{if◌then◌else◌, List, [], ◌∷◌, ◌++◌, length, map, take, drop, sym, ap, refl}
+use Rattle.std.proofs.Common.{length-append, ◌∙◌, ⊎_elim, arith}
 use Rattle.std.specs.Prelude.{slice_get, slice_set, option_map, Option, Some, None}
 use Rattle.std.proofs.lemmas.Bool.{cases_eq, cases_lt, ne_eqb, cond-true, cond-false}
 use Rattle.std.proofs.lemmas.List.{get_or-set_same, get_or-set_other, length-set, length-map, length-take, map-append, drop_all}
@@ -9,7 +11,8 @@ use Rattle.lot_base.specs.Waiting.{with_value, without_first, has_any, Split}
 use Rattle.lot_base.proofs.ValueLemmas.{with_value-same, with_value-other, with_value-alike}
 use Rattle.lot_machine.specs.declared.status.Status.{Status}
 use Rattle.lot_machine.specs.declared.status.Status.TheVariants.{Taken}
-use Rattle.lot_machine.specs.Machine.{Machine, Waiter, times_in, entries_of as entries_of_thread, statuses_with_taken, with_status, after_unpark, after_enter, after_requeue, after_timeout, is_last}
+use Rattle.lot_machine.specs.Machine.{Machine, Waiter, times_in, entries_of as entries_of_thread, statuses_with_taken}
+use Rattle.lot_machine.specs.Machine.{with_status, after_unpark, after_enter, after_requeue, after_timeout, is_last}
 use Rattle.lot_machine.proofs.WaiterLemmas.{statuses_with_taken-other, statuses_with_taken-among, times_in-append}
 use Rattle.lot_machine.proofs.WaiterLemmas.{times_in-own, times_in-not_own}
 use Rattle.lot_litmus.specs.declared.code.Code.{Code}

@@ -1,4 +1,5 @@
-//! What shows that a test is safe: all states to which it can come, and how far each is from an end.
+//! What shows that a test is safe: all states to which it can come, and how far each is from an
+//! end.
 
 ghost use Rattle.std.specs.Prelude.{◌≡◌, ℕ, ◌<◌, IsTrue, Some, slice_get};
 ghost use Rattle.lot_litmus.specs.declared.state.State.{State};
@@ -72,7 +73,8 @@ impl Test {
     // Whether that is so of the state at this index.
     fn is_good_at(&self, states: &[Reached], distances: &[usize], seen: &Seen, index: usize) -> bool
         ensures { IsTrue result → (s : State) (d : ℕ) → slice_get states.now index ≡ Some s
-            → slice_get distances.now index ≡ Some d → IsGood self.now states.now distances.now s d }
+            → slice_get distances.now index ≡ Some d
+            → IsGood self.now states.now distances.now s d }
     {
         match (states.get(index), distances.get(index)) {
             (Some(from), Some(&distance)) => self.is_good(states, distances, seen, from, distance),

@@ -13,6 +13,7 @@ mod lot;
 mod names;
 mod parsed;
 mod parser;
+mod requeue;
 mod statement;
 mod token;
 mod top;

@@ -384,7 +384,8 @@ fn says_what_is_wrong_in_an_expression(rt: HostRuntime) -> Result<(), Fail> {
         ),
         (
             "x = 1 y = 2",
-            "line 5, column 7: expected the end of the statement (a new line, `;` or two blanks), found \"y\"",
+            "line 5, column 7: expected the end of the statement (a new line, `;` or two \
+             blanks), found \"y\"",
         ),
         (
             "x = w ?",
@@ -429,7 +430,8 @@ fn says_what_is_wrong_in_a_statement(rt: HostRuntime) -> Result<(), Fail> {
         ),
         (
             "requeue k k 5",
-            "line 5, column 13: expected `nobody`, `one`, `move_one`, `all`, `one_rest` or `validate {`, found \"5\"",
+            "line 5, column 13: expected `nobody`, `one`, `move_one`, `all`, `one_rest` \
+             or `validate {`, found \"5\"",
         ),
     ];
     for (body, wanted) in cases {
@@ -487,7 +489,8 @@ fn says_what_is_wrong_with_names(rt: HostRuntime) -> Result<(), Fail> {
         ),
         (
             "test t\nlock",
-            "line 2, column 1: expected `let`, `word`, `key`, `macro`, `thread`, `forall`, `never`, `exists` or `expect`, found \"lock\"",
+            "line 2, column 1: expected `let`, `word`, `key`, `macro`, `thread`, `forall`, \
+             `never`, `exists` or `expect`, found \"lock\"",
         ),
     ];
     for (text, wanted) in cases {

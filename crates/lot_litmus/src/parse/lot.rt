@@ -5,7 +5,7 @@ use super::draft::Label;
 use super::error::ParseError;
 use super::expression::Operator;
 use super::keyword::Keyword;
-use super::names::{Meaning, moves_number};
+use super::names::Meaning;
 use super::parser::Parser;
 use super::token::{Kind, Sign};
 use crate::code::{Instruction, Key, Local, Moves, Operand, Operation, Timing, Validation};
@@ -47,11 +47,11 @@ pub(super) struct Requeue {
     pub(super) other: Key,
 
     /// The number of the way.
-    moves: Operand,
+    pub(super) moves: Operand,
 
     /// Where nobody is unparked or moved, and behind all that.
-    nobody: Label,
-    end: Label,
+    pub(super) nobody: Label,
+    pub(super) end: Label,
 }
 
 /// What a callback belongs to.
@@ -103,7 +103,7 @@ impl<'t> Parser<'t> {
     }
 
     // Within a section no other can begin.
-    fn begin_section(&mut self) -> Result<(), ParseError> {
+    pub(super) fn begin_section(&mut self) -> Result<(), ParseError> {
         if self.blocks.iter().any(|open| open.block.is_in_section()) {
             return Err(self.misplaced("a bucket is locked here, so nobody can park or unpark"));
         }
@@ -349,14 +349,14 @@ impl<'t> Parser<'t> {
     }
 
     // How many wait on the key whose bucket is locked.
-    fn waiting(&mut self, key: Key) -> Result<Operand, ParseError> {
+    pub(super) fn waiting(&mut self, key: Key) -> Result<Operand, ParseError> {
         let to = self.temporary()?;
         self.emit(Instruction::Count { to, key })?;
         Ok(Operand::Local(to))
     }
 
     // Whether more than this number wait on the key.
-    fn more_than(&mut self, number: Operand, key: Key) -> Result<Operand, ParseError> {
+    pub(super) fn more_than(&mut self, number: Operand, key: Key) -> Result<Operand, ParseError> {
         let waiting = self.waiting(key)?;
         self.compute(Operation::Below, number, waiting)
     }
@@ -407,7 +407,7 @@ impl<'t> Parser<'t> {
     }
 
     // What stands behind the block of a filter or the way of a requeue.
-    fn token_or_callback(&mut self, waking: Waking) -> Result<(), ParseError> {
+    pub(super) fn token_or_callback(&mut self, waking: Waking) -> Result<(), ParseError> {
         if self.opens(Keyword::Callback)? {
             self.end_statement()?;
             return self.open_callback(waking);
@@ -458,7 +458,7 @@ impl<'t> Parser<'t> {
     }
 
     // A local that begins with this number.
-    fn counter(&mut self, name: &'t [u8], number: u8) -> Result<Local, ParseError> {
+    pub(super) fn counter(&mut self, name: &'t [u8], number: u8) -> Result<Local, ParseError> {
         let local = if name.is_empty() {
             self.temporary()?
         } else {
@@ -544,134 +544,5 @@ impl<'t> Parser<'t> {
         self.release(Operand::Local(filter.chosen));
         self.forget(b"unparked_threads");
         Ok(())
-    }
-}
-
-impl<'t> Parser<'t> {
-    fn requeue(&mut self) -> Result<(), ParseError> {
-        self.begin_section()?;
-        let key = self.key()?;
-        let other = self.key()?;
-        let mut requeue = Requeue {
-            key,
-            other,
-            moves: Operand::Constant(0),
-            nobody: self.label()?,
-            end: self.label()?,
-        };
-        if self.opens(Keyword::Validate)? {
-            self.end_statement()?;
-            self.lock(key, other)?;
-            requeue.moves = Operand::Local(self.counter(b"moves", 0)?);
-            return self.open(Block::Moves(requeue));
-        }
-        let Some(number) = moves_number(self.peek().text) else {
-            return Err(self.expected(
-                "`nobody`, `one`, `move_one`, `all`, `one_rest` or `validate {`",
-            ));
-        };
-        self.next();
-        requeue.moves = Operand::Constant(number);
-        if self.is_keyword(Keyword::Callback) {
-            self.lock(key, other)?;
-        }
-        self.token_or_callback(Waking::Requeue(requeue))
-    }
-
-    pub(super) fn close_moves(&mut self, requeue: Requeue) -> Result<(), ParseError> {
-        self.token_or_callback(Waking::Requeue(requeue))
-    }
-
-    // Where nobody is unparked or moved, no callback is run.
-    fn tell_requeue(&mut self, requeue: Requeue) -> Result<(), ParseError> {
-        self.jump_unless(requeue.moves, requeue.nobody)?;
-        if let Some(local) = self.declare_if_named(b"unparked_threads")? {
-            let unparked = self.unparked_by(requeue)?;
-            self.set(local, unparked)?;
-        }
-        if let Some(local) = self.declare_if_named(b"requeued_threads")? {
-            self.set_requeued(requeue, local)?;
-        }
-        if let Some(local) = self.declare_if_named(b"have_more")? {
-            let more = self.more_than(Operand::Constant(1), requeue.key)?;
-            let leaves = self.compute(Operation::Below, requeue.moves, Operand::Constant(4))?;
-            let left = self.compute(Operation::And, more, leaves)?;
-            self.set(local, left)?;
-        }
-        Ok(())
-    }
-
-    // How many a requeue unparks.
-    fn unparked_by(&mut self, requeue: Requeue) -> Result<Operand, ParseError> {
-        let some = self.more_than(Operand::Constant(0), requeue.key)?;
-        let wakes = self.compute(Operation::And, requeue.moves, Operand::Constant(1))?;
-        self.compute(Operation::And, some, wakes)
-    }
-
-    // How many it moves: all that it does not unpark, or at most one.
-    fn set_requeued(&mut self, requeue: Requeue, to: Local) -> Result<(), ParseError> {
-        let done = self.label()?;
-        let some = self.more_than(Operand::Constant(0), requeue.key)?;
-        let one = self.compute(Operation::And, requeue.moves, Operand::Constant(2))?;
-        let moves_one = self.compute(Operation::Below, Operand::Constant(0), one)?;
-        let moved = self.compute(Operation::And, some, moves_one)?;
-        self.set(to, moved)?;
-        let all = self.compute(Operation::And, requeue.moves, Operand::Constant(4))?;
-        self.jump_unless(all, done)?;
-        let unparked = self.unparked_by(requeue)?;
-        let waiting = self.waiting(requeue.key)?;
-        let rest = self.compute(Operation::Subtract, waiting, unparked)?;
-        self.set(to, rest)?;
-        self.draft.place(done);
-        Ok(())
-    }
-
-    fn end_requeue(&mut self, requeue: Requeue, token: Operand) -> Result<(), ParseError> {
-        match requeue.moves {
-            Operand::Constant(number) => self.requeue_by(requeue, moves_of(number), token)?,
-            Operand::Local(_) => self.choose_moves(requeue, token)?,
-        }
-        self.draft.place(requeue.nobody);
-        self.requeue_by(requeue, Moves::Nobody, Operand::Constant(0))?;
-        self.draft.place(requeue.end);
-        self.forget(b"moves");
-        Ok(())
-    }
-
-    fn requeue_by(
-        &mut self,
-        requeue: Requeue,
-        moves: Moves,
-        token: Operand,
-    ) -> Result<(), ParseError> {
-        self.emit(Instruction::Requeue {
-            key: requeue.key,
-            other: requeue.other,
-            moves,
-            token,
-        })?;
-        self.jump(requeue.end)
-    }
-
-    fn choose_moves(&mut self, requeue: Requeue, token: Operand) -> Result<(), ParseError> {
-        for number in [1, 2, 4, 5] {
-            let others = self.label()?;
-            let is_this = self.compute(Operation::Equal, requeue.moves, Operand::Constant(number))?;
-            self.jump_unless(is_this, others)?;
-            self.requeue_by(requeue, moves_of(number), token)?;
-            self.draft.place(others);
-        }
-        Ok(())
-    }
-}
-
-// The way to requeue that has this number.
-fn moves_of(number: u8) -> Moves {
-    match number {
-        0 => Moves::Nobody,
-        1 => Moves::OneUnparked,
-        2 => Moves::OneMoved,
-        4 => Moves::AllMoved,
-        _ => Moves::OneUnparkedRestMoved,
     }
 }
