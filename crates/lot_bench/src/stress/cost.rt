@@ -1,5 +1,6 @@
-//! `lot_bench stress cost`: calls that are told to look at few of the threads or records there are, done
-//! so often that one which looks at all takes seconds. The processor time is measured from outside.
+//! `lot_bench stress cost`: calls that are told to look at few of the threads or records there are,
+//! done so often that one which looks at all takes seconds. The processor time is measured from
+//! outside.
 
 use crate::fault::Fault;
 use lot_simulator::interleaved::{FineAnswer, FineLot, FineStep, run_fine};

@@ -1,5 +1,5 @@
-//! `lot_bench stress parks`: one thread that parks so often that memory which its parks would keep shows
-//! in the size of the process.
+//! `lot_bench stress parks`: one thread that parks so often that memory which its parks would keep
+//! shows in the size of the process.
 
 use crate::calls::{ALL, Ended, park, register, requeue, retire, unpark_first, unpark_through};
 use crate::fault::Fault;

@@ -1,5 +1,5 @@
-//! `lot_bench stress race`: threads that park, unpark, requeue, register and retire on one lot, while the
-//! tokens that were handed out are compared with those that were told.
+//! `lot_bench stress race`: threads that park, unpark, requeue, register and retire on one lot,
+//! while the tokens that were handed out are compared with those that were told.
 
 use crate::calls::{
     Entry, park_if, register, register_into, requeue, retire, retire_all_but, unpark_first,

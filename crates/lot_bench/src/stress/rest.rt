@@ -1,5 +1,5 @@
-//! `lot_bench stress rest`: threads that wait for a while, and should sleep meanwhile. What processor
-//! time they take is measured from outside.
+//! `lot_bench stress rest`: threads that wait for a while, and should sleep meanwhile. What
+//! processor time they take is measured from outside.
 
 pub mod alone;
 mod growth;

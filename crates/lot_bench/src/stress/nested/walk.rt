@@ -120,8 +120,8 @@ impl<'a, P: ThreadParkerT> Walk<'a, P> {
         ((key, park_token, timeout), is_valid)
     }
 
-    /// Draws how the thread comes to park and whether that is valid, and lets it enter the exclusive
-    /// lot so.
+    /// Draws how the thread comes to park and whether that is valid, and lets it enter the
+    /// exclusive lot so.
     pub(super) fn enter(&mut self, thread: usize) -> (Entry, bool) {
         let (entry, valid) = self.entry();
         let (key, park_token, timeout) = entry;
