@@ -16,6 +16,7 @@ use crate::critical_section::CriticalSection;
 use crate::deadlock::{acquire_resource, release_resource};
 use crate::parker::ThreadParkerT;
 use crate::parking_lot::{ThreadData, park, park_within};
+use crate::section::Section;
 use crate::shared_lot::ParkingLot;
 use lot_base::token::{
     FilterOp, LotError, NoMemory, ParkResult, ParkToken, RequeueOp, UnparkResult, UnparkToken,
@@ -264,8 +265,8 @@ impl<'a, P: ThreadParkerT> Member<'a, P> {
         ensures unparked { UnparksOne C.FnOnce callback key self.old.history self.old.witness
             result self.new.witness }
     {
-        self.lot
-            .unpark_one(rt, &mut self.thread.witness, key, callback)
+        let (section, licence) = Section::open(rt, self.lot, key);
+        section.unpark_one(rt, &mut self.thread.witness, licence, callback)
     }
 
     /// Unparks all threads in the list of the key, in order, hands each the token, and answers how
@@ -278,8 +279,8 @@ impl<'a, P: ThreadParkerT> Member<'a, P> {
         ensures unparked { Extends self.old.history self.old.witness
             (Step.Unpark (Op.All key token)) (Answer.Count result) self.new.witness }
     {
-        self.lot
-            .unpark_all(rt, &mut self.thread.witness, key, token)
+        let (section, licence) = Section::open(rt, self.lot, key);
+        section.unpark_all(rt, &mut self.thread.witness, licence, token)
     }
 
     /// Unparks those threads in the list of the key that the filter unparks, in order, hands each
@@ -330,8 +331,8 @@ impl<'a, P: ThreadParkerT> Member<'a, P> {
         ensures unparked { UnparksWithin F.FnMut C.FnOnce filter callback key self.old.history
             self.old.witness result self.new.witness }
     {
-        self.lot
-            .unpark_filter(rt, &mut self.thread.witness, key, filter, callback)
+        let (section, licence) = Section::open(rt, self.lot, key);
+        section.unpark_filter(rt, &mut self.thread.witness, licence, filter, callback)
     }
 
     /// Does what `unpark_filter` does, for closures that may be called at any time, as those
@@ -426,8 +427,8 @@ impl<'a, P: ThreadParkerT> Member<'a, P> {
         ensures stays { Stays self.old self.new }
         ensures listed { IsListed self.old.history key self.old.witness self.new.witness result }
     {
-        self.lot
-            .list_in_section(rt, alloc, &mut self.thread.witness, key)
+        let (section, licence) = Section::open(rt, self.lot, key);
+        section.list(&mut self.thread.witness, licence, alloc)
     }
 
     /// Makes the table smaller, if it has more buckets than it needs: than the next power of two of

@@ -17,6 +17,7 @@ ghost use Rattle.lot_threads.specs.Within.{MayCallBack, MayFilterWithin, Unparks
 
 use crate::critical_section::CriticalSection;
 use crate::parker::ThreadParkerT;
+use crate::section::Section;
 use crate::shared_lot::ParkingLot;
 use lot_base::token::{FilterOp, NoMemory, ParkToken, RequeueOp, UnparkResult, UnparkToken};
 use lot_history::history::Witness;
@@ -150,7 +151,8 @@ impl<'a, P: ThreadParkerT> Visitor<'a, P> {
         ensures unparked { UnparksOne C.FnOnce callback key self.old.history self.old.witness
             result self.new.witness }
     {
-        self.lot.unpark_one(rt, &mut self.witness, key, callback)
+        let (section, licence) = Section::open(rt, self.lot, key);
+        section.unpark_one(rt, &mut self.witness, licence, callback)
     }
 
     /// Unparks all threads in the list of the key, as `Member::unpark_all` does.
@@ -159,7 +161,8 @@ impl<'a, P: ThreadParkerT> Visitor<'a, P> {
         ensures unparked { Does self.old (Step.Unpark (Op.All key token)) (Answer.Count result)
             self.new }
     {
-        self.lot.unpark_all(rt, &mut self.witness, key, token)
+        let (section, licence) = Section::open(rt, self.lot, key);
+        section.unpark_all(rt, &mut self.witness, licence, token)
     }
 
     /// Unparks those threads in the list of the key that the filter unparks, as
@@ -201,8 +204,8 @@ impl<'a, P: ThreadParkerT> Visitor<'a, P> {
         ensures unparked { UnparksWithin F.FnMut C.FnOnce filter callback key self.old.history
             self.old.witness result self.new.witness }
     {
-        self.lot
-            .unpark_filter(rt, &mut self.witness, key, filter, callback)
+        let (section, licence) = Section::open(rt, self.lot, key);
+        section.unpark_filter(rt, &mut self.witness, licence, filter, callback)
     }
 
     /// Does what `unpark_filter` does, for closures that may be called at any time, as those
@@ -282,7 +285,8 @@ impl<'a, P: ThreadParkerT> Visitor<'a, P> {
         ensures visits { Visits self.old self.new }
         ensures listed { IsListed self.old.history key self.old.witness self.new.witness result }
     {
-        self.lot.list_in_section(rt, alloc, &mut self.witness, key)
+        let (section, licence) = Section::open(rt, self.lot, key);
+        section.list(&mut self.witness, licence, alloc)
     }
 
     /// Makes the table smaller, as `Member::trim` does.

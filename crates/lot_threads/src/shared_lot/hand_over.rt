@@ -97,14 +97,14 @@ impl<P: ThreadParkerT> ParkingLot<P> {
 
     // Wakes the thread whose unpark was committed, if there is one.
     #[inline]
-    pub(super) fn wake_if_any(&self, handle: Option<P::UnparkHandle>) {
+    pub(crate) fn wake_if_any(&self, handle: Option<P::UnparkHandle>) {
         if let Some(handle) = handle {
             self.wake(handle);
         }
     }
 
     // Wakes the threads whose handles were kept.
-    pub(super) fn wake_all(&self, mut handles: Handles<P::UnparkHandle>) {
+    pub(crate) fn wake_all(&self, mut handles: Handles<P::UnparkHandle>) {
         // There is room for no more handles.
         for _ in 0..HANDLES {
             let Some(handle) = handles.take() else {

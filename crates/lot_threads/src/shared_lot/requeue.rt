@@ -63,18 +63,11 @@ impl<P: ThreadParkerT> ParkingLot<P> {
         ensures requeued { RequeuesWithin V.FnOnce C.FnOnce validate callback from to self.now
             me.old result me.new }
     {
-        let (mut source, target, licence) = self.open_two(rt, from, to);
-        let Some(mut target) = target else {
-            let (result, handle) = source.requeue_here(rt, me, licence, to, validate, callback);
-            source.close();
-            self.wake_if_any(handle);
-            return result;
-        };
-        let (result, handle) = source.requeue_to(rt, me, licence, &mut target, validate, callback);
-        source.close();
-        target.close();
-        self.wake_if_any(handle);
-        result
+        let (source, target, licence) = self.open_two(rt, from, to);
+        match target {
+            Some(target) => source.requeue_to(rt, me, licence, target, validate, callback),
+            None => source.requeue_here(rt, me, licence, to, validate, callback),
+        }
     }
 
     // The section of the key `from`, and that of the key `to` if it has another bucket, with one

@@ -1,11 +1,11 @@
 use Rattle.std.proofs.Common.{◌∙◌, rules}
 use Rattle.lot_threads.specs.Within.{UnparksWithin}
-use Rattle.lot_threads.proofs.section.Section.take_filter.Goals as goal
+use Rattle.lot_threads.proofs.section.Section.unpark_filter.Goals as goal
 
 -- the commits add nothing
 pub returns-clause-unparked : goal.returns-clause-unparked
 returns-clause-unparked g c =
-    let told : UnparksWithin g.F.FnMut g.C.FnOnce c.args.filter c.args.callback c.args.self.now.key c.args.self.now.lot.now
+    let told : UnparksWithin g.F.FnMut g.C.FnOnce c.args.filter c.args.callback c.args.self.key c.args.self.lot.now
     c.args.me.now c.take_filter_of-taken.result.0 c.take_filter_of-taken.new.me = search rules in
     let extends = told.extends in
     record {
@@ -13,8 +13,8 @@ returns-clause-unparked g c =
       token = told.token;
       extends = record {
         between = extends.between;
-        seen = c.commit.ensures.seen ∙ extends.seen;
-        mine = c.commit.ensures.nothing_added ∙ extends.mine;
+        seen = c.commit-handles.ensures.seen ∙ extends.seen;
+        mine = c.commit-handles.ensures.nothing_added ∙ extends.mine;
         all_mine = search rules;
         history = search rules;
       };
@@ -23,7 +23,7 @@ returns-clause-unparked g c =
         last = told.found.last;
         machine = told.found.machine;
         begins = told.found.begins;
-        seen = c.commit.ensures.seen ∙ told.found.seen;
+        seen = c.commit-handles.ensures.seen ∙ told.found.seen;
         leads = told.found.leads;
         so = told.found.so;
       };
