@@ -34,32 +34,10 @@ use std::marker::Brand;
 use std::sync::Wait;
 use std::{mem, thread};
 
-// Takes the first waiter of the key out of its bucket, and tells so. The witness has the pieces of
-// those that were taken, one at most.
+// Takes the first waiter of the key out of its bucket, in a critical section that has the bucket's
+// part, and tells so. The witness has the pieces of those that were taken, one at most.
 #[inline]
-pub(crate) fn take_one_of<C: FnOnce(&CriticalSection, UnparkResult) -> UnparkToken>(
-    history: &History,
-    me: &mut Witness,
-    licence: Licence,
-    cell: &mut Cell,
-    key: usize,
-    callback: C,
-) -> (UnparkResult, Queue)
-    requires idle { IsIdle history.now me.old }
-    requires cell { IsCellFor history.now key cell.old }
-    requires callable { MayCallBack C.FnOnce callback history.now key }
-
-    ensures still { IsStill history.now me.old me.new }
-    ensures unparked { UnparksOne C.FnOnce callback key history.now me.old result.0 me.new }
-    ensures taken { TakesFrom history.now cell.old cell.new result.1 me.new }
-    ensures one { length result.1 ≤ 1 }
-{
-    take_one_with::<Brand, C>(history, me, licence, cell, key, callback)
-}
-
-// The same, in a section in which the bucket is as its part says.
-#[inline]
-fn take_one_with<E: Told, C: FnOnce(&CriticalSection, UnparkResult) -> UnparkToken>(
+pub(crate) fn take_one_of<E: Told, C: FnOnce(&CriticalSection, UnparkResult) -> UnparkToken>(
     history: &History,
     me: &mut Witness,
     licence: Licence,

@@ -166,10 +166,17 @@ impl<'a, P: ThreadParkerT> Section<'a, P> {
         let lock = self.lock;
         let slot = self.claim.value_mut(lock).as_mut().unwrap();
         let cell = slot.cell.as_mut().unwrap();
-        let (result, taken) = take_one_of(lot.history(), me, licence, cell, key, callback);
+        let (result, taken) = take_one_of::<Brand, C>(
+            lot.history(),
+            me,
+            licence,
+            cell,
+            key,
+            callback,
+        );
         let handle = lot.commit_one(rt, me, taken);
         self.close();
-        lot.wake_if_any(handle);
+        lot.wake(handle);
         result
     }
 
@@ -260,10 +267,12 @@ impl<'a, P: ThreadParkerT> Section<'a, P> {
         let lock = self.lock;
         let slot = self.claim.value_mut(lock).as_mut().unwrap();
         let cell = slot.cell.as_mut().unwrap();
-        let (result, taken) = lot.requeue_in_one(me, licence, cell, from, to, validate, callback);
+        let (result, taken) = lot.requeue_in_one::<Brand, V, C>(
+            me, licence, cell, from, to, validate, callback,
+        );
         let handle = lot.commit_one(rt, me, taken);
         self.close();
-        lot.wake_if_any(handle);
+        lot.wake(handle);
         result
     }
 
@@ -300,13 +309,13 @@ impl<'a, P: ThreadParkerT> Section<'a, P> {
         let lock = target.lock;
         let slot = target.claim.value_mut(lock).as_mut().unwrap();
         let other = slot.cell.as_mut().unwrap();
-        let (result, taken) = lot.requeue_across(
+        let (result, taken) = lot.requeue_across::<Brand, V, C>(
             me, licence, source, other, from, to, validate, callback,
         );
         let handle = lot.commit_one(rt, me, taken);
         self.close();
         target.close();
-        lot.wake_if_any(handle);
+        lot.wake(handle);
         result
     }
 

@@ -15,7 +15,6 @@ use super::ParkingLot;
 use super::handles::{HANDLES, Handles, Room};
 use crate::cell_steps::never;
 use crate::parker::{Letter, ThreadParkerT};
-use crate::told::add_return;
 use lot_base::queue::{Node, Queue};
 use lot_base::thread_parker::UnparkHandleT;
 use lot_history::history::{Part, Witness};
@@ -44,7 +43,7 @@ impl<P: ThreadParkerT> ParkingLot<P> {
         while let Some(node) = taken.pop_front() {
             let part = self.history.give(me);
             let handle = self.hand_over(rt, node, part);
-            self.wake_if_any(handles.put(handle));
+            self.wake(handles.put(handle));
         }
         handles
     }
@@ -86,20 +85,16 @@ impl<P: ThreadParkerT> ParkingLot<P> {
             .unpark_lock(rt, node, Letter { part })
     }
 
-    // Wakes the thread whose unpark was committed. Its number is that of a thread of this lot, so
-    // none is skipped; no contract of a handle says so.
-    pub(super) fn wake(&self, handle: P::UnparkHandle) {
+    // Wakes the thread whose unpark was committed, if there is one. Its number is that of a thread
+    // of this lot, so none is skipped; no contract of a handle says so.
+    #[inline]
+    pub(crate) fn wake(&self, handle: Option<P::UnparkHandle>) {
+        let Some(handle) = handle else {
+            return;
+        };
         let number = handle.number();
         if number < self.threads.len() {
             handle.unpark(self.parker(number));
-        }
-    }
-
-    // Wakes the thread whose unpark was committed, if there is one.
-    #[inline]
-    pub(crate) fn wake_if_any(&self, handle: Option<P::UnparkHandle>) {
-        if let Some(handle) = handle {
-            self.wake(handle);
         }
     }
 
@@ -110,7 +105,7 @@ impl<P: ThreadParkerT> ParkingLot<P> {
             let Some(handle) = handles.take() else {
                 return;
             };
-            self.wake(handle);
+            self.wake(Some(handle));
         }
     }
 
@@ -136,6 +131,8 @@ impl<P: ThreadParkerT> ParkingLot<P> {
         let Some(Letter { part }) = letter else {
             never(rt);
         };
-        add_return(&self.history, me, node.number, node.unpark_token, part)
+        self.history.take(me, part);
+        self.history.give_back(me, node.number, node.unpark_token);
+        self.history.give(me)
     }
 }

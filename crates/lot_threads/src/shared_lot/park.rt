@@ -1,15 +1,14 @@
 //! How a thread waits that entered the list of a key: it comes back, or leaves the list in which it
 //! stands then.
 
-ghost use Rattle.std.specs.Prelude.{◌≡◌, ◌≢◌, ◌∷◌, ◌<◌, ℕ, [], false, Bool, IfErr, IfNone, IfSome, None, OnOk, is_ok};
+ghost use Rattle.std.specs.Prelude.{◌≡◌, ◌≢◌, ◌∷◌, ◌<◌, [], None};
 ghost use Rattle.std.specs.Option.{is_some};
 ghost use Rattle.lot_base.specs.Node.{fields};
-ghost use Rattle.lot_history.specs.Witness.{events_of, id_of, max_threads_of, seen_by};
+ghost use Rattle.lot_history.specs.Witness.{id_of, max_threads_of};
 ghost use Rattle.lot_history.specs.declared.view.Piece.TheVariants.{Thread};
-ghost use Rattle.lot_threads.specs.Cells.{Has, IsBelow};
+ghost use Rattle.lot_threads.specs.Cells.{Has};
 ghost use Rattle.lot_threads.specs.Idle.{IsIdle, StaysIdle};
-ghost use Rattle.lot_threads.specs.Members.{entry_of};
-ghost use Rattle.lot_threads.specs.Within.{EndsWithin, Enters, MayTellTimeout, MayValidate, Refuses, TellsTimeout};
+ghost use Rattle.lot_threads.specs.Within.{EndsWithin, MayTellTimeout};
 
 use super::ParkingLot;
 use crate::critical_section::CriticalSection;
