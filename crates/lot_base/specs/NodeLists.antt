@@ -1,5 +1,5 @@
 -- The lists of waiters of all keys as a bucket has them: of nodes, whose keys tell the lists.
-use Rattle.std.specs.Prelude.{◌≡◌, ℕ, Bool, ◌==◌, min, ◌-◌, ◌^◌, List, map, filter}
+use Rattle.std.specs.Prelude.{◌≡◌, ℕ, Bool, false, ◌==◌, min, ◌-◌, ◌^◌, List, map, filter, Option, Some, None}
 use Rattle.lot_base.specs.declared.token.UnparkResult.{UnparkResult}
 use Rattle.lot_base.specs.declared.token.UnparkToken.{UnparkToken}
 use Rattle.lot_base.specs.NodeFields.{NodeFields}
@@ -28,6 +28,11 @@ split_to key split = record split { moved = map (with_new_key key) split.moved }
 -- whether a node is that of the thread of this number
 abbrev pub has_number : ℕ → NodeFields → Bool
 has_number number node = node.number == number
+
+-- whether the thread of a node that was found waits with a timeout
+abbrev pub is_timed : Option NodeFields → Bool
+is_timed None = false
+is_timed (Some node) = node.timed
 
 -- a count as far as a `usize` goes: a bucket alone does not know that its lists are short
 abbrev pub saturated : ℕ → ℕ

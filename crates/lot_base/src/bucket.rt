@@ -1,13 +1,13 @@
 //! The buckets of the hash table: the steps of parking and unparking on the queue of one bucket.
 
-ghost use Rattle.std.specs.Prelude.{◌≡◌, ℕ, [], ◌∷◌, ◌++◌, ◌<◌, map, IfErr, IfSome, OnOk, IfOk, IsOkAnd, OnErr, is_ok, IsTrue, length, List, ◌≢◌, ◌↔◌, find, not, None, Some, IsNone, MatchOption};
+ghost use Rattle.std.specs.Prelude.{◌≡◌, true, false, ℕ, [], ◌∷◌, ◌++◌, ◌<◌, map, IfErr, IfSome, OnOk, IfOk, IsOkAnd, OnErr, is_ok, IsTrue, length, List, ◌≢◌, ◌↔◌, find, not, None, Some, IsNone, MatchOption};
 ghost use Rattle.lot_base.specs.Filter.{IsFilterCallable, IsFiltered, park_tokens};
 ghost use Rattle.lot_base.specs.Node.{fields, option_nodes};
 ghost use Rattle.lot_base.specs.Place.{IsTableSize, place_of};
 ghost use Rattle.lot_base.specs.BucketState.{KeepsPlace};
 ghost use Rattle.lot_base.specs.Requeue.{numbers, AreCallable, AreCalled};
 ghost use Rattle.lot_base.specs.Waiting.{split_first, split_all, split_filter, split_by, lists_after_requeue, has_any, result_of, without_first};
-ghost use Rattle.lot_base.specs.NodeLists.{lists_of, ChangesOnly, saturated, with_saturated_counts, with_token, split_to, has_number};
+ghost use Rattle.lot_base.specs.NodeLists.{lists_of, ChangesOnly, saturated, with_saturated_counts, with_token, split_to, has_number, is_timed};
 ghost use Rattle.lot_base.specs.declared.token.FilterOp.{FilterOp};
 ghost use Rattle.lot_base.specs.declared.token.RequeueOp.{RequeueOp};
 
@@ -18,7 +18,8 @@ use crate::queue::{Node, Queue};
 use crate::token::{FilterOp, NoMemory, ParkToken, RequeueOp, UnparkResult, UnparkToken};
 use lot_word_lock::word_lock::Fits;
 use passing::{
-    queue_of, take_chosen, take_every, take_first, take_numbered, with_unpark_token, write_token,
+    queue_of, take_chosen, take_every, take_first, take_numbered, waits_timed, with_unpark_token,
+    write_token,
 };
 use requeue::requeue_from;
 use std::alloc::Global;
@@ -375,6 +376,32 @@ impl Bucket {
         let (node, last) = take_numbered(&mut self.queue, number, key)?;
         let answer = timed_out(key, last);
         Some((node, answer))
+    }
+
+    /// Takes the waiter of the key with this number out of the bucket, if it waits with a timeout,
+    /// and tells whether the key has no other waiter. `None` says that the key has no such waiter;
+    /// nothing changed then.
+    ///
+    /// It visits the nodes up to the waiter twice, and those up to the next one of the key once. It
+    /// moves boxes and allocates nothing.
+    ///
+    /// Upstream has no such call: there a thread whose deadline has passed finds its own node.
+    pub fn remove_timed(&mut self, number: usize, key: usize) -> Option<(Box<Node>, bool)>
+        ensures place { KeepsPlace self.old self.new }
+        ensures removed { let waiters = lists_of self.old.nodes key in
+            MatchOption result
+            ((is_timed (find (has_number number) waiters) ≡ false) × (self.new ≡ self.old))
+            (λ (node, last). (find (has_number number) waiters ≡ Some (fields node.value))
+            × ((fields node.value).timed ≡ true)
+            × (last ≡ not (has_any (without_first (has_number number) waiters)))
+            × ChangesOnly self.old.nodes self.new.nodes key
+            (without_first (has_number number) waiters)) }
+    {
+        if !waits_timed(&mut self.queue, number, key) {
+            return None;
+        }
+        let (node, last) = take_numbered(&mut self.queue, number, key)?;
+        Some((node, last))
     }
 
     /// Takes the bucket's first node, whatever its key, or answers `None` exactly if the bucket is

@@ -147,7 +147,7 @@ impl<'a, P: ThreadParkerT> Section<'a, P> {
 
     /// Unparks the first thread of the key, if there is one, and wakes it once the bucket was let
     /// go.
-    #[inline]
+    #[inline(always)]
     pub(crate) fn unpark_one<R: Wait, C: FnOnce(&CriticalSection, UnparkResult) -> UnparkToken>(
         mut self,
         rt: &R,
@@ -321,7 +321,7 @@ impl<'a, P: ThreadParkerT> Section<'a, P> {
 
     /// Puts a thread last in the list of the key, if `validate` answers true, or gives its piece
     /// and its node back.
-    #[inline]
+    #[inline(always)]
     pub(crate) fn enter<V: FnOnce(&CriticalSection) -> bool>(
         mut self,
         me: &mut Witness,
@@ -362,9 +362,8 @@ impl<'a, P: ThreadParkerT> Section<'a, P> {
 
     /// Takes a thread whose deadline has passed out of the list of the key and calls `timed_out`,
     /// or answers `None` if it does not stand there, since an unpark took it.
-    pub(crate) fn leave<R: Wait, T: FnOnce(&CriticalSection, usize, bool)>(
+    pub(crate) fn leave<T: FnOnce(&CriticalSection, usize, bool)>(
         mut self,
-        rt: &R,
         me: &mut Witness,
         licence: Licence,
         number: usize,
@@ -386,7 +385,7 @@ impl<'a, P: ThreadParkerT> Section<'a, P> {
         let lock = self.lock;
         let slot = self.claim.value_mut(lock).as_mut().unwrap();
         let cell = slot.cell.as_mut().unwrap();
-        let left = leave_in(rt, history, me, licence, cell, number, key, timed_out);
+        let left = leave_in(history, me, licence, cell, number, key, timed_out);
         self.close();
         left
     }

@@ -4,7 +4,7 @@ ghost use Rattle.std.specs.Prelude.{◌≡◌, [], ◌++◌, map, take, drop, If
 ghost use Rattle.lot_base.specs.Filter.{IsFilterCallable, IsFiltered, park_tokens};
 ghost use Rattle.lot_base.specs.Node.{fields, option_nodes};
 ghost use Rattle.lot_base.specs.Waiting.{split_filter, has_any, result_of, without_first};
-ghost use Rattle.lot_base.specs.NodeLists.{lists_of, ChangesOnly, saturated, with_saturated_counts, with_token, has_number};
+ghost use Rattle.lot_base.specs.NodeLists.{lists_of, ChangesOnly, saturated, with_saturated_counts, with_token, has_number, is_timed};
 ghost use Rattle.lot_base.specs.declared.token.FilterOp.{FilterOp};
 
 use crate::queue::{Node, Queue};
@@ -203,6 +203,34 @@ fn take_next_numbered(
         passed.push_back(node);
     }
     None
+}
+
+// Whether the key's first node of this number is one of a thread that waits with a timeout.
+pub(super) fn waits_timed(queue: &mut Queue, number: usize, key: usize) -> bool
+    ensures nodes { queue.new ≡ queue.old }
+    ensures timed { result ≡ is_timed (find (has_number number) (lists_of queue.old key)) }
+{
+    let mut passed = Queue::new();
+    let timed = pass_to_numbered(queue, &mut passed, number, key);
+    passed.append(queue);
+    *queue = passed;
+    timed
+}
+
+// Looks whether the key's first node of this number waits with a timeout; it and those before it go
+// behind `passed`.
+fn pass_to_numbered(queue: &mut Queue, passed: &mut Queue, number: usize, key: usize) -> bool
+    ensures nodes { passed.new ++ queue.new ≡ passed.old ++ queue.old }
+    ensures timed { result ≡ is_timed (find (has_number number) (lists_of queue.old key)) }
+{
+    match take_next_numbered(queue, passed, number, key) {
+        Some(node) => {
+            let timed = node.timed;
+            passed.push_back(node);
+            timed
+        }
+        None => false,
+    }
 }
 
 // The node with the token that its thread is handed.

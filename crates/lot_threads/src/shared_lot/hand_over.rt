@@ -13,7 +13,6 @@ ghost use Rattle.lot_threads.specs.Idle.{IsIdle, StaysIdle};
 
 use super::ParkingLot;
 use super::handles::{HANDLES, Handles, Room};
-use crate::cell_steps::never;
 use crate::parker::{Letter, ThreadParkerT};
 use lot_base::queue::{Node, Queue};
 use lot_base::thread_parker::UnparkHandleT;
@@ -21,6 +20,7 @@ use lot_history::history::{Part, Witness};
 use lot_machine::status::Status;
 use lot_machine::step::{Answer, Step};
 use std::sync::Wait;
+use std::thread;
 
 impl<P: ThreadParkerT> ParkingLot<P> {
     // Commits the unparks of all nodes that were taken, in order. It wakes the threads for whose
@@ -129,7 +129,10 @@ impl<P: ThreadParkerT> ParkingLot<P> {
             (Thread node.now.number Status.Running ∷ []) result }
     {
         let Some(Letter { part }) = letter else {
-            never(rt);
+            for _ in rt.forever() {
+                thread::yield_now();
+            }
+            unreachable!()
         };
         self.history.take(me, part);
         self.history.give_back(me, node.number, node.unpark_token);

@@ -54,7 +54,7 @@ impl<P: ThreadParkerT> ParkingLot<P> {
             return (ParkResult::Unparked(node.unpark_token), thread, node);
         }
         let (section, licence) = self.open_own(rt, number);
-        if let Some((thread, node)) = section.leave(rt, me, licence, number, timed_out) {
+        if let Some((thread, node)) = section.leave(me, licence, number, timed_out) {
             return (ParkResult::TimedOut, thread, node);
         }
         let (node, letter) = parker.park(rt);
