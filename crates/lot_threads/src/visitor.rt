@@ -56,6 +56,24 @@ impl<'a, P: ThreadParkerT> Model for Visitor<'a, P> {
     } };
 }
 
+impl<P: ThreadParkerT> ParkingLot<P> {
+    /// A visitor of the lot: a caller with a witness of its own, which has seen nothing and added
+    /// nothing. It costs a load.
+    ///
+    /// Upstream has no such call.
+    #[inline]
+    pub fn visitor(&self) -> Visitor<'_, P>
+        ensures lot { result.history ≡ self.now }
+        ensures nothing_seen { seen_by result.witness ≡ [] }
+        ensures nothing_added { events_of result.witness ≡ [] }
+    {
+        Visitor {
+            lot: self,
+            witness: self.history().witness(),
+        }
+    }
+}
+
 impl<'a, P: ThreadParkerT> Visitor<'a, P> {
     /// A visitor of the lot whose witness this is, as one that `tell` or `Member::retire` gave.
     pub fn of(lot: &'a ParkingLot<P>, witness: Witness) -> Visitor<'a, P>
