@@ -1,6 +1,7 @@
 //! Tests of the protocols of locks, on every schedule of their threads.
 #![tactic(auto)]
 
+mod blame;
 mod buckets;
 pub mod certificate;
 pub mod code;

@@ -1,0 +1,46 @@
+//! Where a step shows a fault.
+
+use crate::code::{Code, Thread};
+use crate::local::Locally;
+use crate::perform::Performed;
+use crate::reached::Reached;
+use crate::state::{Progress, State};
+use crate::test::Test;
+
+// How many local instructions a thread does at once, at most.
+const MOST_LOCAL: usize = 256;
+
+impl State {
+    // How far the thread comes by local instructions, up to one that is a step or shows a fault.
+    fn local_end(&self, code: &Code, thread: Thread, progress: Progress) -> Progress {
+        let mut state = *self;
+        let mut progress = progress;
+        for _ in 0..MOST_LOCAL {
+            state.threads[thread.index()] = progress;
+            let Some(instruction) = code.at(progress.at) else {
+                return progress;
+            };
+            match state.do_locally(progress, instruction) {
+                Locally::Advances(next) => progress = next,
+                Locally::Rests | Locally::Errs(_) => return progress,
+            }
+        }
+        progress
+    }
+}
+
+impl Test {
+    /// How far the thread comes by a step that shows a fault: to the instruction that shows it.
+    pub fn progress_at_fault(&self, from: &Reached, thread: Thread) -> Progress {
+        let state = from.state();
+        let progress = state.threads[thread.index()];
+        let code = &self.codes[thread.index()];
+        let Some(instruction) = code.at(progress.at) else {
+            return progress;
+        };
+        match state.perform(self, thread, progress, instruction) {
+            Performed::Does(next, progress) => next.local_end(code, thread, progress),
+            Performed::Cannot | Performed::Mistakes(_) => progress,
+        }
+    }
+}
