@@ -1,0 +1,83 @@
+//! `litmus show`, `litmus script` and `litmus answers`: what comes of a file, and the shortest way
+//! to what is wrong with it.
+
+use crate::case::plain_case;
+use crate::grade::Grade;
+use crate::picture::picture;
+use crate::request::{Command, Request};
+use crate::scene::Scene;
+use crate::script::Script;
+use crate::style::Style;
+use crate::summary::push_summary;
+use crate::text::text_of;
+use crate::trial::{Outcome, Trial, try_text};
+use lot_litmus::parse::ParseError;
+use std::alloc::{AllocError, Global};
+use std::rt::Files;
+
+/// Searches the file, and shows what came in the way that is asked for.
+pub fn show<R: Files + Print + AllocGlobal>(
+    rt: &R,
+    request: &Request,
+    style: Style,
+) -> anyhow::Result<Grade> {
+    let Some(file) = request.files.first() else {
+        return Ok(Grade::Unusable);
+    };
+    let Some(text) = text_of(rt, file.as_str())? else {
+        return Ok(Grade::Unusable);
+    };
+    match tried(rt.alloc(), request, text.as_str()) {
+        Ok(trial) => {
+            let page = page_of(rt.alloc(), (request, file.as_str()), &trial, style)?;
+            rt.print(page.as_str())?;
+            Ok(grade_of(request.command, &trial))
+        }
+        Err(error) => {
+            println!(rt; "{file}: {error}")?;
+            Ok(Grade::Unusable)
+        }
+    }
+}
+
+// What comes of the text with the numbers of the request.
+fn tried(alloc: Global, request: &Request, text: &str) -> Result<Trial, ParseError> {
+    let case = plain_case(alloc, request)?;
+    let pairs = case.pairs(alloc)?;
+    try_text(alloc, text, pairs.as_slice(), request.most)
+}
+
+// There is a script only of what is wrong.
+fn grade_of(command: Command, trial: &Trial) -> Grade {
+    match (command, &trial.outcome) {
+        (_, Outcome::Wrong(_)) => Grade::Expected,
+        (Command::Script | Command::Answers, _) => Grade::Unexpected,
+        _ => trial.grade(),
+    }
+}
+
+// A script or its answers, if there are some, and else what came, with a picture of it.
+fn page_of(
+    alloc: Global,
+    (request, file): (&Request, &str),
+    trial: &Trial,
+    style: Style,
+) -> Result<String, AllocError> {
+    let mut page = String::new(alloc);
+    if let Outcome::Wrong(walk) = &trial.outcome {
+        let scene = Scene {
+            parsed: &trial.parsed,
+            walk,
+        };
+        match request.command {
+            Command::Script => return Ok(Script::of(alloc, scene)?.lines),
+            Command::Answers => return Ok(Script::of(alloc, scene)?.answers),
+            _ => page = picture(alloc, scene, style)?,
+        }
+    }
+    let mut line = format!(in alloc; "{file}: ")?;
+    push_summary(&mut line, trial, request.most)?;
+    writeln!(line, "")?;
+    line.push_str(page.as_str())?;
+    Ok(line)
+}
