@@ -8,7 +8,7 @@ use std::{fs, io};
 // What the name of a file of a protocol ends with.
 const ENDING: &str = ".litmus";
 
-/// The names, but for each folder those of the protocols in it, in order.
+/// The names, but for each folder with protocols in it theirs, in order.
 pub fn files_of<R: Files + AllocGlobal + Clone + Drop>(
     rt: &R,
     names: &[String],
@@ -21,15 +21,28 @@ pub fn files_of<R: Files + AllocGlobal + Clone + Drop>(
                 for entry in folder {
                     add(&mut found, entry?.path().path_text())?;
                 }
-                found.sort()?;
-                for file in found {
-                    files.push(file)?;
-                }
+                push_sorted(&mut files, found, name.as_str())?;
             }
             Err(_) => files.push(name.clone()?)?,
         }
     }
     Ok(files)
+}
+
+// Adds those that were found in the folder, or the folder if there are none, which is no text.
+fn push_sorted(
+    files: &mut Vec<String>,
+    mut found: Vec<String>,
+    folder: &str,
+) -> Result<(), AllocError> {
+    if found.is_empty() {
+        found.push(String::from_str(*files.allocator(), folder)?)?;
+    }
+    found.sort()?;
+    for file in found {
+        files.push(file)?;
+    }
+    Ok(())
 }
 
 // Adds the file, if it is one of a protocol.

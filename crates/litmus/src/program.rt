@@ -51,7 +51,9 @@ fn run_request<R: Env + Files + Print + Clock + AllocGlobal + Clone + Drop>(
     let Some(mut request) = Request::of(rt.alloc(), words)? else {
         return Ok(None);
     };
-    request.files = files_of(rt, request.files.as_slice())?;
+    if request.command.takes_several() {
+        request.files = files_of(rt, request.files.as_slice())?;
+    }
     let style = Style {
         look: request.look,
         width: width(rt),

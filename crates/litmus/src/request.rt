@@ -38,8 +38,8 @@ impl Command {
         }
     }
 
-    // Whether it takes several files.
-    fn takes_several(self) -> bool {
+    /// Whether it takes several files, and folders.
+    pub fn takes_several(self) -> bool {
         match self {
             Command::Check | Command::Sizes => true,
             Command::Show | Command::Script | Command::Answers => false,
