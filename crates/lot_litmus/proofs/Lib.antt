@@ -3,5 +3,5 @@ mod QueueLemmas
 mod PartLemmas
 mod StepLemmas
 mod BoundLemmas
-pub mod KeepLemmas
-mod CertificateLemmas
+pub mod MoveLemmas
+mod SearchLemmas

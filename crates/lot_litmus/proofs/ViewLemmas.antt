@@ -28,12 +28,12 @@ use Rattle.lot_litmus.specs.Queues.{entries_of, parted, placed, has_thread, with
 use Rattle.lot_litmus.specs.View.{waiter_of, status_by, waiters_by, machine_of, configuration_of}
 use Rattle.lot_litmus.proofs.QueueLemmas.{take_here}
 
-slice_get-set_same : {A : Type 0} (xs : List A) (i : ℕ) (a : A) → i < length xs
+pub slice_get-set_same : {A : Type 0} (xs : List A) (i : ℕ) (a : A) → i < length xs
     → slice_get (slice_set xs i a) i ≡ Some a
 slice_get-set_same xs i a below =
     slice_get-get_or (slice_set xs i a) i a (rw (length-set xs i a) below) ∙ ap Some (get_or-set_same xs i a a below)
 
-slice_get-set_other : {A : Type 0} (xs : List A) (i k : ℕ) (a : A) → k ≢ i
+pub slice_get-set_other : {A : Type 0} (xs : List A) (i k : ℕ) (a : A) → k ≢ i
     → slice_get (slice_set xs i a) k ≡ slice_get xs k
 slice_get-set_other xs i k a other =
     ⊎_elim

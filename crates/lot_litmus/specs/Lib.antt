@@ -2,10 +2,11 @@
 pub mod Configuration
 pub mod Steps
 pub mod Schedule
+pub mod MachineSteps
 -- Then what a search keeps.
 pub mod Queues
 pub mod View
 pub mod Performing
 pub mod Outcomes
-pub mod Certificate
+pub mod Search
 pub mod Found

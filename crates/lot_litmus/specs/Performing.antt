@@ -5,6 +5,7 @@ use Rattle.lot_litmus.specs.declared.local.Locally.{Locally}
 use Rattle.lot_litmus.specs.declared.local.Locally.TheVariants as locally
 use Rattle.lot_litmus.specs.declared.perform.Performed.{Performed}
 use Rattle.lot_litmus.specs.declared.perform.Performed.TheVariants as performed
+use Rattle.lot_litmus.specs.declared.state.State.{State}
 use Rattle.lot_litmus.specs.Steps as steps
 use Rattle.lot_litmus.specs.View.{configuration_of}
 
@@ -13,12 +14,13 @@ locally_of locally.Rests = steps.Rests
 locally_of (locally.Advances p) = steps.Advances p
 locally_of (locally.Errs fault) = steps.Errs fault
 
-abbrev pub performed_of : Performed → steps.Performed
-performed_of performed.Cannot = steps.Cannot
-performed_of (performed.Does state p) = steps.Does (configuration_of state) p
-performed_of (performed.Mistakes fault) = steps.Mistakes fault
+-- where the state is this afterwards
+abbrev pub performed_of : Performed → State → steps.Performed
+performed_of performed.Cannot state = steps.Cannot
+performed_of (performed.Does p) state = steps.Does (configuration_of state) p
+performed_of (performed.Mistakes fault) state = steps.Mistakes fault
 
-abbrev pub after_of : After → steps.Outcome
-after_of after.Blocked = steps.Blocked
-after_of (after.Goes state) = steps.Goes (configuration_of state)
-after_of (after.Fails fault) = steps.Fails fault
+abbrev pub after_of : After → State → steps.Outcome
+after_of after.Blocked state = steps.Blocked
+after_of after.Goes state = steps.Goes (configuration_of state)
+after_of (after.Fails fault) state = steps.Fails fault

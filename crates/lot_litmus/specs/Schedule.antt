@@ -33,6 +33,11 @@ abbrev pub CanEnd : Test → Outcome → Type 0
 CanEnd test (Goes c) = (rest : List ℕ) × HasEnded test (run test c rest)
 CanEnd test _ = ⊥
 
+-- from here they never all end, however they go on
+abbrev pub IsStuck : Test → Outcome → Type 0
+IsStuck test (Goes c) = (rest : List ℕ) → HasEnded test (run test c rest) → ⊥
+IsStuck test _ = ⊥
+
 -- on every schedule there is no fault, and wherever it leads, all threads can still come to their ends
 abbrev pub IsSafe : Test → Type 0
 IsSafe test = (schedule : List ℕ) → CanEnd test (run test (first_of test) schedule)

@@ -12,15 +12,14 @@ const MOST_LOCAL: usize = 256;
 
 impl State {
     // How far the thread comes by local instructions, up to one that is a step or shows a fault.
-    fn local_end(&self, code: &Code, thread: Thread, progress: Progress) -> Progress {
-        let mut state = *self;
+    fn local_end(mut self, code: &Code, thread: Thread, progress: Progress) -> Progress {
         let mut progress = progress;
         for _ in 0..MOST_LOCAL {
-            state.threads[thread.index()] = progress;
+            self.threads[thread.index()] = progress;
             let Some(instruction) = code.at(progress.at) else {
                 return progress;
             };
-            match state.do_locally(progress, instruction) {
+            match self.do_locally(progress, instruction) {
                 Locally::Advances(next) => progress = next,
                 Locally::Rests | Locally::Errs(_) => return progress,
             }
@@ -32,14 +31,14 @@ impl State {
 impl Test {
     /// How far the thread comes by a step that shows a fault: to the instruction that shows it.
     pub fn progress_at_fault(&self, from: &Reached, thread: Thread) -> Progress {
-        let state = from.state();
+        let mut state = *from.state();
         let progress = state.threads[thread.index()];
         let code = &self.codes[thread.index()];
         let Some(instruction) = code.at(progress.at) else {
             return progress;
         };
         match state.perform(self, thread, progress, instruction) {
-            Performed::Does(next, progress) => next.local_end(code, thread, progress),
+            Performed::Does(progress) => state.local_end(code, thread, progress),
             Performed::Cannot | Performed::Mistakes(_) => progress,
         }
     }

@@ -52,6 +52,17 @@ impl Thread {
     {
         self.number as usize
     }
+
+    /// Which one it is once two have changed places.
+    pub fn exchanged(self, thread: Thread, other: Thread) -> Thread {
+        if self == thread {
+            other
+        } else if self == other {
+            thread
+        } else {
+            self
+        }
+    }
 }
 
 /// A number that an instruction is given.

@@ -1,12 +1,14 @@
 //! Every state to which a test can come.
 
-ghost use Rattle.std.specs.Prelude.{IfOk};
+ghost use Rattle.std.specs.Prelude.{◌≡◌, IfOk, IsTrue, Some, false, length, slice_get};
 ghost use Rattle.lot_litmus.specs.Found.{Holds};
+ghost use Rattle.lot_litmus.specs.Outcomes.{numbers_of};
+ghost use Rattle.lot_litmus.specs.Schedule.{IsStuck, first_of, run};
+ghost use Rattle.lot_litmus.specs.Search.{IsSearch};
 
-use crate::code::{THREADS, Thread};
-use crate::reached::Reached;
-use crate::search::Search;
-use crate::step::Next;
+use crate::code::Thread;
+use crate::ends::first_unmarked;
+use crate::search::{Search, is_at};
 use crate::test::{Fault, Test};
 use std::alloc::{AllocError, Global};
 
@@ -24,6 +26,10 @@ pub enum Found {
 
     /// There are more states than the search was to look at, so nothing is known.
     TooMany,
+
+    /// The schedule of a fault did not show it when it was run again, or that of a stuck state did
+    /// not lead there, so nothing is known. This never comes, but nothing is proved of that.
+    Unknown,
 }
 
 /// Looks at every state to which the test can come, but at no more than so many.
@@ -34,57 +40,61 @@ pub enum Found {
 pub fn explore(alloc: Global, test: &Test, most: usize) -> Result<Found, AllocError>
     ensures { IfOk result (λ found. Holds test.now found) }
 {
-    let mut search = Search::new(alloc, Reached::first(test))?;
+    let mut search = Search::new(alloc, test)?;
     for index in 0..most {
-        if index >= search.states().len() {
+        if search.leads().len() >= search.states().len() {
             return judge(alloc, test, &search);
         }
-        if let Some((thread, fault)) = expand(test, &mut search, index)? {
+        if let Some(thread) = search.look(test)? {
             let mut schedule = search.schedule(alloc, index)?;
             schedule.push(thread)?;
-            return Ok(Found::Fails { schedule, fault });
+            return Ok(failing(test, schedule));
         }
     }
     Ok(Found::TooMany)
 }
 
-// Adds the states to which a step leads from this one, or tells whose step shows a fault.
-fn expand(
-    test: &Test,
-    search: &mut Search,
-    index: usize,
-) -> Result<Option<(Thread, Fault)>, AllocError> {
-    for number in 0..THREADS as u8 {
-        let thread = Thread { number };
-        let Some(from) = search.states().get(index) else {
-            return Ok(None);
-        };
-        match test.step(from, thread) {
-            Next::Blocked => (),
-            Next::Goes(next) => search.add(index, thread, next)?,
-            Next::Fails(fault) => return Ok(Some((thread, fault))),
-        }
+/// The fault that the schedule shows.
+pub(crate) fn failing(test: &Test, schedule: Vec<Thread>) -> Found
+    ensures { Holds test.now result }
+{
+    match test.replay(schedule.as_slice()) {
+        Err(fault) => Found::Fails { schedule, fault },
+        Ok(_) => Found::Unknown,
     }
-    Ok(None)
 }
 
 // Whether all threads can come to their ends from each state that was found.
 fn judge(alloc: Global, test: &Test, search: &Search) -> Result<Found, AllocError>
+    requires search { IsSearch test.now search.now }
+    requires complete { length search.now.leads.items ≡ length search.now.states.items }
     ensures { IfOk result (λ found. Holds test.now found) }
 {
-    let distances = search.distances(alloc, test)?;
-    if let Some(index) = distances
-        .iter()
-        .position(|&distance| distance == usize::MAX)
-    {
-        let schedule = search.schedule(alloc, index)?;
-        return Ok(Found::Stuck { schedule });
-    }
-    if test.is_certified(search.states(), distances.as_slice(), search.seen()) {
-        Ok(Found::Safe {
+    let marks = search.hopeful(alloc, test)?;
+    let Some(index) = first_unmarked(marks.as_slice()) else {
+        return Ok(Found::Safe {
             states: search.states().len(),
-        })
+        });
+    };
+    let schedule = search.schedule(alloc, index)?;
+    if is_stuck(test, search, marks.as_slice(), index, schedule.as_slice()) {
+        Ok(Found::Stuck { schedule })
     } else {
-        Ok(Found::TooMany)
+        Ok(Found::Unknown)
+    }
+}
+
+// Whether the schedule leads to the state at the index, and from there no end can be reached.
+fn is_stuck(test: &Test, search: &Search, marks: &[bool], index: usize, schedule: &[Thread]) -> bool
+    requires search { IsSearch test.now search.now }
+    requires complete { length search.now.leads.items ≡ length search.now.states.items }
+    requires all { length marks.now ≡ length search.now.states.items }
+    requires unmarked { slice_get marks.now index ≡ Some false }
+    ensures { IsTrue result → IsStuck test.now
+        (run test.now (first_of test.now) (numbers_of schedule.now)) }
+{
+    match test.replay(schedule) {
+        Ok(end) => { is_at(search.states(), index, end.state()) && search.are_lost(test, marks) }
+        Err(_) => false,
     }
 }

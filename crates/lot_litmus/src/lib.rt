@@ -1,13 +1,17 @@
 //! Tests of the protocols of locks, on every schedule of their threads.
 #![tactic(auto)]
 
+mod alike;
 mod blame;
 mod buckets;
-pub mod certificate;
 pub mod code;
+mod ends;
 pub mod explore;
+mod hash;
+pub mod laws;
 mod local;
 mod lot;
+mod movers;
 mod operation;
 mod parking;
 pub mod parse;
@@ -15,6 +19,8 @@ mod perform;
 mod progress;
 pub mod queue;
 pub mod reached;
+pub mod reduced;
+pub mod replay;
 mod same;
 mod search;
 pub mod seen;

@@ -20,23 +20,20 @@ impl State {
         self.queues[key.number]
     }
 
-    // With another queue of the key.
-    fn with_queue(&self, key: Key, queue: Queue) -> State
-        ensures { result ≡ record self.now { queues = slice_set self.now.queues key.number queue } }
+    // Puts another queue in the place of the key's.
+    fn set_queue(&mut self, key: Key, queue: Queue)
+        ensures { self.new
+            ≡ record self.old { queues = slice_set self.old.queues key.number queue } }
     {
-        let mut next = *self;
-        next.queues[key.number] = queue;
-        next
+        self.queues[key.number] = queue;
     }
 
-    // With the thread doing something else in the lot.
-    fn with_standing(&self, thread: Thread, standing: Standing) -> State
-        ensures { result
-            ≡ record self.now { standings = slice_set self.now.standings thread.number standing } }
+    // Lets the thread do something else in the lot.
+    fn set_standing(&mut self, thread: Thread, standing: Standing)
+        ensures { self.new
+            ≡ record self.old { standings = slice_set self.old.standings thread.number standing } }
     {
-        let mut next = *self;
-        next.standings[thread.index()] = standing;
-        next
+        self.standings[thread.index()] = standing;
     }
 
     // What the thread is doing in the lot.
@@ -46,52 +43,50 @@ impl State {
         self.standings[thread.index()]
     }
 
-    // With the thread doing something else, in no other queue.
-    pub(crate) fn turned(&self, thread: Thread, standing: Standing) -> State
-        ensures machine { machine_of result.queues result.standings
-            ≡ with_status (machine_of self.now.queues self.now.standings) thread.number
+    // Lets the thread do something else, in no other queue.
+    pub(crate) fn turn(&mut self, thread: Thread, standing: Standing)
+        ensures machine { machine_of self.new.queues self.new.standings
+            ≡ with_status (machine_of self.old.queues self.old.standings) thread.number
             (status_by (Some standing)) }
-        ensures words { result.words ≡ self.now.words }
-        ensures threads { result.threads ≡ self.now.threads }
+        ensures words { self.new.words ≡ self.old.words }
+        ensures threads { self.new.threads ≡ self.old.threads }
     {
-        self.with_standing(thread, standing)
+        self.set_standing(thread, standing);
     }
 
-    // With those of the queue unparked who are chosen.
-    pub(crate) fn unparked(&self, key: Key, taken: u8, token: u8) -> State
-        ensures machine { machine_of result.queues result.standings
-            ≡ after_unpark (machine_of self.now.queues self.now.standings) key.number
-            (parted taken 0 (waiters_by (slice_get self.now.queues key.number)))
+    // Unparks those of the queue who are chosen.
+    pub(crate) fn take_chosen(&mut self, key: Key, taken: u8, token: u8)
+        ensures machine { machine_of self.new.queues self.new.standings
+            ≡ after_unpark (machine_of self.old.queues self.old.standings) key.number
+            (parted taken 0 (waiters_by (slice_get self.old.queues key.number)))
             (record { 0 = token }) }
-        ensures words { result.words ≡ self.now.words }
-        ensures threads { result.threads ≡ self.now.threads }
+        ensures words { self.new.words ≡ self.old.words }
+        ensures threads { self.new.threads ≡ self.old.threads }
     {
         let parts = self.queue(key).part(Chosen { taken, moved: 0 });
-        let mut next = self.with_queue(key, parts.left);
-        next.take_all(&parts.taken, token);
-        next
+        self.set_queue(key, parts.left);
+        self.take_all(&parts.taken, token);
     }
 
-    // With those of the queue unparked who are to be taken, and those moved who are to be moved.
-    pub(crate) fn requeued(&self, key: Key, other: Key, chosen: Chosen, token: u8) -> State
-        requires { length ((after_requeue (machine_of self.now.queues self.now.standings)
+    // Unparks those of the queue who are to be taken, and moves those who are to be moved.
+    pub(crate) fn move_chosen(&mut self, key: Key, other: Key, chosen: Chosen, token: u8)
+        requires { length ((after_requeue (machine_of self.old.queues self.old.standings)
             key.number other.number (parted chosen.taken chosen.moved
-            (waiters_by (slice_get self.now.queues key.number))) (record { 0 = token })).lists
+            (waiters_by (slice_get self.old.queues key.number))) (record { 0 = token })).lists
             other.number) ≤ 6 }
-        ensures machine { machine_of result.queues result.standings
-            ≡ after_requeue (machine_of self.now.queues self.now.standings) key.number other.number
+        ensures machine { machine_of self.new.queues self.new.standings
+            ≡ after_requeue (machine_of self.old.queues self.old.standings) key.number other.number
             (parted chosen.taken chosen.moved
-            (waiters_by (slice_get self.now.queues key.number))) (record { 0 = token }) }
-        ensures words { result.words ≡ self.now.words }
-        ensures threads { result.threads ≡ self.now.threads }
+            (waiters_by (slice_get self.old.queues key.number))) (record { 0 = token }) }
+        ensures words { self.new.words ≡ self.old.words }
+        ensures threads { self.new.threads ≡ self.old.threads }
     {
         let parts = self.queue(key).part(chosen);
-        let kept = self.with_queue(key, parts.left);
-        let mut target = kept.queue(other);
+        self.set_queue(key, parts.left);
+        let mut target = self.queue(other);
         target.append(&parts.moved, 0);
-        let mut next = kept.with_queue(other, target);
-        next.take_all(&parts.taken, token);
-        next
+        self.set_queue(other, target);
+        self.take_all(&parts.taken, token);
     }
 
     // Hands the token to those who were taken.
@@ -122,14 +117,14 @@ impl State {
 }
 
 impl State {
-    // With the thread last in the queue of the key.
-    pub(crate) fn entered(&self, thread: Thread, key: Key, token: u8, timing: Timing) -> State
-        requires { length (waiters_by (slice_get self.now.queues key.number)) < 6 }
-        ensures machine { machine_of result.queues result.standings
-            ≡ after_enter (machine_of self.now.queues self.now.standings) thread.number key.number
+    // Puts the thread last into the queue of the key.
+    pub(crate) fn enter(&mut self, thread: Thread, key: Key, token: u8, timing: Timing)
+        requires { length (waiters_by (slice_get self.old.queues key.number)) < 6 }
+        ensures machine { machine_of self.new.queues self.new.standings
+            ≡ after_enter (machine_of self.old.queues self.old.standings) thread.number key.number
             (record { 0 = token }) (is_timed timing) }
-        ensures words { result.words ≡ self.now.words }
-        ensures threads { result.threads ≡ self.now.threads }
+        ensures words { self.new.words ≡ self.old.words }
+        ensures threads { self.new.threads ≡ self.old.threads }
     {
         let mut queue = self.queue(key);
         queue.push(Entry {
@@ -137,20 +132,21 @@ impl State {
             token,
             timing,
         });
-        self.with_queue(key, queue)
-            .with_standing(thread, Standing::Waiting(timing))
+        self.set_queue(key, queue);
+        self.set_standing(thread, Standing::Waiting(timing));
     }
 
-    // With the thread gone from the queue of the key.
-    pub(crate) fn left(&self, thread: Thread, key: Key) -> State
-        ensures machine { machine_of result.queues result.standings
-            ≡ after_timeout (machine_of self.now.queues self.now.standings) thread.number
+    // Takes the thread out of the queue of the key.
+    pub(crate) fn leave(&mut self, thread: Thread, key: Key)
+        ensures machine { machine_of self.new.queues self.new.standings
+            ≡ after_timeout (machine_of self.old.queues self.old.standings) thread.number
             key.number }
-        ensures words { result.words ≡ self.now.words }
-        ensures threads { result.threads ≡ self.now.threads }
+        ensures words { self.new.words ≡ self.old.words }
+        ensures threads { self.new.threads ≡ self.old.threads }
     {
-        self.with_queue(key, self.queue(key).without(thread))
-            .with_standing(thread, Standing::Running)
+        let left = self.queue(key).without(thread);
+        self.set_queue(key, left);
+        self.set_standing(thread, Standing::Running);
     }
 
     // Whether nobody else waits on the key.

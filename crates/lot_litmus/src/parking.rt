@@ -38,18 +38,18 @@ impl State {
     ghost use Rattle.lot_litmus.specs.Steps.{parked, leaving, sleeping, left, giving_up, unparked, decisions_on, Does};
 
     // The thread comes to wait, if that is valid.
-    fn park(&self, thread: Thread, progress: Progress, park: Park, is_valid: bool) -> Performed
+    fn park(&mut self, thread: Thread, progress: Progress, park: Park, is_valid: bool) -> Performed
         requires at { progress.at < 65535 }
-        requires room { length (waiters_by (slice_get self.now.queues park.key.number)) < 6 }
-        ensures { performed_of result
-            ≡ parked (configuration_of self.now) thread.number progress park.key is_valid
+        requires room { length (waiters_by (slice_get self.old.queues park.key.number)) < 6 }
+        ensures { performed_of result self.new
+            ≡ parked (configuration_of self.old) thread.number progress park.key is_valid
             park.token (is_timed park.timing) park.target }
     {
         if is_valid {
-            let next = self.entered(thread, park.key, park.token, park.timing);
-            Performed::Does(next, progress.unlocked().advanced())
+            self.enter(thread, park.key, park.token, park.timing);
+            Performed::Does(progress.unlocked().advanced())
         } else {
-            Performed::Does(*self, progress.unlocked().at_target(park.target))
+            Performed::Does(progress.unlocked().at_target(park.target))
         }
     }
 
@@ -62,7 +62,7 @@ impl State {
         last: Local,
         target: u16,
     ) -> Performed
-        ensures { performed_of result
+        ensures { performed_of result self.now
             ≡ leaving test.now (configuration_of self.now) thread.number progress last target
             (standing_key (machine_of self.now.queues self.now.standings) thread.number) }
     {
@@ -70,7 +70,7 @@ impl State {
             Some(key) if self.is_free(test, thread, progress, key) => {
                 let is_last = one_if(self.is_last(thread, key));
                 let locking = progress.locking(test, key);
-                Performed::Does(*self, locking.with_local(last, is_last).at_target(target))
+                Performed::Does(locking.with_local(last, is_last).at_target(target))
             }
             _ => Performed::Cannot,
         }
@@ -78,7 +78,7 @@ impl State {
 
     // The thread goes on with its token, or its deadline passes, or it locks its bucket after that.
     pub(crate) fn sleep(
-        &self,
+        &mut self,
         test: &Test,
         thread: Thread,
         progress: Progress,
@@ -86,17 +86,18 @@ impl State {
         standing: Standing,
     ) -> Performed
         requires { progress.at < 65535 }
-        ensures { performed_of result
-            ≡ sleeping test.now (configuration_of self.now) thread.number progress sleep.to
+        ensures { performed_of result self.new
+            ≡ sleeping test.now (configuration_of self.old) thread.number progress sleep.to
             sleep.last sleep.target (status_by (Some standing)) }
     {
         match standing {
             Standing::Taken(token) => {
-                let next = self.turned(thread, Standing::Running);
-                Performed::Does(next, progress.advanced_with(sleep.to, token))
+                self.turn(thread, Standing::Running);
+                Performed::Does(progress.advanced_with(sleep.to, token))
             }
             Standing::Waiting(Timing::Timed) => {
-                Performed::Does(self.turned(thread, Standing::Late), progress)
+                self.turn(thread, Standing::Late);
+                Performed::Does(progress)
             }
             Standing::Late => self.come_late(test, thread, progress, sleep.last, sleep.target),
             Standing::Running | Standing::Waiting(Timing::Endless) => Performed::Cannot,
@@ -104,64 +105,65 @@ impl State {
     }
 
     // A thread whose deadline has passed leaves its queue.
-    pub(crate) fn give_up(&self, thread: Thread, progress: Progress) -> Performed
+    pub(crate) fn give_up(&mut self, thread: Thread, progress: Progress) -> Performed
         requires { progress.at < 65535 }
-        ensures { performed_of result
-            ≡ giving_up (configuration_of self.now) thread.number progress
-            (status_by (slice_get self.now.standings thread.number)) }
+        ensures { performed_of result self.new
+            ≡ giving_up (configuration_of self.old) thread.number progress
+            (status_by (slice_get self.old.standings thread.number)) }
     {
         if self.standings[thread.index()] != Standing::Late {
             return Performed::Cannot;
         }
         match self.standing_key(thread) {
-            Some(key) => { Performed::Does(self.left(thread, key), progress.unlocked().advanced()) }
+            Some(key) => {
+                self.leave(thread, key);
+                Performed::Does(progress.unlocked().advanced())
+            }
             None => Performed::Cannot,
         }
     }
 
     // Those of the queue are unparked who are chosen.
-    fn unpark(&self, progress: Progress, key: Key, taken: u8, token: u8) -> Performed
+    fn unpark(&mut self, progress: Progress, key: Key, taken: u8, token: u8) -> Performed
         requires { progress.at < 65535 }
-        ensures { performed_of result
-            ≡ unparked (configuration_of self.now) progress key
-            (parted taken 0 (waiters_by (slice_get self.now.queues key.number))) token }
+        ensures { performed_of result self.new
+            ≡ unparked (configuration_of self.old) progress key
+            (parted taken 0 (waiters_by (slice_get self.old.queues key.number))) token }
     {
-        Performed::Does(
-            self.unparked(key, taken, token),
-            progress.unlocked().advanced(),
-        )
+        self.take_chosen(key, taken, token);
+        Performed::Does(progress.unlocked().advanced())
     }
 
-    pub(crate) fn unpark_one(&self, progress: Progress, key: Key, token: u8) -> Performed
+    pub(crate) fn unpark_one(&mut self, progress: Progress, key: Key, token: u8) -> Performed
         requires { progress.at < 65535 }
-        ensures { performed_of result
-            ≡ unparked (configuration_of self.now) progress key
-            (split_first (waiters_by (slice_get self.now.queues key.number))) token }
+        ensures { performed_of result self.new
+            ≡ unparked (configuration_of self.old) progress key
+            (split_first (waiters_by (slice_get self.old.queues key.number))) token }
     {
         self.unpark(progress, key, 1, token)
     }
 
-    pub(crate) fn unpark_all(&self, progress: Progress, key: Key, token: u8) -> Performed
+    pub(crate) fn unpark_all(&mut self, progress: Progress, key: Key, token: u8) -> Performed
         requires { progress.at < 65535 }
-        ensures { performed_of result
-            ≡ unparked (configuration_of self.now) progress key
-            (split_all (waiters_by (slice_get self.now.queues key.number))) token }
+        ensures { performed_of result self.new
+            ≡ unparked (configuration_of self.old) progress key
+            (split_all (waiters_by (slice_get self.old.queues key.number))) token }
     {
         self.unpark(progress, key, u8::MAX, token)
     }
 
     pub(crate) fn unpark_filter(
-        &self,
+        &mut self,
         progress: Progress,
         key: Key,
         chosen: u8,
         token: u8,
     ) -> Performed
         requires { progress.at < 65535 }
-        ensures { performed_of result
-            ≡ unparked (configuration_of self.now) progress key
+        ensures { performed_of result self.new
+            ≡ unparked (configuration_of self.old) progress key
             (split_filter (decisions_on chosen)
-            (waiters_by (slice_get self.now.queues key.number))) token }
+            (waiters_by (slice_get self.old.queues key.number))) token }
     {
         self.unpark(progress, key, chosen, token)
     }
@@ -202,7 +204,7 @@ impl State {
 
     // The thread comes to wait, if it runs and the bucket of the key is free.
     pub(crate) fn come_to_park(
-        &self,
+        &mut self,
         test: &Test,
         thread: Thread,
         progress: Progress,
@@ -210,11 +212,11 @@ impl State {
         is_valid: bool,
     ) -> Performed
         requires at { progress.at < 65535 }
-        requires consistent { IsConsistent (machine_of self.now.queues self.now.standings) }
-        ensures { performed_of result
-            ≡ where_free (is_free test.now (configuration_of self.now) thread.number progress
-            park.key.number && is_running (status_by (slice_get self.now.standings thread.number)))
-            (parked (configuration_of self.now) thread.number progress park.key is_valid
+        requires consistent { IsConsistent (machine_of self.old.queues self.old.standings) }
+        ensures { performed_of result self.new
+            ≡ where_free (is_free test.now (configuration_of self.old) thread.number progress
+            park.key.number && is_running (status_by (slice_get self.old.standings thread.number)))
+            (parked (configuration_of self.old) thread.number progress park.key is_valid
             park.token (is_timed park.timing) park.target) }
     {
         if !self.is_free(test, thread, progress, park.key) {
@@ -228,7 +230,7 @@ impl State {
 
     // Waiters of the one key are unparked, or moved to the other.
     pub(crate) fn requeue(
-        &self,
+        &mut self,
         progress: Progress,
         key: Key,
         other: Key,
@@ -236,14 +238,14 @@ impl State {
         token: u8,
     ) -> Performed
         requires at { progress.at < 65535 }
-        requires consistent { IsConsistent (machine_of self.now.queues self.now.standings) }
-        ensures { performed_of result
-            ≡ Does (with_machine (configuration_of self.now)
-            (after_requeue (machine_of self.now.queues self.now.standings) key.number other.number
-            (split_by (requeue_of moves) (waiters_by (slice_get self.now.queues key.number)))
+        requires consistent { IsConsistent (machine_of self.old.queues self.old.standings) }
+        ensures { performed_of result self.new
+            ≡ Does (with_machine (configuration_of self.old)
+            (after_requeue (machine_of self.old.queues self.old.standings) key.number other.number
+            (split_by (requeue_of moves) (waiters_by (slice_get self.old.queues key.number)))
             (record { 0 = token }))) (advanced (unlocked progress)) }
     {
-        let next = self.requeued(key, other, moves.chosen(), token);
-        Performed::Does(next, progress.unlocked().advanced())
+        self.move_chosen(key, other, moves.chosen(), token);
+        Performed::Does(progress.unlocked().advanced())
     }
 }

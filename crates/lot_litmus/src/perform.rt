@@ -17,8 +17,8 @@ pub(crate) enum Performed {
     /// It cannot do it now.
     Cannot,
 
-    /// The others see this state, and it has come so far.
-    Does(State, Progress),
+    /// It has come so far, and the others see the state as it is then.
+    Does(Progress),
 
     /// It shows a fault.
     Mistakes(Fault),
@@ -27,7 +27,7 @@ pub(crate) enum Performed {
 impl Performed {
     // What was performed, if it could be.
     fn only_if(self, is_free: bool) -> Performed
-        ensures { performed_of result ≡ where_free is_free (performed_of self) }
+        ensures { (s : State) → performed_of result s ≡ where_free is_free (performed_of self s) }
     {
         if is_free { self } else { Performed::Cannot }
     }
@@ -64,13 +64,11 @@ impl State {
         }
     }
 
-    // With another number in the word.
-    fn with_word(&self, word: Word, number: u8) -> State
-        ensures { result ≡ record self.now { words = slice_set self.now.words word.number number } }
+    fn set_word(&mut self, word: Word, number: u8)
+        ensures { self.new
+            ≡ record self.old { words = slice_set self.old.words word.number number } }
     {
-        let mut next = *self;
-        next.words[word.number] = number;
-        next
+        self.words[word.number] = number;
     }
 }
 
@@ -78,18 +76,16 @@ impl State {
     ghost use Rattle.lot_litmus.specs.Steps.{updated, Does};
 
     // What the word was goes to the local, and what was made to the word.
-    fn updated(&self, progress: Progress, to: Local, word: Word, made: Option<u8>) -> Performed
+    fn update(&mut self, progress: Progress, to: Local, word: Word, made: Option<u8>) -> Performed
         requires { progress.at < 65535 }
-        ensures { performed_of result
-            ≡ updated (configuration_of self.now) progress to word made }
+        ensures { performed_of result self.new
+            ≡ updated (configuration_of self.old) progress to word made }
     {
         match made {
             Some(number) => {
                 let old = self.words[word.number];
-                Performed::Does(
-                    self.with_word(word, number),
-                    progress.advanced_with(to, old),
-                )
+                self.set_word(word, number);
+                Performed::Does(progress.advanced_with(to, old))
             }
             None => Performed::Mistakes(Fault::Overflow),
         }
@@ -102,27 +98,26 @@ impl State {
 
     // What the thread does with the instruction at which it is.
     pub(crate) fn perform(
-        &self,
+        &mut self,
         test: &Test,
         thread: Thread,
         progress: Progress,
         instruction: Instruction,
     ) -> Performed
         requires at { progress.at < 65535 }
-        requires consistent { IsConsistent (machine_of self.now.queues self.now.standings) }
-        ensures { performed_of result ≡ performed test.now (configuration_of self.now)
+        requires consistent { IsConsistent (machine_of self.old.queues self.old.standings) }
+        ensures { performed_of result self.new ≡ performed test.now (configuration_of self.old)
             thread.number progress (Some instruction) }
     {
-        let is_free = |key: Key| self.is_free(test, thread, progress, key);
         match instruction {
-            Instruction::Pass => Performed::Does(*self, progress.advanced()),
-            Instruction::Leave => Performed::Does(*self, progress.outside().advanced()),
+            Instruction::Pass => Performed::Does(progress.advanced()),
+            Instruction::Leave => Performed::Does(progress.outside().advanced()),
             Instruction::Read { to, word } => {
-                Performed::Does(*self, progress.advanced_with(to, self.words[word.number]))
+                Performed::Does(progress.advanced_with(to, self.words[word.number]))
             }
             Instruction::Write { word, operand } => {
-                let next = self.with_word(word, progress.value(operand));
-                Performed::Does(next, progress.advanced())
+                self.set_word(word, progress.value(operand));
+                Performed::Does(progress.advanced())
             }
             Instruction::Update {
                 to,
@@ -131,7 +126,7 @@ impl State {
                 operand,
             } => {
                 let made = operation.make(self.words[word.number], progress.value(operand));
-                self.updated(progress, to, word, made)
+                self.update(progress, to, word, made)
             }
             Instruction::CompareExchange {
                 to,
@@ -142,7 +137,7 @@ impl State {
                 let old = self.words[word.number];
                 let is_met = old == progress.value(expected);
                 let made = if is_met { progress.value(new) } else { old };
-                self.updated(progress, to, word, Some(made))
+                self.update(progress, to, word, Some(made))
             }
             Instruction::Await {
                 word,
@@ -150,17 +145,19 @@ impl State {
                 operand,
             } => {
                 let holds = operation.holds(self.words[word.number], progress.value(operand));
-                Performed::Does(*self, progress.advanced()).only_if(holds)
+                Performed::Does(progress.advanced()).only_if(holds)
             }
             Instruction::AwaitOthers => {
                 let is_last = test.unended(self) == 1;
-                Performed::Does(*self, progress.advanced()).only_if(is_last)
+                Performed::Does(progress.advanced()).only_if(is_last)
             }
             Instruction::Lock { key, other } => {
                 let locking = progress.locking(test, key).locking(test, other).advanced();
-                Performed::Does(*self, locking).only_if(is_free(key) && is_free(other))
+                let are_free = self.is_free(test, thread, progress, key)
+                    && self.is_free(test, thread, progress, other);
+                Performed::Does(locking).only_if(are_free)
             }
-            Instruction::Unlock => { Performed::Does(*self, progress.unlocked().advanced()) }
+            Instruction::Unlock => { Performed::Does(progress.unlocked().advanced()) }
             Instruction::Park {
                 key,
                 validation,
@@ -178,31 +175,39 @@ impl State {
                 let is_valid = self.is_valid(progress, validation);
                 self.come_to_park(test, thread, progress, park, is_valid)
             }
-            Instruction::UnparkOne { key, token } => self
-                .unpark_one(progress, key, progress.value(token))
-                .only_if(is_free(key)),
-            Instruction::UnparkAll { key, token } => self
-                .unpark_all(progress, key, progress.value(token))
-                .only_if(is_free(key)),
+            Instruction::UnparkOne { key, token } => {
+                let is_free = self.is_free(test, thread, progress, key);
+                self.unpark_one(progress, key, progress.value(token))
+                    .only_if(is_free)
+            }
+            Instruction::UnparkAll { key, token } => {
+                let is_free = self.is_free(test, thread, progress, key);
+                self.unpark_all(progress, key, progress.value(token))
+                    .only_if(is_free)
+            }
             Instruction::UnparkFilter { key, chosen, token } => {
+                let is_free = self.is_free(test, thread, progress, key);
                 let chosen = progress.value(chosen);
                 self.unpark_filter(progress, key, chosen, progress.value(token))
-                    .only_if(is_free(key))
+                    .only_if(is_free)
             }
             Instruction::Requeue {
                 key,
                 other,
                 moves,
                 token,
-            } => self
-                .requeue(progress, key, other, moves, progress.value(token))
-                .only_if(is_free(key) && is_free(other)),
+            } => {
+                let are_free = self.is_free(test, thread, progress, key)
+                    && self.is_free(test, thread, progress, other);
+                self.requeue(progress, key, other, moves, progress.value(token))
+                    .only_if(are_free)
+            }
             Instruction::Sleep { to, last, target } => {
                 let sleep = Sleep { to, last, target };
                 self.sleep(test, thread, progress, sleep, self.standing(thread))
             }
             Instruction::GiveUp => self.give_up(thread, progress),
-            _ => Performed::Does(*self, progress),
+            _ => Performed::Does(progress),
         }
     }
 }

@@ -150,6 +150,16 @@ impl Queue {
         false
     }
 
+    /// The index at which the thread waits.
+    pub fn index_of(&self, thread: Thread) -> Option<u8> {
+        for index in 0..self.length {
+            if self.entry(index).thread == thread {
+                return Some(index);
+            }
+        }
+        None
+    }
+
     /// The queue without the thread, or all of it if the thread does not wait here.
     pub fn without(&self, thread: Thread) -> Queue
         ensures { entries_of result ≡ without_thread thread.number (entries_of self.now) }
@@ -164,6 +174,19 @@ impl Queue {
             left.push(entry);
         }
         left
+    }
+
+    /// The queue with each of two threads where the other is.
+    pub fn exchanged(&self, thread: Thread, other: Thread) -> Queue {
+        let mut exchanged = Queue::new();
+        for index in 0..self.length {
+            let entry = self.entry(index);
+            exchanged.push(Entry {
+                thread: entry.thread.exchanged(thread, other),
+                ..entry
+            });
+        }
+        exchanged
     }
 
     /// Parts those who wait, each part in order.

@@ -1,81 +1,220 @@
 //! What a search has found so far.
 
-use crate::code::Thread;
+ghost use Rattle.std.specs.Prelude.{◌≡◌, ◌<◌, [], ◌++◌, ◌∷◌, IfOk, IsTrue, None, length};
+ghost use Rattle.lot_litmus.specs.Search.{IsAt, Grows, HasLooked, IsSearch};
+
+use crate::code::{THREADS, Thread};
 use crate::reached::Reached;
 use crate::seen::Seen;
+use crate::state::State;
+use crate::step::Next;
 use crate::test::Test;
 use std::alloc::{AllocError, Global};
 
-// By whose step a state was found first, and from which other.
+/// By whose step a state was found first, and from which other.
 #[derive(Clone, Copy)]
-struct Origin {
-    from: usize,
-    thread: Thread,
+pub(crate) struct Origin {
+    pub from: usize,
+    pub thread: Thread,
 }
 
-// A step from one state to another.
-#[derive(Clone, Copy)]
-struct Edge {
-    from: usize,
-    to: usize,
+impl Origin {
+    /// That of the first state, which was found without a step.
+    pub const FIRST: Origin = Origin {
+        from: 0,
+        thread: Thread { number: 0 },
+    };
 }
 
-/// States, and the steps between them. A state's index is its place in the order in which they were
-/// found.
+/// Where the steps from a state lead: for each thread the index of a state, or none if it cannot go
+/// on.
+#[derive(Clone, Copy)]
+pub struct Leads {
+    pub to: [Option<usize>; THREADS],
+}
+
+impl Leads {
+    /// Those from a state from which no thread can go on.
+    pub const NOWHERE: Leads = Leads {
+        to: [None; THREADS],
+    };
+}
+
+/// What comes of a look at a state.
+#[derive(Clone, Copy)]
+pub(crate) enum Looked {
+    /// The steps from it lead there.
+    Leads(Leads),
+
+    /// The step of this thread shows a fault.
+    Fails(Thread),
+}
+
+/// States in the order in which they were found. A state's index is its place.
 #[derive(Drop)]
 pub struct Search {
     states: Vec<Reached>,
     origins: Vec<Origin>,
-    edges: Vec<Edge>,
+
+    // Of the states that were looked at, which are the first so many.
+    leads: Vec<Leads>,
+
     seen: Seen,
 }
 
 impl Search {
-    /// A search that has found its first state.
-    pub fn new(alloc: Global, first: Reached) -> Result<Search, AllocError> {
-        let mut search = Search {
+    /// A search that has found nothing. It asks for no memory.
+    pub(crate) fn none(alloc: Global) -> Search
+        ensures states { result.states.items ≡ [] }
+        ensures leads { result.leads.items ≡ [] }
+    {
+        Search {
             states: Vec::new(alloc),
             origins: Vec::new(alloc),
-            edges: Vec::new(alloc),
+            leads: Vec::new(alloc),
             seen: Seen::new(alloc),
-        };
-        let origin = Origin {
-            from: 0,
-            thread: Thread { number: 0 },
-        };
-        search.push(first, origin)?;
+        }
+    }
+
+    /// A search that has found the state at the test's beginning.
+    ///
+    /// # Errors
+    ///
+    /// `AllocError` if memory cannot be had.
+    pub fn new(alloc: Global, test: &Test) -> Result<Search, AllocError>
+        ensures { IfOk result (λ search. IsSearch test.now search) }
+    {
+        let mut search = Search::none(alloc);
+        let first = Reached::first(test);
+        let hash = first.state().hash();
+        search.push(first, hash, Origin::FIRST)?;
         Ok(search)
     }
 
     /// The states that were found.
-    pub fn states(&self) -> &[Reached] {
+    pub fn states(&self) -> &[Reached]
+        ensures { result.now ≡ self.now.states.items }
+    {
         self.states.as_slice()
     }
 
-    /// Where they are found again.
-    pub fn seen(&self) -> &Seen {
+    /// Where the steps lead from those that were looked at.
+    pub fn leads(&self) -> &[Leads]
+        ensures { result.now ≡ self.now.leads.items }
+    {
+        self.leads.as_slice()
+    }
+
+    /// Where indices of states are found again.
+    pub(crate) fn seen(&self) -> &Seen {
         &self.seen
     }
 
-    /// Adds a step of the thread, and the state to which it leads, if that is new.
-    pub fn add(&mut self, from: usize, thread: Thread, next: Reached) -> Result<(), AllocError> {
-        let to = match self.seen.find(self.states.as_slice(), next.state()) {
-            Some(index) => index,
-            None => self.push(next, Origin { from, thread })?,
-        };
-        self.edges.push(Edge { from, to })?;
+    /// Looks at the next state: adds those to which its steps lead, or tells whose step shows a
+    /// fault.
+    ///
+    /// # Errors
+    ///
+    /// `AllocError` if memory cannot be had.
+    pub fn look(&mut self, test: &Test) -> Result<Option<Thread>, AllocError>
+        requires search { IsSearch test.now self.old }
+        requires within { length self.old.leads.items < length self.old.states.items }
+        ensures { IfOk result (λ failing. failing ≡ None → IsSearch test.now self.new) }
+    {
+        let index = self.leads.len();
+        match self.look_at(test, index)? {
+            Looked::Leads(leads) => {
+                self.push_leads(leads)?;
+                Ok(None)
+            }
+            Looked::Fails(thread) => Ok(Some(thread)),
+        }
+    }
+
+    /// Notes where the steps lead from the next state.
+    ///
+    /// # Errors
+    ///
+    /// `AllocError` if memory cannot be had.
+    pub(crate) fn push_leads(&mut self, leads: Leads) -> Result<(), AllocError>
+        ensures { IfOk result (λ _. (self.new.states.items ≡ self.old.states.items)
+            × (self.new.leads.items ≡ self.old.leads.items ++ leads ∷ [])) }
+    {
+        self.leads.push(leads)?;
         Ok(())
     }
 
-    fn push(&mut self, state: Reached, origin: Origin) -> Result<usize, AllocError> {
+    // Looks at the state at this index.
+    fn look_at(&mut self, test: &Test, index: usize) -> Result<Looked, AllocError>
+        requires { index < length self.old.states.items }
+        ensures { IfOk result (λ looked. Grows self.old.states.items self.new.states.items
+            × (self.new.leads.items ≡ self.old.leads.items)
+            × HasLooked test.now self.old.states.items self.new.states.items index looked) }
+    {
+        let mut leads = Leads::NOWHERE;
+        for number in 0..THREADS as u8 {
+            let thread = Thread { number };
+            let to = match test.step(&self.states[index], thread) {
+                Next::Blocked => None,
+                Next::Goes(next) => {
+                    let origin = Origin {
+                        from: index,
+                        thread,
+                    };
+                    Some(self.find(next, origin)?)
+                }
+                Next::Fails(_) => return Ok(Looked::Fails(thread)),
+            };
+            leads.to[thread.index()] = to;
+        }
+        Ok(Looked::Leads(leads))
+    }
+
+    // The index of a state, which is added if it is new.
+    fn find(&mut self, state: Reached, origin: Origin) -> Result<usize, AllocError>
+        ensures { IfOk result (λ index. Grows self.old.states.items self.new.states.items
+            × (self.new.leads.items ≡ self.old.leads.items)
+            × IsAt self.new.states.items index state) }
+    {
+        let hash = state.state().hash();
+        let states = self.states.as_slice();
+        match self
+            .seen
+            .find(hash, |index| is_at(states, index, state.state()))
+        {
+            Some(index) => Ok(index),
+            None => self.push(state, hash, origin),
+        }
+    }
+
+    /// Adds a state with its hash, and answers its index.
+    ///
+    /// # Errors
+    ///
+    /// `AllocError` if memory cannot be had.
+    pub(crate) fn push(
+        &mut self,
+        state: Reached,
+        hash: u64,
+        origin: Origin,
+    ) -> Result<usize, AllocError>
+        ensures { IfOk result (λ index. Grows self.old.states.items self.new.states.items
+            × (self.new.leads.items ≡ self.old.leads.items)
+            × IsAt self.new.states.items index state
+            × (index ≡ length self.old.states.items)) }
+    {
         let index = self.states.len();
         self.states.push(state)?;
         self.origins.push(origin)?;
-        self.seen.note(self.states.as_slice())?;
+        self.seen.note(hash, index)?;
         Ok(index)
     }
 
     /// Whose steps lead to the state with this index from the first.
+    ///
+    /// # Errors
+    ///
+    /// `AllocError` if memory cannot be had.
     pub fn schedule(&self, alloc: Global, index: usize) -> Result<Vec<Thread>, AllocError> {
         let mut schedule = Vec::new(alloc);
         let mut at = index;
@@ -92,42 +231,14 @@ impl Search {
         schedule.reverse();
         Ok(schedule)
     }
+}
 
-    /// How many steps lead from each state to one in which all threads have ended. It is `usize::MAX`
-    /// where no steps do.
-    pub fn distances(&self, alloc: Global, test: &Test) -> Result<Vec<usize>, AllocError> {
-        let mut distances = self.ends(alloc, test)?;
-        for _ in 0..self.states.len() {
-            if !self.come_nearer(&mut distances) {
-                break;
-            }
-        }
-        Ok(distances)
+/// Whether the state is at this index of the list.
+pub fn is_at(states: &[Reached], index: usize, state: &State) -> bool
+    ensures { IsTrue result → IsAt states.now index state.now }
+{
+    if index >= states.len() {
+        return false;
     }
-
-    // The distances of those in which all threads have ended.
-    fn ends(&self, alloc: Global, test: &Test) -> Result<Vec<usize>, AllocError> {
-        let mut distances = Vec::with_capacity(alloc, self.states.len())?;
-        for state in &self.states {
-            let has_ended = test.unended(state.state()) == 0;
-            distances.push(if has_ended { 0 } else { usize::MAX })?;
-        }
-        Ok(distances)
-    }
-
-    // Goes back over each step once. Later states are mostly nearer to an end.
-    fn come_nearer(&self, distances: &mut Vec<usize>) -> bool {
-        let mut has_changed = false;
-        for edge in self.edges.iter().rev() {
-            let to = distances.get(edge.to).copied().unwrap_or(usize::MAX);
-            let through = to.saturating_add(1);
-            if let Some(from) = distances.get_mut(edge.from)
-                && through < *from
-            {
-                *from = through;
-                has_changed = true;
-            }
-        }
-        has_changed
-    }
+    states[index].state().is_same(state)
 }

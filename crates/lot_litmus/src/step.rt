@@ -1,6 +1,6 @@
 //! What a step of a thread does to a state.
 
-ghost use Rattle.std.specs.Prelude.{◌≡◌, Some};
+ghost use Rattle.std.specs.Prelude.{◌≡◌, Some, length};
 ghost use Rattle.lot_litmus.specs.View.{configuration_of, machine_of};
 
 use crate::code::{Code, Thread};
@@ -19,8 +19,8 @@ enum After {
     /// It cannot be done now.
     Blocked,
 
-    /// It leads to this state.
-    Goes(State),
+    /// It was done.
+    Goes,
 
     /// It shows a fault.
     Fails(Fault),
@@ -43,30 +43,27 @@ impl State {
     ghost use Rattle.lot_litmus.specs.Steps.{local_bound, settled, with_progress};
     ghost use Rattle.lot_litmus.specs.Performing.{after_of};
 
-    // With the thread come so far.
-    fn with_progress(&self, thread: Thread, progress: Progress) -> State
-        ensures { configuration_of result
-            ≡ with_progress (configuration_of self.now) thread.number progress }
+    // Lets the thread have come so far.
+    fn set_progress(&mut self, thread: Thread, progress: Progress)
+        ensures { configuration_of self.new
+            ≡ with_progress (configuration_of self.old) thread.number progress }
     {
-        let mut next = *self;
-        next.threads[thread.index()] = progress;
-        next
+        self.threads[thread.index()] = progress;
     }
 
     // The thread goes on, up to its next step.
-    fn settle(self, code: &Code, thread: Thread, progress: Progress) -> After
-        ensures { after_of result ≡ settled local_bound code.now.instructions.items
-            (configuration_of self) thread.number progress }
+    fn settle(&mut self, code: &Code, thread: Thread, progress: Progress) -> After
+        ensures { after_of result self.new ≡ settled local_bound code.now.instructions.items
+            (configuration_of self.old) thread.number progress }
     {
-        let mut state = self;
         let mut progress = progress;
         for _ in 0..MOST_LOCAL {
-            state = state.with_progress(thread, progress);
+            self.set_progress(thread, progress);
             let Some(instruction) = code.at(progress.at) else {
-                return After::Goes(state);
+                return After::Goes;
             };
-            match state.do_locally(progress, instruction) {
-                Locally::Rests => return After::Goes(state),
+            match self.do_locally(progress, instruction) {
+                Locally::Rests => return After::Goes,
                 Locally::Advances(next) => progress = next,
                 Locally::Errs(fault) => return After::Fails(fault),
             }
@@ -80,10 +77,11 @@ impl Test {
     ghost use Rattle.lot_litmus.specs.Steps.{stepped};
     ghost use Rattle.lot_litmus.specs.Performing.{after_of};
 
-    // What a step of the thread comes to.
-    fn step_from(&self, state: &State, thread: Thread) -> After
-        requires { IsConsistent (machine_of state.now.queues state.now.standings) }
-        ensures { after_of result ≡ stepped self.now (configuration_of state.now) thread.number }
+    // Lets the thread take a step, and tells what that comes to.
+    fn step_on(&self, state: &mut State, thread: Thread) -> After
+        requires { IsConsistent (machine_of state.old.queues state.old.standings) }
+        ensures { after_of result state.new
+            ≡ stepped self.now (configuration_of state.old) thread.number }
     {
         let progress = state.threads[thread.index()];
         let code = &self.codes[thread.index()];
@@ -92,7 +90,7 @@ impl Test {
         };
         match state.perform(self, thread, progress, instruction) {
             Performed::Cannot => After::Blocked,
-            Performed::Does(next, progress) => next.settle(code, thread, progress),
+            Performed::Does(progress) => state.settle(code, thread, progress),
             Performed::Mistakes(fault) => After::Fails(fault),
         }
     }
@@ -104,11 +102,14 @@ impl Test {
 
     /// What a step of the thread comes to.
     pub fn step(&self, from: &Reached, thread: Thread) -> Next
-        ensures { outcome_of result ≡ stepped self.now (configuration_of from.now) thread.number }
+        ensures outcome { outcome_of result
+            ≡ stepped self.now (configuration_of from.now) thread.number }
+        ensures threads { length from.now.threads ≡ 6 }
     {
-        match self.step_from(from.state(), thread) {
+        let mut state = *from.state();
+        match self.step_on(&mut state, thread) {
             After::Blocked => Next::Blocked,
-            After::Goes(state) => Next::Goes(Reached::new(state)),
+            After::Goes => Next::Goes(Reached::new(state)),
             After::Fails(fault) => Next::Fails(fault),
         }
     }

@@ -1,6 +1,6 @@
 use Rattle.std.proofs.Common.{length, sym, ap, subst}
 use Rattle.lot_machine.specs.Machine.{IsConsistent}
-use Rattle.lot_litmus.proofs.KeepLemmas.{first_machine-consistent}
+use Rattle.lot_litmus.proofs.MoveLemmas.{first_machine-consistent}
 use Rattle.lot_litmus.proofs.reached.Reached.first.Goals as goal
 
 pub invariant_of-result : goal.invariant_of-result

@@ -8,8 +8,8 @@ use Rattle.lot_litmus.proofs.PartLemmas.{length-requeue}
 use Rattle.lot_litmus.proofs.ViewLemmas.{length-waiters, configuration-is}
 use Rattle.lot_litmus.proofs.state.State.requeue.Goals as goal
 
-pub requeued-next-requires : goal.requeued-next-requires
-requeued-next-requires c =
+pub move_chosen-requires : goal.move_chosen-requires
+move_chosen-requires c =
     let m = machine_of c.args.self.now.queues c.args.self.now.standings in
     let parts = c.chosen.ensures (waiters_by (slice_get c.args.self.now.queues c.args.key.number))
     (length-waiters c.args.self.now.queues c.args.key.number) in
@@ -22,12 +22,12 @@ requeued-next-requires c =
 pub returns : goal.returns
 returns c =
     ap (λ next. Does next c.advanced.result)
-    (configuration-is c.requeued-next.result c.args.self.now _ (c.requeued-next.ensures.machine
+    (configuration-is c.move_chosen.new.self c.args.self.now _ (c.move_chosen.ensures.machine
     ∙ ap (λ split. after_requeue (machine_of c.args.self.now.queues c.args.self.now.standings) c.args.key.number
     c.args.other.number split (record { 0 = c.args.token }))
     (c.chosen.ensures (waiters_by (slice_get c.args.self.now.queues c.args.key.number))
     (length-waiters c.args.self.now.queues c.args.key.number)))
-    c.requeued-next.ensures.words c.requeued-next.ensures.threads)
+    c.move_chosen.ensures.words c.move_chosen.ensures.threads)
     ∙ ap (Does (with_machine (configuration_of c.args.self.now) (after_requeue
     (machine_of c.args.self.now.queues c.args.self.now.standings) c.args.key.number c.args.other.number
     (split_by (requeue_of c.args.moves) (waiters_by (slice_get c.args.self.now.queues c.args.key.number)))

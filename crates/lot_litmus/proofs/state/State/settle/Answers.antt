@@ -9,14 +9,14 @@ use Rattle.lot_litmus.proofs.StepLemmas.{settled-rests, settled-errs, settled-ad
 use Rattle.lot_litmus.proofs.state.State.settle.Goals as goal
 
 pub loop-init : goal.loop-init
-loop-init c = ap (λ n. settled n c.args.code.now.instructions.items (configuration_of c.args.self) c.args.thread.number c.args.progress) (omega arith)
+loop-init c = ap (λ n. settled n c.args.code.now.instructions.items (configuration_of c.args.self.now) c.args.thread.number c.args.progress) (omega arith)
 
 pub returns-in_default : goal.returns-in_default
 returns-in_default c =
-    ap Goes c.with_progress-state.ensures
-    ∙ settled-rests local_bound c.loop.counter c.args.code.now.instructions.items (configuration_of c.loop.state)
+    ap Goes c.set_progress.ensures
+    ∙ settled-rests local_bound c.loop.counter c.args.code.now.instructions.items (configuration_of c.loop.self)
     c.args.thread.number c.loop.progress (rw local_bound-is c.loop-test.true)
-    (ap (local_step (with_progress (configuration_of c.loop.state) c.args.thread.number c.loop.progress)
+    (ap (local_step (with_progress (configuration_of c.loop.self) c.args.thread.number c.loop.progress)
     c.loop.progress) (sym c.at.ensures ∙ c.in_default.is))
     ∙ c.loop.invariant
 
@@ -29,13 +29,13 @@ do_locally-requires c =
 pub returns-in-Rests : goal.returns-in-Rests
 returns-in-Rests c =
     let does =
-    local_step-is (with_progress (configuration_of c.loop.state) c.args.thread.number c.loop.progress)
-    (configuration_of c.with_progress-state.result) c.loop.progress
+    local_step-is (with_progress (configuration_of c.loop.self) c.args.thread.number c.loop.progress)
+    (configuration_of c.set_progress.new.self) c.loop.progress
     (slice_get c.args.code.now.instructions.items c.loop.progress.at) c.in-Some.instruction
-    (locally_of c.do_locally.result) c.with_progress-state.ensures (sym c.at.ensures ∙ c.in-Some.is)
+    (locally_of c.do_locally.result) c.set_progress.ensures (sym c.at.ensures ∙ c.in-Some.is)
     c.do_locally.ensures in
-    ap Goes c.with_progress-state.ensures
-    ∙ settled-rests local_bound c.loop.counter c.args.code.now.instructions.items (configuration_of c.loop.state)
+    ap Goes c.set_progress.ensures
+    ∙ settled-rests local_bound c.loop.counter c.args.code.now.instructions.items (configuration_of c.loop.self)
     c.args.thread.number c.loop.progress (rw local_bound-is c.loop-test.true)
     (does ∙ ap locally_of c.in-Rests.is)
     ∙ c.loop.invariant
@@ -43,12 +43,12 @@ returns-in-Rests c =
 pub returns-in-Errs : goal.returns-in-Errs
 returns-in-Errs c =
     let does =
-    local_step-is (with_progress (configuration_of c.loop.state) c.args.thread.number c.loop.progress)
-    (configuration_of c.with_progress-state.result) c.loop.progress
+    local_step-is (with_progress (configuration_of c.loop.self) c.args.thread.number c.loop.progress)
+    (configuration_of c.set_progress.new.self) c.loop.progress
     (slice_get c.args.code.now.instructions.items c.loop.progress.at) c.in-Some.instruction
-    (locally_of c.do_locally.result) c.with_progress-state.ensures (sym c.at.ensures ∙ c.in-Some.is)
+    (locally_of c.do_locally.result) c.set_progress.ensures (sym c.at.ensures ∙ c.in-Some.is)
     c.do_locally.ensures in
-    settled-errs local_bound c.loop.counter c.args.code.now.instructions.items (configuration_of c.loop.state)
+    settled-errs local_bound c.loop.counter c.args.code.now.instructions.items (configuration_of c.loop.self)
     c.args.thread.number c.loop.progress c.in-Errs.fault (rw local_bound-is c.loop-test.true)
     (does ∙ ap locally_of c.in-Errs.is)
     ∙ c.loop.invariant
@@ -56,21 +56,21 @@ returns-in-Errs c =
 pub loop-preserved : goal.loop-preserved
 loop-preserved c =
     let does =
-    local_step-is (with_progress (configuration_of c.loop.state) c.args.thread.number c.loop.progress)
-    (configuration_of c.with_progress-state.result) c.loop.progress
+    local_step-is (with_progress (configuration_of c.loop.self) c.args.thread.number c.loop.progress)
+    (configuration_of c.set_progress.new.self) c.loop.progress
     (slice_get c.args.code.now.instructions.items c.loop.progress.at) c.in-Some.instruction
-    (locally_of c.do_locally.result) c.with_progress-state.ensures (sym c.at.ensures ∙ c.in-Some.is)
+    (locally_of c.do_locally.result) c.set_progress.ensures (sym c.at.ensures ∙ c.in-Some.is)
     c.do_locally.ensures in
     ap (λ d. settled (local_bound - (c.loop.counter + 1)) c.args.code.now.instructions.items d c.args.thread.number
-    c.in-Advances.next) c.with_progress-state.ensures
-    ∙ settled-advances local_bound c.loop.counter c.args.code.now.instructions.items (configuration_of c.loop.state)
+    c.in-Advances.next) c.set_progress.ensures
+    ∙ settled-advances local_bound c.loop.counter c.args.code.now.instructions.items (configuration_of c.loop.self)
     c.args.thread.number c.loop.progress c.in-Advances.next (rw local_bound-is c.loop-test.true)
     (does ∙ ap locally_of c.in-Advances.is)
     ∙ c.loop.invariant
 
 pub returns : goal.returns
 returns c =
-    ap (λ n. settled n c.args.code.now.instructions.items (configuration_of c.loop.state) c.args.thread.number
+    ap (λ n. settled n c.args.code.now.instructions.items (configuration_of c.loop.self) c.args.thread.number
     c.loop.progress) none
     ∙ c.loop.invariant
   where

@@ -1,0 +1,32 @@
+//! Where a schedule leads.
+
+ghost use Rattle.std.specs.Prelude.{◌≡◌};
+ghost use Rattle.lot_litmus.specs.Outcomes.{end_of, numbers_of};
+ghost use Rattle.lot_litmus.specs.Schedule.{first_of, run};
+
+use crate::code::Thread;
+use crate::reached::Reached;
+use crate::step::Next;
+use crate::test::{Fault, Test};
+
+impl Test {
+    /// Where the threads come by steps in this order, from the beginning. One that cannot go on is
+    /// passed by.
+    ///
+    /// # Errors
+    ///
+    /// The fault that a step shows.
+    pub fn replay(&self, schedule: &[Thread]) -> Result<Reached, Fault>
+        ensures { end_of result ≡ run self.now (first_of self.now) (numbers_of schedule.now) }
+    {
+        let mut at = Reached::first(self);
+        for &thread in schedule {
+            match self.step(&at, thread) {
+                Next::Blocked => (),
+                Next::Goes(next) => at = next,
+                Next::Fails(fault) => return Err(fault),
+            }
+        }
+        Ok(at)
+    }
+}
