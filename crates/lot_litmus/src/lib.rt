@@ -13,6 +13,7 @@ mod local;
 mod lot;
 mod movers;
 mod operation;
+pub mod outcomes;
 mod parking;
 pub mod parse;
 mod perform;
