@@ -24,7 +24,7 @@ pub fn push_closing(page: &mut String, scene: Scene<'_>) -> Result<(), AllocErro
             writeln!(page, "Now all is as it was before step {next}.")?;
             push_threads(page, scene)
         }
-        Ending::Open => { page.push_str("From here on not all threads can come to their ends.\n") }
+        Ending::Open => { page.push_str("From here on, not all threads can end.\n") }
     }
 }
 

@@ -83,7 +83,7 @@ fn push_remark(page: &mut String, walk: &Walk, index: usize) -> Result<(), Alloc
         return page.push_str("From here on the threads go round for ever:\n");
     }
     if index == walk.settled {
-        return page.push_str("From here on not all threads can come to their ends:\n");
+        return page.push_str("The step above decides it. From here on, not all threads can end:\n");
     }
     Ok(())
 }

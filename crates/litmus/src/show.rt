@@ -1,14 +1,15 @@
 //! `litmus show`, `litmus script` and `litmus answers`: what comes of a file, and the shortest way
 //! to what is wrong with it.
 
-use crate::case::plain_case;
+use crate::case::{Case, plain_case};
+use crate::check::cases;
 use crate::grade::Grade;
 use crate::picture::picture;
 use crate::request::{Command, Request};
 use crate::scene::Scene;
 use crate::script::Script;
 use crate::style::Style;
-use crate::summary::push_summary;
+use crate::summary::{push_case, push_summary};
 use crate::text::text_of;
 use crate::trial::{Outcome, Trial, try_text};
 use lot_litmus::parse::ParseError;
@@ -27,11 +28,11 @@ pub fn show<R: Files + Print + AllocGlobal>(
     let Some(text) = text_of(rt, file.as_str())? else {
         return Ok(Grade::Unusable);
     };
-    match tried(rt.alloc(), request, text.as_str()) {
-        Ok(trial) => {
-            let page = page_of(rt.alloc(), (request, file.as_str()), &trial, style)?;
+    match tried_first(rt.alloc(), request, text.as_str()) {
+        Ok(tried) => {
+            let page = page_of(rt.alloc(), (request, file.as_str()), &tried, style)?;
             rt.print(page.as_str())?;
-            Ok(grade_of(request.command, &trial))
+            Ok(grade_of(request.command, &tried.trial))
         }
         Err(error) => {
             println!(rt; "{file}: {error}")?;
@@ -40,11 +41,39 @@ pub fn show<R: Files + Print + AllocGlobal>(
     }
 }
 
-// What comes of the text with the numbers of the request.
-fn tried(alloc: Global, request: &Request, text: &str) -> Result<Trial, ParseError> {
-    let case = plain_case(alloc, request)?;
+// A search of the text, and what came of it.
+#[derive(Drop)]
+struct Attempt {
+    case: Case,
+    trial: Trial,
+}
+
+// The first search for an expectation of the text that finds something wrong, or else the last one.
+fn tried_first(alloc: Global, request: &Request, text: &str) -> Result<Attempt, ParseError> {
+    let mut last = None;
+    for case in cases(alloc, request, text)? {
+        let tried = try_case(alloc, request, text, case)?;
+        if let Outcome::Wrong(_) = &tried.trial.outcome {
+            return Ok(tried);
+        }
+        last = Some(tried);
+    }
+    match last {
+        Some(tried) => Ok(tried),
+        None => try_case(alloc, request, text, plain_case(alloc, request)?),
+    }
+}
+
+fn try_case(
+    alloc: Global,
+    request: &Request,
+    text: &str,
+    case: Case,
+) -> Result<Attempt, ParseError> {
     let pairs = case.pairs(alloc)?;
-    try_text(alloc, text, pairs.as_slice(), request.most)
+    let trial = try_text(alloc, text, pairs.as_slice(), request.most)?;
+    drop(pairs);
+    Ok(Attempt { case, trial })
 }
 
 // There is a script only of what is wrong.
@@ -60,9 +89,10 @@ fn grade_of(command: Command, trial: &Trial) -> Grade {
 fn page_of(
     alloc: Global,
     (request, file): (&Request, &str),
-    trial: &Trial,
+    tried: &Attempt,
     style: Style,
 ) -> Result<String, AllocError> {
+    let trial = &tried.trial;
     let mut page = String::new(alloc);
     if let Outcome::Wrong(walk) = &trial.outcome {
         let scene = Scene {
@@ -75,7 +105,9 @@ fn page_of(
             _ => page = picture(alloc, scene, style)?,
         }
     }
-    let mut line = format!(in alloc; "{file}: ")?;
+    let mut line = String::new(alloc);
+    let pairs = tried.case.pairs(alloc)?;
+    push_case(&mut line, file, pairs.as_slice())?;
     push_summary(&mut line, trial, request.most)?;
     writeln!(line, "")?;
     line.push_str(page.as_str())?;
