@@ -16,6 +16,7 @@ mod note;
 mod parted;
 mod picture;
 mod program;
+mod real;
 mod request;
 mod round;
 mod scene;

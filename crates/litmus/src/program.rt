@@ -3,6 +3,7 @@
 use crate::check::check;
 use crate::files::files_of;
 use crate::grade::Grade;
+use crate::real;
 use crate::request::{Command, Request};
 use crate::show::show;
 use crate::sizes::sizes;
@@ -10,12 +11,15 @@ use crate::style::Style;
 use std::env;
 use std::process::ExitCode;
 use std::rt::{Env, Files};
+use std::sync::Wait;
+use std::thread::Threads;
 use std::time::Clock;
 
 const USAGE: &str = "\
 usage: litmus check FILE.. [NAME=NUMBER ..]
        litmus show | script | answers FILE [NAME=NUMBER ..]
        litmus sizes FILE.. [NAME=NUMBER ..]
+       litmus run FILE ROUNDS [NAME=NUMBER ..]
 options: --plain, --times, --states NUMBER";
 
 const UNUSABLE: u8 = 2;
@@ -25,9 +29,10 @@ const WIDTH: usize = 100;
 
 /// Does what the arguments ask for. Any other words are answered by how the program is called, on
 /// the error output, and the status 2.
-pub fn run<R: Env + Files + Print + Eprint + Clock + AllocGlobal + Clone + Drop>(
-    rt: &R,
-) -> ExitCode {
+pub fn run<R>(rt: &R) -> ExitCode
+where
+    R: Env + Files + Print + Eprint + Threads + Wait + Clock + AllocGlobal + Copy + Send + 'static,
+{
     match run_request(rt) {
         Ok(Some(grade)) => ExitCode::from(grade.status()),
         Ok(None) => {
@@ -41,9 +46,10 @@ pub fn run<R: Env + Files + Print + Eprint + Clock + AllocGlobal + Clone + Drop>
     }
 }
 
-fn run_request<R: Env + Files + Print + Clock + AllocGlobal + Clone + Drop>(
-    rt: &R,
-) -> anyhow::Result<Option<Grade>> {
+fn run_request<R>(rt: &R) -> anyhow::Result<Option<Grade>>
+where
+    R: Env + Files + Print + Threads + Wait + Clock + AllocGlobal + Copy + Send + 'static,
+{
     let mut words = Vec::new(rt.alloc());
     for word in env::args(rt)?.skip(1) {
         words.push(word)?;
@@ -62,6 +68,7 @@ fn run_request<R: Env + Files + Print + Clock + AllocGlobal + Clone + Drop>(
         Command::Check => check(rt, &request, style)?,
         Command::Show | Command::Script | Command::Answers => show(rt, &request, style)?,
         Command::Sizes => sizes(rt, &request)?,
+        Command::Run => real::run(rt, &request)?,
     };
     Ok(Some(grade))
 }

@@ -24,6 +24,9 @@ pub enum Command {
 
     /// To tell how many states there are.
     Sizes,
+
+    /// To run a file on real threads.
+    Run,
 }
 
 impl Command {
@@ -34,6 +37,7 @@ impl Command {
             "script" => Some(Command::Script),
             "answers" => Some(Command::Answers),
             "sizes" => Some(Command::Sizes),
+            "run" => Some(Command::Run),
             _ => None,
         }
     }
@@ -42,7 +46,7 @@ impl Command {
     pub fn takes_several(self) -> bool {
         match self {
             Command::Check | Command::Sizes => true,
-            Command::Show | Command::Script | Command::Answers => false,
+            Command::Show | Command::Script | Command::Answers | Command::Run => false,
         }
     }
 }
@@ -57,6 +61,9 @@ pub struct Request {
 
     /// Numbers in the place of those that the files have.
     pub numbers: Vec<NamedNumber>,
+
+    /// How often a file is run.
+    pub rounds: Option<u64>,
 
     /// How many states a search looks at, at most.
     pub most: usize,
@@ -97,6 +104,7 @@ impl Request {
             command,
             files: Vec::new(alloc),
             numbers: Vec::new(alloc),
+            rounds: None,
             most: MOST_STATES,
             look: Look::Terminal,
             times: Times::Untold,
@@ -119,6 +127,7 @@ impl Request {
             "--states" => return Ok(Some(Next::States)),
             text if text.starts_with('-') => return Ok(None),
             text => match number_of(alloc, text)? {
+                Argument::File if self.lacks_rounds() => return Ok(self.take_rounds(text)),
                 Argument::File => self.files.push(word)?,
                 Argument::Number(number) => self.numbers.push(number)?,
                 Argument::Unfit => return Ok(None),
@@ -132,6 +141,16 @@ impl Request {
         Some(Next::Any)
     }
 
+    // Whether the next word that is no number by name is to be how often the file is run.
+    fn lacks_rounds(&self) -> bool {
+        self.command == Command::Run && self.rounds.is_none() && !self.files.is_empty()
+    }
+
+    fn take_rounds(&mut self, word: &str) -> Option<Next> {
+        self.rounds = Some(word.parse::<u64>().ok()?);
+        Some(Next::Any)
+    }
+
     // The request, if it is whole.
     fn if_whole(self, next: Next) -> Option<Request> {
         let has_files = if self.command.takes_several() {
@@ -139,7 +158,7 @@ impl Request {
         } else {
             self.files.len() == 1
         };
-        if has_files && next == Next::Any {
+        if has_files && !self.lacks_rounds() && next == Next::Any {
             Some(self)
         } else {
             None
