@@ -1,4 +1,4 @@
-//! The machines of docs/MODEL.md, as slow and plain as they are told there, and arbitrary steps.
+//! The machines of docs/THEOREMS.md, as slow and plain as they are told there, and arbitrary steps.
 //!
 //! What the plain machines answer to lines of text is compared with what the lots, the records and
 //! the fair mutex answer, in runs. They are there to be another word than the contracts, so they

@@ -1,4 +1,4 @@
-//! The machine of docs/MODEL.md, as slow and plain as it is told there: who waits, in the order in
+//! The machine of docs/THEOREMS.md, as slow and plain as it is told there: who waits, in the order in
 //! which they came, what each number is doing, what the threads have recorded, and how many buckets
 //! a table has.
 //!

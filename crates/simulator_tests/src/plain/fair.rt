@@ -1,4 +1,4 @@
-//! The machine of a fair mutex and its condition variable, as plain as docs/MODEL.md tells it. It
+//! The machine of a fair mutex and its condition variable, as plain as docs/THEOREMS.md tells it. It
 //! knows no lot, and moves threads one by one.
 
 use super::pairs::{add, beside, put, take};

@@ -1,4 +1,4 @@
-//! The interleaved machine of docs/MODEL.md, as slow and plain as it is told there. The threads'
+//! The interleaved machine of docs/THEOREMS.md, as slow and plain as it is told there. The threads'
 //! view is the plain machine with one list for each key.
 //!
 //! It knows no bucket and no node, and of a table only its size.
