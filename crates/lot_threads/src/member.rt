@@ -16,7 +16,6 @@ use crate::critical_section::CriticalSection;
 use crate::deadlock::{acquire_resource, release_resource};
 use crate::parker::ThreadParkerT;
 use crate::parking_lot::{ThreadData, park, park_within};
-use crate::section::Section;
 use crate::shared_lot::ParkingLot;
 use lot_base::token::{
     FilterOp, LotError, NoMemory, ParkResult, ParkToken, RequeueOp, UnparkResult, UnparkToken,
@@ -265,8 +264,8 @@ impl<'a, P: ThreadParkerT> Member<'a, P> {
         ensures unparked { UnparksOne C.FnOnce callback key self.old.history self.old.witness
             result self.new.witness }
     {
-        let (section, licence) = Section::open(rt, self.lot, key);
-        section.unpark_one(rt, &mut self.thread.witness, licence, callback)
+        self.lot
+            .unpark_one(rt, &mut self.thread.witness, key, callback)
     }
 
     /// Unparks all threads in the list of the key, in order, hands each the token, and answers how
@@ -279,8 +278,8 @@ impl<'a, P: ThreadParkerT> Member<'a, P> {
         ensures unparked { Extends self.old.history self.old.witness
             (Step.Unpark (Op.All key token)) (Answer.Count result) self.new.witness }
     {
-        let (section, licence) = Section::open(rt, self.lot, key);
-        section.unpark_all(rt, &mut self.thread.witness, licence, token)
+        self.lot
+            .unpark_all(rt, &mut self.thread.witness, key, token)
     }
 
     /// Unparks those threads in the list of the key that the filter unparks, in order, hands each
@@ -331,8 +330,8 @@ impl<'a, P: ThreadParkerT> Member<'a, P> {
         ensures unparked { UnparksWithin F.FnMut C.FnOnce filter callback key self.old.history
             self.old.witness result self.new.witness }
     {
-        let (section, licence) = Section::open(rt, self.lot, key);
-        section.unpark_filter(rt, &mut self.thread.witness, licence, filter, callback)
+        self.lot
+            .unpark_filter(rt, &mut self.thread.witness, key, filter, callback)
     }
 
     /// Does what `unpark_filter` does, for closures that may be called at any time, as those
@@ -427,8 +426,8 @@ impl<'a, P: ThreadParkerT> Member<'a, P> {
         ensures stays { Stays self.old self.new }
         ensures listed { IsListed self.old.history key self.old.witness self.new.witness result }
     {
-        let (section, licence) = Section::open(rt, self.lot, key);
-        section.list(&mut self.thread.witness, licence, alloc)
+        self.lot
+            .list_in_section(rt, alloc, &mut self.thread.witness, key)
     }
 
     /// Makes the table smaller, if it has more buckets than it needs: than the next power of two of

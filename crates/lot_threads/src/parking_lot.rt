@@ -14,8 +14,8 @@ ghost use Rattle.lot_threads.specs.Within.{IsParkedWithin, MayPark};
 
 use crate::critical_section::CriticalSection;
 use crate::parker::ThreadParkerT;
-use crate::section::Section;
 pub use crate::shared_lot::ParkingLot;
+use crate::visitor::Visitor;
 use lot_base::queue::Node;
 use lot_base::thread_parker::ParkerT;
 use lot_base::token::{
@@ -146,6 +146,19 @@ impl<P: ThreadParkerT> ParkingLot<P> {
         // The data of a thread that does not wait has its node: its type keeps that.
         self.release(rt, &mut witness, node.unwrap(), thread, records);
         witness
+    }
+
+    /// A visitor of the lot: a caller with a witness of its own, which has seen nothing and added
+    /// nothing. It costs a load.
+    ///
+    /// Upstream has no such call.
+    #[inline]
+    pub fn visitor(&self) -> Visitor<'_, P>
+        ensures lot { result.history ≡ self.now }
+        ensures nothing_seen { seen_by result.witness ≡ [] }
+        ensures nothing_added { events_of result.witness ≡ [] }
+    {
+        Visitor::of(self, self.history().witness())
     }
 
     /// The numbers of the threads that stand in the list of the key, in order, as `Visitor::list`
@@ -289,8 +302,7 @@ pub fn park_within<
 
     // Queue: validate and enter in one section.
     lot.parker(number).prepare_park();
-    let (section, licence) = Section::open(rt, lot, key);
-    if let Err((thread, node)) = section.enter(me, licence, thread, node, validate) {
+    if let Err((thread, node)) = lot.enter(rt, me, thread, node, validate) {
         thread_data.thread = thread;
         thread_data.node = Some(node);
         return ParkResult::Invalid;

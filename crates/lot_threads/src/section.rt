@@ -20,6 +20,7 @@ use crate::cell_steps::{enter_in, leave_in, list_in, take_all_of, take_filter_of
 use crate::critical_section::CriticalSection;
 use crate::parker::ThreadParkerT;
 use crate::shared_lot::ParkingLot;
+use crate::shared_lot::handles::Handles;
 use lot_base::queue::Node;
 use lot_base::token::{FilterOp, NoMemory, ParkToken, RequeueOp, UnparkResult, UnparkToken};
 use lot_base::word_lock::{Claim, WordLock};
@@ -44,9 +45,8 @@ impl Licence {
     }
 }
 
-/// A call that has the bucket of a key, which lies behind its lock. It ends in its step, which
-/// changes the bucket, adds to the history what it did, lets the bucket go, and wakes whom it
-/// unparked. It has no `Drop`: without a step it ends in `close`.
+/// A call that has the bucket of a key, which lies behind its lock. Its step changes the bucket and
+/// adds to the history what it did. It has no `Drop`: it ends in `close`.
 ///
 /// A requeue has two, of which `behind` tells the place of the one that was opened before.
 pub(crate) struct Section<'a, P: ThreadParkerT> {
@@ -145,84 +145,74 @@ impl<'a, P: ThreadParkerT> Section<'a, P> {
         lock.release(claim);
     }
 
-    /// Unparks the first thread of the key, if there is one, and wakes it once the bucket was let
-    /// go.
-    #[inline(always)]
-    pub(crate) fn unpark_one<R: Wait, C: FnOnce(&CriticalSection, UnparkResult) -> UnparkToken>(
-        mut self,
+    /// Unparks the first thread of the key, if there is one, and answers its handle too.
+    #[inline]
+    pub(crate) fn take_one<R: Wait, C: FnOnce(&CriticalSection, UnparkResult) -> UnparkToken>(
+        &mut self,
         rt: &R,
         me: &mut Witness,
         licence: Licence,
         callback: C,
-    ) -> UnparkResult
-        requires idle { IsIdle self.lot.now me.old }
-        requires callable { MayCallBack C.FnOnce callback self.lot.now self.key }
-        ensures idle { StaysIdle self.entry.lot.now me.old me.new }
-        ensures unparked { UnparksOne C.FnOnce callback self.entry.key self.entry.lot.now me.old
-            result me.new }
+    ) -> (UnparkResult, Option<P::UnparkHandle>)
+        requires idle { IsIdle self.old.lot.now me.old }
+        requires callable { MayCallBack C.FnOnce callback self.old.lot.now self.old.key }
+        ensures idle { StaysIdle self.old.lot.now me.old me.new }
+        ensures unparked { UnparksOne C.FnOnce callback self.old.key self.old.lot.now me.old
+            result.0 me.new }
     {
         let lot = self.lot;
         let key = self.key;
-        let lock = self.lock;
-        let slot = self.claim.value_mut(lock).as_mut().unwrap();
+        let slot = self.claim.value_mut(self.lock).as_mut().unwrap();
         let cell = slot.cell.as_mut().unwrap();
-        let (result, taken) = take_one_of::<Brand, C>(
-            lot.history(),
-            me,
-            licence,
-            cell,
-            key,
-            callback,
-        );
-        let handle = lot.commit_one(rt, me, taken);
-        self.close();
-        lot.wake(handle);
-        result
+        let (result, taken) = take_one_of(lot.history(), me, licence, cell, key, callback);
+        (result, lot.commit_one(rt, me, taken))
     }
 
-    /// Unparks all threads of the key, and wakes the first of them once the bucket was let go.
-    pub(crate) fn unpark_all<R: Wait>(
-        mut self,
+    /// Unparks all threads of the key, and answers handles of the first of them.
+    pub(crate) fn take_all<R: Wait>(
+        &mut self,
         rt: &R,
         me: &mut Witness,
         licence: Licence,
         token: UnparkToken,
-    ) -> usize
-        requires idle { IsIdle self.lot.now me.old }
-        ensures idle { StaysIdle self.entry.lot.now me.old me.new }
-        ensures unparked { Extends self.entry.lot.now me.old
-            (Step.Unpark (Op.All self.entry.key token)) (Answer.Count result) me.new }
+    ) -> (usize, Handles<P::UnparkHandle>)
+        requires idle { IsIdle self.old.lot.now me.old }
+        ensures idle { StaysIdle self.old.lot.now me.old me.new }
+        ensures unparked { Extends self.old.lot.now me.old
+            (Step.Unpark (Op.All self.old.key token)) (Answer.Count result.0) me.new }
     {
         let lot = self.lot;
         let key = self.key;
-        let lock = self.lock;
-        let slot = self.claim.value_mut(lock).as_mut().unwrap();
+        let slot = self.claim.value_mut(self.lock).as_mut().unwrap();
         let cell = slot.cell.as_mut().unwrap();
         let (count, taken) = take_all_of::<Brand>(lot.history(), me, licence, cell, key, token);
-        let handles = lot.commit(rt, me, taken);
-        self.close();
-        lot.wake_all(handles);
-        count
+        (count, lot.commit(rt, me, taken))
     }
 
-    /// Unparks those threads of the key that the filter unparks, and wakes the first of them once
-    /// the bucket was let go.
-    pub(crate) fn unpark_filter<
+    /// Unparks those threads of the key that the filter unparks, and answers handles of the first
+    /// of them.
+    pub(crate) fn take_filter<
         R: Wait,
         F: FnMut(ParkToken) -> FilterOp,
         C: FnOnce(&CriticalSection, UnparkResult) -> UnparkToken,
-    >(mut self, rt: &R, me: &mut Witness, licence: Licence, filter: F, callback: C) -> UnparkResult
-        requires idle { IsIdle self.lot.now me.old }
-        requires callable { MayFilterWithin F.FnMut C.FnOnce filter callback self.key self.lot.now
-            me.old }
-        ensures idle { StaysIdle self.entry.lot.now me.old me.new }
-        ensures unparked { UnparksWithin F.FnMut C.FnOnce filter callback self.entry.key
-            self.entry.lot.now me.old result me.new }
+    >(
+        &mut self,
+        rt: &R,
+        me: &mut Witness,
+        licence: Licence,
+        filter: F,
+        callback: C,
+    ) -> (UnparkResult, Handles<P::UnparkHandle>)
+        requires idle { IsIdle self.old.lot.now me.old }
+        requires callable { MayFilterWithin F.FnMut C.FnOnce filter callback self.old.key
+            self.old.lot.now me.old }
+        ensures idle { StaysIdle self.old.lot.now me.old me.new }
+        ensures unparked { UnparksWithin F.FnMut C.FnOnce filter callback self.old.key
+            self.old.lot.now me.old result.0 me.new }
     {
         let lot = self.lot;
         let key = self.key;
-        let lock = self.lock;
-        let slot = self.claim.value_mut(lock).as_mut().unwrap();
+        let slot = self.claim.value_mut(self.lock).as_mut().unwrap();
         let cell = slot.cell.as_mut().unwrap();
         let (result, taken) = take_filter_of(
             lot.history(),
@@ -233,47 +223,38 @@ impl<'a, P: ThreadParkerT> Section<'a, P> {
             filter,
             callback,
         );
-        let handles = lot.commit(rt, me, taken);
-        self.close();
-        lot.wake_all(handles);
-        result
+        (result, lot.commit(rt, me, taken))
     }
 
     /// Requeues threads of the key onto the key `to`, which has the same bucket, as `validate`
-    /// chooses, and wakes the one that is unparked, if there is one, once the bucket was let go.
+    /// chooses, and answers the handle of the one that is unparked, if there is one.
     pub(crate) fn requeue_here<
         R: Wait,
         V: FnOnce(&CriticalSection) -> RequeueOp,
         C: FnOnce(&CriticalSection, RequeueOp, UnparkResult) -> UnparkToken,
     >(
-        mut self,
+        &mut self,
         rt: &R,
         me: &mut Witness,
         licence: Licence,
         to: usize,
         validate: V,
         callback: C,
-    ) -> UnparkResult
-        requires idle { IsIdle self.lot.now me.old }
-        requires to { IsLockFor self.lot.now to self.lock.now }
-        requires callable { MayRequeueWithin V.FnOnce C.FnOnce validate callback self.lot.now
-            self.key }
-        ensures idle { StaysIdle self.entry.lot.now me.old me.new }
-        ensures requeued { RequeuesWithin V.FnOnce C.FnOnce validate callback self.entry.key to
-            self.entry.lot.now me.old result me.new }
+    ) -> (UnparkResult, Option<P::UnparkHandle>)
+        requires idle { IsIdle self.old.lot.now me.old }
+        requires to { IsLockFor self.old.lot.now to self.old.lock.now }
+        requires callable { MayRequeueWithin V.FnOnce C.FnOnce validate callback self.old.lot.now
+            self.old.key }
+        ensures idle { StaysIdle self.old.lot.now me.old me.new }
+        ensures requeued { RequeuesWithin V.FnOnce C.FnOnce validate callback self.old.key to
+            self.old.lot.now me.old result.0 me.new }
     {
         let lot = self.lot;
         let from = self.key;
-        let lock = self.lock;
-        let slot = self.claim.value_mut(lock).as_mut().unwrap();
+        let slot = self.claim.value_mut(self.lock).as_mut().unwrap();
         let cell = slot.cell.as_mut().unwrap();
-        let (result, taken) = lot.requeue_in_one::<Brand, V, C>(
-            me, licence, cell, from, to, validate, callback,
-        );
-        let handle = lot.commit_one(rt, me, taken);
-        self.close();
-        lot.wake(handle);
-        result
+        let (result, taken) = lot.requeue_in_one(me, licence, cell, from, to, validate, callback);
+        (result, lot.commit_one(rt, me, taken))
     }
 
     /// Does what `requeue_here` does, onto the key of another bucket, which the section `target`
@@ -283,133 +264,107 @@ impl<'a, P: ThreadParkerT> Section<'a, P> {
         V: FnOnce(&CriticalSection) -> RequeueOp,
         C: FnOnce(&CriticalSection, RequeueOp, UnparkResult) -> UnparkToken,
     >(
-        mut self,
+        &mut self,
         rt: &R,
         me: &mut Witness,
         licence: Licence,
-        mut target: Section<'a, P>,
+        target: &mut Section<'a, P>,
         validate: V,
         callback: C,
-    ) -> UnparkResult
-        requires idle { IsIdle self.lot.now me.old }
-        requires lot { target.lot.now ≡ self.lot.now }
-        requires apart { AreApart self.lock.now target.lock.now }
-        requires callable { MayRequeueWithin V.FnOnce C.FnOnce validate callback self.lot.now
-            self.key }
-        ensures idle { StaysIdle self.entry.lot.now me.old me.new }
-        ensures requeued { RequeuesWithin V.FnOnce C.FnOnce validate callback self.entry.key
-            target.entry.key self.entry.lot.now me.old result me.new }
+    ) -> (UnparkResult, Option<P::UnparkHandle>)
+        requires idle { IsIdle self.old.lot.now me.old }
+        requires lot { target.old.lot.now ≡ self.old.lot.now }
+        requires apart { AreApart self.old.lock.now target.old.lock.now }
+        requires callable { MayRequeueWithin V.FnOnce C.FnOnce validate callback self.old.lot.now
+            self.old.key }
+        ensures idle { StaysIdle self.old.lot.now me.old me.new }
+        ensures requeued { RequeuesWithin V.FnOnce C.FnOnce validate callback self.old.key
+            target.old.key self.old.lot.now me.old result.0 me.new }
     {
         let lot = self.lot;
         let from = self.key;
         let to = target.key;
-        let lock = self.lock;
-        let slot = self.claim.value_mut(lock).as_mut().unwrap();
+        let slot = self.claim.value_mut(self.lock).as_mut().unwrap();
         let source = slot.cell.as_mut().unwrap();
-        let lock = target.lock;
-        let slot = target.claim.value_mut(lock).as_mut().unwrap();
+        let slot = target.claim.value_mut(target.lock).as_mut().unwrap();
         let other = slot.cell.as_mut().unwrap();
-        let (result, taken) = lot.requeue_across::<Brand, V, C>(
+        let (result, taken) = lot.requeue_across(
             me, licence, source, other, from, to, validate, callback,
         );
-        let handle = lot.commit_one(rt, me, taken);
-        self.close();
-        target.close();
-        lot.wake(handle);
-        result
+        (result, lot.commit_one(rt, me, taken))
     }
 
     /// Puts a thread last in the list of the key, if `validate` answers true, or gives its piece
     /// and its node back.
-    #[inline(always)]
+    #[inline]
     pub(crate) fn enter<V: FnOnce(&CriticalSection) -> bool>(
-        mut self,
+        &mut self,
         me: &mut Witness,
         licence: Licence,
         thread: Part,
         node: Box<Node>,
         validate: V,
     ) -> Result<(), (Part, Box<Node>)>
-        requires idle { IsIdle self.lot.now me.old }
-        requires key { (fields node.value).key ≡ self.key }
-        requires below { IsBelow (max_threads_of self.lot.now) (fields node.value) }
-        requires thread { Has (id_of self.lot.now)
+        requires idle { IsIdle self.old.lot.now me.old }
+        requires key { (fields node.value).key ≡ self.old.key }
+        requires below { IsBelow (max_threads_of self.old.lot.now) (fields node.value) }
+        requires thread { Has (id_of self.old.lot.now)
             (Thread (fields node.value).number Status.Running ∷ []) thread }
-        requires callable { MayValidate V.FnOnce validate self.lot.now self.key }
-        ensures idle { StaysIdle self.entry.lot.now me.old me.new }
-        ensures entered { OnOk result (Enters V.FnOnce validate self.entry.lot.now
+        requires callable { MayValidate V.FnOnce validate self.old.lot.now self.old.key }
+        ensures idle { StaysIdle self.old.lot.now me.old me.new }
+        ensures entered { OnOk result (Enters V.FnOnce validate self.old.lot.now
             (entry_of (fields node.value)) me.old me.new) }
-        ensures refused { IfErr result (λ back. Refuses V.FnOnce validate self.entry.lot.now
+        ensures refused { IfErr result (λ back. Refuses V.FnOnce validate self.old.lot.now
             (entry_of (fields node.value)) me.old me.new) }
         ensures returned { IfErr result (λ back. (back.1.value ≡ node.value)
-            × Has (id_of self.entry.lot.now)
+            × Has (id_of self.old.lot.now)
             (Thread (fields node.value).number Status.Running ∷ []) back.0) }
     {
-        let lot = self.lot;
-        let key = self.key;
-        let number = node.number;
-        let timed = node.timed;
-        let lock = self.lock;
-        let slot = self.claim.value_mut(lock).as_mut().unwrap();
+        let history = self.lot.history();
+        let slot = self.claim.value_mut(self.lock).as_mut().unwrap();
         let cell = slot.cell.as_mut().unwrap();
-        let entered = enter_in(lot.history(), me, licence, cell, thread, node, validate);
-        if entered.is_ok() {
-            lot.note_key(number, timed, key);
-        }
-        self.close();
-        entered
+        enter_in(history, me, licence, cell, thread, node, validate)
     }
 
     /// Takes a thread whose deadline has passed out of the list of the key and calls `timed_out`,
     /// or answers `None` if it does not stand there, since an unpark took it.
-    pub(crate) fn leave<T: FnOnce(&CriticalSection, usize, bool)>(
-        mut self,
+    pub(crate) fn leave<R: Wait, T: FnOnce(&CriticalSection, usize, bool)>(
+        &mut self,
+        rt: &R,
         me: &mut Witness,
         licence: Licence,
         number: usize,
         timed_out: T,
     ) -> Option<(Part, Box<Node>)>
-        requires idle { IsIdle self.lot.now me.old }
-        requires callable { MayTellTimeout T.FnOnce timed_out self.lot.now }
-        ensures idle { StaysIdle self.entry.lot.now me.old me.new }
+        requires idle { IsIdle self.old.lot.now me.old }
+        requires callable { MayTellTimeout T.FnOnce timed_out self.old.lot.now }
+        ensures idle { StaysIdle self.old.lot.now me.old me.new }
         ensures left { IfSome result (λ back. (last : Bool)
-            × TellsTimeout T.FnOnce timed_out self.entry.lot.now number self.entry.key last me.old
+            × TellsTimeout T.FnOnce timed_out self.old.lot.now number self.old.key last me.old
             me.new) }
         ensures returned { IfSome result (λ back. ((fields back.1.value).number ≡ number)
-            × Has (id_of self.entry.lot.now) (Thread number Status.Running ∷ []) back.0) }
+            × Has (id_of self.old.lot.now) (Thread number Status.Running ∷ []) back.0) }
         ensures unchanged { IfNone result ((seen_by me.new ≡ seen_by me.old)
             × (events_of me.new ≡ events_of me.old)) }
     {
         let history = self.lot.history();
         let key = self.key;
-        let lock = self.lock;
-        let slot = self.claim.value_mut(lock).as_mut().unwrap();
+        let slot = self.claim.value_mut(self.lock).as_mut().unwrap();
         let cell = slot.cell.as_mut().unwrap();
-        let left = leave_in(history, me, licence, cell, number, key, timed_out);
-        self.close();
-        left
+        leave_in(rt, history, me, licence, cell, number, key, timed_out)
     }
 
-    /// Sees the history with the bucket's part, and lists the threads of the key. It adds nothing.
-    pub(crate) fn list(
-        mut self,
-        me: &mut Witness,
-        licence: Licence,
-        alloc: Global,
-    ) -> Result<Vec<usize>, NoMemory>
-        requires idle { IsIdle self.lot.now me.old }
-        ensures idle { StaysIdle self.entry.lot.now me.old me.new }
-        ensures listed { IsListed self.entry.lot.now self.entry.key me.old me.new result }
+    /// Sees the history with the bucket's part, and lists the threads of the key.
+    pub(crate) fn list(&mut self, me: &mut Witness, alloc: Global) -> Result<Vec<usize>, NoMemory>
+        requires idle { IsIdle self.old.lot.now me.old }
+        ensures idle { StaysIdle self.old.lot.now me.old me.new }
+        ensures listed { IsListed self.old.lot.now self.old.key me.old me.new result }
     {
-        licence.spend();
         let history = self.lot.history();
         let key = self.key;
-        let lock = self.lock;
-        let slot = self.claim.value_mut(lock).as_mut().unwrap();
+        let slot = self.claim.value_mut(self.lock).as_mut().unwrap();
         let cell = slot.cell.as_mut().unwrap();
-        let listed = list_in(history, me, cell, alloc, key);
-        self.close();
-        listed
+        list_in(history, me, cell, alloc, key)
     }
 }
 

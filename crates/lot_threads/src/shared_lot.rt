@@ -1,16 +1,22 @@
 //! The lot, which threads share by reference: its buckets, and a parker for each thread.
 
-ghost use Rattle.std.specs.Prelude.{◌≡◌, ◌≢◌, ◌↔◌, ◌∷◌, ◌<◌, ◌≤◌, ◌^◌, [], length, replicate, Err, IsErrOf, IfOk, IfSome, IsOkAnd, None};
+ghost use Rattle.std.specs.Prelude.{◌≡◌, ◌≢◌, ◌↔◌, ◌∷◌, ◌+◌, ◌<◌, ◌≤◌, ◌^◌, ℕ, List, [], true, false, length, replicate, All, Err, IsErrOf, Bool, IfErr, IfNone, IfOk, IfSome, IsOkAnd, None, OnOk, is_ok};
+ghost use Rattle.lot_base.specs.BucketState.{KeepsPlace};
 ghost use Rattle.lot_base.specs.Node.{fields};
+ghost use Rattle.lot_base.specs.NodeFields.{NodeFields};
+ghost use Rattle.lot_base.specs.NodeLists.{lists_of};
+ghost use Rattle.lot_base.specs.Place.{place_of};
+ghost use Rattle.lot_base.specs.Waiting.{result_of, split_first};
 ghost use Rattle.lot_base.specs.declared.token.UnparkResult.{UnparkResult};
 ghost use Rattle.lot_machine.specs.Numbers.{count_registered};
 ghost use Rattle.lot_machine.specs.declared.step.Answer.{Answer};
 ghost use Rattle.lot_machine.specs.declared.step.Step.{Step};
-ghost use Rattle.lot_history.specs.Witness.{Extends, IsPartOf, IsStill, id_of, max_threads_of};
+ghost use Rattle.lot_history.specs.Witness.{Adds, Extends, IsPartOf, IsStill, IsWitnessOf, events_of, id_of, max_threads_of, pieces_of, seen_by};
 ghost use Rattle.lot_history.specs.declared.view.Piece.TheVariants.{Thread};
-ghost use Rattle.lot_threads.specs.Cells.{Has, HasRecords, IsBelow, IsRegistry, home_of};
-ghost use Rattle.lot_threads.specs.Idle.{IsIdle};
-ghost use Rattle.lot_threads.specs.Members.{IsRegistered, number_in};
+ghost use Rattle.lot_threads.specs.Cells.{Has, HasRecords, IsBelow, IsCell, IsLockFor, IsRegistry, home_of, threads_in};
+ghost use Rattle.lot_threads.specs.Filters.{MayFilter, Unparks};
+ghost use Rattle.lot_threads.specs.Idle.{IsIdle, StaysIdle};
+ghost use Rattle.lot_threads.specs.Members.{IsListed, IsRegistered, Leaves, entry_of, entry_step, number_in};
 ghost use Rattle.lot_threads.specs.Rows.{EachAt};
 
 mod growth;
@@ -19,6 +25,7 @@ pub(crate) mod handles;
 mod park;
 mod requeue;
 mod rows;
+mod unpark;
 
 use crate::cell::{Cell, RowSlot, new_rows};
 use crate::numbered_nodes::NumberedNodes;
@@ -184,7 +191,7 @@ impl<P: ThreadParkerT> ParkingLot<P> {
 
     // Notes in which list a thread stands that has a timeout: only after its deadline does a thread
     // look where it stands. It writes no key that is noted already, since a load costs less.
-    pub(crate) fn note_key(&self, number: usize, timed: bool, key: usize) {
+    fn note_key(&self, number: usize, timed: bool, key: usize) {
         if timed
             && let Some(thread) = self.threads.get(number)
             && thread.key.load(Ordering::SeqCst) != key

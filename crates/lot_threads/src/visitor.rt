@@ -17,7 +17,6 @@ ghost use Rattle.lot_threads.specs.Within.{MayCallBack, MayFilterWithin, Unparks
 
 use crate::critical_section::CriticalSection;
 use crate::parker::ThreadParkerT;
-use crate::section::Section;
 use crate::shared_lot::ParkingLot;
 use lot_base::token::{FilterOp, NoMemory, ParkToken, RequeueOp, UnparkResult, UnparkToken};
 use lot_history::history::Witness;
@@ -54,24 +53,6 @@ impl<'a, P: ThreadParkerT> Model for Visitor<'a, P> {
       history = visitor.lot.now;
       witness = visitor.witness;
     } };
-}
-
-impl<P: ThreadParkerT> ParkingLot<P> {
-    /// A visitor of the lot: a caller with a witness of its own, which has seen nothing and added
-    /// nothing. It costs a load.
-    ///
-    /// Upstream has no such call.
-    #[inline]
-    pub fn visitor(&self) -> Visitor<'_, P>
-        ensures lot { result.history ≡ self.now }
-        ensures nothing_seen { seen_by result.witness ≡ [] }
-        ensures nothing_added { events_of result.witness ≡ [] }
-    {
-        Visitor {
-            lot: self,
-            witness: self.history().witness(),
-        }
-    }
 }
 
 impl<'a, P: ThreadParkerT> Visitor<'a, P> {
@@ -169,8 +150,7 @@ impl<'a, P: ThreadParkerT> Visitor<'a, P> {
         ensures unparked { UnparksOne C.FnOnce callback key self.old.history self.old.witness
             result self.new.witness }
     {
-        let (section, licence) = Section::open(rt, self.lot, key);
-        section.unpark_one(rt, &mut self.witness, licence, callback)
+        self.lot.unpark_one(rt, &mut self.witness, key, callback)
     }
 
     /// Unparks all threads in the list of the key, as `Member::unpark_all` does.
@@ -179,8 +159,7 @@ impl<'a, P: ThreadParkerT> Visitor<'a, P> {
         ensures unparked { Does self.old (Step.Unpark (Op.All key token)) (Answer.Count result)
             self.new }
     {
-        let (section, licence) = Section::open(rt, self.lot, key);
-        section.unpark_all(rt, &mut self.witness, licence, token)
+        self.lot.unpark_all(rt, &mut self.witness, key, token)
     }
 
     /// Unparks those threads in the list of the key that the filter unparks, as
@@ -222,8 +201,8 @@ impl<'a, P: ThreadParkerT> Visitor<'a, P> {
         ensures unparked { UnparksWithin F.FnMut C.FnOnce filter callback key self.old.history
             self.old.witness result self.new.witness }
     {
-        let (section, licence) = Section::open(rt, self.lot, key);
-        section.unpark_filter(rt, &mut self.witness, licence, filter, callback)
+        self.lot
+            .unpark_filter(rt, &mut self.witness, key, filter, callback)
     }
 
     /// Does what `unpark_filter` does, for closures that may be called at any time, as those
@@ -303,8 +282,7 @@ impl<'a, P: ThreadParkerT> Visitor<'a, P> {
         ensures visits { Visits self.old self.new }
         ensures listed { IsListed self.old.history key self.old.witness self.new.witness result }
     {
-        let (section, licence) = Section::open(rt, self.lot, key);
-        section.list(&mut self.witness, licence, alloc)
+        self.lot.list_in_section(rt, alloc, &mut self.witness, key)
     }
 
     /// Makes the table smaller, as `Member::trim` does.

@@ -13,14 +13,15 @@ ghost use Rattle.lot_threads.specs.Idle.{IsIdle, StaysIdle};
 
 use super::ParkingLot;
 use super::handles::{HANDLES, Handles, Room};
+use crate::cell_steps::never;
 use crate::parker::{Letter, ThreadParkerT};
+use crate::told::add_return;
 use lot_base::queue::{Node, Queue};
 use lot_base::thread_parker::UnparkHandleT;
 use lot_history::history::{Part, Witness};
 use lot_machine::status::Status;
 use lot_machine::step::{Answer, Step};
 use std::sync::Wait;
-use std::thread;
 
 impl<P: ThreadParkerT> ParkingLot<P> {
     // Commits the unparks of all nodes that were taken, in order. It wakes the threads for whose
@@ -43,7 +44,7 @@ impl<P: ThreadParkerT> ParkingLot<P> {
         while let Some(node) = taken.pop_front() {
             let part = self.history.give(me);
             let handle = self.hand_over(rt, node, part);
-            self.wake(handles.put(handle));
+            self.wake_if_any(handles.put(handle));
         }
         handles
     }
@@ -85,27 +86,31 @@ impl<P: ThreadParkerT> ParkingLot<P> {
             .unpark_lock(rt, node, Letter { part })
     }
 
-    // Wakes the thread whose unpark was committed, if there is one. Its number is that of a thread
-    // of this lot, so none is skipped; no contract of a handle says so.
-    #[inline]
-    pub(crate) fn wake(&self, handle: Option<P::UnparkHandle>) {
-        let Some(handle) = handle else {
-            return;
-        };
+    // Wakes the thread whose unpark was committed. Its number is that of a thread of this lot, so
+    // none is skipped; no contract of a handle says so.
+    pub(super) fn wake(&self, handle: P::UnparkHandle) {
         let number = handle.number();
         if number < self.threads.len() {
             handle.unpark(self.parker(number));
         }
     }
 
+    // Wakes the thread whose unpark was committed, if there is one.
+    #[inline]
+    pub(super) fn wake_if_any(&self, handle: Option<P::UnparkHandle>) {
+        if let Some(handle) = handle {
+            self.wake(handle);
+        }
+    }
+
     // Wakes the threads whose handles were kept.
-    pub(crate) fn wake_all(&self, mut handles: Handles<P::UnparkHandle>) {
+    pub(super) fn wake_all(&self, mut handles: Handles<P::UnparkHandle>) {
         // There is room for no more handles.
         for _ in 0..HANDLES {
             let Some(handle) = handles.take() else {
                 return;
             };
-            self.wake(Some(handle));
+            self.wake(handle);
         }
     }
 
@@ -129,13 +134,8 @@ impl<P: ThreadParkerT> ParkingLot<P> {
             (Thread node.now.number Status.Running ∷ []) result }
     {
         let Some(Letter { part }) = letter else {
-            for _ in rt.forever() {
-                thread::yield_now();
-            }
-            unreachable!()
+            never(rt);
         };
-        self.history.take(me, part);
-        self.history.give_back(me, node.number, node.unpark_token);
-        self.history.give(me)
+        add_return(&self.history, me, node.number, node.unpark_token, part)
     }
 }
