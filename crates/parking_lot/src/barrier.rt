@@ -1,21 +1,21 @@
-//! A point at which threads wait for one another.
+//! This module has the barrier, a point at which threads wait for one another.
 //!
 //! # The protocol
 //!
 //! `here` counts the threads that have come in this round. `generation` counts the rounds, and
 //! wraps. `queue` has the threads that wait.
 //!
-//! - Whoever comes reads `generation`, **then** adds itself to `here`.
-//! - Whoever is the last of its round sets `here` to 0, **then** adds 1 to `generation`, and
-//!   **then** wakes the queue. It leads the round.
-//! - Whoever is not waits in the queue while `generation` is what it read.
+//! - A thread that arrives reads `generation`, and **then** adds itself to `here`.
+//! - The last thread of a round sets `here` to 0, **then** adds 1 to `generation`, and **then**
+//!   wakes the queue. It leads the round.
+//! - Every other thread waits in the queue while `generation` is what it read.
 //!
-//! Nobody is forgotten: a thread stands in the queue only after a look that found its round open.
-//! The last of that round closes it later, and wakes all after that. Whoever is woken by the last
-//! of an earlier round looks again. All steps are `SeqCst`.
+//! No thread is forgotten. A thread stays in the queue only if it found its round open. The last
+//! thread of that round closes it later, and wakes all threads after that. A thread that is woken
+//! by the last one of an earlier round looks again. All accesses are `SeqCst`.
 //!
 //! No thread is counted twice in a round, by type: there are as many parties as the barrier wants,
-//! and one is borrowed for as long as it waits. `here` is 0 before the next round can begin, since
+//! and a party is borrowed while it waits. `here` is 0 before the next round can begin, because
 //! nobody comes again before `generation` has changed.
 
 ghost use Rattle.std.specs.Iterator.{at_most};
@@ -31,13 +31,10 @@ use std::sync::Wait;
 use std::sync::atomic::{AtomicUsize, Ordering};
 use std::time::Clock;
 
-/// A point at which so many threads wait until all of them have come. It can be passed again and
-/// again.
+/// A `Barrier` makes a fixed number of threads wait until all of them have come.
 ///
-/// Threads wait at it by its parties: `parties` hands them out, one for each thread.
-///
-/// Upstream has no such type; std has it under this name, where any thread may wait by a shared
-/// reference, and more threads than the barrier counts make rounds of their own.
+/// When all have come, all go on, and the barrier can be used again. Threads wait at it by its
+/// parties: `parties` hands them out, one for each thread.
 #[derive(Drop)]
 pub struct Barrier<'l> {
     queue: WaitQueue<'l>,
@@ -46,21 +43,23 @@ pub struct Barrier<'l> {
     generation: AtomicUsize,
 }
 
-/// The parties of a barrier that were not handed out yet.
+/// `Parties` iterates over the parties of a barrier that were not handed out yet.
 #[derive(Drop)]
 pub struct Parties<'a, 'l> {
     barrier: &'a Barrier<'l>,
     left: usize,
 }
 
-/// The right of one thread to wait at a barrier. A round ends once all its parties wait, so one
-/// that is dropped, or not handed out, keeps the others waiting for ever.
+/// A `Party` is the right of one thread to wait at a barrier.
+///
+/// A round ends when all parties of the barrier wait. So if one is dropped, or never handed out,
+/// the others wait for ever.
 #[derive(Drop)]
 pub struct Party<'a, 'l> {
     barrier: &'a Barrier<'l>,
 }
 
-/// What a thread learns as a round ends.
+/// A `BarrierWaitResult` says whether a thread led the round that has ended.
 #[derive(Clone, Copy, Debug, PartialEq, Eq)]
 pub struct BarrierWaitResult {
     role: Role,
@@ -73,11 +72,13 @@ enum Role {
 }
 
 impl<'l> Barrier<'l> {
-    /// A barrier for so many threads. With none nobody can wait at it, and with one nobody waits.
+    /// Creates a barrier for the given number of threads.
+    ///
+    /// With 0 parties nobody can wait at it, and with 1 nobody has to wait.
     ///
     /// # Errors
     ///
-    /// `NoMemory` if memory cannot be had. It asks for none by now.
+    /// `NoMemory` if there is not enough memory. This version allocates nothing.
     pub fn new(lot: &'l Lot, parties: usize) -> Result<Barrier<'l>, NoMemory>
         ensures { IfOk result (λ barrier. parties_of barrier ≡ parties) }
     {
@@ -89,8 +90,7 @@ impl<'l> Barrier<'l> {
         })
     }
 
-    /// The parties of the barrier, as many as it was made for. While one of them lives there are no
-    /// others.
+    /// Hands out the parties of the barrier, as many as it was created for.
     ///
     /// ```
     /// let mut parties = Vec::new(alloc);
@@ -99,6 +99,8 @@ impl<'l> Barrier<'l> {
     /// }
     /// thread::map_vec(rt, parties, &|mut party: Party<'_, '_>| party.wait(rt).is_leader())?;
     /// ```
+    ///
+    /// It borrows the barrier, so there are no other parties while one of these lives.
     pub fn parties(&mut self) -> Parties<'_, 'l>
         ensures all { left_of result ≡ parties_of self.old }
         ensures barrier { barrier_of result ≡ self.old }
@@ -162,7 +164,8 @@ impl Party<'_, '_> {
 }
 
 impl BarrierWaitResult {
-    /// Whether this thread leads the round: one thread of each round does, the one that came last.
+    /// Returns whether this thread led the round: in each round one thread does, the one that came
+    /// last.
     pub fn is_leader(&self) -> bool {
         self.role == Role::Leader
     }

@@ -1,25 +1,25 @@
-//! A condition variable.
+//! This module has the condition variable, on which threads wait with a mutex.
 //!
 //! # The protocol
 //!
-//! `sleepers` says that threads may stand on the key, and `met` with the mutex of which lot and key
-//! they came: one, or several. Both change in sections of the key.
+//! `sleepers` says that threads may be in the list of the key. `met` says with which mutex they
+//! came, by its lot and key: with one, or with several. Both change only in critical sections of
+//! the key.
 //!
-//! - Whoever waits notes itself in the section in which it comes to the list, while it holds the
-//!   mutex, and lets the mutex go once it stands there. Woken, it locks the mutex again.
-//! - A notify looks at `sleepers`. If it is up, it takes the first thread, or all, off the list,
-//!   and in that section takes `sleepers` down if nobody is left.
-//! - Whoever notifies while it holds the mutex moves the threads to the key of the mutex, if all
-//!   came with it, and puts the `parked` of that mutex up: its own unlock wakes them. Else they are
-//!   woken.
+//! - A thread that waits notes itself in the section in which it enters the list, while it holds
+//!   the mutex. It unlocks the mutex when it is in the list. When it is woken, it locks the mutex
+//!   again.
+//! - A notify looks at `sleepers`. If it is set, the notify takes the first thread, or all threads,
+//!   off the list. In that section it clears `sleepers` if nobody is left.
+//! - A notify by the holder of the mutex moves the threads to the key of the mutex if all of them
+//!   came with it, and sets the `parked` of that mutex, so that its unlock wakes them. Otherwise it
+//!   wakes them at once.
 //! - A thread whose deadline passes after it was moved has had its notify, so it did not time out.
 //!
-//! Nobody is forgotten: who waits holds the mutex when it notes itself, and lets it go behind that.
-//! Whoever changes the condition under the mutex did so before, and the waiter saw it, or does so
-//! later, and its notify sees `sleepers`.
-//!
-//! Upstream keeps the address of the mutex in place of `sleepers` and `met`, and asks that all come
-//! with one mutex.
+//! No thread is forgotten. A thread that waits holds the mutex when it notes itself, and unlocks it
+//! after that. Another thread may have changed the condition under the mutex before that, and then
+//! the first thread saw the change; or it changes the condition later, and then its notify sees
+//! `sleepers`.
 
 ghost use Rattle.std.specs.Prelude.{◌≡◌, false};
 ghost use Rattle.std.specs.Iterator.Runs.{CallKeepsClosure};
@@ -43,14 +43,17 @@ use std::time::{Clock, Duration, Instant};
 // The threads came with mutexes of several keys, or of another lot.
 const SEVERAL: usize = usize::MAX;
 
-/// Whether a wait ended because its time was over.
+/// A `WaitTimeoutResult` says whether a timed wait ended because its time was over.
 #[derive(Clone, Copy, PartialEq, Eq, Debug)]
 pub struct WaitTimeoutResult {
     timed_out: bool,
 }
 
 impl WaitTimeoutResult {
-    /// Whether the time was over before a notify came.
+    /// Returns whether the time was over.
+    ///
+    /// After `wait_for` and `wait_until` this means that the deadline passed before a notify came.
+    /// After `wait_while_for` and `wait_while_until` it means that the condition was still true.
     pub fn timed_out(self) -> bool
         ensures { result ≡ has_timed_out self }
     {
@@ -58,13 +61,23 @@ impl WaitTimeoutResult {
     }
 }
 
-/// A condition variable: threads wait on it, with a mutex, until others notify them.
+/// A `Condvar` lets threads wait, each with a mutex, until other threads notify them.
 ///
-/// Threads may wait on it with several mutexes. Each waits in the lot of the condition variable. A
-/// wait may end with no notify: call it in a loop that looks at the condition, or call
+/// Here a thread waits until it is its turn, and passes the turn on to the next:
+///
+/// ```
+/// let turn = turn.lock(rt);
+/// let mut turn = changed.wait_while(turn, |turn: &mut u32| *turn != own);
+/// *turn = turn.wrapping_add(1);
+/// changed.notify_all_held(&turn);
+/// ```
+///
+/// A wait may end without a notify. So call it in a loop that checks the condition, or call
 /// `wait_while`.
 ///
-/// Upstream has it under this name, for one mutex at a time.
+/// Threads may wait on one condition variable with several mutexes, and some of those may be fair.
+/// Each thread takes its place in the lot of the condition variable, so create both with the same
+/// lot: with two lots the notifies still work, but always wake at once.
 #[derive(Drop)]
 pub struct Condvar<'l> {
     lot: &'l Lot,
@@ -109,13 +122,11 @@ enum Left {
 }
 
 impl<'l> Condvar<'l> {
-    /// A condition variable, on which nobody waits.
+    /// Creates a condition variable on which nobody waits.
     ///
     /// # Errors
     ///
-    /// `NoMemory` if memory cannot be had. It asks for none by now.
-    ///
-    /// Upstream's `new` is a `const fn`.
+    /// `NoMemory` if there is not enough memory. This version allocates nothing.
     pub fn new(lot: &'l Lot) -> Result<Condvar<'l>, NoMemory> {
         Ok(Condvar {
             lot,
@@ -125,12 +136,10 @@ impl<'l> Condvar<'l> {
         })
     }
 
-    /// Lets the mutex of the guard go, waits for a notify, and locks the mutex again.
+    /// Unlocks the mutex of the guard, waits for a notify, and locks the mutex again.
     ///
-    /// It may end with no notify. So it does where the lot is full: the mutex was let go for a
-    /// moment then.
-    ///
-    /// Upstream has it under this name, and takes the guard by reference.
+    /// It may return without a notify. It does so where the lot has no free place: then the mutex
+    /// was unlocked for a moment.
     pub fn wait<'a, 'r, 'm, T, R: Wait + Clock, F: Fairness>(
         &self,
         guard: MutexGuardIn<'a, 'r, 'm, T, R, F>,
@@ -140,8 +149,10 @@ impl<'l> Condvar<'l> {
         self.wait_at_most(guard, None).0
     }
 
-    /// Waits as `wait` does, and no longer than for the duration. A clock that cannot be read
-    /// leaves no time to wait: the mutex is not let go then.
+    /// Waits as `wait` does, but no longer than for the duration.
+    ///
+    /// If the clock cannot be read, it returns at once with the mutex still locked, and the result
+    /// says that the time was over.
     pub fn wait_for<'a, 'r, 'm, T, R: Wait + Clock, F: Fairness>(
         &self,
         guard: MutexGuardIn<'a, 'r, 'm, T, R, F>,
@@ -155,11 +166,11 @@ impl<'l> Condvar<'l> {
         }
     }
 
-    /// Waits as `wait` does, and no longer than until the deadline. A clock that cannot be read
-    /// counts as past it.
+    /// Waits as `wait` does, but no longer than until the deadline.
     ///
-    /// The answer is timed out if the deadline passed and no notify had come before. Where the lot
-    /// is full it is not, and the mutex was let go for a moment.
+    /// The result says whether the deadline passed before a notify came. If the lot has no free
+    /// place, it returns early, after the mutex was unlocked for a moment, and the result says that
+    /// the time was not over.
     pub fn wait_until<'a, 'r, 'm, T, R: Wait + Clock, F: Fairness>(
         &self,
         guard: MutexGuardIn<'a, 'r, 'm, T, R, F>,
@@ -170,10 +181,10 @@ impl<'l> Condvar<'l> {
         self.wait_at_most(guard, Some(deadline))
     }
 
-    /// Waits while the condition answers true. It is asked with the mutex locked, first before any
-    /// wait, and it answered false of the value that the guard gives.
+    /// Waits while the condition returns true.
     ///
-    /// Upstream has it under this name, and takes the guard by reference.
+    /// The condition is called with the mutex locked: once before any wait, and again after each.
+    /// When `wait_while` returns, the condition has returned false for the value in the guard.
     pub fn wait_while<'a, 'r, 'm, T, R: Wait + Clock, F: Fairness, C: FnMut(&mut T) -> bool>(
         &self,
         guard: MutexGuardIn<'a, 'r, 'm, T, R, F>,
@@ -188,8 +199,10 @@ impl<'l> Condvar<'l> {
             .0
     }
 
-    /// Waits as `wait_while` does, and no longer than for the duration. The answer is timed out if
-    /// the condition still answered true then.
+    /// Waits as `wait_while` does, but no longer than for the duration.
+    ///
+    /// The result says that the time was over if the condition was still true at its last call.
+    /// Otherwise the condition has returned false for the value in the guard.
     pub fn wait_while_for<'a, 'r, 'm, T, R: Wait + Clock, F: Fairness, C: FnMut(&mut T) -> bool>(
         &self,
         guard: MutexGuardIn<'a, 'r, 'm, T, R, F>,
@@ -209,8 +222,10 @@ impl<'l> Condvar<'l> {
         self.wait_while_at_most(guard, condition, patience)
     }
 
-    /// Waits as `wait_while` does, and no longer than until the deadline. The answer is timed out
-    /// if the condition still answered true then.
+    /// Waits as `wait_while` does, but no longer than until the deadline.
+    ///
+    /// The result says that the time was over if the condition was still true at its last call.
+    /// Otherwise the condition has returned false for the value in the guard.
     pub fn wait_while_until<'a, 'r, 'm, T, R: Wait + Clock, F: Fairness, C: FnMut(&mut T) -> bool>(
         &self,
         guard: MutexGuardIn<'a, 'r, 'm, T, R, F>,
@@ -225,9 +240,10 @@ impl<'l> Condvar<'l> {
         self.wait_while_at_most(guard, condition, Patience::Until(deadline))
     }
 
-    /// Wakes the thread that waits longest, and answers whether one waited.
+    /// Wakes the thread that has waited longest, and returns whether there was one.
     ///
-    /// Whoever holds the mutex calls `notify_one_held`, which wakes nobody in vain.
+    /// If you hold the mutex, call `notify_one_held` instead: a thread that this call wakes would
+    /// at once wait again, for the mutex.
     pub fn notify_one<R: Wait>(&self, rt: &R) -> bool {
         if !self.sleepers.load(Ordering::SeqCst) {
             return false;
@@ -239,9 +255,10 @@ impl<'l> Condvar<'l> {
         found.unparked_threads != 0
     }
 
-    /// Wakes all threads that wait, and answers how many there were.
+    /// Wakes all threads that wait, and returns how many there were.
     ///
-    /// Whoever holds the mutex calls `notify_all_held`, which wakes nobody in vain.
+    /// If you hold the mutex, call `notify_all_held` instead: threads that this call wakes would at
+    /// once wait again, for the mutex.
     pub fn notify_all<R: Wait>(&self, rt: &R) -> usize {
         if !self.sleepers.load(Ordering::SeqCst) {
             return 0;
@@ -259,10 +276,10 @@ impl<'l> Condvar<'l> {
         found.unparked_threads
     }
 
-    /// Notifies the thread that waits longest, and answers whether one waited. It wakes once the
-    /// mutex of the guard is unlocked, where all that wait came with this mutex, and else at once.
+    /// Notifies the thread that has waited longest, and returns whether there was one.
     ///
-    /// Upstream's `notify_one` does this where the mutex is locked, whoever holds it.
+    /// If all threads that wait came with the mutex of the guard, the thread is moved to the queue
+    /// of the mutex, and wakes when the mutex is unlocked. Otherwise it wakes at once.
     pub fn notify_one_held<T, R: Wait, F: Fairness>(
         &self,
         guard: &MutexGuardIn<'_, '_, '_, T, R, F>,
@@ -281,10 +298,10 @@ impl<'l> Condvar<'l> {
         found.unparked_threads != 0 || found.requeued_threads != 0
     }
 
-    /// Notifies all threads that wait, and answers how many there were. They wake one after another
-    /// as the mutex of the guard is unlocked, where all came with this mutex, and else at once.
+    /// Notifies all threads that wait, and returns how many there were.
     ///
-    /// Upstream's `notify_all` does this where the mutex is locked, whoever holds it.
+    /// If all of them came with the mutex of the guard, they are moved to the queue of the mutex,
+    /// and wake one after another as the mutex is unlocked. Otherwise they wake at once.
     pub fn notify_all_held<T, R: Wait, F: Fairness>(
         &self,
         guard: &MutexGuardIn<'_, '_, '_, T, R, F>,

@@ -1,19 +1,24 @@
-//! Guards: the right to a value for as long as they live.
+//! This module has the guard that all locks share: it gives access to a value for as long as it
+//! lives.
 
 ghost use Rattle.std.specs.Prelude.{◌≡◌};
 
 use std::ops::{Deref, DerefMut};
 
-/// How a lock is let go: `G` is what a thread holds that has it.
+/// `Release` says how a lock is released.
+///
+/// `G` is what a thread holds while it has the lock.
 pub trait Release<G>: Drop {
-    /// Lets the lock go, and wakes those who may have it next, if any wait.
+    /// Releases the lock, and wakes threads that may have it next, if any wait.
     fn release(self, held: G);
 }
 
-/// The right to the value of a lock, as a reference to it. Its drop lets the lock go.
+/// A `Guard` gives access to the value of a lock, and releases the lock when it is dropped.
 ///
-/// Each lock has names for its guards, as `MutexGuard`. What it holds need not be `Drop`, so a
-/// guard whose drop did not hand it to the lock would not compile.
+/// Each lock has its own name for its guards, such as `MutexGuard`.
+///
+/// What a guard holds need not be `Drop`. So a drop of the guard that did not hand it to
+/// `Release::release` would not compile.
 pub struct Guard<G, L: Release<G>> {
     held: G,
     lock: L,

@@ -1,12 +1,13 @@
-//! A value that is computed when it is first wanted.
+//! This module has a value that is computed when it is first needed.
 //!
 //! # The protocol
 //!
-//! That of `OnceLock`, whose value is set by whoever takes the closure out of `init`. So there is
-//! one closure and it runs once, by its type. Whoever comes later waits for the value.
+//! It is the protocol of `OnceLock`. The value is set by the thread that takes the closure out of
+//! `init`. By its type there is only one closure, and it runs once. Threads that come later wait
+//! for the value.
 //!
-//! std's mutex around the closure is tried and never waited for. Whoever finds it held need not
-//! try again: its holder takes the closure, or has found it gone.
+//! `init` is a std mutex, of which only `try_lock` is called. A thread that finds it held need not
+//! try again, because its holder takes the closure or has found it gone.
 
 use crate::lot::Lot;
 use crate::once_lock::OnceLock;
@@ -16,14 +17,14 @@ use std::sync::Wait;
 use std::time::Clock;
 use std::{fmt, sync};
 
-/// A value that a closure computes when it is first wanted, by whichever thread wants it first.
+/// A `LazyLock` computes its value by a closure when a thread first asks for it.
 ///
-/// The closure is one that may be called at any time, which `force` asks.
+/// ```
+/// let lazy = LazyLock::new(&lot, || compute(&runs))?;
+/// let value = lazy.force(rt);
+/// ```
 ///
-/// It is no `Deref`, since whoever wants the value may have to wait, and says so by its runtime:
-/// call `force`.
-///
-/// Upstream has no such type; std's `LazyLock` and the crate `once_cell` do.
+/// `force` requires that the closure may be called at any time.
 #[derive(Drop)]
 pub struct LazyLock<'l, T, F: FnOnce() -> T> {
     init: sync::Mutex<Option<F>>,
@@ -31,11 +32,11 @@ pub struct LazyLock<'l, T, F: FnOnce() -> T> {
 }
 
 impl<'l, T: Drop, F: FnOnce() -> T> LazyLock<'l, T, F> {
-    /// A value that the closure will compute.
+    /// Creates a lock whose value the closure will compute.
     ///
     /// # Errors
     ///
-    /// `NoMemory` if memory cannot be had. It asks for none by now.
+    /// `NoMemory` if there is not enough memory. This version allocates nothing.
     pub fn new(lot: &'l Lot, f: F) -> Result<LazyLock<'l, T, F>, NoMemory>
     where
         F: Drop,
@@ -47,10 +48,12 @@ impl<'l, T: Drop, F: FnOnce() -> T> LazyLock<'l, T, F> {
         })
     }
 
-    /// The value, which the closure computes if nobody has wanted it before. It waits while another
-    /// thread computes it, and costs one load once it is computed.
+    /// Returns the value, and computes it by the closure if no thread has asked for it before.
     ///
-    /// A closure that wants its own value waits for ever.
+    /// It waits while another thread computes the value. When the value is there, a call costs one
+    /// load.
+    ///
+    /// A closure that asks for its own value waits for ever.
     #[inline]
     pub fn force<R: Wait + Clock>(&self, rt: &R) -> &T
         requires { (f : F) → F.pre f }
@@ -61,15 +64,15 @@ impl<'l, T: Drop, F: FnOnce() -> T> LazyLock<'l, T, F> {
         }
     }
 
-    /// The value, if it is computed by now.
+    /// Returns the value if it is already computed, and otherwise `None`.
     #[inline]
     pub fn get(&self) -> Option<&T> {
         self.value.get()
     }
 
-    /// The value, if it was computed, which ends the lock. The closure is dropped.
+    /// Returns the value if it was computed, and ends the lock.
     ///
-    /// std's hands the closure back in place of a value.
+    /// If it was not, the closure is dropped without a call.
     pub fn into_inner(self) -> Option<T>
     where
         F: Drop,

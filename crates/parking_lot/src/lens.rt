@@ -1,26 +1,38 @@
-//! Guards of a part of a value.
-//!
-//! Upstream narrows a guard by a closure that answers a reference into the value. Here the part is
-//! named by a lens, since a guard that kept such a reference would be a guard of its own borrow.
+//! This module has guards of a part of a value, and lenses, which name such parts.
 
 use crate::guard::{Guard, Release};
 use std::ops::{Deref, DerefMut};
 
-/// Which part of a value a guard gives.
+/// A `Lens` names a part of a value, for example one field of a struct.
+///
+/// ```
+/// impl Lens<Pair> for Second {
+///     type Part = usize;
+///
+///     fn part<'a>(&self, whole: &'a Pair) -> &'a usize {
+///         &whole.1
+///     }
+///
+///     fn part_mut<'a>(&self, whole: &'a mut Pair) -> &'a mut usize {
+///         &mut whole.1
+///     }
+/// }
+/// ```
+///
+/// `Guard::map` takes a lens and gives access to that part alone.
 pub trait Lens<T>: Drop {
-    /// What the part is.
+    /// The type of the part.
     type Part;
 
-    /// The part, to read.
+    /// Returns a shared reference to the part.
     fn part<'a>(&self, whole: &'a T) -> &'a Self::Part;
 
-    /// The part, to write.
+    /// Returns a mutable reference to the part.
     fn part_mut<'a>(&self, whole: &'a mut T) -> &'a mut Self::Part;
 }
 
-/// The right to a part of the value of a lock. Its drop lets the lock go.
-///
-/// Upstream has it as `MappedMutexGuard`, `MappedRwLockReadGuard` and `MappedRwLockWriteGuard`.
+/// A `MappedGuard` gives access to a part of the value of a lock, and releases the lock when it is
+/// dropped.
 #[derive(Drop)]
 pub struct MappedGuard<G, L: Release<G>, N: Drop> {
     guard: Guard<G, L>,
@@ -28,17 +40,22 @@ pub struct MappedGuard<G, L: Release<G>, N: Drop> {
 }
 
 impl<G: Deref, L: Release<G>> Guard<G, L> {
-    /// A guard of the part that the lens names.
+    /// Returns a guard of the part that the lens names, while the lock stays locked.
+    ///
+    /// ```
+    /// let mut part = Guard::map(mutex.lock(rt), Second);
+    /// *part = 3;
+    /// ```
     pub fn map<N: Lens<G::Target>>(guard: Guard<G, L>, lens: N) -> MappedGuard<G, L, N> {
         MappedGuard { guard, lens }
     }
 
-    /// A guard of the part that the chosen lens names, if the closure chooses one for the value as
-    /// it is.
+    /// Lets the closure look at the value and choose a lens, and returns a guard of the part that
+    /// this lens names.
     ///
     /// # Errors
     ///
-    /// The guard, if the closure chooses none.
+    /// The guard, if the closure chooses no lens. The lock is still locked then.
     pub fn try_map<N: Lens<G::Target>, C: FnOnce(&G::Target) -> Option<N>>(
         guard: Guard<G, L>,
         choose: C,

@@ -1,4 +1,72 @@
-//! Locks with the shape of Rust's `parking_lot`.
+//! This crate has locks around values, with the shape of Rust's `parking_lot`.
+//!
+//! A program makes one `Lot`, in which threads wait, and creates each lock with it:
+//!
+//! ```
+//! /// Takes a seat. If none is free, it ends by `return`.
+//! pub fn take_seat<R: Wait + Clock>(rt: &R, free: &Mutex<'_, u32>) -> bool {
+//!     let mut free = free.lock(rt);
+//!     if *free == 0 {
+//!         return false;
+//!     }
+//!     *free -= 1;
+//!     true
+//! }
+//! ```
+//!
+//! A call that may block or wake takes the runtime, `rt`. `docs/GUIDE.md` has more examples, and
+//! `docs/THEOREMS.md` says what is proved of these locks.
+//!
+//! # Calls with a deadline
+//!
+//! A call whose name ends in `_for` or `_until` first tries as the call without a deadline does,
+//! and then waits no longer than for the duration or until the deadline. If it cannot have the lock
+//! by then, it gives up. Most return `None` in that case; an upgrade returns the guard that it was
+//! given, and a wait on a condition variable says so in its `WaitTimeoutResult`.
+//!
+//! A clock that cannot be read counts as past every deadline. If the end of a duration is beyond
+//! what an `Instant` can hold, the call waits without a deadline.
+//!
+//! # Differences from upstream
+//!
+//! `docs/DIFFERENCES.md` maps every public item of the Rust crates to what there is here. This list
+//! adds in what way they work differently.
+//!
+//! - `Lot`: upstream has one lot for the whole program, which is created at its first use.
+//! - Every `new` of a lock takes the lot and returns a `Result`. Upstream's are `const fn`.
+//! - `Mutex`: upstream's is one byte beside the value. A lock finds the lot by itself, and an
+//!   unlock is fair about every half millisecond. A thread that waits looks at the byte ten times
+//!   before it parks. Here a look is an exchange, which takes the word away from the processor of
+//!   the holder, so a thread yields ten times and looks once after that.
+//! - `MutexGuard::unlock_fair`: upstream hands the mutex over by leaving it locked. Here a counter
+//!   reserves it.
+//! - `MutexGuard::leak`: upstream's needs no memory.
+//! - `is_locked`, `is_locked_exclusive`: upstream looks at the word of the lock, and needs no
+//!   runtime for that.
+//! - `Condvar`: upstream's keeps the address of the one mutex with which threads wait. Its
+//!   `notify_one` and `notify_all` move threads to the queue of the mutex whenever the mutex is
+//!   locked, whoever holds it. Here only `notify_one_held` and `notify_all_held` do so, and the
+//!   condition variable remembers by key with which mutex its threads came.
+//! - `RwLock`: upstream's has the number of readers and four bits in one word beside the value. So
+//!   a reader knows that it is the last, and hands the lock over with its bits set.
+//!   `downgrade_to_upgradable` does not wait there.
+//! - `Once`: upstream's is one byte. A closure that panics leaves it poisoned, so upstream has a
+//!   state, and `call_once_force`, whose closure is given that state. Here a panic ends the
+//!   program, and every closure is given a `Begun`. `Once::wait` is std's.
+//! - `ReentrantMutex`: upstream's takes the thread as the owner, which it finds by a thread local.
+//!   It can be shared if `T: Send`, since only the thread that holds it reaches the value, so that
+//!   a `RefCell` in it is safe. Here the value has to be safe to share by itself, and the mutex
+//!   keeps threads apart over several steps.
+//! - `Lens`: upstream narrows a guard by a closure that returns a reference into the value. A guard
+//!   that kept such a reference would borrow from itself here.
+//! - `OnceLock`, `LazyLock`: upstream has neither; std and the crate `once_cell` do. `LazyLock` has
+//!   no `Deref`, because its value may have to be waited for. std's `LazyLock::into_inner` returns
+//!   the closure if there is no value.
+//! - `Barrier`: upstream has none. At std's, any thread may wait by a shared reference, and more
+//!   threads than it counts make further rounds.
+//! - `Semaphore`: upstream has none. tokio's can be closed, a thread does not overtake those that
+//!   wait, and more than `MAX_PERMITS` permits are a panic. `SemaphorePermit::permits` is
+//!   `num_permits` there.
 #![tactic(auto)]
 
 pub mod barrier;

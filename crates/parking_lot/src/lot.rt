@@ -1,4 +1,4 @@
-//! The lot on which the locks of a program wait.
+//! This module has the lot, in which the threads of a program wait for its locks.
 
 ghost use Rattle.std.specs.Prelude.{◌≡◌, ◌≢◌, ◌↔◌, ◌<◌, Err, IsErrOf, None, Some, true, false};
 ghost use Rattle.parking_lot.specs.Locks.{lot_of_owner};
@@ -19,13 +19,14 @@ const YIELDS: u32 = 10;
 // The number of a lot that has none yet.
 const UNNUMBERED: u64 = 0;
 
-/// A parking lot with keys to deal: each lock is made with a lot, and has keys of its own there.
+/// A `Lot` is the place where threads wait for the locks that were created with it.
 ///
-/// `threads` is how many threads may wait at once, for any of its locks. A thread that has to wait
-/// while so many do yields the processor and looks again, so a lot that is too small costs time and
-/// nothing else. A thread that need not wait takes no place.
+/// A program makes one and creates each lock with it. Each lock has keys of its own in the lot.
 ///
-/// Upstream has one lot for the whole program, which is made by itself.
+/// The lot has a fixed number of places for threads that wait, whichever of its locks they wait
+/// for. A thread that need not wait takes no place. A thread that finds no place free yields the
+/// processor and tries again. So a lot that is too small costs processor time and the order of
+/// arrival, but the locks stay correct.
 #[derive(Drop)]
 pub struct Lot {
     lot: ParkingLot<WordParker>,
@@ -36,12 +37,15 @@ pub struct Lot {
 }
 
 impl Lot {
-    /// A lot in which so many threads may wait at once.
+    /// Creates a lot in which up to `threads` threads can wait at the same time.
+    ///
+    /// It allocates a node and a parker for each of these threads, and the first 16 buckets. More
+    /// buckets are allocated when more threads wait at once.
     ///
     /// # Errors
     ///
-    /// `TooManyThreads` exactly if there are more than `MAX_THREADS`, and else `NoMemory` if memory
-    /// cannot be had.
+    /// `TooManyThreads` if and only if `threads` is above `MAX_THREADS`, which is 16,384. Otherwise
+    /// `NoMemory` if there is not enough memory.
     pub fn new(alloc: Global, threads: usize) -> Result<Lot, LotError>
         ensures too_many { IsErrOf result LotError.TooManyThreads ↔ (MAX_THREADS < threads) }
         ensures not_full { result ≢ Err LotError.Full }
@@ -56,12 +60,13 @@ impl Lot {
         })
     }
 
-    /// A lot that lives as long as the program, for locks in an `Arc` and for threads that are
-    /// spawned. Its memory is never given back.
+    /// Creates a lot that lives as long as the program, and whose memory is never freed.
+    ///
+    /// Take it for locks in an `Arc`, and for threads that are spawned.
     ///
     /// # Errors
     ///
-    /// Those of `Lot::new`.
+    /// The errors of `Lot::new`.
     pub fn for_ever(alloc: Global, threads: usize) -> Result<&'static Lot, LotError>
         ensures too_many { IsErrOf result LotError.TooManyThreads ↔ (MAX_THREADS < threads) }
         ensures not_full { result ≢ Err LotError.Full }
@@ -70,9 +75,10 @@ impl Lot {
         Ok(Box::leak(lot))
     }
 
-    /// An owner for the reentrant mutexes of the lot, for one thread. No other is taken for it.
+    /// Creates an owner for the reentrant mutexes of this lot.
     ///
-    /// Upstream has no such call: there a thread is an owner.
+    /// Create one for each thread that locks such a mutex, and give it to `ReentrantMutex::lock`. A
+    /// mutex tells the owners of its lot apart.
     pub fn owner(&self) -> Owner<'_>
         ensures { lot_of_owner result ≡ self.now }
     {

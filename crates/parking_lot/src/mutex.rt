@@ -1,32 +1,37 @@
-//! A mutex around a value, which lets others pass a woken thread, or is handed over in order.
+//! This module has two mutexes around a value: `Mutex`, which goes to whoever takes it first, and
+//! `FairMutex`, which goes to the thread that has waited longest.
 //!
 //! # The protocol
 //!
-//! Three words say who has the mutex. `value` is std's mutex, of which only `try_lock` is called:
-//! it is held or free. `parked` says that threads may be parked on the key. `kept` counts the
-//! threads for which the mutex was let go, and which have not had it since.
+//! Three words say who has the mutex:
 //!
-//! - Whoever comes takes a mutex that is free and kept for nobody, by one exchange.
-//! - Whoever cannot leaves the word alone for a moment, tries again, and parks. In the section of
-//!   the key it puts `parked` up and **then** tries once more, and stays in the list only if that
+//! - `value` is a std mutex, of which only `try_lock` is called. It is held or free.
+//! - `parked` says that threads may be parked on the key.
+//! - `kept` counts the threads for which the mutex is reserved. A fair unlock woke them, and they
+//!   have not locked the mutex since.
+//!
+//! The steps:
+//!
+//! - A thread that arrives takes a mutex that is free and reserved for nobody, by one exchange.
+//! - If it cannot, it yields for a moment, tries again, and parks. In the critical section of the
+//!   key it sets `parked` and **then** tries once more. It stays in the list only if that try
 //!   fails.
-//! - Whoever unlocks frees the word and **then** looks at `parked`. If it is up, it unparks the
-//!   first thread of the list, and in that section takes `parked` down if nobody is left.
-//! - Whoever was woken tries whatever `kept` says, and parks again if somebody was quicker.
-//! - A fair unlock looks at `parked` first. If it is up, it takes the first thread of the list, and
-//!   in that section it raises `kept` and frees the word. The thread is told so by its token. It
-//!   lowers `kept` once it has the mutex, or once it gives up, and then wakes as an unlock does.
+//! - An unlock frees the word and **then** looks at `parked`. If it is set, the unlock unparks the
+//!   first thread of the list, and in that section it clears `parked` if nobody is left.
+//! - A thread that was woken tries whatever `kept` says, and parks again if another thread was
+//!   faster.
+//! - A fair unlock looks at `parked` first. If it is set, the unlock takes the first thread off the
+//!   list, and in that section it raises `kept` and frees the word. The thread is told so by its
+//!   token. It lowers `kept` when it has the mutex or gives up. If it gives up, it then wakes
+//!   another thread as an unlock does.
 //!
-//! Nobody is forgotten: a thread stands in the list only after a try, behind its `parked`, that
-//! failed. If the mutex was held, its holder frees it later and looks at `parked` after that.
-//! `parked` goes down only in a section that leaves nobody in the list, so it is up, and the first
-//! thread is woken. That thread takes the mutex, and so unlocks it later, or fails since another
-//! holds it, who unlocks it later. If the mutex was kept, the thread for which it is kept takes it
-//! later, or wakes the next as it gives up. All steps are `SeqCst`.
-//!
-//! Upstream has the first two words as bits of one byte, and hands over by leaving the first set. A
-//! thread that waits looks at that byte ten times before it parks. Here a look is an exchange,
-//! which takes the word from the processor of the holder, so there is one.
+//! No thread is forgotten. A thread stays in the list only if a try failed after it had set
+//! `parked`. If the mutex was held at that moment, its holder frees it later and looks at `parked`
+//! after that. `parked` is cleared only in a section that leaves nobody in the list, so the holder
+//! finds it set and wakes the first thread. That thread takes the mutex and unlocks it later, or
+//! finds that another thread holds it, which unlocks it later. If the mutex was reserved, the
+//! thread for which it is reserved takes it later, or wakes the next one when it gives up. All
+//! accesses are `SeqCst`.
 
 ghost use Rattle.std.specs.Prelude.{◌≡◌, ◌≢◌, None, IfErr, IfSome, IsSome};
 ghost use Rattle.parking_lot.specs.Guards.{mutex_of};
@@ -48,46 +53,55 @@ use std::{fmt, sync};
 // What a woken thread is told for which the mutex is kept.
 const KEPT: UnparkToken = UnparkToken(1);
 
-/// Who has a mutex next that others wait for.
+/// `Fairness` says who gets a mutex next when threads wait for it.
 pub trait Fairness {
-    /// Whether each unlock keeps the mutex for the thread that waits longest.
+    /// Says whether each unlock reserves the mutex for the thread that has waited longest.
     const IS_FAIR: bool;
 }
 
-/// Whoever comes first.
+/// With `Barging`, a mutex goes to the thread that takes it first, whether it waited or not.
 pub struct Barging;
 
 impl Fairness for Barging {
     const IS_FAIR: bool = false;
 }
 
-/// Whoever waits longest.
+/// With `InOrder`, a mutex goes to the thread that has waited longest.
 pub struct InOrder;
 
 impl Fairness for InOrder {
     const IS_FAIR: bool = true;
 }
 
-/// A mutex around a value, which threads share by reference.
+/// A `Mutex` protects a value, so that only one thread at a time can use it.
 ///
-/// A thread that comes while another is woken may lock first. So the mutex serves many calls a
-/// second, and may let one wait long; `MutexGuard::unlock_fair` lets the one that waits longest
-/// have it, and a `FairMutex` always does.
+/// ```
+/// let lot = Lot::new(rt.alloc(), 4)?;
+/// let total = Mutex::new(&lot, 0u64)?;
+/// let count = || {
+///     for _ in 0..1000u32 {
+///         let mut total = total.lock(&rt);
+///         *total = total.wrapping_add(1);
+///     }
+/// };
+/// ```
 ///
-/// Upstream has it under this name, as one byte beside the value. There a lock finds the lot by
-/// itself, and an unlock is fair about each half millisecond.
+/// A thread that arrives may lock it before a thread that was just woken. So it serves many calls a
+/// second, but one thread may wait long. `MutexGuard::unlock_fair` gives the mutex to the thread
+/// that has waited longest, and a `FairMutex` always does.
 pub type Mutex<'l, T> = MutexIn<'l, T, Barging>;
 
-/// A mutex around a value that threads get in the order in which they came to wait.
+/// A `FairMutex` protects a value as a `Mutex` does, and serves threads in the order in which they
+/// began to wait.
 ///
-/// While threads wait for it, whoever else comes does not get it before them. So it is idle until a
-/// woken thread runs, and serves fewer calls a second than `Mutex`. A thread that tries while an
-/// unlock is under way may still get it, and those that wait are one turn later then.
-///
-/// Upstream has it under this name.
+/// While threads wait, no other thread gets it before them. So it stays idle until a woken thread
+/// runs, and it serves fewer calls a second than a `Mutex`. A thread that tries to lock while an
+/// unlock is under way may still get it first; then those that wait are served one turn later.
 pub type FairMutex<'l, T> = MutexIn<'l, T, InOrder>;
 
-/// A mutex around a value: a `Mutex` or a `FairMutex`.
+/// `MutexIn` is the type behind `Mutex` and `FairMutex`.
+///
+/// Its parameter `F` says whether it is fair.
 #[derive(Drop)]
 pub struct MutexIn<'l, T, F: Fairness> {
     lot: &'l Lot,
@@ -98,20 +112,25 @@ pub struct MutexIn<'l, T, F: Fairness> {
     fairness: PhantomData<F>,
 }
 
-/// The right to the value of a `Mutex`, as a reference to it. Its drop unlocks the mutex: one
-/// exchange, and one `unpark_one` if threads may be parked.
+/// A `MutexGuard` gives access to the value of a `Mutex`, and unlocks the mutex when it is dropped.
+///
+/// The drop is one exchange, and one `unpark_one` if threads may be parked.
 pub type MutexGuard<'a, 'r, 'l, T, R> = MutexGuardIn<'a, 'r, 'l, T, R, Barging>;
 
-/// The right to the value of a `FairMutex`, as a reference to it. Its drop unlocks the mutex.
+/// A `FairMutexGuard` gives access to the value of a `FairMutex`, and unlocks the mutex when it is
+/// dropped.
+///
+/// The drop reserves the mutex for the thread that has waited longest, if threads wait.
 pub type FairMutexGuard<'a, 'r, 'l, T, R> = MutexGuardIn<'a, 'r, 'l, T, R, InOrder>;
 
-/// The right to the value of a mutex: a `MutexGuard` or a `FairMutexGuard`.
+/// `MutexGuardIn` is the type behind `MutexGuard` and `FairMutexGuard`.
 pub type MutexGuardIn<'a, 'r, 'l, T, R, F> = Guard<
     sync::MutexGuard<'a, T>,
     Locked<'a, 'r, 'l, T, R, F>,
 >;
 
-/// The mutex that a guard has locked, and the runtime with which it wakes others.
+/// `Locked` is what a guard remembers of its mutex: the mutex itself, and the runtime with which it
+/// wakes others.
 #[derive(Drop)]
 pub struct Locked<'a, 'r, 'l, T, R: Wait, F: Fairness> {
     pub(crate) mutex: &'a MutexIn<'l, T, F>,
@@ -163,13 +182,11 @@ enum Parked<G: Drop> {
 }
 
 impl<'l, T, F: Fairness> MutexIn<'l, T, F> {
-    /// A mutex around the value, which nobody holds.
+    /// Creates a mutex that nobody holds, around the given value.
     ///
     /// # Errors
     ///
-    /// `NoMemory` if memory cannot be had. It asks for none by now.
-    ///
-    /// Upstream's `new` is a `const fn`.
+    /// `NoMemory` if there is not enough memory. This version allocates nothing.
     pub fn new(lot: &'l Lot, value: T) -> Result<MutexIn<'l, T, F>, NoMemory> {
         Ok(MutexIn {
             lot,
@@ -181,8 +198,9 @@ impl<'l, T, F: Fairness> MutexIn<'l, T, F> {
         })
     }
 
-    /// Locks the mutex, and waits while another thread holds it. A thread that holds it already
-    /// waits for ever.
+    /// Locks the mutex, and waits while another thread holds it.
+    ///
+    /// A thread that already holds the mutex waits for ever.
     #[inline]
     pub fn lock<'a, 'r, R: Wait + Clock>(&'a self, rt: &'r R) -> MutexGuardIn<'a, 'r, 'l, T, R, F>
         ensures { mutex_of result ≡ self.now }
@@ -194,7 +212,7 @@ impl<'l, T, F: Fairness> MutexIn<'l, T, F> {
         self.guard(rt, held)
     }
 
-    /// Locks the mutex if nobody holds it and it is kept for nobody. It waits for nobody.
+    /// Locks the mutex if it is free and reserved for nobody; otherwise returns `None` at once.
     #[inline]
     pub fn try_lock<'a, 'r, R: Wait>(
         &'a self,
@@ -205,10 +223,7 @@ impl<'l, T, F: Fairness> MutexIn<'l, T, F> {
         Some(self.guard(rt, self.try_take()?))
     }
 
-    /// Locks the mutex as `lock` does, and waits no longer than for the duration. A clock that
-    /// cannot be read leaves no time to wait.
-    ///
-    /// Upstream has it as `try_lock_for`.
+    /// Locks the mutex as `lock` does, but returns `None` if it cannot within the duration.
     pub fn lock_for<'a, 'r, R: Wait + Clock>(
         &'a self,
         rt: &'r R,
@@ -223,10 +238,7 @@ impl<'l, T, F: Fairness> MutexIn<'l, T, F> {
         Some(self.guard(rt, held))
     }
 
-    /// Locks the mutex as `lock` does, and waits no longer than until the deadline. A clock that
-    /// cannot be read counts as past it.
-    ///
-    /// Upstream has it as `try_lock_until`.
+    /// Locks the mutex as `lock` does, but returns `None` if it cannot before the deadline.
     pub fn lock_until<'a, 'r, R: Wait + Clock>(
         &'a self,
         rt: &'r R,
@@ -241,20 +253,22 @@ impl<'l, T, F: Fairness> MutexIn<'l, T, F> {
         Some(self.guard(rt, held))
     }
 
-    /// Whether the mutex is held or kept, by a try to lock it. A thread that tries in the same
-    /// moment may find it locked.
+    /// Returns whether the mutex is held or reserved.
     ///
-    /// Upstream looks at its byte, and needs no runtime for that.
+    /// It finds out by locking the mutex for a moment. A thread that calls `try_lock` in that
+    /// moment may get `None`.
     pub fn is_locked<R: Wait>(&self, rt: &R) -> bool {
         self.try_lock(rt).is_none()
     }
 
-    /// The value, for whoever has the mutex alone.
+    /// Returns a mutable reference to the value.
+    ///
+    /// No lock is needed, because the caller borrows the whole mutex.
     pub fn get_mut(&mut self) -> &mut T {
         self.value.get_mut()
     }
 
-    /// The value, with which the mutex ends.
+    /// Returns the value, and ends the mutex.
     pub fn into_inner(self) -> T {
         let MutexIn {
             lot: _,
@@ -472,30 +486,29 @@ impl<'l, T, F: Fairness> MutexIn<'l, T, F> {
 }
 
 impl<'a, 'r, 'l, T, R: Wait, F: Fairness> MutexGuardIn<'a, 'r, 'l, T, R, F> {
-    /// The mutex that is locked.
+    /// Returns the mutex that the guard has locked.
     pub fn mutex(guard: &Self) -> &'a MutexIn<'l, T, F>
         ensures { result.now ≡ mutex_of guard.now }
     {
         guard.lock().mutex
     }
 
-    /// Unlocks the mutex, and keeps it for the thread that waits longest, if one does. A thread
-    /// that comes meanwhile does not get it first.
+    /// Unlocks the mutex, and reserves it for the thread that has waited longest, if one waits.
     ///
-    /// Upstream has it under this name.
+    /// A thread that arrives meanwhile does not get the mutex before that one.
     pub fn unlock_fair(guard: Self) {
         let (held, locked) = guard.into_parts();
         locked.mutex.release_fair(locked.rt, held);
     }
 
-    /// The value, for as long as the mutex is there, which stays locked. The guard goes into memory
-    /// that is never given back.
+    /// Returns a reference to the value that stays valid as long as the mutex, which is never
+    /// unlocked.
+    ///
+    /// The guard is moved to memory that is never freed.
     ///
     /// # Errors
     ///
-    /// The guard, if memory for it cannot be had.
-    ///
-    /// Upstream has it under this name, and asks for no memory.
+    /// The guard, if there is not enough memory for it. The mutex is still locked then.
     pub fn leak(guard: Self, alloc: Global) -> Result<&'a mut T, Self>
         ensures { IfErr result (λ back. mutex_of back ≡ mutex_of guard.entry) }
     {
@@ -511,9 +524,10 @@ impl<'a, 'r, 'l, T, R: Wait, F: Fairness> MutexGuardIn<'a, 'r, 'l, T, R, F> {
 }
 
 impl<'a, 'r, 'l, T, R: Wait + Clock, F: Fairness> MutexGuardIn<'a, 'r, 'l, T, R, F> {
-    /// Lets the thread that waits longest have the mutex, if one waits, and locks it again.
+    /// Gives the mutex to the thread that has waited longest, if one waits, and then locks it
+    /// again.
     ///
-    /// Upstream has it under this name, and takes the guard by reference.
+    /// If nobody waits it does nothing.
     pub fn bump(guard: Self) -> Self
         ensures { mutex_of result ≡ mutex_of guard.entry }
     {
@@ -526,9 +540,8 @@ impl<'a, 'r, 'l, T, R: Wait + Clock, F: Fairness> MutexGuardIn<'a, 'r, 'l, T, R,
         mutex.lock(rt)
     }
 
-    /// Unlocks the mutex, calls the closure, and locks the mutex again.
-    ///
-    /// Upstream has it under this name, and takes the guard by reference.
+    /// Unlocks the mutex, calls the closure, locks the mutex again, and returns what the closure
+    /// returned.
     pub fn unlocked<A, C: FnOnce() -> A>(guard: Self, call: C) -> (Self, A)
         requires { C.pre call }
         ensures mutex { mutex_of result.0 ≡ mutex_of guard.entry }

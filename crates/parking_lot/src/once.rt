@@ -1,20 +1,21 @@
-//! A closure that runs once, by whoever comes first.
+//! This module has `Once`, which runs one closure, for whichever thread comes first.
 //!
 //! # The protocol
 //!
-//! `right` has the right to run the closure until somebody takes it out. `ran` says that the
+//! `right` has the right to run the closure until a thread takes it out. `ran` says that the
 //! closure has run. `queue` has the threads that wait for that.
 //!
-//! - Whoever takes the right out runs its closure, puts `ran` up and **then** wakes the queue.
-//! - Whoever else comes waits in the queue while `ran` is down.
+//! - The thread that takes the right out runs its closure, sets `ran`, and **then** wakes the
+//!   queue.
+//! - Every other thread waits in the queue until `ran` is set.
 //!
-//! std's mutex around the right is tried and never waited for. Whoever finds it held need not try
-//! again: its holder takes the right, or has found it gone.
+//! `right` is in a std mutex, of which only `try_lock` is called. A thread that finds it held need
+//! not try again, because its holder takes the right or has found it gone.
 //!
-//! Nobody is forgotten: a thread stands in the queue only after a look that found `ran` down. `ran`
-//! goes up later, and after that all are woken. All steps are `SeqCst`.
+//! No thread is forgotten. A thread stays in the queue only if it found `ran` not set. `ran` is set
+//! later, and after that all threads are woken. All accesses are `SeqCst`.
 //!
-//! At most one closure runs, by its type: a closure takes a `Begun`, and there is one for each
+//! At most one closure runs, by its type: a closure consumes a `Begun`, and there is one for each
 //! `Once`.
 
 use crate::lot::Lot;
@@ -26,20 +27,14 @@ use std::sync::atomic::{AtomicBool, Ordering};
 use std::time::Clock;
 use std::{fmt, sync};
 
-/// The right to run the closure of a `Once`, which that closure is handed.
+/// A `Begun` is the right to run the closure of a `Once`; that closure is given it.
 ///
-/// `Once::new` makes one, and nothing else does; it can be neither cloned nor copied. So a `Once`
-/// that ran a second closure would have nothing to hand it.
-///
-/// Upstream hands a closure the state of the `Once`, in `call_once_force` alone.
+/// Only `Once::new` makes one, and it can be neither cloned nor copied. So a `Once` that ran a
+/// second closure would have nothing to give it.
 #[derive(Drop)]
 pub struct Begun(());
 
-/// A closure that runs once, whichever of many threads comes first.
-///
-/// Upstream has it under this name, as one byte. There a closure that panics leaves the `Once`
-/// poisoned, and so it has a call that runs another one in spite of that, and a state. Here a panic
-/// ends the program.
+/// A `Once` runs one closure, although many threads may ask for it.
 #[derive(Drop)]
 pub struct Once<'l> {
     queue: WaitQueue<'l>,
@@ -48,13 +43,11 @@ pub struct Once<'l> {
 }
 
 impl<'l> Once<'l> {
-    /// A `Once` whose closure has not run.
+    /// Creates a `Once` whose closure has not run.
     ///
     /// # Errors
     ///
-    /// `NoMemory` if memory cannot be had. It asks for none by now.
-    ///
-    /// Upstream's `new` is a `const fn`.
+    /// `NoMemory` if there is not enough memory. This version allocates nothing.
     pub fn new(lot: &'l Lot) -> Result<Once<'l>, NoMemory> {
         Ok(Once {
             queue: WaitQueue::new(lot),
@@ -63,10 +56,13 @@ impl<'l> Once<'l> {
         })
     }
 
-    /// Runs the closure if no closure of this `Once` has begun, and else waits until that one has
-    /// run. What it did is seen once this returns. It costs one load if it has run.
+    /// Runs the closure if no other closure of this `Once` has begun; otherwise drops it and waits
+    /// until the other has run.
     ///
-    /// A closure that calls this `Once` waits for ever.
+    /// When it returns, a closure has run, and its effects are visible to the caller. If one had
+    /// run before, the call costs one load.
+    ///
+    /// A closure that calls the same `Once` waits for ever.
     #[inline]
     pub fn call_once<R: Wait + Clock, F: FnOnce(Begun) + Drop>(&self, rt: &R, f: F)
         requires { (begun : Begun) → F.pre f begun }
@@ -76,17 +72,15 @@ impl<'l> Once<'l> {
         }
     }
 
-    /// Whether a closure has run, to its end.
-    ///
-    /// Upstream tells it by `state` too.
+    /// Returns whether a closure has run to its end.
     #[inline]
     pub fn is_completed(&self) -> bool {
         self.ran.load(Ordering::SeqCst)
     }
 
-    /// Waits until a closure has run, which another thread has to call.
+    /// Waits until a closure has run.
     ///
-    /// Upstream has no such call; std's `Once` has it.
+    /// It runs none itself, so another thread has to call `call_once`.
     pub fn wait<R: Wait + Clock>(&self, rt: &R) {
         self.queue.wait(rt, || self.is_completed());
     }

@@ -1,20 +1,23 @@
-//! A value that is set once.
+//! This module has `OnceLock`, a cell whose value is set once.
 //!
 //! # The protocol
 //!
-//! `value` is std's cell, which is set once. `state` says whether a thread is about to set it:
+//! `value` is std's cell, which can be set once. `state` says whether a thread is about to set it:
 //! `IDLE`, `RUNNING` or `DONE`. `queue` has the threads that wait.
 //!
-//! - Whoever finds no value takes `state` from `IDLE` to `RUNNING`, and has the right to set one.
-//! - With a value it sets the cell, puts `state` to `DONE`, and **then** wakes the queue. Without
-//!   one, since its closure failed, it puts `state` back to `IDLE`, and **then** wakes the queue.
-//! - Whoever finds `RUNNING` waits in the queue while `state` is that. Whoever has no value of its
-//!   own waits there while there is no value.
+//! - A thread that finds no value changes `state` from `IDLE` to `RUNNING`, which gives it the
+//!   right to set one.
+//! - If it has a value, it sets the cell, changes `state` to `DONE`, and **then** wakes the queue.
+//!   If it has none, because its closure failed, it changes `state` back to `IDLE`, and **then**
+//!   wakes the queue.
+//! - A thread that finds `RUNNING` waits in the queue while `state` is that. A thread that has no
+//!   value of its own waits there until there is a value.
 //!
-//! Nobody is forgotten: a thread stands in the queue only after a look that found what it waits for
-//! not done. Whoever does it wakes all after that. All steps are `SeqCst`.
+//! No thread is forgotten. A thread stays in the queue only if it found that what it waits for had
+//! not happened. The thread that does it wakes all threads after that. All accesses are `SeqCst`.
 //!
-//! std's calls that wait need not: whoever has the right is alone with them, or the value is there.
+//! The calls of std's cell that may wait do not wait here: the thread with the right is the only
+//! one that uses them, or the value is there.
 
 use crate::lot::Lot;
 use crate::wait_queue::WaitQueue;
@@ -32,9 +35,7 @@ const RUNNING: usize = 1;
 // It is set.
 const DONE: usize = 2;
 
-/// A value that is set once, and then read by any thread at the cost of one load.
-///
-/// Upstream has no such type; std's `OnceLock` and the crate `once_cell` do.
+/// A `OnceLock` is a cell that is set once, and that any thread then reads at the cost of one load.
 #[derive(Drop)]
 pub struct OnceLock<'l, T> {
     queue: WaitQueue<'l>,
@@ -43,11 +44,11 @@ pub struct OnceLock<'l, T> {
 }
 
 impl<'l, T> OnceLock<'l, T> {
-    /// A cell without a value.
+    /// Creates a cell without a value.
     ///
     /// # Errors
     ///
-    /// `NoMemory` if memory cannot be had. It asks for none by now.
+    /// `NoMemory` if there is not enough memory. This version allocates nothing.
     pub fn new(lot: &'l Lot) -> Result<OnceLock<'l, T>, NoMemory> {
         Ok(OnceLock {
             queue: WaitQueue::new(lot),
@@ -56,22 +57,24 @@ impl<'l, T> OnceLock<'l, T> {
         })
     }
 
-    /// The value, if it is set by now.
+    /// Returns the value if it is set, and otherwise `None`.
     #[inline]
     pub fn get(&self) -> Option<&T> {
         self.value.get()
     }
 
-    /// The value, for whoever has the cell alone.
+    /// Returns a mutable reference to the value if it is set, and otherwise `None`.
+    ///
+    /// No lock is needed, because the caller borrows the whole cell.
     pub fn get_mut(&mut self) -> Option<&mut T> {
         self.value.get_mut()
     }
 
-    /// Sets the value. It waits while another thread computes one.
+    /// Sets the value, after it has waited while another thread computes one.
     ///
     /// # Errors
     ///
-    /// Hands the value back if one is set.
+    /// The value that was passed in, if the cell already has one.
     pub fn set<R: Wait + Clock>(&self, rt: &R, value: T) -> Result<(), T> {
         if self.begin(rt).is_some() {
             return Err(value);
@@ -84,10 +87,11 @@ impl<'l, T> OnceLock<'l, T> {
         outcome
     }
 
-    /// The value, which the closure computes if none is set. It waits while another thread computes
-    /// one, so one closure runs at a time.
+    /// Returns the value, and computes it by the closure if none is set.
     ///
-    /// A closure that asks this cell for its value, or sets it, waits for ever.
+    /// It waits while another thread computes a value, so only one closure runs at a time.
+    ///
+    /// A closure that sets this cell, or asks it for its value in a way that waits, waits for ever.
     #[inline]
     pub fn get_or_init<R: Wait + Clock, F: FnOnce() -> T + Drop>(&self, rt: &R, f: F) -> &T
     where
@@ -103,12 +107,12 @@ impl<'l, T> OnceLock<'l, T> {
         }
     }
 
-    /// The value, as `get_or_init` gives it, by a closure that may fail. Then the next thread
-    /// that wants the value runs its own.
+    /// Returns the value as `get_or_init` does, by a closure that may fail.
     ///
     /// # Errors
     ///
-    /// That of the closure.
+    /// The error of the closure. The cell is still without a value then, and the next thread that
+    /// asks for it runs its own closure.
     #[inline]
     pub fn get_or_try_init<R: Wait + Clock, E, F: FnOnce() -> Result<T, E> + Drop>(
         &self,
@@ -134,13 +138,15 @@ impl<'l, T> OnceLock<'l, T> {
         }
     }
 
-    /// Waits until the value is set, which another thread has to do.
+    /// Waits until the value is set, and returns it.
+    ///
+    /// It sets none itself, so another thread has to.
     pub fn wait<R: Wait + Clock>(&self, rt: &R) -> &T {
         self.queue.wait(rt, || self.get().is_some());
         self.value.wait(rt)
     }
 
-    /// The value, if it was set, which ends the cell.
+    /// Returns the value if it was set, and ends the cell.
     pub fn into_inner(self) -> Option<T> {
         self.value.into_inner()
     }

@@ -1,21 +1,21 @@
-//! A mutex that whoever has it may lock again.
+//! This module has a mutex that its owner may lock again while it holds it.
 //!
 //! # The protocol
 //!
 //! `owner` is the number of the owner that has the mutex, or `NOBODY`. `depth` counts the guards of
-//! that owner, whose thread alone reads and writes it. `queue` has the threads that wait.
+//! that owner; only the owner's thread reads and writes it. `queue` has the threads that wait.
 //!
-//! - Whoever comes finds its own number in `owner`, and adds 1 to `depth`; or it takes `owner` from
-//!   `NOBODY` to its number, and puts `depth` to 1.
-//! - Whoever can do neither waits in the queue until it can.
-//! - Whoever drops a guard takes 1 from `depth`. At the last one it puts `owner` to `NOBODY` and
-//!   **then** wakes the first thread of the queue.
+//! - A thread that locks and finds its own number in `owner` adds 1 to `depth`. Otherwise it
+//!   changes `owner` from `NOBODY` to its number, and sets `depth` to 1.
+//! - A thread that can do neither waits in the queue until it can.
+//! - A thread that drops a guard takes 1 from `depth`. At its last guard it sets `owner` to
+//!   `NOBODY` and **then** wakes the first thread of the queue.
 //!
-//! Nobody is forgotten: a thread stands in the queue only after a try that found another owner.
-//! That one lets go later and wakes the first thread, which takes the mutex, or finds one who lets
-//! go later. All steps are `SeqCst`.
+//! No thread is forgotten. A thread stays in the queue only if its try found another owner. That
+//! owner unlocks later and wakes the first thread, which takes the mutex, or finds an owner that
+//! unlocks later. All accesses are `SeqCst`.
 //!
-//! Only the thread of an owner finds the owner's number in `owner`: an owner cannot be shared
+//! Only the thread of an owner finds the owner's number in `owner`. An owner cannot be shared
 //! between threads, and a guard borrows it, so it stays with its thread while it has the mutex.
 
 ghost use Rattle.std.specs.Prelude.{◌≡◌, None, true, IfOk};
@@ -35,12 +35,11 @@ use std::time::{Clock, Duration, Instant};
 // The number that no owner has.
 const NOBODY: usize = 0;
 
-/// Who may have a reentrant mutex of a lot: `Lot::owner` makes one, which no other is taken for.
+/// An `Owner` stands for one thread that locks reentrant mutexes.
 ///
-/// It may go to another thread while it has no mutex, and cannot be shared between threads. So
-/// all guards of one owner are on one thread.
-///
-/// Upstream takes the thread for the owner, which it finds by a thread local.
+/// `Lot::owner` and `ReentrantMutex::owner` create one. It serves for all reentrant mutexes of its
+/// lot. It may be moved to another thread while it has no mutex locked, and it cannot be shared
+/// between threads. So all guards of one owner are on one thread.
 #[derive(Drop)]
 pub struct Owner<'l> {
     lot: &'l Lot,
@@ -60,16 +59,21 @@ impl<'l> Owner<'l> {
     }
 }
 
-/// A mutex around a value that its owner may lock again while it has it. So the value is only ever
-/// shared: what is to be changed in it is in a cell of its own.
+/// A `ReentrantMutex` keeps other threads away from a value, and may be locked again by the owner
+/// that holds it.
 ///
-/// Whoever locks it is an owner of its lot, which the caller proves, since owners of two lots may
-/// have one number. Of an owner that `ReentrantMutex::owner` made nothing is left to prove.
+/// ```
+/// let owner = mutex.owner();
+/// let first = mutex.lock(rt, &owner);
+/// let second = mutex.lock(rt, &owner);
+/// ```
 ///
-/// To share the mutex between threads asks `T: Sync`, so the value's cells are atomics or locks.
-/// Upstream has it under this name and asks `T: Send` alone, since there the guards of one thread
-/// are what makes a `RefCell` in it safe; here the value is safe without the mutex, which keeps
-/// threads apart over several steps.
+/// Its guards give shared references only. What is to be changed in the value has to be in a cell
+/// or a lock of its own. The mutex can be shared between threads if `T: Sync`, so those cells are
+/// atomics or locks.
+///
+/// A call proves that its owner belongs to the lot of the mutex, because owners of two lots may
+/// have the same number. If `ReentrantMutex::owner` created the owner, nothing is left to prove.
 #[derive(Drop)]
 pub struct ReentrantMutex<'l, T> {
     queue: WaitQueue<'l>,
@@ -78,11 +82,12 @@ pub struct ReentrantMutex<'l, T> {
     value: T,
 }
 
-/// The right to the value of a reentrant mutex, as a shared reference to it. The drop of the last
-/// one of its owner unlocks the mutex.
+/// A `ReentrantMutexGuard` gives shared access to the value of a reentrant mutex.
+///
+/// The drop of an owner's last guard unlocks the mutex.
 pub type ReentrantMutexGuard<'a, 'r, 'l, T, R> = Guard<&'a T, Entered<'a, 'r, 'l, T, R>>;
 
-/// How a reentrant mutex is unlocked.
+/// `Entered` says how a guard of a reentrant mutex is dropped.
 #[derive(Drop)]
 pub struct Entered<'a, 'r, 'l, T, R: Wait> {
     mutex: &'a ReentrantMutex<'l, T>,
@@ -98,13 +103,11 @@ impl<T, R: Wait> Release<&T> for Entered<'_, '_, '_, T, R> {
 }
 
 impl<'l, T> ReentrantMutex<'l, T> {
-    /// A mutex around the value, which nobody holds.
+    /// Creates a mutex that nobody holds, around the given value.
     ///
     /// # Errors
     ///
-    /// `NoMemory` if memory cannot be had. It asks for none by now.
-    ///
-    /// Upstream's `new` is a `const fn`.
+    /// `NoMemory` if there is not enough memory. This version allocates nothing.
     pub fn new(lot: &'l Lot, value: T) -> Result<ReentrantMutex<'l, T>, NoMemory>
         ensures { IfOk result (λ mutex. lot_of mutex ≡ lot.now) }
     {
@@ -116,9 +119,7 @@ impl<'l, T> ReentrantMutex<'l, T> {
         })
     }
 
-    /// An owner for the mutexes of this one's lot, as `Lot::owner` makes it.
-    ///
-    /// Upstream has no such call: there a thread is an owner.
+    /// Creates an owner for the lot of this mutex, as `Lot::owner` does.
     pub fn owner(&self) -> Owner<'l>
         ensures { lot_of_owner result ≡ lot_of self.now }
     {
@@ -126,6 +127,8 @@ impl<'l, T> ReentrantMutex<'l, T> {
     }
 
     /// Locks the mutex for the owner, and waits while another owner has it.
+    ///
+    /// If the owner already has it, this only adds a guard.
     #[inline]
     pub fn lock<'a, 'r, R: Wait + Clock>(
         &'a self,
@@ -140,7 +143,7 @@ impl<'l, T> ReentrantMutex<'l, T> {
         self.guard(rt, owner)
     }
 
-    /// Locks the mutex for the owner if no other owner has it; it waits for nobody.
+    /// Locks the mutex for the owner if no other owner has it; otherwise returns `None` at once.
     #[inline]
     pub fn try_lock<'a, 'r, R: Wait>(
         &'a self,
@@ -156,9 +159,7 @@ impl<'l, T> ReentrantMutex<'l, T> {
         }
     }
 
-    /// Locks the mutex as `lock` does, and waits no longer than for the duration.
-    ///
-    /// Upstream has it as `try_lock_for`.
+    /// Locks the mutex as `lock` does, but returns `None` if it cannot within the duration.
     pub fn lock_for<'a, 'r, R: Wait + Clock>(
         &'a self,
         rt: &'r R,
@@ -176,10 +177,7 @@ impl<'l, T> ReentrantMutex<'l, T> {
         }
     }
 
-    /// Locks the mutex as `lock` does, and waits no longer than until the deadline. A clock that
-    /// cannot be read counts as past it.
-    ///
-    /// Upstream has it as `try_lock_until`.
+    /// Locks the mutex as `lock` does, but returns `None` if it cannot before the deadline.
     pub fn lock_until<'a, 'r, R: Wait + Clock>(
         &'a self,
         rt: &'r R,
@@ -195,26 +193,26 @@ impl<'l, T> ReentrantMutex<'l, T> {
         }
     }
 
-    /// Whether an owner has the mutex just now.
+    /// Returns whether any owner has the mutex at this moment.
     pub fn is_locked(&self) -> bool {
         self.owner.load(Ordering::SeqCst) != NOBODY
     }
 
-    /// Whether this owner of the lot has the mutex.
-    ///
-    /// Upstream has it as `is_owned_by_current_thread`.
+    /// Returns whether this owner has the mutex.
     pub fn is_owned_by(&self, owner: &Owner<'l>) -> bool
         requires same_lot { lot_of_owner owner.now ≡ lot_of self.now }
     {
         self.owner.load(Ordering::SeqCst) == owner.number
     }
 
-    /// The value, for whoever has the mutex alone.
+    /// Returns a mutable reference to the value.
+    ///
+    /// No lock is needed, because the caller borrows the whole mutex.
     pub fn get_mut(&mut self) -> &mut T {
         &mut self.value
     }
 
-    /// The value, which ends the mutex.
+    /// Returns the value, and ends the mutex.
     pub fn into_inner(self) -> T {
         self.value
     }

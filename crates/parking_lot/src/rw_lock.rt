@@ -1,56 +1,57 @@
-//! A lock that many may read at once, or one may write.
+//! This module has a lock that many threads may read at once, or one may write.
 //!
 //! # The protocol
 //!
-//! `value` is std's lock, of which only `try_read` and `try_write` are called. `upgradable` is a
-//! mutex: whoever has it reads and may upgrade. `state` has five bits and a count:
+//! `value` is a std lock, of which only `try_read` and `try_write` are called. `upgradable` is a
+//! mutex; the thread that has it reads and may upgrade. `state` has five bits and a count:
 //!
 //! - `PARKED`: threads may be parked on the key.
 //! - `WRITER`: a writer is parked there, or was woken and has not had the lock since. Readers that
-//!   come stay out.
-//! - `UPGRADING`: whoever has `upgradable` lets its read go to write. Readers stay out, and a
-//!   writer that gets the lock lets it go again.
-//! - `DRAINS`: whoever upgrades is parked on the key `drain`.
-//! - `DOWNGRADING`: a writer lets the lock go to read. A writer or an upgrade that gets the lock
-//!   lets it go again.
-//! - The count is of the threads for which the lock was let go, and which have not had it since. It
-//!   is kept for them: a writer that comes stays out, or lets the lock go again.
+//!   arrive stay out.
+//! - `UPGRADING`: the thread with `upgradable` exchanges its read for a write. Readers stay out,
+//!   and a writer that gets the lock releases it again.
+//! - `DRAINS`: the thread that upgrades is parked on the key `drain`.
+//! - `DOWNGRADING`: a writer exchanges its write for a read. A writer or an upgrade that gets the
+//!   lock releases it again.
+//! - The count is the number of threads for which the lock is reserved. A fair unlock woke them,
+//!   and they have not had the lock since. A writer that arrives stays out, or releases the lock
+//!   again.
 //!
 //! The steps:
 //!
-//! - Who cannot have the lock spins for a while and parks. In the section of the key it puts its
-//!   bits up and **then** tries once more, and stays in the list only if that fails. Who was woken
-//!   tries whatever the count says, and a reader whatever the bits say.
+//! - A thread that cannot have the lock spins for a while and parks. In the critical section of the
+//!   key it sets its bits and **then** tries once more. It stays in the list only if that try
+//!   fails. A thread that was woken tries whatever the count says, and a woken reader whatever the
+//!   bits say.
 //! - A writer looks at `state` before its try and again **after** it. The upgrade and the downgrade
-//!   put their bit up before they let their guard go, and take it down once they have the other
-//!   one. So nobody writes between the two.
-//! - Who lets a read go looks at `state` **after** that. During an upgrade it wakes the one that
-//!   drains, else the first writer of the list.
-//! - Who lets a write go looks at `state` **after** that. During an upgrade it wakes the one that
-//!   drains. Else it wakes the first of the list if that is a writer, or the readers up to the
-//!   first writer.
-//! - A fair unlock looks at `state` first. If threads are parked and nobody upgrades, it takes
-//!   those off the list whom an unlock wakes, and in that section it adds them to the count and
-//!   lets the lock go. **Then** it wakes the one that drains. Whoever was woken so is told by its
-//!   token. It takes itself off the count once it has the lock, or once it gives up; who gives up
-//!   then wakes as who lets a write go does.
-//! - Who goes on reading where others were kept out wakes the readers up to the first writer. That
-//!   is a downgrade, and an upgrade that gives up. A writer that gives up does the same.
-//! - `PARKED` and `WRITER` go down in sections that leave nobody in the list, `WRITER` only if
+//!   set their bit before they drop their guard, and clear it when they have the other one. So
+//!   nobody writes in between.
+//! - A thread that stops reading looks at `state` **after** that. During an upgrade it wakes the
+//!   one that drains, otherwise the first writer of the list.
+//! - A thread that stops writing looks at `state` **after** that. During an upgrade it wakes the
+//!   one that drains. Otherwise it wakes the first of the list if that is a writer, or else the
+//!   readers up to the first writer.
+//! - A fair unlock looks at `state` first. If threads are parked and nobody upgrades, it takes off
+//!   the list those whom an unlock would wake, and in that section it adds them to the count and
+//!   releases the lock. **Then** it wakes the one that drains. The threads that it woke are told so
+//!   by their token. Each takes itself off the count when it has the lock or gives up. One that
+//!   gives up then wakes others as a thread that stops writing does.
+//! - A thread that goes on reading where others were kept out wakes the readers up to the first
+//!   writer. That is a downgrade, or an upgrade that gives up. A writer that gives up does the
+//!   same.
+//! - `PARKED` and `WRITER` are cleared in sections that leave nobody in the list, `WRITER` only if
 //!   no writer was woken there.
 //!
-//! Nobody is forgotten. A writer stands in the list only if a try behind its bits failed, if an
-//! exchange of guards was under way, or if the lock was kept. Whoever had the lock then, has it
-//! after the exchange, or has it kept, lets it go later or gives up, sees `PARKED`, and wakes the
-//! first writer if the readers in front of it are not woken. A reader stands there only if a writer
-//! stands or was woken, somebody writes, or an upgrade is under way. Each of these comes to write
-//! and to let go, or gives up, and then wakes the readers in front of the first writer.
+//! No thread is forgotten. A writer stays in the list only if a try failed after it had set its
+//! bits, if an exchange of guards was under way, or if the lock was reserved. The thread that had
+//! the lock then, or has it after the exchange, or has it reserved, releases it later or gives up.
+//! It sees `PARKED`, and wakes the first writer if the readers in front of it are not woken. A
+//! reader stays in the list only if a writer is in it or was woken, if a thread writes, or if an
+//! upgrade is under way. Each of these writes and releases the lock later, or gives up, and then
+//! wakes the readers in front of the first writer.
 //!
-//! Nobody waits for `value` with `upgradable` locked, but the upgrade. So a writer may wait for
-//! `upgradable`. All steps are `SeqCst`.
-//!
-//! Upstream has the count of readers and four bits in one word, which tells a reader that it is the
-//! last, and hands the lock over with its bits set.
+//! Nobody waits for `value` with `upgradable` locked, except the upgrade. So a writer may wait for
+//! `upgradable`. All accesses are `SeqCst`.
 
 ghost use Rattle.std.specs.Prelude.{◌≡◌, None, IsSome};
 
@@ -89,17 +90,24 @@ const KEPT_ONCE: usize = 32;
 // The bits of the count.
 const KEPT: usize = !(KEPT_ONCE - 1);
 
-/// A value that many threads may read at once, or one may write.
+/// An `RwLock` protects a value that many threads may read at once, or one may write.
 ///
-/// While a writer waits, readers that come wait too, so a thread that reads already should not read
-/// again but by `read_recursive`. A writer that comes may be quicker than a woken one, but for one
-/// that a guard's `unlock_fair` woke.
+/// ```
+/// /// Notes a number, and tells the greatest so far. Others read beside it as soon as it is noted.
+/// pub fn note<R: Wait + Clock>(rt: &R, greatest: &RwLock<'_, u32>, number: u32) -> u32 {
+///     let mut writing = greatest.write(rt);
+///     *writing = number.max(*writing);
+///     let reading = RwLockWriteGuard::downgrade(writing);
+///     *reading
+/// }
+/// ```
 ///
-/// One thread at a time may have the lock in the third way, an upgradable read beside other reads:
-/// it can go on to write, and nobody has written between.
+/// While a writer waits, new readers wait behind it. So a thread that already reads must not call
+/// `read` again; it calls `read_recursive`. A writer that arrives may get the lock before a woken
+/// thread, unless a guard's `unlock_fair` woke that one.
 ///
-/// Upstream has it under this name, as one word beside the value. There a lock finds the lot by
-/// itself, and a reader that is the last hands the lock over.
+/// There is a third way to hold the lock: an upgradable read. One thread at a time has it, beside
+/// other readers, and can go on to write, with nobody having written in between.
 #[derive(Drop)]
 pub struct RwLock<'l, T> {
     lot: &'l Lot,
@@ -111,13 +119,11 @@ pub struct RwLock<'l, T> {
 }
 
 impl<'l, T> RwLock<'l, T> {
-    /// A lock around the value, which nobody holds.
+    /// Creates a lock that nobody holds, around the given value.
     ///
     /// # Errors
     ///
-    /// `NoMemory` if memory cannot be had. It asks for none by now.
-    ///
-    /// Upstream's `new` is a `const fn`.
+    /// `NoMemory` if there is not enough memory. This version allocates nothing.
     pub fn new(lot: &'l Lot, value: T) -> Result<RwLock<'l, T>, NoMemory>
     where
         T: Drop,
@@ -132,14 +138,16 @@ impl<'l, T> RwLock<'l, T> {
         })
     }
 
-    /// Locks to read, and waits while another thread writes, or waits to write. A thread that has
-    /// the lock already may wait for ever.
+    /// Locks for reading, and waits while another thread writes or waits to write.
+    ///
+    /// A thread that already has the lock may wait for ever; if it reads, `read_recursive` is the
+    /// call to make.
     #[inline]
     pub fn read<'a, 'r, R: Wait + Clock>(&'a self, rt: &'r R) -> RwLockReadGuard<'a, 'r, 'l, T, R> {
         self.read_guard(rt, self.take(rt, Reader::Comes))
     }
 
-    /// Locks to read if `read` would not wait.
+    /// Locks for reading if `read` would not wait; otherwise returns `None` at once.
     #[inline]
     pub fn try_read<'a, 'r, R: Wait>(
         &'a self,
@@ -149,10 +157,7 @@ impl<'l, T> RwLock<'l, T> {
         Some(self.read_guard(rt, held))
     }
 
-    /// Locks to read as `read` does, and waits no longer than for the duration. A clock that cannot
-    /// be read leaves no time to wait.
-    ///
-    /// Upstream has it as `try_read_for`.
+    /// Locks for reading as `read` does, but returns `None` if it cannot within the duration.
     pub fn read_for<'a, 'r, R: Wait + Clock>(
         &'a self,
         rt: &'r R,
@@ -162,10 +167,7 @@ impl<'l, T> RwLock<'l, T> {
         Some(self.read_guard(rt, held))
     }
 
-    /// Locks to read as `read` does, and waits no longer than until the deadline. A clock that
-    /// cannot be read counts as past it.
-    ///
-    /// Upstream has it as `try_read_until`.
+    /// Locks for reading as `read` does, but returns `None` if it cannot before the deadline.
     pub fn read_until<'a, 'r, R: Wait + Clock>(
         &'a self,
         rt: &'r R,
@@ -175,8 +177,10 @@ impl<'l, T> RwLock<'l, T> {
         Some(self.read_guard(rt, held))
     }
 
-    /// Locks to read, and waits only while another thread writes. So a thread that reads already
-    /// does not wait; readers of this kind can keep a writer out for long.
+    /// Locks for reading, and waits only while another thread writes.
+    ///
+    /// So a thread that already reads does not wait. Many readers of this kind can keep a writer
+    /// out for long.
     #[inline]
     pub fn read_recursive<'a, 'r, R: Wait + Clock>(
         &'a self,
@@ -185,7 +189,7 @@ impl<'l, T> RwLock<'l, T> {
         self.read_guard(rt, self.take(rt, Reader::Recurs))
     }
 
-    /// Locks to read if nobody writes. It waits for nobody.
+    /// Locks for reading if nobody writes; otherwise returns `None` at once.
     #[inline]
     pub fn try_read_recursive<'a, 'r, R: Wait>(
         &'a self,
@@ -195,10 +199,8 @@ impl<'l, T> RwLock<'l, T> {
         Some(self.read_guard(rt, held))
     }
 
-    /// Locks to read as `read_recursive` does, and waits no longer than for the duration. A clock
-    /// that cannot be read leaves no time to wait.
-    ///
-    /// Upstream has it as `try_read_recursive_for`.
+    /// Locks for reading as `read_recursive` does, but returns `None` if it cannot within the
+    /// duration.
     pub fn read_recursive_for<'a, 'r, R: Wait + Clock>(
         &'a self,
         rt: &'r R,
@@ -208,10 +210,8 @@ impl<'l, T> RwLock<'l, T> {
         Some(self.read_guard(rt, held))
     }
 
-    /// Locks to read as `read_recursive` does, and waits no longer than until the deadline. A clock
-    /// that cannot be read counts as past it.
-    ///
-    /// Upstream has it as `try_read_recursive_until`.
+    /// Locks for reading as `read_recursive` does, but returns `None` if it cannot before the
+    /// deadline.
     pub fn read_recursive_until<'a, 'r, R: Wait + Clock>(
         &'a self,
         rt: &'r R,
@@ -221,8 +221,9 @@ impl<'l, T> RwLock<'l, T> {
         Some(self.read_guard(rt, held))
     }
 
-    /// Locks to write, and waits while other threads have the lock. A thread that has it already
-    /// waits for ever.
+    /// Locks for writing, and waits while other threads have the lock.
+    ///
+    /// A thread that already has the lock waits for ever.
     #[inline]
     pub fn write<'a, 'r, R: Wait + Clock>(
         &'a self,
@@ -231,9 +232,9 @@ impl<'l, T> RwLock<'l, T> {
         self.write_guard(rt, self.take(rt, Writer::Comes))
     }
 
-    /// Locks to write if nobody has the lock. It waits for nobody.
+    /// Locks for writing if nobody has the lock; otherwise returns `None` at once.
     ///
-    /// While another thread upgrades or downgrades, somebody has the lock.
+    /// While another thread upgrades or downgrades, that thread has the lock.
     #[inline]
     pub fn try_write<'a, 'r, R: Wait>(
         &'a self,
@@ -243,10 +244,7 @@ impl<'l, T> RwLock<'l, T> {
         Some(self.write_guard(rt, held))
     }
 
-    /// Locks to write as `write` does, and waits no longer than for the duration. A clock that
-    /// cannot be read leaves no time to wait.
-    ///
-    /// Upstream has it as `try_write_for`.
+    /// Locks for writing as `write` does, but returns `None` if it cannot within the duration.
     pub fn write_for<'a, 'r, R: Wait + Clock>(
         &'a self,
         rt: &'r R,
@@ -256,10 +254,7 @@ impl<'l, T> RwLock<'l, T> {
         Some(self.write_guard(rt, held))
     }
 
-    /// Locks to write as `write` does, and waits no longer than until the deadline. A clock that
-    /// cannot be read counts as past it.
-    ///
-    /// Upstream has it as `try_write_until`.
+    /// Locks for writing as `write` does, but returns `None` if it cannot before the deadline.
     pub fn write_until<'a, 'r, R: Wait + Clock>(
         &'a self,
         rt: &'r R,
@@ -269,8 +264,10 @@ impl<'l, T> RwLock<'l, T> {
         Some(self.write_guard(rt, held))
     }
 
-    /// Locks to read with the right to upgrade, and waits while another thread has that right,
-    /// writes, or waits to write. A thread that has the lock already may wait for ever.
+    /// Locks for reading with the right to upgrade, and waits while another thread has that right,
+    /// writes, or waits to write.
+    ///
+    /// A thread that already has the lock may wait for ever.
     pub fn upgradable_read<'a, 'r, R: Wait + Clock>(
         &'a self,
         rt: &'r R,
@@ -278,7 +275,8 @@ impl<'l, T> RwLock<'l, T> {
         self.upgradable_read_at_most(rt, None).unwrap()
     }
 
-    /// Locks to read with the right to upgrade if `upgradable_read` would not wait.
+    /// Locks for reading with the right to upgrade if `upgradable_read` would not wait; otherwise
+    /// returns `None` at once.
     pub fn try_upgradable_read<'a, 'r, R: Wait>(
         &'a self,
         rt: &'r R,
@@ -288,10 +286,7 @@ impl<'l, T> RwLock<'l, T> {
         Some(self.upgradable_guard(rt, held, upgradable))
     }
 
-    /// Locks as `upgradable_read` does, and waits no longer than for the duration. A clock that
-    /// cannot be read leaves no time to wait.
-    ///
-    /// Upstream has it as `try_upgradable_read_for`.
+    /// Locks as `upgradable_read` does, but returns `None` if it cannot within the duration.
     pub fn upgradable_read_for<'a, 'r, R: Wait + Clock>(
         &'a self,
         rt: &'r R,
@@ -303,10 +298,7 @@ impl<'l, T> RwLock<'l, T> {
         }
     }
 
-    /// Locks as `upgradable_read` does, and waits no longer than until the deadline. A clock that
-    /// cannot be read counts as past it.
-    ///
-    /// Upstream has it as `try_upgradable_read_until`.
+    /// Locks as `upgradable_read` does, but returns `None` if it cannot before the deadline.
     pub fn upgradable_read_until<'a, 'r, R: Wait + Clock>(
         &'a self,
         rt: &'r R,
@@ -315,28 +307,30 @@ impl<'l, T> RwLock<'l, T> {
         self.upgradable_read_at_most(rt, Some(deadline))
     }
 
-    /// Whether somebody has the lock, by a try to write. A thread that tries in the same moment may
-    /// find it locked.
+    /// Returns whether a thread has the lock.
     ///
-    /// Upstream looks at its word, and needs no runtime for that.
+    /// It finds out by locking for writing for a moment. A thread that tries in that moment may
+    /// find the lock locked.
     pub fn is_locked<R: Wait>(&self, rt: &R) -> bool {
         self.try_write(rt).is_none()
     }
 
-    /// Whether somebody writes, by a try to read. A thread that tries to write in the same moment
-    /// may find the lock locked.
+    /// Returns whether a thread writes.
     ///
-    /// Upstream looks at its word, and needs no runtime for that.
+    /// It finds out by locking for reading for a moment. A thread that tries to write in that
+    /// moment may find the lock locked.
     pub fn is_locked_exclusive<R: Wait>(&self, rt: &R) -> bool {
         self.try_read_recursive(rt).is_none()
     }
 
-    /// The value, for whoever has the lock alone.
+    /// Returns a mutable reference to the value.
+    ///
+    /// No lock is needed, because the caller borrows the whole lock.
     pub fn get_mut(&mut self) -> &mut T {
         self.value.get_mut()
     }
 
-    /// The value, with which the lock ends.
+    /// Returns the value, and ends the lock.
     pub fn into_inner(self) -> T {
         self.value.into_inner()
     }

@@ -1,21 +1,22 @@
-//! A counter of permits that threads wait for.
+//! This module has the semaphore, a counter of permits for which threads wait.
 //!
 //! # The protocol
 //!
-//! `permits` counts those that nobody has. `queue` has the threads that wait, each with the number
-//! of permits that it wants as its park token.
+//! `permits` counts the permits that nobody has. `queue` has the threads that wait. The park token
+//! of each is the number of permits that it wants.
 //!
-//! - Whoever comes takes what it wants, if so many are there, by one exchange.
-//! - Where fewer are there, it waits in the queue until it can, or until it is served.
-//! - Whoever gives permits back adds them and **then** serves the queue: it takes for the first
-//!   thread what that one wants, and so on until too few are left.
-//! - Whoever was served has its permits: they were taken for it.
-//! - Whoever leaves at its deadline serves the queue as one who gives back does. It may have stood
-//!   first, and wanted more than those behind it.
+//! - A thread that arrives takes what it wants, by one exchange, if there are enough permits.
+//! - If there are too few, it waits in the queue until it can, or until it is served.
+//! - A thread that gives permits back adds them and **then** serves the queue: it takes for the
+//!   first thread what that one wants, then for the next, and so on until too few are left.
+//! - A thread that was served has its permits, because they were taken for it.
+//! - A thread that leaves at its deadline serves the queue as well. It may have been the first, and
+//!   have wanted more than those behind it.
 //!
-//! Nobody is forgotten: a thread comes to stand in the queue only as its own try fails. Nothing but
-//! an add, or the leaving of a thread before it, lets it have its permits. Whoever does that serves
-//! the longest beginning of the queue for which there are permits. All steps are `SeqCst`.
+//! No thread is forgotten. A thread stays in the queue only if its own try failed. After that, only
+//! an add, or the leaving of a thread before it, can let it have its permits. Whoever does one of
+//! these serves the longest beginning of the queue for which there are permits. All accesses are
+//! `SeqCst`.
 
 ghost use Rattle.std.specs.Prelude.{◌≡◌, ◌+◌, ◌<◌, IfNone, IfSome};
 ghost use Rattle.parking_lot.specs.Locks.{permits_of, semaphore_of};
@@ -29,24 +30,22 @@ use std::sync::Wait;
 use std::sync::atomic::{AtomicUsize, Ordering};
 use std::time::{Clock, Duration, Instant};
 
-/// A counter of permits. Whoever wants some waits until so many are there.
+/// A `Semaphore` counts permits; a thread that wants some waits until there are enough.
 ///
-/// Those that wait are served in the order in which they came: one that wants many holds up those
-/// behind it. A thread that comes while others wait may be quicker and take what is there, so one
+/// Threads that wait are served in the order in which they came, so one that wants many holds up
+/// those behind it. A thread that arrives while others wait may still take what is there, so one
 /// that wants many may wait long.
 ///
-/// No more than `usize::MAX` permits can be there: what would go beyond that is lost.
-///
-/// Upstream has no such type; tokio has it under this name. There a semaphore can be closed, a
-/// thread that comes does not overtake those that wait, and going beyond its `MAX_PERMITS` is a
-/// panic.
+/// There can be at most `usize::MAX` permits. Permits beyond that are lost.
 #[derive(Drop)]
 pub struct Semaphore<'l> {
     queue: WaitQueue<'l>,
     permits: AtomicUsize,
 }
 
-/// Permits that a thread has. Its drop gives them back, and unparks those that may have them.
+/// A `SemaphorePermit` stands for permits that a thread has.
+///
+/// Its drop gives them back, and unparks threads that may have them.
 pub struct SemaphorePermit<'a, 'r, 'l, R: Wait> {
     semaphore: &'a Semaphore<'l>,
     rt: &'r R,
@@ -54,11 +53,11 @@ pub struct SemaphorePermit<'a, 'r, 'l, R: Wait> {
 }
 
 impl<'l> Semaphore<'l> {
-    /// A semaphore with so many permits.
+    /// Creates a semaphore with the given number of permits.
     ///
     /// # Errors
     ///
-    /// `NoMemory` if memory cannot be had. It asks for none by now.
+    /// `NoMemory` if there is not enough memory. This version allocates nothing.
     pub fn new(lot: &'l Lot, permits: usize) -> Result<Semaphore<'l>, NoMemory> {
         Ok(Semaphore {
             queue: WaitQueue::new(lot),
@@ -66,7 +65,7 @@ impl<'l> Semaphore<'l> {
         })
     }
 
-    /// Takes a permit, and waits until there is one.
+    /// Takes one permit, and waits until there is one.
     #[inline]
     pub fn acquire<'a, 'r, R: Wait + Clock>(&'a self, rt: &'r R) -> SemaphorePermit<'a, 'r, 'l, R>
         ensures permits { permits_of result ≡ 1 }
@@ -75,8 +74,9 @@ impl<'l> Semaphore<'l> {
         self.acquire_many(rt, 1)
     }
 
-    /// Takes so many permits at once, and waits until so many are there. None are there at once,
-    /// always.
+    /// Takes the given number of permits at once, and waits until there are as many.
+    ///
+    /// Zero permits are always there.
     #[inline]
     pub fn acquire_many<'a, 'r, R: Wait + Clock>(
         &'a self,
@@ -92,7 +92,7 @@ impl<'l> Semaphore<'l> {
         self.permit(rt, permits)
     }
 
-    /// Takes a permit if there is one; it waits for nobody.
+    /// Takes one permit if there is one; otherwise returns `None` at once.
     #[inline]
     pub fn try_acquire<'a, 'r, R: Wait>(
         &'a self,
@@ -104,7 +104,7 @@ impl<'l> Semaphore<'l> {
         self.try_acquire_many(rt, 1)
     }
 
-    /// Takes so many permits if so many are there; it waits for nobody.
+    /// Takes the given number of permits if there are as many; otherwise returns `None` at once.
     #[inline]
     pub fn try_acquire_many<'a, 'r, R: Wait>(
         &'a self,
@@ -117,7 +117,7 @@ impl<'l> Semaphore<'l> {
         self.permit_if(self.try_take(permits), rt, permits)
     }
 
-    /// Takes a permit as `acquire` does, and waits no longer than for the duration.
+    /// Takes one permit as `acquire` does, but returns `None` if it cannot within the duration.
     pub fn acquire_for<'a, 'r, R: Wait + Clock>(
         &'a self,
         rt: &'r R,
@@ -130,8 +130,7 @@ impl<'l> Semaphore<'l> {
         self.permit_if(took, rt, 1)
     }
 
-    /// Takes a permit as `acquire` does, and waits no longer than until the deadline. A clock that
-    /// cannot be read counts as past it.
+    /// Takes one permit as `acquire` does, but returns `None` if it cannot before the deadline.
     pub fn acquire_until<'a, 'r, R: Wait + Clock>(
         &'a self,
         rt: &'r R,
@@ -143,8 +142,9 @@ impl<'l> Semaphore<'l> {
         self.acquire_many_until(rt, 1, deadline)
     }
 
-    /// Takes so many permits as `acquire_many` does, and waits no longer than until the deadline. A
-    /// clock that cannot be read counts as past it.
+    /// Takes permits as `acquire_many` does, but returns `None` if it cannot before the deadline.
+    ///
+    /// It takes all of them or none.
     pub fn acquire_many_until<'a, 'r, R: Wait + Clock>(
         &'a self,
         rt: &'r R,
@@ -158,13 +158,14 @@ impl<'l> Semaphore<'l> {
         self.permit_if(took, rt, permits)
     }
 
-    /// How many permits are there just now.
+    /// Returns how many permits there are at this moment.
     pub fn available_permits(&self) -> usize {
         self.permits.load(Ordering::SeqCst)
     }
 
-    /// Adds so many permits, and unparks those that may have them. Beyond `usize::MAX` there are
-    /// none.
+    /// Adds the given number of permits, and unparks threads that may have them.
+    ///
+    /// What would go beyond `usize::MAX` is lost.
     #[inline]
     pub fn add_permits<R: Wait>(&self, rt: &R, permits: usize) {
         if permits != 0 {
@@ -262,16 +263,14 @@ impl<'l> Semaphore<'l> {
 }
 
 impl<'a, 'r, 'l, R: Wait> SemaphorePermit<'a, 'r, 'l, R> {
-    /// How many permits these are.
-    ///
-    /// tokio has it as `num_permits`.
+    /// Returns how many permits these are.
     pub fn permits(&self) -> usize
         ensures { result ≡ permits_of self.now }
     {
         self.permits
     }
 
-    /// Lets the permits go without giving them back, so the semaphore has fewer from then on.
+    /// Drops these permits without giving them back, so the semaphore has fewer from then on.
     pub fn forget(permit: SemaphorePermit<'a, 'r, 'l, R>) {
         let SemaphorePermit {
             semaphore: _,
@@ -280,8 +279,9 @@ impl<'a, 'r, 'l, R: Wait> SemaphorePermit<'a, 'r, 'l, R> {
         } = permit;
     }
 
-    /// Takes so many of these permits out, if there are as many, as permits of their own. Else it
-    /// leaves them as they are.
+    /// Takes the given number of these permits out, as permits of their own.
+    ///
+    /// If there are fewer, it returns `None` and leaves them as they are.
     pub fn split(&mut self, permits: usize) -> Option<SemaphorePermit<'a, 'r, 'l, R>>
         ensures taken { IfSome result (λ taken. permits_of taken ≡ permits) }
         ensures left { IfSome result (λ _. permits_of self.new + permits ≡ permits_of self.old) }

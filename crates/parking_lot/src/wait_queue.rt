@@ -1,19 +1,20 @@
-//! The threads that wait for one thing, which others do.
+//! This module has the queue of threads that wait until others have done something.
 //!
 //! # The protocol
 //!
 //! `parked` says that threads may be parked on the key.
 //!
-//! - Whoever waits looks whether it still has to, spins for a while and parks. In the section of
-//!   the key it puts `parked` up and **then** looks once more, and stays in the list only if it
-//!   still has to wait. Where others are parked already it does not spin.
-//! - Whoever does what others wait for looks at `parked` **after** that. If it is up, it unparks
-//!   those whom it concerns. They look again, or are told by their token that they need not.
-//! - `parked` goes down in sections that leave nobody in the list, and before all are unparked.
+//! - A thread that waits checks whether it still has to, spins for a while and parks. In the
+//!   critical section of the key it sets `parked` and **then** checks once more. It stays in the
+//!   list only if it still has to wait. Where others are already parked it does not spin.
+//! - A thread that does what others wait for looks at `parked` **after** that. If it is set, it
+//!   unparks those whom it concerns. They check again, or are told by their token that they need
+//!   not.
+//! - `parked` is cleared in sections that leave nobody in the list, and before all are unparked.
 //!
-//! Nobody is forgotten: a thread stands in the list only after a look, behind its `parked`, that
-//! failed. Whoever does what it waits for does that later, and looks at `parked` after it. So
-//! `parked` is up, or somebody has just taken it down to unpark all. All steps are `SeqCst`.
+//! No thread is forgotten. A thread stays in the list only if a check failed after it had set
+//! `parked`. Whoever does what it waits for does so later, and looks at `parked` after it. So
+//! `parked` is set, or another thread has just cleared it to unpark all. All accesses are `SeqCst`.
 
 ghost use Rattle.std.specs.Prelude.{◌≡◌, ◌≢◌, None, true};
 
@@ -29,7 +30,7 @@ use std::time::{Clock, Instant};
 // What a thread is told for which another one did what it waited for.
 const SERVED: UnparkToken = UnparkToken(1);
 
-/// A key of a lot, and whether threads may be parked there.
+/// A `WaitQueue` is a key of a lot, with a flag that says whether threads may be parked there.
 #[derive(Drop)]
 pub(crate) struct WaitQueue<'l> {
     lot: &'l Lot,
@@ -54,7 +55,7 @@ impl<'l> WaitQueue<'l> {
         self.lot
     }
 
-    /// Waits until the closure answers true.
+    /// Waits until the closure returns true.
     #[cold]
     #[inline(never)]
     pub(crate) fn wait<R: Wait + Clock, F: Fn() -> bool>(&self, rt: &R, is_over: F)
@@ -63,8 +64,8 @@ impl<'l> WaitQueue<'l> {
         self.wait_until(rt, DEFAULT_PARK_TOKEN, is_over, None);
     }
 
-    /// Waits until the closure answers true, until it is served or until the deadline, and answers
-    /// whether it was one of the first two.
+    /// Waits until the closure returns true, until another thread serves this one, or until the
+    /// deadline, and returns false only for the deadline.
     pub(crate) fn wait_until<R: Wait + Clock, F: Fn() -> bool>(
         &self,
         rt: &R,
@@ -119,7 +120,7 @@ impl<'l> WaitQueue<'l> {
         )
     }
 
-    /// Wakes the thread that waits longest.
+    /// Wakes the thread that has waited longest.
     #[inline]
     pub(crate) fn wake_one<R: Wait>(&self, rt: &R) {
         if self.parked.load(Ordering::SeqCst) {
@@ -145,7 +146,7 @@ impl<'l> WaitQueue<'l> {
         }
     }
 
-    /// Serves the threads that the closure unparks.
+    /// Serves the threads that the closure chooses to unpark.
     #[inline]
     pub(crate) fn serve<R: Wait, F: FnMut(ParkToken) -> FilterOp>(&self, rt: &R, filter: F)
         requires { (state : F) (park_token : _) → F.pre state park_token }

@@ -1,4 +1,4 @@
-//! How a thread exchanges what it holds, so that nobody writes between.
+//! This module exchanges one kind of guard for another, so that nobody writes in between.
 
 ghost use Rattle.std.specs.Prelude.{◌≡◌, None, IsOk, IsSome};
 
@@ -17,19 +17,19 @@ use std::sync::atomic::Ordering;
 use std::time::{Clock, Duration, Instant};
 
 impl<'a, 'r, 'l, T, R: Wait> RwLockWriteGuard<'a, 'r, 'l, T, R> {
-    /// Goes on to read. Nobody writes between, and readers that wait are let in.
+    /// Exchanges the write for a read, so that nobody writes in between.
     ///
-    /// Upstream has it under this name.
+    /// Readers that wait are let in.
     pub fn downgrade(guard: Self) -> RwLockReadGuard<'a, 'r, 'l, T, R> {
         let (held, WriteLocked { lock, rt }) = guard.into_parts();
         let held = lock.read_after_write(rt, held);
         lock.read_guard(rt, held)
     }
 
-    /// Goes on to read with the right to upgrade. Nobody writes between, and readers that wait are
-    /// let in. It may wait for a moment, until another thread sees that it cannot read yet.
+    /// Exchanges the write for a read with the right to upgrade, so that nobody writes in between.
     ///
-    /// Upstream has it under this name, and does not wait.
+    /// Readers that wait are let in. It may wait for a moment, until another thread that tries for
+    /// an upgradable read sees that it cannot read yet.
     pub fn downgrade_to_upgradable(guard: Self) -> RwLockUpgradableReadGuard<'a, 'r, 'l, T, R>
     where
         R: Clock,
@@ -42,13 +42,11 @@ impl<'a, 'r, 'l, T, R: Wait> RwLockWriteGuard<'a, 'r, 'l, T, R> {
 }
 
 impl<'a, 'r, 'l, T, R: Wait> RwLockUpgradableReadGuard<'a, 'r, 'l, T, R> {
-    /// Goes on to write if nobody else reads, and else gives the guard back. Nobody writes between.
+    /// Exchanges the read for a write if nobody else reads, so that nobody writes in between.
     ///
     /// # Errors
     ///
-    /// The guard, if others read.
-    ///
-    /// Upstream has it under this name.
+    /// The guard, if others read. It still reads and may upgrade.
     pub fn try_upgrade(guard: Self) -> Result<RwLockWriteGuard<'a, 'r, 'l, T, R>, Self> {
         let (held, locked) = guard.into_parts();
         locked.lock.begin_upgrade(held);
@@ -58,18 +56,15 @@ impl<'a, 'r, 'l, T, R: Wait> RwLockUpgradableReadGuard<'a, 'r, 'l, T, R> {
         locked.end_upgrade(held)
     }
 
-    /// Goes on to read without the right to upgrade.
-    ///
-    /// Upstream has it under this name.
+    /// Gives up the right to upgrade, and goes on reading.
     pub fn downgrade(guard: Self) -> RwLockReadGuard<'a, 'r, 'l, T, R> {
         let (held, locked) = guard.into_parts();
         drop(locked.upgradable);
         locked.lock.read_guard(locked.rt, held)
     }
 
-    /// Goes on to write, and waits until nobody else reads. Nobody writes between.
-    ///
-    /// Upstream has it under this name.
+    /// Exchanges the read for a write, so that nobody writes in between, and waits until nobody
+    /// else reads.
     pub fn upgrade(guard: Self) -> RwLockWriteGuard<'a, 'r, 'l, T, R>
     where
         R: Clock,
@@ -80,14 +75,12 @@ impl<'a, 'r, 'l, T, R: Wait> RwLockUpgradableReadGuard<'a, 'r, 'l, T, R> {
         }
     }
 
-    /// Goes on to write as `upgrade` does, and waits no longer than for the duration. A clock that
-    /// cannot be read leaves no time to wait.
+    /// Exchanges the read for a write as `upgrade` does, but gives up if it cannot within the
+    /// duration.
     ///
     /// # Errors
     ///
-    /// The guard, if others read until then.
-    ///
-    /// Upstream has it as `try_upgrade_for`.
+    /// The guard, if others read until then. It still reads and may upgrade.
     pub fn upgrade_for(
         guard: Self,
         duration: Duration,
@@ -101,14 +94,12 @@ impl<'a, 'r, 'l, T, R: Wait> RwLockUpgradableReadGuard<'a, 'r, 'l, T, R> {
         }
     }
 
-    /// Goes on to write as `upgrade` does, and waits no longer than until the deadline. A clock
-    /// that cannot be read counts as past it.
+    /// Exchanges the read for a write as `upgrade` does, but gives up if it cannot before the
+    /// deadline.
     ///
     /// # Errors
     ///
-    /// The guard, if others read until then.
-    ///
-    /// Upstream has it as `try_upgrade_until`.
+    /// The guard, if others read until then. It still reads and may upgrade.
     pub fn upgrade_until(
         guard: Self,
         deadline: Instant,

@@ -1,4 +1,4 @@
-//! The guards of the lock.
+//! This module has the three guards of `RwLock`.
 
 use super::waking::Front;
 use super::{DRAINS, PARKED, RwLock};
@@ -8,35 +8,44 @@ use std::sync;
 use std::sync::Wait;
 use std::time::Clock;
 
-/// The right to read the value. Its drop lets it go: one exchange, and if threads are parked one
-/// `unpark_chosen`.
+/// An `RwLockReadGuard` gives shared access to the value of an `RwLock`, and releases the lock when
+/// it is dropped.
+///
+/// The drop is one exchange, and one `unpark_chosen` if threads are parked.
 pub type RwLockReadGuard<'a, 'r, 'l, T, R> = Guard<
     sync::RwLockReadGuard<'a, T>,
     ReadLocked<'a, 'r, 'l, T, R>,
 >;
 
-/// The right to read the value and to go on to write it, which one thread has at a time. Its drop
-/// lets it go, as that of a read guard and that of a mutex guard.
+/// An `RwLockUpgradableReadGuard` gives shared access to the value of an `RwLock`, with the right
+/// to upgrade to a write.
+///
+/// One thread at a time has such a guard. Its drop costs as much as that of a read guard and of a
+/// mutex guard.
 pub type RwLockUpgradableReadGuard<'a, 'r, 'l, T, R> = Guard<
     sync::RwLockReadGuard<'a, T>,
     UpgradableLocked<'a, 'r, 'l, T, R>,
 >;
 
-/// The right to read and write the value. Its drop lets it go: one exchange, and if threads are
-/// parked one `unpark_chosen`.
+/// An `RwLockWriteGuard` gives exclusive access to the value of an `RwLock`, and releases the lock
+/// when it is dropped.
+///
+/// The drop is one exchange, and one `unpark_chosen` if threads are parked.
 pub type RwLockWriteGuard<'a, 'r, 'l, T, R> = Guard<
     sync::RwLockWriteGuard<'a, T>,
     WriteLocked<'a, 'r, 'l, T, R>,
 >;
 
-/// The lock that a guard reads, and the runtime with which it wakes others.
+/// `ReadLocked` is what a read guard remembers: its lock, and the runtime with which it wakes
+/// others.
 #[derive(Drop)]
 pub struct ReadLocked<'a, 'r, 'l, T, R: Wait> {
     pub(super) lock: &'a RwLock<'l, T>,
     pub(super) rt: &'r R,
 }
 
-/// The lock that a guard may upgrade, that right, and the runtime with which it wakes others.
+/// `UpgradableLocked` is what an upgradable guard remembers: its lock, the right to upgrade, and
+/// the runtime with which it wakes others.
 #[derive(Drop)]
 pub struct UpgradableLocked<'a, 'r, 'l, T, R: Wait> {
     pub(super) lock: &'a RwLock<'l, T>,
@@ -44,7 +53,8 @@ pub struct UpgradableLocked<'a, 'r, 'l, T, R: Wait> {
     pub(super) rt: &'r R,
 }
 
-/// The lock that a guard writes, and the runtime with which it wakes others.
+/// `WriteLocked` is what a write guard remembers: its lock, and the runtime with which it wakes
+/// others.
 #[derive(Drop)]
 pub struct WriteLocked<'a, 'r, 'l, T, R: Wait> {
     pub(super) lock: &'a RwLock<'l, T>,
@@ -76,24 +86,22 @@ impl<T, R: Wait> Release<sync::RwLockWriteGuard<'_, T>> for WriteLocked<'_, '_, 
 }
 
 impl<'a, 'r, 'l, T, R: Wait> RwLockReadGuard<'a, 'r, 'l, T, R> {
-    /// The lock that the guard reads.
+    /// Returns the lock that the guard reads.
     pub fn rwlock(guard: &Self) -> &'a RwLock<'l, T> {
         guard.lock().lock
     }
 
-    /// Lets the lock go, and keeps it for the writer that waits longest, if one does. It writes
-    /// once the other readers have let the lock go.
+    /// Releases the lock, and reserves it for the writer that has waited longest, if one waits.
     ///
-    /// Upstream has it under this name.
+    /// That thread writes when the other readers have released the lock.
     pub fn unlock_fair(guard: Self) {
         let (held, ReadLocked { lock, rt }) = guard.into_parts();
         lock.release_fair(rt, held, Front::FewerReaders);
     }
 
-    /// Lets others have the lock that wait for it, and reads again. If nobody waits it does
-    /// nothing.
+    /// Lets threads that wait for the lock have it, and then locks for reading again.
     ///
-    /// Upstream has it under this name, and takes the guard by reference.
+    /// If nobody waits it does nothing.
     pub fn bump(guard: Self) -> Self
     where
         R: Clock,
@@ -106,9 +114,8 @@ impl<'a, 'r, 'l, T, R: Wait> RwLockReadGuard<'a, 'r, 'l, T, R> {
         lock.read(rt)
     }
 
-    /// Lets the lock go, calls the closure, and reads again.
-    ///
-    /// Upstream has it under this name, and takes the guard by reference.
+    /// Releases the lock, calls the closure, locks for reading again, and returns what the closure
+    /// returned.
     pub fn unlocked<A, C: FnOnce() -> A>(guard: Self, call: C) -> (Self, A)
     where
         R: Clock,
@@ -122,15 +129,14 @@ impl<'a, 'r, 'l, T, R: Wait> RwLockReadGuard<'a, 'r, 'l, T, R> {
 }
 
 impl<'a, 'r, 'l, T, R: Wait> RwLockUpgradableReadGuard<'a, 'r, 'l, T, R> {
-    /// The lock that the guard reads.
+    /// Returns the lock that the guard reads.
     pub fn rwlock(guard: &Self) -> &'a RwLock<'l, T> {
         guard.lock().lock
     }
 
-    /// Lets the lock go, and keeps it for the writer that waits longest, if one does, and the right
-    /// to upgrade for the thread that waits longest for that.
+    /// Releases the lock, and reserves it for the writer that has waited longest, if one waits.
     ///
-    /// Upstream has it under this name.
+    /// The right to upgrade is reserved for the thread that has waited longest for it.
     pub fn unlock_fair(guard: Self) {
         let (held, locked) = guard.into_parts();
         locked
@@ -139,10 +145,10 @@ impl<'a, 'r, 'l, T, R: Wait> RwLockUpgradableReadGuard<'a, 'r, 'l, T, R> {
         MutexGuard::unlock_fair(locked.upgradable);
     }
 
-    /// Lets others have the lock that wait for it, and reads again, with the right to upgrade. If
-    /// nobody waits it does nothing.
+    /// Lets threads that wait for the lock have it, and then locks for reading with the right to
+    /// upgrade again.
     ///
-    /// Upstream has it under this name, and takes the guard by reference.
+    /// If nobody waits it does nothing.
     pub fn bump(guard: Self) -> Self
     where
         R: Clock,
@@ -156,9 +162,8 @@ impl<'a, 'r, 'l, T, R: Wait> RwLockUpgradableReadGuard<'a, 'r, 'l, T, R> {
         lock.upgradable_read(rt)
     }
 
-    /// Lets the lock go, calls the closure, and reads, with the right to upgrade, again.
-    ///
-    /// Upstream has it under this name, and takes the guard by reference.
+    /// Releases the lock, calls the closure, locks for reading with the right to upgrade again, and
+    /// returns what the closure returned.
     pub fn unlocked<A, C: FnOnce() -> A>(guard: Self, call: C) -> (Self, A)
     where
         R: Clock,
@@ -173,24 +178,23 @@ impl<'a, 'r, 'l, T, R: Wait> RwLockUpgradableReadGuard<'a, 'r, 'l, T, R> {
 }
 
 impl<'a, 'r, 'l, T, R: Wait> RwLockWriteGuard<'a, 'r, 'l, T, R> {
-    /// The lock that the guard writes.
+    /// Returns the lock that the guard writes.
     pub fn rwlock(guard: &Self) -> &'a RwLock<'l, T> {
         guard.lock().lock
     }
 
-    /// Lets the lock go, and keeps it for the thread that waits longest, if one does; if that reads
-    /// for all those up to the first writer. A writer that comes meanwhile does not get it first.
+    /// Releases the lock, and reserves it for the thread that has waited longest, if one waits.
     ///
-    /// Upstream has it under this name.
+    /// If that thread reads, the lock is reserved for all readers in front of the first writer. A
+    /// writer that arrives meanwhile does not get the lock before them.
     pub fn unlock_fair(guard: Self) {
         let (held, WriteLocked { lock, rt }) = guard.into_parts();
         lock.release_fair(rt, held, Front::Nobody);
     }
 
-    /// Lets others have the lock that wait for it, and writes again. If nobody waits it does
-    /// nothing.
+    /// Lets threads that wait for the lock have it, and then locks for writing again.
     ///
-    /// Upstream has it under this name, and takes the guard by reference.
+    /// If nobody waits it does nothing.
     pub fn bump(guard: Self) -> Self
     where
         R: Clock,
@@ -203,9 +207,8 @@ impl<'a, 'r, 'l, T, R: Wait> RwLockWriteGuard<'a, 'r, 'l, T, R> {
         lock.write(rt)
     }
 
-    /// Lets the lock go, calls the closure, and writes again.
-    ///
-    /// Upstream has it under this name, and takes the guard by reference.
+    /// Releases the lock, calls the closure, locks for writing again, and returns what the closure
+    /// returned.
     pub fn unlocked<A, C: FnOnce() -> A>(guard: Self, call: C) -> (Self, A)
     where
         R: Clock,

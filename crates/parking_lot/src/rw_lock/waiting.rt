@@ -1,4 +1,4 @@
-//! How threads come to the lock and wait for it.
+//! This module has the way in which threads take the lock, and wait for it.
 
 ghost use Rattle.std.specs.Prelude.{◌≡◌, ◌≢◌, None, IsSome};
 
@@ -18,7 +18,7 @@ pub(super) const WRITES: ParkToken = ParkToken(1);
 // What a woken thread is told for which the lock is kept.
 pub(super) const IS_KEPT: UnparkToken = UnparkToken(1);
 
-/// How far a thread has come.
+/// `Turn` says how far a thread has come that wants the lock.
 #[derive(Clone, Copy)]
 pub(super) enum Turn {
     Comes,
@@ -27,22 +27,22 @@ pub(super) enum Turn {
     Kept,
 }
 
-/// What a thread comes for: a `G` of std's lock.
+/// `Access` says what a thread wants: a guard `G` of the std lock.
 pub(super) trait Access<'a, T, G: Drop>: Copy {
-    /// What it is parked with.
+    /// The token with which the thread parks.
     const TOKEN: ParkToken;
 
-    /// The bits that say that it is parked.
+    /// Returns the bits that say that such a thread is parked.
     fn parks_under(self) -> usize;
 
-    /// The bits that keep it out.
+    /// Returns the bits that keep the thread out.
     fn is_kept_out_by(self, turn: Turn) -> usize;
 
-    /// Takes std's lock, if that is free.
+    /// Takes the std lock if it is free.
     fn try_value(self, value: &'a sync::RwLock<T>) -> Option<G>;
 }
 
-/// A thread that reads.
+/// A `Reader` is a thread that wants to read.
 #[derive(Clone, Copy)]
 pub(super) enum Reader {
     Comes,
@@ -71,7 +71,7 @@ impl<'a, T: 'a> Access<'a, T, sync::RwLockReadGuard<'a, T>> for Reader {
     }
 }
 
-/// A thread that writes.
+/// A `Writer` is a thread that wants to write.
 #[derive(Clone, Copy)]
 pub(super) enum Writer {
     Comes,

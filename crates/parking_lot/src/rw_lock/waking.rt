@@ -1,4 +1,4 @@
-//! Whom a thread wakes that lets the lock go.
+//! This module chooses whom a thread wakes when it releases the lock.
 
 use super::waiting::{IS_KEPT, WRITES};
 use super::{DRAINS, KEPT_ONCE, PARKED, RwLock, UPGRADING, WRITER};
@@ -9,7 +9,7 @@ use std::cell::Cell;
 use std::sync::Wait;
 use std::sync::atomic::Ordering;
 
-/// Who has the lock or was woken for it, as the list is gone through.
+/// `Front` says who has the lock or was woken for it, while the list is gone through.
 #[derive(Clone, Copy)]
 pub(super) enum Front {
     // Nobody: the first of the list may come, whoever that is.
@@ -54,7 +54,7 @@ impl Front {
 }
 
 impl<T> RwLock<'_, T> {
-    /// Wakes others, once the lock was let go, or once nothing keeps readers out any more.
+    /// Wakes others, after the lock was released, or after nothing keeps readers out any more.
     #[inline]
     pub(super) fn wake<R: Wait>(&self, rt: &R, front: Front) {
         let state = self.state.load(Ordering::SeqCst);
@@ -74,8 +74,9 @@ impl<T> RwLock<'_, T> {
         }
     }
 
-    /// Lets the lock go, and keeps it for those whom it wakes. During an upgrade it is kept for
-    /// that.
+    /// Releases the lock, and reserves it for the threads that it wakes.
+    ///
+    /// During an upgrade it reserves nothing, because the upgrade is next.
     pub(super) fn release_fair<R: Wait, G: Drop>(&self, rt: &R, held: G, front: Front) {
         if self.state.load(Ordering::SeqCst) & (PARKED | UPGRADING) != PARKED {
             drop(held);
