@@ -1,4 +1,7 @@
-//! The buckets of the hash table: the steps of parking and unparking on the queue of one bucket.
+//! This module has the buckets of the hash table, with the steps of parking and unparking.
+//!
+//! A bucket has the waiters of several keys in one queue. The list of a key is made of the waiters
+//! of that key, in their order.
 
 ghost use Rattle.std.specs.Prelude.{◌≡◌, true, false, ℕ, [], ◌∷◌, ◌++◌, ◌<◌, map, IfErr, IfSome, OnOk, IfOk, IsOkAnd, OnErr, is_ok, IsTrue, length, List, ◌≢◌, ◌↔◌, find, not, None, Some, IsNone, MatchOption};
 ghost use Rattle.lot_base.specs.Filter.{IsFilterCallable, IsFiltered, park_tokens};
@@ -27,10 +30,9 @@ use std::marker::Model;
 
 const MULTIPLIER: usize = 0x9E37_79B9_7F4A_7C15;
 
-/// The place of a key in a table of `size` buckets, which is below `size`. The size is a power of
-/// two from 16 to 65,536.
+/// Returns the place of a key in a table of `size` buckets, which is below `size`.
 ///
-/// Upstream calls it `hash`, and passes the number of bits.
+/// The size has to be a power of two from 16 to 65,536.
 pub fn place(key: usize, size: usize) -> usize
     requires { IsTableSize size }
     ensures value { result ≡ place_of key size }
@@ -39,14 +41,14 @@ pub fn place(key: usize, size: usize) -> usize
     key.wrapping_mul(MULTIPLIER) >> (64 - size.ilog2())
 }
 
-/// A bucket of a table: a queue of nodes whose keys all have the bucket's place. The list of a key
-/// is the bucket's nodes of that key, in order.
+/// A `Bucket` is a queue of nodes, whose keys all have the same place in the table.
 ///
-/// Upstream has a lock in it. Here a lock is put round it, and whoever has it borrowed for writing
-/// does the steps. No step but `list` allocates, and no other can be refused.
+/// To share one between threads, put a lock around it: whoever has a mutable reference to it does
+/// the steps. A step that takes waiters returns a queue of them. No step except `list` allocates,
+/// and none but `list` and `enter` returns an error.
 ///
-/// A step that looks for waiters takes the nodes that it passes off the queue and puts them back,
-/// each by one `push_back`, and those behind them by one `append`. Neither walks.
+/// A step that looks for waiters takes the nodes that it passes off the queue, one by one, and puts
+/// them back in their order. Each of these moves takes the same time, however long the queue is.
 #[derive(Drop)]
 pub struct Bucket {
     place: usize,
@@ -68,15 +70,13 @@ impl Model for Bucket {
         IsInPlace (record { place = bucket.place; size = bucket.size; nodes = bucket.queue }) };
 }
 
-/// Which bucket a lock is around: the key of a bucket's `WordLock`.
-///
-/// Upstream has no such type, since its buckets do not know their place.
+/// A `BucketPlace` says which bucket a lock is around; it is the key of the bucket's `WordLock`.
 #[derive(Copy, Clone)]
 pub struct BucketPlace {
-    /// The bucket's place in its table.
+    /// The place of the bucket in its table.
     pub place: usize,
 
-    /// How many buckets the table has.
+    /// The number of buckets of the table.
     pub size: usize,
 }
 
@@ -89,10 +89,9 @@ impl Fits for Bucket {
 }
 
 impl Bucket {
-    /// An empty bucket for a place of a table of `size` buckets. The size is a power of two from 16
-    /// to 65,536, and the place is below it.
+    /// Creates an empty bucket for a place of a table of `size` buckets.
     ///
-    /// Upstream's takes nothing, since its buckets do not know their place.
+    /// The size has to be a power of two from 16 to 65,536, and the place has to be below it.
     pub fn new(place: usize, size: usize) -> Bucket
         requires size { IsTableSize size }
         requires place { place < size }
@@ -105,7 +104,7 @@ impl Bucket {
         }
     }
 
-    /// The bucket's place in its table.
+    /// Returns the place of the bucket in its table.
     pub fn place(&self) -> usize
         ensures value { result ≡ self.now.place }
         ensures below { result < self.now.size }
@@ -113,7 +112,7 @@ impl Bucket {
         self.place
     }
 
-    /// How many buckets its table has.
+    /// Returns the number of buckets of its table.
     pub fn size(&self) -> usize
         ensures value { result ≡ self.now.size }
         ensures table { IsTableSize result }
@@ -121,14 +120,13 @@ impl Bucket {
         self.size
     }
 
-    /// Puts the node last, if `validate` answers true; its key has this bucket's place. `validate`
-    /// is called once.
+    /// Calls `validate` once, and puts the node behind all others if it returns true.
     ///
-    /// It is one `push_back`. Upstream's `park` queues a thread so.
+    /// The key of the node has to have the place of this bucket. It costs one `push_back`.
     ///
     /// # Errors
     ///
-    /// The node itself, if `validate` answers false. Nothing changed then.
+    /// The node itself, if `validate` returns false. Nothing was changed then.
     pub fn enter<V: FnOnce() -> bool>(
         &mut self,
         node: Box<Node>,
@@ -150,16 +148,14 @@ impl Bucket {
         Ok(())
     }
 
-    /// Takes the first waiter of the key, and writes the token that `callback` answers into it.
+    /// Takes the first waiter of the key, and writes the token that `callback` returns into its
+    /// node.
     ///
-    /// `callback` is called once, with the result that is answered too: `(1, 0, more)`, where
-    /// `more` says whether the key has another waiter, or `(0, 0, false)` where nobody waits. What
-    /// it answers then is ignored.
+    /// `callback` is called once, with the result that is also returned: `(1, 0, more)`, where
+    /// `more` says whether the key has another waiter, or `(0, 0, false)` if nobody waits. In that
+    /// case its token is not used.
     ///
-    /// It visits the nodes before the first waiter of the key and those up to the next one, and no
-    /// more. It moves boxes and allocates nothing.
-    ///
-    /// Upstream calls it `unpark_one`.
+    /// It visits the nodes up to the second waiter of the key.
     pub fn take_one<F: FnOnce(UnparkResult) -> UnparkToken>(
         &mut self,
         key: usize,
@@ -186,12 +182,11 @@ impl Bucket {
         (result, taken)
     }
 
-    /// Takes every waiter of the key, in order, writes the token into each, and answers how many
-    /// there were, or `usize::MAX` where no `usize` can hold the count.
+    /// Takes every waiter of the key, in order, writes the token into each, and returns how many
+    /// there were.
     ///
-    /// Each node of the bucket is visited once. It moves boxes and allocates nothing.
-    ///
-    /// Upstream calls it `unpark_all`.
+    /// The count is `usize::MAX` if no `usize` can hold it. Each node of the bucket is visited
+    /// once.
     pub fn take_all(&mut self, key: usize, token: UnparkToken) -> (usize, Queue)
         ensures place { KeepsPlace self.old self.new }
         ensures lists { ChangesOnly self.old.nodes self.new.nodes key
@@ -203,20 +198,16 @@ impl Bucket {
         take_every(&mut self.queue, key, token)
     }
 
-    /// Takes those waiters of the key that the filter unparks, and leaves the others of the key,
+    /// Takes the waiters of the key for which the filter returns `Unpark`, and leaves the others,
     /// both in order.
     ///
-    /// The filter is handed the park tokens of the key's waiters in order, up to and with the first
-    /// at which it answers `Stop`: that waiter and all behind it are left. Then the callback is
-    /// handed the result, once, also if nobody waits. The result is answered too. It counts those
-    /// that were taken, or has `usize::MAX` where no `usize` can hold the count. The token that the
-    /// callback answers is written into each node taken.
+    /// The filter is called with the park tokens of the key's waiters, in order. When it returns
+    /// `Stop`, that waiter and all behind it are left. Then `callback` is called once with the
+    /// result, even if nobody waits. The token that it returns is written into each node that was
+    /// taken. The result is also returned; a count is `usize::MAX` if no `usize` can hold it.
     ///
-    /// The nodes of the bucket are visited once, up to and with the one at which the filter stops.
-    /// Those that were taken are visited once more, since their token is known only then. It moves
-    /// boxes and allocates nothing.
-    ///
-    /// Upstream calls it `unpark_filter`.
+    /// The nodes of the bucket are visited once, up to the one at which the filter stops. Those
+    /// that were taken are visited once more, because their token is known only then.
     pub fn take_filter<F: FnMut(ParkToken) -> FilterOp, C: FnOnce(UnparkResult) -> UnparkToken>(
         &mut self,
         key: usize,
@@ -246,23 +237,20 @@ impl Bucket {
         (result, write_token(chosen, token))
     }
 
-    /// Unparks or requeues waiters of the key `from` onto the key `to`, as `validate` chooses. Both
-    /// keys have this bucket's place, and they may be equal.
+    /// Unparks waiters of the key `from`, or moves them to the key `to`, as `validate` chooses.
     ///
-    /// `validate` is called first, once. If it aborts, then no list changes, no other closure is
-    /// called, and the answer is the default result and no node. Otherwise `moved` is called for
-    /// each thread that is requeued, in order, with its number and whether it waits with a timeout,
-    /// and then `callback`, once, with the operation and the result, also where no thread waited.
-    /// The result is answered too; a count that no `usize` can hold is `usize::MAX` in it. Requeued
-    /// nodes stand behind the waiters of `to`, in order. The queue in the answer holds the node
-    /// that was taken, with the token from `callback`.
+    /// Both keys have to have the place of this bucket, and they may be equal.
     ///
-    /// An operation on one thread looks for waiters of `from` up to the second one, and any other
-    /// looks at each node of the bucket once. Each node that was passed or moves is one `push_back`
-    /// to a queue of such nodes, and those that move are put last by one `append`. It moves boxes
-    /// and allocates nothing.
+    /// `validate` is called first, once. If it returns `Abort`, no list changes, no other closure
+    /// is called, and the default result and an empty queue are returned. Otherwise `moved` is
+    /// called for each thread that is moved, in order, with its number and whether it waits with a
+    /// timeout. After that `callback` is called once, with the operation and the result, even if no
+    /// thread waited. The result is also returned; a count is `usize::MAX` if no `usize` can hold
+    /// it. The nodes that were moved are behind the waiters of `to`, in order. The queue that is
+    /// returned has the node that was taken, with the token from `callback`.
     ///
-    /// Upstream's `unpark_requeue` does this between its locks.
+    /// An operation on one thread visits the nodes up to the second waiter of `from`, and every
+    /// other operation visits each node of the bucket once.
     pub fn requeue_one<
         V: FnOnce() -> RequeueOp,
         C: FnOnce(RequeueOp, UnparkResult) -> UnparkToken,
@@ -300,11 +288,11 @@ impl Bucket {
         (done.result, done.taken)
     }
 
-    /// Does what `requeue_one` does, where `to` has the place of another bucket of the same table,
-    /// `target`: requeued nodes stand there, behind the waiters of `to`. At an abort no list of
-    /// either bucket changes.
+    /// Does what `requeue_one` does, if `to` has the place of another bucket of the same table,
+    /// `target`.
     ///
-    /// It costs what `requeue_one` costs. It moves boxes and allocates nothing.
+    /// The nodes that are moved are put into `target`, behind the waiters of `to`. After an abort
+    /// no list of either bucket has changed. It costs as much as `requeue_one`.
     pub fn requeue_two<
         V: FnOnce() -> RequeueOp,
         C: FnOnce(RequeueOp, UnparkResult) -> UnparkToken,
@@ -345,14 +333,13 @@ impl Bucket {
         (done.result, done.taken)
     }
 
-    /// Takes the first node of this number and key, unchanged, and calls `timed_out` once, with the
-    /// key and with whether the key has no node left. If there is none, nothing is called or
-    /// changed.
+    /// Takes the first node with this number and key, unchanged, and calls `timed_out` once.
     ///
-    /// It visits the nodes up to the one that it takes, and from there on to the next node of the
-    /// key, unless an earlier one of the key was passed; each node that it passes is put back by
-    /// one `push_back`. It moves boxes and allocates nothing. Upstream's `park` takes a thread
-    /// whose wait timed out from its queue so.
+    /// `timed_out` is given the key, and whether the key has no waiter left. If there is no such
+    /// node, nothing is called or changed.
+    ///
+    /// It visits the nodes up to the one that it takes, and then on to the next node of the key,
+    /// unless it has already passed an earlier one.
     pub fn remove<R, T: FnOnce(usize, bool) -> R>(
         &mut self,
         number: usize,
@@ -378,14 +365,13 @@ impl Bucket {
         Some((node, answer))
     }
 
-    /// Takes the waiter of the key with this number out of the bucket, if it waits with a timeout,
-    /// and tells whether the key has no other waiter. `None` says that the key has no such waiter;
-    /// nothing changed then.
+    /// Takes the waiter of the key with this number, if it waits with a timeout, and returns
+    /// whether the key has no other waiter.
     ///
-    /// It visits the nodes up to the waiter twice, and those up to the next one of the key once. It
-    /// moves boxes and allocates nothing.
+    /// If the key has no such waiter, it returns `None` and changes nothing.
     ///
-    /// Upstream has no such call: there a thread whose deadline has passed finds its own node.
+    /// It visits the nodes up to the waiter twice, and those from there up to the next one of the
+    /// key once.
     pub fn remove_timed(&mut self, number: usize, key: usize) -> Option<(Box<Node>, bool)>
         ensures place { KeepsPlace self.old self.new }
         ensures removed { let waiters = lists_of self.old.nodes key in
@@ -404,11 +390,10 @@ impl Bucket {
         Some((node, last))
     }
 
-    /// Takes the bucket's first node, whatever its key, or answers `None` exactly if the bucket is
-    /// empty. The other nodes keep their order.
+    /// Takes the first node of the bucket, whatever its key, or returns `None` if and only if the
+    /// bucket is empty.
     ///
-    /// It visits one node, moves its box and allocates nothing. Upstream's `grow_hashtable` takes
-    /// the nodes of each old bucket so, to put them into the new table.
+    /// The other nodes keep their order. It visits one node.
     pub fn pop(&mut self) -> Option<Box<Node>>
         ensures place { KeepsPlace self.old self.new }
         ensures nodes { self.old.nodes ≡ option_nodes result ++ self.new.nodes }
@@ -419,12 +404,14 @@ impl Bucket {
         self.queue.pop_front()
     }
 
-    /// The numbers of the threads that wait on the key, in order. It visits each node of the
-    /// bucket once, and asks for memory for the list alone, again whenever that has to grow.
+    /// Returns the numbers of the threads that wait on the key, in order.
+    ///
+    /// It visits each node of the bucket once. It allocates the list, again whenever that has to
+    /// grow.
     ///
     /// # Errors
     ///
-    /// `NoMemory` if memory for the list cannot be had. The empty list needs none.
+    /// `NoMemory` if there is not enough memory for the list. An empty list needs none.
     pub fn list(&self, alloc: Global, key: usize) -> Result<Vec<usize>, NoMemory>
         ensures refused { OnErr result (IsTrue (has_any (lists_of self.now.nodes key))) }
         ensures numbers { IfOk result (λ numbers.

@@ -1,4 +1,5 @@
-//! A queue of owned nodes, one for each waiting thread, linked by the nodes themselves.
+//! This module has a queue of nodes, one node for each waiting thread, which are linked by fields
+//! of their own.
 
 ghost use Rattle.std.specs.Prelude.{◌≡◌, List, [], ◌∷◌, ◌++◌, ◌↔◌, IsNone, IfOk, MatchOption, drop};
 ghost use Rattle.std.specs.Coded.{prop_coded};
@@ -12,26 +13,25 @@ use std::alloc::Global;
 use std::marker::{Model, PhantomData, Send, Sync};
 use std::ptr;
 
-/// The node of a registered thread, which stands in a queue while the thread waits. Whoever holds
-/// the box may write its fields.
+/// A `Node` belongs to a registered thread, and is in a queue while that thread waits.
 ///
-/// It has what upstream keeps in its `ThreadData` and the state within it.
+/// Whoever has the box may write the public fields.
 #[derive(Drop)]
 pub struct Node {
     /// The number of the thread.
     pub number: usize,
 
-    /// The key that the thread waits on, or last came to wait on, also where it was not let in; 0
-    /// at first.
+    /// The key on which the thread waits. While it does not wait, this is the key on which it last
+    /// waited or tried to wait, and 0 before that.
     pub key: usize,
 
-    /// What a filter sees of the thread while it waits.
+    /// The token that filters see while the thread waits.
     pub park_token: ParkToken,
 
-    /// What the thread was handed when it was unparked last.
+    /// The token that the thread was given when it was last unparked.
     pub unpark_token: UnparkToken,
 
-    /// Whether the thread waits with a timeout.
+    /// Says whether the thread waits with a timeout.
     pub timed: bool,
 
     // The node behind it in a queue, or null. Outside of a queue it means nothing.
@@ -47,12 +47,14 @@ unsafe impl Send for Node {}
 unsafe impl Sync for Node {}
 
 impl Node {
-    /// A node of the thread of this number, with key 0, both default tokens and no timeout. This
-    /// is the one request for memory that a node ever makes.
+    /// Creates a node of the thread with this number, with key 0, both default tokens and no
+    /// timeout.
+    ///
+    /// A node allocates only here.
     ///
     /// # Errors
     ///
-    /// `NoMemory` if the box cannot be had.
+    /// `NoMemory` if there is not enough memory for the box.
     pub fn new(alloc: Global, number: usize) -> Result<Box<Node>, NoMemory>
         ensures { IfOk result (λ node. fields node.value ≡ new_node number) }
     {
@@ -68,7 +70,9 @@ impl Node {
         Ok(Box::new(alloc, node)?)
     }
 
-    /// Writes what the thread is about to wait with, and leaves the number and the unpark token.
+    /// Writes the key, the park token and the timeout mark with which the thread is about to wait.
+    ///
+    /// The number and the unpark token stay as they are.
     pub fn prepare(&mut self, key: usize, park_token: ParkToken, timed: bool)
         ensures { fields self.new ≡ record (fields self.old) {
           key = key;
@@ -82,11 +86,11 @@ impl Node {
     }
 }
 
-/// A queue of nodes, first in, first out: a chain of the nodes themselves, of which it keeps the
-/// first and the last. No call allocates and none can be refused. A queue that is dropped frees its
-/// nodes one after another, however many.
+/// A `Queue` is a list of nodes, first in, first out.
 ///
-/// Upstream keeps such chains inside its buckets.
+/// It is a chain of the nodes themselves, of which it keeps the first and the last. No call
+/// allocates, and none can fail. A queue that is dropped frees its nodes one after another, however
+/// many there are.
 pub struct Queue {
     // Both are null if there is no node.
     head: *mut Node,
@@ -116,7 +120,7 @@ unsafe impl Send for Queue {}
 unsafe impl Sync for Queue {}
 
 impl Queue {
-    /// The empty queue. It asks for no memory.
+    /// Creates an empty queue.
     pub fn new() -> Queue
         ensures { result ≡ [] }
     {
@@ -138,16 +142,20 @@ impl Queue {
         }
     }
 
-    /// Puts the node last. It takes the same time however many nodes there are, and of those visits
-    /// only the one that was last.
+    /// Puts the node behind all others.
+    ///
+    /// It takes the same time however many nodes there are, because it visits only the last of
+    /// them.
     pub fn push_back(&mut self, node: Box<Node>)
         ensures { self.new ≡ self.old ++ fields node.value ∷ [] }
     {
         self.append(&mut Queue::of(node));
     }
 
-    /// Puts the other queue's nodes behind this queue's, and leaves the other empty. It takes the
-    /// same time however many nodes there are, and visits only the last one of this queue.
+    /// Moves all nodes of the other queue behind those of this one, and leaves the other empty.
+    ///
+    /// It takes the same time however many nodes there are, because it visits only the last one of
+    /// this queue.
     pub fn append(&mut self, other: &mut Queue)
         ensures nodes { self.new ≡ self.old ++ other.old }
         ensures emptied { other.new ≡ [] }
@@ -165,7 +173,9 @@ impl Queue {
         other.tail = ptr::null_mut();
     }
 
-    /// Takes the first node, or answers `None` exactly if the queue is empty. It visits one node.
+    /// Takes the first node, or returns `None` if and only if the queue is empty.
+    ///
+    /// It visits one node.
     pub fn pop_front(&mut self) -> Option<Box<Node>>
         ensures nodes { self.old ≡ option_nodes result ++ self.new }
         ensures none { IsNone result ↔ (self.old ≡ []) }
@@ -198,7 +208,9 @@ impl Queue {
         }
     }
 
-    /// The first node, or `None` exactly if the queue is empty. It visits one node.
+    /// Returns the first node, or `None` if and only if the queue is empty.
+    ///
+    /// It visits one node.
     pub fn front(&self) -> Option<&Node>
         ensures { MatchOption result (self.now ≡ [])
             (λ node. self.now ≡ fields node.now ∷ drop 1 self.now) }
@@ -206,9 +218,10 @@ impl Queue {
         self.nodes().next()
     }
 
-    /// Calls `f` once for each node, in order: with the answer of the call before, at first
-    /// `start`, and with the node. The last answer is the result, and `start` is it if the queue
-    /// is empty. It visits each node once.
+    /// Calls `f` once for each node, in order, and returns what the last call returned.
+    ///
+    /// Each call is given what the call before returned, the first one `start`. If the queue is
+    /// empty, the result is `start`. Each node is visited once.
     pub fn fold<B, F: FnMut(B, &Node) -> B>(&self, start: B, mut f: F) -> B
         requires { CanFold F.FnMut f start self.now }
         ensures { (last : F) × Folds F.FnMut f start self.now last result }

@@ -1,9 +1,9 @@
-//! Parkers, which put a thread to sleep until another hands it its node back, and the slots through
-//! which the node goes, with a payload beside it.
+//! This module has parkers: a parker puts its thread to sleep until another thread hands it its
+//! node.
 //!
-//! It is proved whose node comes back, that what comes beside it was handed over with it, and at
-//! whose parker a handle wakes. That a thread is woken, and that a node which was put into a slot
-//! comes out, is shown by tests.
+//! The node goes through a slot, and a payload may go beside it. It is proved whose node comes
+//! back, that the payload was handed over with it, and at whose parker a handle wakes. That the
+//! thread is woken, and that a node which was put into a slot comes out, is tested.
 
 ghost use Rattle.std.specs.Prelude.{◌≡◌, [], ◌∷◌, ◌++◌, ◌↔◌, ℕ, IsNone, IsTrue, IfNone, IfSome, IfOk, None, Some};
 ghost use Rattle.lot_word_lock.specs.WordLock.{key_of};
@@ -27,73 +27,77 @@ use std::thread;
 use std::time::{Clock, Duration, Instant};
 pub use word::{WordHandle, WordParker};
 
-/// What goes beside a node, from whoever unparks its thread to the thread: `()` where nothing does.
+/// A `Payload` is what goes beside a node, from the thread that unparks to the thread that is
+/// unparked.
 ///
-/// Upstream's parkers hand nothing over.
+/// It is `()` if nothing does.
 pub trait Payload: Drop {
-    /// What tells one lot's payloads from another's, in proofs.
+    /// Tells the payloads of one lot from those of another, in proofs.
     type Home;
 
-    /// What the payload that goes beside this node satisfies.
+    /// Says what a payload that goes beside this node satisfies.
     ghost fits: { Self.Home → NodeFields → Self → Type 0 };
 }
 
-/// Nothing goes beside a node.
+/// With `()`, nothing goes beside a node.
 impl Payload for () {
     type Home = ();
 
     ghost fits = { λ _ _ _. Unit {0} };
 }
 
-/// Whose parker it is, and of which lot. The home is for proofs alone: no parker keeps a byte of
-/// it.
+/// A `ParkerKey` says to which thread of which lot a parker belongs.
+///
+/// The home is for proofs alone. No parker keeps a byte of it.
 #[derive(Drop)]
 pub struct ParkerKey<H> {
     /// The number of the thread.
     pub number: usize,
 
-    /// What the thread's payloads fit.
+    /// What the payloads of the thread fit.
     pub home: H,
 }
 
-/// Puts one thread to sleep until another hands it its node, and a payload beside it.
+/// A parker puts one thread to sleep until another thread hands it its node, and a payload beside
+/// it.
 ///
-/// A parker belongs to one thread, its owner, and keeps a slot for it. An empty slot means that the
-/// owner is parked or may go to park; a node in the slot means that an unpark of the owner was
-/// committed. The law of the trait: a node that comes back has the owner's number, and a payload
-/// that comes with it fits it.
+/// A parker belongs to one thread, its owner, and has a slot for the owner's node. While the slot
+/// is empty, the owner is parked or may park. A node in the slot means that an unpark of the owner
+/// was committed: it can no longer be undone, and the owner will find its node.
 ///
-/// `timed_out`, `park`, `park_until` and `unpark_lock` take the parker's own locks, or what it has
-/// in place of them, and no other, behind any lock of a table or a bucket that their caller holds,
-/// and let them go before they return. No call but `new` may ask for memory.
+/// The contract of each call keeps the law of the trait: a node that comes back has the number of
+/// the owner, and a payload that comes with it fits it.
 ///
-/// Upstream has this as `ThreadParkerT`, with unsafe calls. There a thread's data stays at its
-/// address and a flag says who may use it; here the node itself moves through the calls.
+/// `timed_out`, `park`, `park_until` and `unpark_lock` take the locks of the parker itself, or what
+/// it has in place of them, and no others. In the order of locks these come after those of a table
+/// and of a bucket, which the caller may hold, and each call releases them before it returns. No
+/// call except `new` allocates.
 pub trait ParkerT: Sized + Drop {
-    /// What goes beside a node.
+    /// The type of what goes beside a node.
     type Payload: Payload;
 
-    /// What is left to do for a thread whose unpark was committed. A closure that goes to another
-    /// thread may hold one, so it is `Send` and `Sync`.
+    /// The type of the handle, which stands for what is left to do for a thread whose unpark was
+    /// committed.
+    ///
+    /// It is `Send` and `Sync`, because a closure that goes to another thread may contain one.
     type UnparkHandle: UnparkHandleT<Self> + Send + Sync;
 
-    /// Whether a parker costs little to make. Upstream makes one for each wait where this is true,
-    /// and else keeps one for each thread; here it is for information alone.
+    /// Says whether a parker costs little to create. Nothing here depends on it.
     const IS_CHEAP_TO_CONSTRUCT: bool;
 
-    /// The number of the thread that the parker belongs to.
+    /// The number of the thread to which the parker belongs.
     ghost owner: { Self → ℕ };
 
-    /// What the owner's payloads fit.
+    /// What the payloads of the owner fit.
     ghost home: { Self → Self.Payload.Home };
 
-    /// A parker of this key's thread, with an empty slot. It may ask the allocator for memory.
+    /// Creates a parker for the thread of this key, with an empty slot.
     ///
-    /// Upstream's `new` takes nothing, asks for no memory and cannot be refused.
+    /// It may allocate.
     ///
     /// # Errors
     ///
-    /// `NoMemory` if the parker cannot be made.
+    /// `NoMemory` if there is not enough memory.
     fn new(
         alloc: Global,
         key: &ParkerKey<<Self::Payload as Payload>::Home>,
@@ -101,34 +105,31 @@ pub trait ParkerT: Sized + Drop {
         ensures owner { IfOk result (λ parker. owner parker ≡ key.now.number) }
         ensures home { IfOk result (λ parker. home parker ≡ key.now.home) };
 
-    /// Prepares to park. The owner calls it before it enters a queue. It takes no lock and does not
-    /// wait, and it leaves the slot as it is.
+    /// Prepares a park; the owner calls it before its node enters a queue.
     ///
-    /// Upstream sets its flag here. A slot is empty once its node was taken.
+    /// It takes no lock, does not wait, and leaves the slot as it is.
     fn prepare_park(&self);
 
-    /// Whether the slot was empty while no other thread worked on it, so that no unpark had been
-    /// committed. The owner calls it after a deadline, with the lock of the bucket that it waits
-    /// in. It waits for the parker's locks alone.
+    /// Returns whether the slot is empty, so that no unpark was committed.
     ///
-    /// Upstream answers its flag.
+    /// The owner calls it after its deadline, with the bucket locked in which it waits. The answer
+    /// holds for a moment at which no other thread worked on the slot. It waits for the locks of
+    /// the parker alone.
     fn timed_out<R: Wait>(&self, rt: &R) -> bool;
 
-    /// Waits until the slot holds a node, and takes it, with the payload that was put beside it.
-    /// The owner calls it once its node is in a queue, and with no lock. It holds no lock while it
-    /// sleeps.
+    /// Waits until there is a node in the slot, and takes the node and the payload beside it.
     ///
-    /// Upstream waits until its flag is cleared, and gives nothing.
+    /// The owner calls it when its node is in a queue, and with no lock held. It holds no lock
+    /// while it sleeps.
     fn park<R: Wait>(&self, rt: &R) -> (Box<Node>, Option<Self::Payload>)
         ensures node { (fields result.0.value).number ≡ owner self.now }
         ensures payload { IfSome result.1
             (Self.Payload.fits (home self.now) (fields result.0.value)) };
 
-    /// Waits as `park` does, or until the deadline. `None` says that the slot was empty at a look
-    /// after the deadline; a node may come later. A clock that cannot be read counts as past the
-    /// deadline. The owner calls it in place of `park`. It holds no lock while it sleeps.
+    /// Waits as `park` does, but returns `None` if the slot is still empty after the deadline.
     ///
-    /// Upstream answers whether its flag was cleared, and its clock can be read always.
+    /// A node may come later in that case. A clock that cannot be read counts as past the deadline.
+    /// The owner calls it in place of `park`. It holds no lock while it sleeps.
     fn park_until<R: Wait + Clock>(
         &self,
         rt: &R,
@@ -138,16 +139,14 @@ pub trait ParkerT: Sized + Drop {
         ensures payload { IfSome result (λ back. IfSome back.1
             (Self.Payload.fits (home self.now) (fields back.0.value))) };
 
-    /// Puts a node of the owner into the slot, and the payload beside it. This is the commit of an
-    /// unpark: from here on the owner may take its node and go on at any moment, whether or not it
-    /// is woken. Any thread that took the node out of a queue may call it, also with that bucket's
-    /// lock. It waits for the parker's locks alone.
+    /// Puts a node of the owner into the slot, and a payload beside it: this commits the unpark.
     ///
-    /// A slot has room for one payload. Where it holds a node already, the new node stands behind,
-    /// and its payload is dropped.
+    /// From here on the owner may take its node and go on at any moment, whether it is woken or
+    /// not. A thread that took the node out of a queue calls this, and may still have that bucket
+    /// locked. It waits for the locks of the parker alone.
     ///
-    /// Upstream is handed nothing. In `unix.rs` it keeps the parker's lock until `unpark`, where
-    /// the flag is cleared; here no lock is kept.
+    /// A slot has room for one payload. If there is a node in it already, the new node is put
+    /// behind, and its payload is dropped.
     fn unpark_lock<R: Wait>(
         &self,
         rt: &R,
@@ -159,50 +158,42 @@ pub trait ParkerT: Sized + Drop {
         ensures { Self.UnparkHandle.number result ≡ (fields node.value).number };
 }
 
-/// A parker whose nodes go alone, as those of a lot do that keeps no history.
+/// A `ThreadParkerT` is a parker through which nothing goes beside the node.
 ///
-/// Upstream has the trait under this name, with the calls of `ParkerT`.
+/// This is enough for a lot that keeps no history.
 pub trait ThreadParkerT: ParkerT<Payload = ()> {}
 
 impl<P: ParkerT<Payload = ()>> ThreadParkerT for P {}
 
-/// What is left to do for a thread whose unpark was committed: to wake it. A handle that is only
-/// dropped wakes nobody.
+/// A handle stands for what is left to do for a thread whose unpark was committed: to wake it.
 ///
-/// Upstream has the trait under this name.
+/// A handle that is dropped wakes nobody.
 pub trait UnparkHandleT<P: ParkerT>: Drop {
     /// The number of the node that was committed.
     ghost number: { Self → ℕ };
 
-    /// The number of the thread to wake, which is that of the node that was committed.
-    ///
-    /// Upstream has no such call.
+    /// Returns the number of the thread to wake, which is that of the node that was committed.
     fn number(&self) -> usize
         ensures { result ≡ number self.now };
 
-    /// Wakes the thread, if it sleeps on this parker. The contract asks that the parker's owner is
-    /// the thread of the handle's number: whoever has the handle calls it with the parker that gave
-    /// it, best once the bucket's lock is let go. It changes no slot: a thread that has gone on
-    /// before, and one that is woken though its slot is empty, only looks again. It takes no lock
-    /// and does not wait.
+    /// Wakes the thread if it sleeps on this parker.
     ///
-    /// Upstream's handle points to its parker and is handed none. In `unix.rs` the flag is cleared
-    /// here and the parker's lock is let go.
+    /// The contract requires that the parker belongs to the thread of the handle. So call it with
+    /// the parker that gave the handle, best after the bucket was unlocked. It takes no lock, does
+    /// not wait, and leaves the slot as it is. A thread that is woken although its slot is empty
+    /// looks again.
     fn unpark(self, parker: &P)
         requires { P.owner parker.now ≡ number self };
 }
 
 /// Yields the processor, so that another thread may run. It takes no lock.
-///
-/// Upstream has it under this name.
 pub fn thread_yield() {
     thread::yield_now();
 }
 
-/// Where a thread finds its node when it was unparked. All nodes in it have the owner's number. No
-/// call allocates and none can be refused.
+/// A `Slot` is the place where a thread finds its node after it was unparked.
 ///
-/// Upstream's parkers have a flag in its place, which is set where the slot is empty.
+/// Every node in it has the number of the owner. No call allocates, and none can fail.
 #[derive(Drop)]
 pub struct Slot {
     owner: usize,
@@ -221,7 +212,7 @@ impl Model for Slot {
 }
 
 impl Slot {
-    /// An empty slot of the thread of this number.
+    /// Creates an empty slot for the thread with this number.
     pub fn new(owner: usize) -> Slot
         ensures { result ≡ record { owner = owner; nodes = [] } }
     {
@@ -231,21 +222,21 @@ impl Slot {
         }
     }
 
-    /// The number of the thread that the slot belongs to.
+    /// Returns the number of the thread to which the slot belongs.
     pub fn owner(&self) -> usize
         ensures { result ≡ self.now.owner }
     {
         self.owner
     }
 
-    /// Whether the slot holds no node.
+    /// Returns whether there is no node in the slot.
     pub fn is_empty(&self) -> bool
         ensures { IsTrue result ↔ (self.now.nodes ≡ []) }
     {
         self.nodes.front().is_none()
     }
 
-    /// Puts a node of the owner behind those that the slot holds. It is one `push_back`.
+    /// Puts a node of the owner behind those in the slot. It costs one `push_back`.
     pub fn put(&mut self, node: Box<Node>)
         requires { (fields node.value).number ≡ self.old.owner }
         ensures { self.new ≡ record self.old { nodes = self.old.nodes ++ fields node.value ∷ [] } }
@@ -253,7 +244,9 @@ impl Slot {
         self.nodes.push_back(node);
     }
 
-    /// Takes the first node, or answers `None` exactly if the slot is empty. It visits one node.
+    /// Takes the first node, or returns `None` if and only if the slot is empty.
+    ///
+    /// It visits one node.
     pub fn take(&mut self) -> Option<Box<Node>>
         ensures owner { self.new.owner ≡ self.old.owner }
         ensures nodes { self.old.nodes ≡ option_nodes result ++ self.new.nodes }

@@ -1,6 +1,4 @@
-//! Tokens, results and refusals: the types that every layer speaks of.
-//!
-//! Upstream has those that are no errors under the same names, with the same derives.
+//! This module has the tokens, results and errors that all crates of the repository share.
 
 ghost use Rattle.std.specs.Prelude.{◌≡◌, ◌+◌, ◌↔◌, IsTrue};
 ghost use Rattle.lot_base.specs.declared.token.LotError.{LotError};
@@ -11,13 +9,13 @@ pub use lot_word_lock::no_memory::NoMemory;
 use std::alloc::{AllocError, AllocFailed};
 use thiserror::Error;
 
-/// How a park ended.
+/// A `ParkResult` says how a park ended.
 #[derive(Copy, Clone, Eq, PartialEq, Debug)]
 pub enum ParkResult {
-    /// Another thread unparked this one and handed it the token.
+    /// Another thread unparked this one and gave it the token.
     Unparked(UnparkToken),
 
-    /// The validation answered false, so the thread did not wait.
+    /// `validate` returned false, so the thread did not wait.
     Invalid,
 
     /// The deadline passed before the thread was unparked.
@@ -25,9 +23,7 @@ pub enum ParkResult {
 }
 
 impl ParkResult {
-    /// Whether another thread unparked this one. No other result answers true.
-    ///
-    /// Upstream has it under this name, as a `const fn`.
+    /// Returns true if another thread unparked this one, and false for every other result.
     pub fn is_unparked(self) -> bool
         ensures { IsTrue result ↔ ((token : UnparkToken) × (self ≡ ParkResult.Unparked token)) }
     {
@@ -35,27 +31,24 @@ impl ParkResult {
     }
 }
 
-/// What an unpark did.
+/// An `UnparkResult` says what an unpark or a requeue did.
 ///
-/// Upstream marks it `non_exhaustive`; here it can be built by its fields. The default is
-/// `(0, 0, false)`.
+/// The default is `(0, 0, false)`.
 #[derive(Copy, Clone, Default, Eq, PartialEq, Debug)]
 pub struct UnparkResult {
-    /// How many threads it unparked.
+    /// The number of threads that were unparked.
     pub unparked_threads: usize,
 
-    /// How many threads it moved to the second key, which may be the same.
+    /// The number of threads that were moved to the second key, which may be the same as the first.
     pub requeued_threads: usize,
 
-    /// Whether it left any waiter of the key, one that was moved not counted. It is false after an
-    /// abort.
+    /// Says whether waiters of the key were left in their list. Waiters that were moved do not
+    /// count. It is false after an abort.
     pub have_more_threads: bool,
 }
 
 impl UnparkResult {
-    /// How many threads it unparked or moved, or `usize::MAX` if there were more.
-    ///
-    /// Upstream leaves the sum to its callers.
+    /// Returns how many threads were unparked or moved, or `usize::MAX` if there were more.
     pub fn threads(&self) -> usize
         ensures { result ≡ saturated (self.now.unparked_threads + self.now.requeued_threads) }
     {
@@ -63,65 +56,65 @@ impl UnparkResult {
     }
 }
 
-/// What a requeue is to do.
+/// A `RequeueOp` says what a requeue is to do.
 #[derive(Copy, Clone, Eq, PartialEq, Debug)]
 pub enum RequeueOp {
-    /// Nothing.
+    /// The requeue does nothing.
     Abort,
 
-    /// Unpark the first waiter, and move the others to the second key.
+    /// The requeue unparks the first waiter, and moves the others to the second key.
     UnparkOneRequeueRest,
 
-    /// Move every waiter to the second key.
+    /// The requeue moves every waiter to the second key.
     RequeueAll,
 
-    /// Unpark the first waiter, and leave the others. None is moved.
+    /// The requeue unparks the first waiter, and leaves the others. It moves none.
     UnparkOne,
 
-    /// Move the first waiter to the second key, and leave the others.
+    /// The requeue moves the first waiter to the second key, and leaves the others.
     RequeueOne,
 }
 
-/// What a filter decides on a waiter.
+/// A `FilterOp` is what a filter decides on one waiter.
 #[derive(Copy, Clone, Eq, PartialEq, Debug)]
 pub enum FilterOp {
-    /// Unpark it, and go on to the next.
+    /// The waiter is unparked, and the filter goes on to the next.
     Unpark,
 
-    /// Leave it, and go on to the next.
+    /// The waiter is left, and the filter goes on to the next.
     Skip,
 
-    /// Leave it and all behind it.
+    /// The waiter and all behind it are left.
     Stop,
 }
 
-/// What an unpark hands to the thread that it unparks.
+/// An `UnparkToken` is a number that an unpark gives to the thread that it unparks.
 #[derive(Copy, Clone, Eq, PartialEq, Debug)]
 pub struct UnparkToken(pub usize);
 
-/// What a filter is shown of a waiter.
+/// A `ParkToken` is a number that a park gives, and that filters see.
 #[derive(Copy, Clone, Eq, PartialEq, Debug)]
 pub struct ParkToken(pub usize);
 
-/// The unpark token for those who need none.
+/// This is the unpark token for callers that need none.
 pub const DEFAULT_UNPARK_TOKEN: UnparkToken = UnparkToken(0);
 
-/// The park token for those who need none.
+/// This is the park token for callers that need none.
 pub const DEFAULT_PARK_TOKEN: ParkToken = ParkToken(0);
 
-/// Why a lot could not be made or a thread could not be registered.
+/// A `LotError` says why a lot could not be created, or a thread could not be registered.
 #[derive(Eq, PartialEq, Debug, Drop, Error)]
 pub enum LotError {
-    /// A table or lot was to be made for more threads, callers or workers than it can have. Nothing
-    /// was made.
+    /// A table or a lot was to be created for more threads, callers or workers than it can have.
+    /// Nothing was created.
     #[error("too many threads")]
     TooManyThreads,
 
-    /// The greatest number of threads is registered. Nothing changed.
+    /// The greatest number of threads is already registered. Nothing was changed.
     #[error("no free thread number")]
     Full,
 
-    /// A request for memory was refused. Nothing changed, unless the call says otherwise.
+    /// There was not enough memory. Nothing was changed, unless the call says otherwise.
     #[error("no memory")]
     NoMemory,
 }
@@ -150,19 +143,20 @@ impl From<NoMemory> for LotError {
     }
 }
 
-/// A step that does not fit the status of its thread. Nothing changed and no closure was called.
+/// `Misfit` means that a step is not allowed while its thread has the status that it has. Nothing
+/// was changed, and no closure was called.
 #[derive(Eq, PartialEq, Debug, Drop, Error)]
 #[error("step does not fit")]
 pub struct Misfit;
 
-/// Why a step that may ask for memory was refused.
+/// A `StepError` says why a step that may allocate was refused.
 #[derive(Eq, PartialEq, Debug, Drop, Error)]
 pub enum StepError {
-    /// The step does not fit the status of its thread. Nothing changed.
+    /// The step is not allowed while its thread has the status that it has. Nothing was changed.
     #[error("step does not fit")]
     Misfit,
 
-    /// A request for memory was refused. Nothing changed, unless the call says otherwise.
+    /// There was not enough memory. Nothing was changed, unless the call says otherwise.
     #[error("no memory")]
     NoMemory,
 }

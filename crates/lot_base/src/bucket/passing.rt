@@ -1,4 +1,4 @@
-//! What the steps of a bucket take from its queue, and the nodes that they pass.
+//! This module takes nodes off the queue of a bucket, and puts back those that it passes.
 
 ghost use Rattle.std.specs.Prelude.{◌≡◌, [], ◌++◌, map, take, drop, IfNone, IfSome, length, List, find, option_map, not, None, Some, MatchOption};
 ghost use Rattle.lot_base.specs.Filter.{IsFilterCallable, IsFiltered, park_tokens};

@@ -1,4 +1,4 @@
-//! What a requeue does to the list of its first key.
+//! This module does what a requeue does to the list of its first key.
 
 ghost use Rattle.std.specs.Prelude.{◌≡◌, ◌≢◌, [], map, IfNone, IfSome, length};
 ghost use Rattle.lot_base.specs.Node.{fields, option_nodes};

@@ -1,4 +1,5 @@
-//! A parker whose thread looks again and again, and yields the processor between its looks.
+//! This module has a parker whose thread looks again and again, and yields the processor between
+//! its looks.
 
 use super::{LockedSlot, ParkerKey, ParkerT, Payload, UnparkHandleT, thread_yield, time_left};
 use crate::queue::Node;
@@ -7,11 +8,10 @@ use std::alloc::Global;
 use std::sync::Wait;
 use std::time::{Clock, Instant};
 
-/// A parker over a lock round the slot alone, for where there is nothing to sleep on. Its thread
-/// keeps a processor busy while it waits. No call of it allocates but `new`.
+/// A `YieldParker` has a slot behind a lock, and nothing to sleep on.
 ///
-/// Upstream's `generic.rs` has it as `ThreadParker`, over an atomic flag and without a lock. A node
-/// does not fit into a flag.
+/// Take it only where there is no better parker, because its thread keeps a processor busy while it
+/// waits. No call except `new` allocates.
 #[derive(Drop)]
 pub struct YieldParker<L: Payload = ()> {
     slot: LockedSlot<L>,
@@ -30,11 +30,11 @@ impl<L: Payload> ParkerT for YieldParker<L> {
 
     ghost home = { λ parker. (key_of parker.slot.lock).home };
 
-    /// It asks for the memory of a word lock round the slot.
+    /// Creates a parker, for which it allocates a word lock around the slot.
     ///
     /// # Errors
     ///
-    /// `NoMemory` if a request for memory was refused.
+    /// `NoMemory` if there is not enough memory.
     fn new(alloc: Global, key: &ParkerKey<L::Home>) -> Result<YieldParker<L>, NoMemory> {
         Ok(YieldParker {
             slot: LockedSlot::new(alloc, key)?,
@@ -44,16 +44,12 @@ impl<L: Payload> ParkerT for YieldParker<L> {
     /// Does nothing.
     fn prepare_park(&self) {}
 
-    /// Takes the slot's lock, and lets it go after one look.
-    ///
-    /// Upstream reads its flag.
+    /// Locks the slot for one look.
     fn timed_out<R: Wait>(&self, rt: &R) -> bool {
         self.slot.is_empty(rt)
     }
 
-    /// Takes the slot's lock for each look, and yields without it.
-    ///
-    /// Upstream yields in the same way while its flag is set.
+    /// Locks the slot for each look, and yields between its looks.
     fn park<R: Wait>(&self, rt: &R) -> (Box<Node>, Option<L>) {
         let mut payload = None;
         for _ in rt.forever() {
@@ -65,10 +61,9 @@ impl<L: Payload> ParkerT for YieldParker<L> {
         unreachable!()
     }
 
-    /// Takes the slot's lock for each look, and yields without it. It reads the clock before each
-    /// look, so that the last one comes after the deadline.
+    /// Locks the slot for each look, and yields between its looks.
     ///
-    /// Upstream reads the clock after each look.
+    /// It reads the clock before each look, so the last look comes after the deadline.
     fn park_until<R: Wait + Clock>(
         &self,
         rt: &R,
@@ -88,9 +83,7 @@ impl<L: Payload> ParkerT for YieldParker<L> {
         unreachable!()
     }
 
-    /// Takes the slot's lock, puts the node last, and lets the lock go.
-    ///
-    /// Upstream clears its flag.
+    /// Locks the slot and puts the node last.
     fn unpark_lock<R: Wait>(&self, rt: &R, node: Box<Node>, payload: L) -> YieldHandle {
         let number = node.number;
         self.slot.put(rt, node, payload);
@@ -98,9 +91,7 @@ impl<L: Payload> ParkerT for YieldParker<L> {
     }
 }
 
-/// The handle of a `YieldParker`. It keeps the number of the thread.
-///
-/// Upstream's `generic.rs` has it as `UnparkHandle`, with nothing in it.
+/// A `YieldHandle` is the handle of a `YieldParker`, and has the number of the thread.
 #[derive(Drop)]
 pub struct YieldHandle {
     number: usize,
@@ -113,6 +104,6 @@ impl<L: Payload> UnparkHandleT<YieldParker<L>> for YieldHandle {
         self.number
     }
 
-    /// Does nothing: the thread looks by itself.
+    /// Does nothing, because the thread looks by itself.
     fn unpark(self, _parker: &YieldParker<L>) {}
 }

@@ -1,4 +1,4 @@
-//! A parker whose thread sleeps on a condition variable.
+//! This module has a parker whose thread sleeps on a condition variable.
 
 use super::{LockedSlot, ParkerKey, ParkerT, Payload, UnparkHandleT, time_left};
 use crate::queue::Node;
@@ -7,14 +7,11 @@ use std::alloc::Global;
 use std::sync::{Condvar, Mutex, Wait};
 use std::time::{Clock, Instant};
 
-/// A parker over a `Mutex`, with which the slot is changed, and a `Condvar`. No call of it
-/// allocates but `new`.
+/// A `ThreadParker` has a std mutex, under which its slot is changed, and a std condition variable,
+/// on which its thread sleeps.
 ///
-/// The slot has a lock of its own too, within that mutex, since no proof can tell what a `Mutex`
-/// holds.
-///
-/// Upstream's `unix.rs` has it under this name, over the system's own calls and with a flag in
-/// place of the slot.
+/// The slot has a lock of its own beside the mutex, because no contract can say what is behind a
+/// std mutex. No call except `new` allocates.
 #[derive(Drop)]
 pub struct ThreadParker<L: Payload = ()> {
     slot: LockedSlot<L>,
@@ -35,13 +32,11 @@ impl<L: Payload> ParkerT for ThreadParker<L> {
 
     ghost home = { λ parker. (key_of parker.slot.lock).home };
 
-    /// It asks for the memory of a word lock round the slot.
-    ///
-    /// Upstream makes the system's mutex and condition variable ready in `prepare_park`.
+    /// Creates a parker, for which it allocates a word lock around the slot.
     ///
     /// # Errors
     ///
-    /// `NoMemory` if a request for memory was refused.
+    /// `NoMemory` if there is not enough memory.
     fn new(alloc: Global, key: &ParkerKey<L::Home>) -> Result<ThreadParker<L>, NoMemory> {
         Ok(ThreadParker {
             slot: LockedSlot::new(alloc, key)?,
@@ -53,17 +48,14 @@ impl<L: Payload> ParkerT for ThreadParker<L> {
     /// Does nothing.
     fn prepare_park(&self) {}
 
-    /// Takes the slot's lock, and lets it go after one look.
-    ///
-    /// Upstream does the same with its flag.
+    /// Locks the slot for one look.
     fn timed_out<R: Wait>(&self, rt: &R) -> bool {
         self.slot.is_empty(rt)
     }
 
-    /// Takes the mutex, and lets it go while it sleeps on the condition variable. A wake that comes
-    /// with no node sends it back to sleep.
+    /// Locks the mutex, and sleeps on the condition variable until there is a node.
     ///
-    /// Upstream waits for its flag in the same way.
+    /// The mutex is unlocked while it sleeps. If it is woken without a node, it sleeps again.
     fn park<R: Wait>(&self, rt: &R) -> (Box<Node>, Option<L>) {
         let mut payload = None;
         let mut changes = self.changes.lock(rt);
@@ -76,11 +68,9 @@ impl<L: Payload> ParkerT for ThreadParker<L> {
         unreachable!()
     }
 
-    /// Takes the mutex, and lets it go while it sleeps on the condition variable, at most until the
-    /// deadline. It reads the clock after each look, still with the mutex.
+    /// Does what `park` does, but sleeps at most until the deadline.
     ///
-    /// Upstream waits for its flag in the same way, and without a deadline where its system cannot
-    /// represent it.
+    /// It reads the clock after each look, while the mutex is still locked.
     fn park_until<R: Wait + Clock>(
         &self,
         rt: &R,
@@ -99,9 +89,7 @@ impl<L: Payload> ParkerT for ThreadParker<L> {
         unreachable!()
     }
 
-    /// Takes the mutex, puts the node last, and lets the mutex go.
-    ///
-    /// Upstream locks, and leaves the rest to `unpark`.
+    /// Locks the mutex and puts the node last.
     fn unpark_lock<R: Wait>(&self, rt: &R, node: Box<Node>, payload: L) -> UnparkHandle {
         let number = node.number;
         let changes = self.changes.lock(rt);
@@ -111,9 +99,8 @@ impl<L: Payload> ParkerT for ThreadParker<L> {
     }
 }
 
-/// The handle of a `ThreadParker`. It keeps the number of the thread, and no lock.
-///
-/// Upstream's `unix.rs` has it under this name; there it points to the parker, whose lock it holds.
+/// An `UnparkHandle` is the handle of a `ThreadParker`, and has the number of the thread. It keeps
+/// no lock.
 #[derive(Drop)]
 pub struct UnparkHandle {
     number: usize,
@@ -126,10 +113,7 @@ impl<L: Payload> UnparkHandleT<ThreadParker<L>> for UnparkHandle {
         self.number
     }
 
-    /// One notification, which wakes the parker's thread if it sleeps.
-    ///
-    /// Upstream notifies under the lock, since the thread might end and free the parker. Here the
-    /// borrow keeps the parker, and no lock is taken.
+    /// Notifies the condition variable once, which wakes the thread if it sleeps.
     fn unpark(self, parker: &ThreadParker<L>) {
         parker.filled.notify_one();
     }

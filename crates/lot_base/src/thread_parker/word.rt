@@ -1,12 +1,12 @@
-//! A parker of one word, on which its thread sleeps.
+//! This module has a parker of one word, on which its thread sleeps.
 //!
-//! The word tells whether the slot is empty and whether the owner sleeps, so a look reads the word
-//! alone. Whoever works on the slot makes the word `BUSY` by a swap, changes the slot, and stores
-//! what is so then. The owner sleeps on the word, once it has marked there that it does; so an
-//! unpark makes a call of the system only where it may have to wake the owner.
+//! The word says whether the slot is empty and whether the owner sleeps, so a look reads the word
+//! alone. A thread that works on the slot first makes the word `BUSY` by a swap, then changes the
+//! slot, and then stores the new state in the word. The owner marks in the word that it sleeps,
+//! before it does. So an unpark makes a call of the system only if it may have to wake the owner.
 //!
-//! It is proved that the word tells whether the slot is empty whenever nobody works on the slot,
-//! and that one thread at a time does. That the owner is woken is shown by tests.
+//! It is proved that the word says whether the slot is empty whenever no thread works on the slot,
+//! and that one thread at a time does. That the owner is woken is tested.
 
 ghost use Rattle.std.specs.Prelude.{◌≡◌, ◌≢◌, ◌⊎◌, ◌↔◌, IsTrue, IfSome};
 ghost use Rattle.lot_base.specs.Loaded.{HasNoNode, IsSlotFor};
@@ -78,12 +78,9 @@ struct OpenSlot<L: Payload> {
     found: u64,
 }
 
-/// A parker over one word, beside which the slot lies in a block of its own. Its thread sleeps on
-/// the word. No call of it allocates but `new`.
+/// A `WordParker` has one word, on which its thread sleeps, and its slot in a block beside it.
 ///
-/// Upstream's `linux.rs` has it as `ThreadParker`, over a word alone. There an unpark is one store
-/// and always a call of the system; here a node goes through the slot, in two steps on the word,
-/// and where the owner does not sleep there is no such call.
+/// It is the parker to take. No call except `new` allocates.
 #[derive(Drop)]
 pub struct WordParker<L: Payload = ()> {
     table: Table<LoadedSlot<L>, ParkerKey<L::Home>, ParkerKey<L::Home>, Order, Global>,
@@ -345,12 +342,13 @@ impl<L: Payload> ParkerT for WordParker<L> {
 
     ghost home = { λ parker. parker.table.shared.key.home };
 
-    /// It asks for memory three times: for the block of the word, for the block of the slot, and
-    /// for a block of the slot's size that is freed before it returns.
+    /// Creates a parker, for which it allocates the block of the word and the block of the slot.
+    ///
+    /// It also allocates a third block, of the slot's size, which it frees before it returns.
     ///
     /// # Errors
     ///
-    /// `NoMemory` if a request for memory was refused.
+    /// `NoMemory` if there is not enough memory.
     fn new(alloc: Global, key: &ParkerKey<L::Home>) -> Result<WordParker<L>, NoMemory> {
         let slot = LoadedSlot::new(key.number);
         let mut slots = Vec::with_capacity(alloc, 1)?;
@@ -361,8 +359,9 @@ impl<L: Payload> ParkerT for WordParker<L> {
         }
     }
 
-    /// Removes the mark that the owner sleeps, which a sleep until a deadline leaves; else it only
-    /// reads the word.
+    /// Removes the mark that the owner sleeps, if an earlier sleep left it at its deadline.
+    ///
+    /// Otherwise it only reads the word.
     #[inline]
     fn prepare_park(&self) {
         if self.table.shared.peek(WORD) == EMPTY_ASLEEP {
@@ -370,18 +369,16 @@ impl<L: Payload> ParkerT for WordParker<L> {
         }
     }
 
-    /// Reads the word, again while somebody works on the slot.
-    ///
-    /// Upstream reads its word.
+    /// Reads the word, and reads it again while another thread works on the slot.
     #[inline]
     fn timed_out<R: Wait>(&self, rt: &R) -> bool {
         says_empty(self.word(rt))
     }
 
-    /// A node that is there it takes by a swap and a store. Else it marks that the owner sleeps,
-    /// and sleeps on the word. A wake that comes with no node sends it back to sleep.
+    /// Takes a node that is there by a swap and a store; if there is none, marks that the owner
+    /// sleeps, and sleeps on the word.
     ///
-    /// Upstream sleeps on its word in the same way, which `prepare_park` has marked.
+    /// If it is woken without a node, it sleeps again.
     #[inline]
     fn park<R: Wait>(&self, rt: &R) -> (Box<Node>, Option<L>) {
         let mut payload = None;
@@ -392,10 +389,9 @@ impl<L: Payload> ParkerT for WordParker<L> {
         (node, payload)
     }
 
-    /// The same until the deadline. It reads the clock after each look, and looks again after the
-    /// deadline.
+    /// Does what `park` does, but sleeps at most until the deadline.
     ///
-    /// Upstream sleeps in the same way, and answers at the deadline without a last look.
+    /// It reads the clock after each look, and looks once more after the deadline.
     #[inline]
     fn park_until<R: Wait + Clock>(
         &self,
@@ -410,10 +406,9 @@ impl<L: Payload> ParkerT for WordParker<L> {
         Some((node, payload))
     }
 
-    /// Makes the word busy, puts the node last, and stores that the slot is full. It waits only
-    /// while another thread does the same or the owner takes a node, and for no sleeper.
+    /// Makes the word busy, puts the node last, and stores that the slot is full.
     ///
-    /// Upstream clears its word.
+    /// It waits only while another thread does the same, or while the owner takes a node.
     #[inline]
     fn unpark_lock<R: Wait>(&self, rt: &R, node: Box<Node>, payload: L) -> WordHandle {
         let number = node.number;
@@ -423,9 +418,8 @@ impl<L: Payload> ParkerT for WordParker<L> {
     }
 }
 
-/// The handle of a `WordParker`. It keeps the number of the thread, and whether that may sleep.
-///
-/// Upstream's `linux.rs` has it as `UnparkHandle`; there it points to the parker's word.
+/// A `WordHandle` is the handle of a `WordParker`, and has the number of the thread and whether
+/// that may sleep.
 #[derive(Drop)]
 pub struct WordHandle {
     number: usize,
@@ -439,10 +433,8 @@ impl<L: Payload> UnparkHandleT<WordParker<L>> for WordHandle {
         self.number
     }
 
-    /// Wakes the parker's thread by a call of the system, if it may have slept at the commit.
-    ///
-    /// Upstream makes that call always, and the parker may be gone by then; here the borrow keeps
-    /// it.
+    /// Wakes the thread by a call of the system, if it may have slept when the unpark was
+    /// committed.
     #[inline]
     fn unpark(self, parker: &WordParker<L>) {
         if self.wakes {
