@@ -1,9 +1,10 @@
-//! The refusal of a request for memory.
+//! This module has the error that says that there was not enough memory.
 
 use std::alloc::{AllocError, AllocFailed};
 use thiserror::Error;
 
-/// A request for memory was refused. Nothing changed, unless the call says otherwise.
+/// `NoMemory` means that a request for memory was refused. Nothing was changed, unless the call
+/// says otherwise.
 #[derive(Eq, PartialEq, Debug, Drop, Error)]
 #[error("no memory")]
 pub struct NoMemory;

@@ -1,24 +1,23 @@
-//! Spinning, a little longer each time, before a thread parks.
+//! This module has a counter with which a thread spins before it parks, a little longer each time.
 
 ghost use Rattle.std.specs.Prelude.{◌≡◌, ◌<◌, ◌≤◌, ◌+◌, ◌↔◌, ℕ, IsTrue, min};
 
 use std::marker::Model;
 use std::{hint, thread};
 
-/// How often a `SpinWait` spins before it is used up.
+/// A `SpinWait` spins this many times before it is used up.
 const LIMIT: u32 = 10;
 
-/// How often `spin` gives hints. After that it yields.
+/// `spin` gives hints this many times, and yields after that.
 const HINTING: u32 = 3;
 
-/// Counts how often a loop has spun, from 0 to 10, and spins longer each time. A contract sees it
-/// as that number.
+/// A `SpinWait` counts how often a loop has spun, from 0 to 10, and spins longer each time.
 ///
-/// It is for a thread that waits for something that may come soon: the thread calls `spin`, looks
-/// again, and parks once `spin` answers false. How often a call gives hints or yields is not
-/// proved.
+/// Use it in a thread that waits for something that may come soon. The thread calls `spin`, looks
+/// again, and parks when `spin` returns false. A contract sees the counter as its number. How often
+/// a call gives hints or yields is not proved.
 ///
-/// No call takes a lock or asks for memory. Upstream has it with the same calls, which do the same.
+/// No call takes a lock or allocates.
 #[derive(Drop)]
 pub struct SpinWait {
     spins: u32,
@@ -33,25 +32,24 @@ impl Model for SpinWait {
 }
 
 impl SpinWait {
-    /// One that has not spun yet.
+    /// Creates a counter that has not spun yet.
     pub const fn new() -> SpinWait
         ensures { result ≡ 0 }
     {
         SpinWait { spins: 0 }
     }
 
-    /// Starts again, as if new.
+    /// Sets the counter back to 0, as if it were new.
     pub const fn reset(&mut self)
         ensures { self.new ≡ 0 }
     {
         self.spins = 0;
     }
 
-    /// Spins once more, or answers false if it has spun ten times. Then it is time to park, and
-    /// nothing is done.
+    /// Spins once more and returns true, or returns false if it has spun ten times.
     ///
-    /// The first three times it gives 1, 2 and 4 spin hints to the processor, and after that it
-    /// yields the processor.
+    /// In the second case it does nothing, and it is time to park. The first three times it gives
+    /// 1, 2 and 4 spin hints to the processor. After that it yields the processor.
     pub fn spin(&mut self) -> bool
         ensures answer { IsTrue result ↔ (self.old < 10) }
         ensures count { self.new ≡ min (self.old + 1) 10 }
@@ -68,11 +66,11 @@ impl SpinWait {
         true
     }
 
-    /// Spins once more and never yields. It is for a loop that tries again since another thread
-    /// got ahead of it.
+    /// Spins once more, and never yields.
     ///
-    /// Each time it gives twice as many spin hints to the processor as before, from 1 to 512. Once
-    /// it has spun ten times, it gives 512 each time.
+    /// It is for a loop that tries again because another thread was faster. Each time it gives
+    /// twice as many spin hints to the processor as before, from 1 to 512. After ten times it gives
+    /// 512 each time.
     pub fn spin_no_yield(&mut self)
         ensures { self.new ≡ min (self.old + 1) 10 }
     {
@@ -84,7 +82,7 @@ impl SpinWait {
 impl Default for SpinWait {
     ghost is_default = { λ wait. wait ≡ 0 };
 
-    /// The same as `new`.
+    /// Does the same as `new`.
     fn default() -> SpinWait {
         SpinWait::new()
     }

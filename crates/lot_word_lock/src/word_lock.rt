@@ -1,30 +1,40 @@
-//! A lock of one word around a value, whose callers wait in a list and sleep.
+//! This module has a lock of one word around a value, whose callers wait in a list and sleep.
 //!
-//! A lock has 24 words. Word 0 is the lock's: bit 0 tells that somebody holds it, and the other
-//! bits are the newest place of the waiting list, or 0. There are four places, 8 to 11. The word of
-//! a place's number is its link: while the place is in the list, 1 if it is the oldest, and else 1
-//! more than the place that entered before it; and 0 once it was told that it was removed. Words 12
-//! to 15 are the places' marks: 0 while nobody has the place, and else 1, or 2 where somebody
-//! sleeps until it is given back. Nobody writes the others: they keep links and marks out of
-//! the cache line of word 0, and the words of the next lock out of the lines of these. A caller
-//! that comes reads word 16.
+//! # The words
 //!
-//! Whoever finds bit 0 clear sets it by one exchange of the word, and needs no place. Whoever finds
-//! it set, and has spun in vain, takes a place, writes the link, makes the place the newest by an
-//! exchange of the word, and sleeps on the link. Whoever holds the lock with nobody in the list
-//! makes the word 0, by one exchange. Else the holder removes the oldest place: a lone one as it
-//! makes the word 0, and the oldest of several by a cut, which makes the link of the next place 1,
-//! before it clears bit 0. Then it tells the place and wakes its caller, who tries again.
+//! A lock has 24 words. Word 0 is the word of the lock. Its bit 0 says that a caller holds the
+//! lock. The other bits are the newest place of the waiting list, or 0 if the list is empty.
 //!
-//! Upstream's list is one of the waiters' own nodes, linked both ways, with a second bit in the
-//! word for whoever works on it after the release. Here the holder does that before it lets go.
+//! To be in the list, a caller needs a place, which is an entry of the list. There are four places,
+//! with the numbers 8 to 11.
 //!
-//! A lock has a key, which is fixed when it is made and tells proofs which lock it is: the
-//! invariant of its value may speak of it. Neither the lock nor a caller keeps a byte of it.
+//! - Words 8 to 11 are the links of the places. While a place is in the list, its link is 1 if the
+//!   place is the oldest, and otherwise 1 more than the place that entered before it. It is 0 after
+//!   the caller was told that its place was removed.
+//! - Words 12 to 15 are the marks of the places. A mark is 0 while nobody has the place, 1 while a
+//!   caller has it, and 2 if another caller sleeps until it is given back.
+//! - Word 16 is read by callers that arrive.
 //!
-//! What is proved is `WordLockInvariant`, and that a `lock` and a `lend` give a value that
-//! satisfies the invariant of the lock's key.
-//! That whoever sleeps is woken is shown by tests.
+//! Nobody writes the other words. They keep links and marks out of the cache line of word 0, and
+//! the words of the next lock out of the cache lines of these.
+//!
+//! # The protocol
+//!
+//! - A caller that finds bit 0 clear sets it by one exchange of the word, and needs no place.
+//! - A caller that finds it set, and has spun in vain, takes a place, writes its link, makes it the
+//!   newest place by an exchange of the word, and sleeps on the link.
+//! - If nobody is in the list, the holder makes the word 0 by one exchange.
+//! - Otherwise the holder removes the oldest place. If it is the only one, it is removed as the
+//!   word becomes 0. If there are several, a cut makes the link of the next place 1, and then bit 0
+//!   is cleared. After that the holder writes 0 into the link of the removed place and wakes its
+//!   caller, which tries again.
+//!
+//! A lock has a key, which is fixed when the lock is created. It says in proofs which lock this is,
+//! and the invariant of the value may depend on it. Neither the lock nor a caller keeps a byte of
+//! it.
+//!
+//! It is proved that `WordLockInvariant` holds, and that `lock` and `lend` give a value that
+//! satisfies the invariant of the lock's key. That a caller that sleeps is woken is tested.
 
 ghost use Rattle.std.specs.Prelude.{◌≡◌, ◌-◌, ◌%◌, ◌/◌, ◌+◌, ℕ, List, [], ◌∷◌, IfOk, IfSome, IfNone, Option, IsTrue};
 ghost use Rattle.std.specs.Fn.{FnOnceReturnsAtMut, FnOnceTakesAtMut};
@@ -51,54 +61,51 @@ use atomic_table::{Refused, Table, TableRule};
 use std::alloc::Global;
 use std::sync::Wait;
 
-/// How many places a lock has, so how many callers can wait in its list at once. Any others sleep
-/// until a place is free. Upstream has no such limit.
+/// This is the number of places of a lock, and so of the callers that can wait in its list.
+///
+/// Other callers sleep until a place is free.
 pub const WORD_SLOTS: usize = 4;
 
-/// What a value behind a lock satisfies, given the lock's key. `WordLock::new` and `unlock` ask it,
-/// and `lock` gives it; `lend` gives it to its closure and asks it back.
+/// `Fits` says what a value behind a lock satisfies whenever nobody holds the lock.
 ///
-/// It has `Drop` as its parent, so that a lock can be dropped with its value. Upstream's lock has
-/// no value.
+/// `WordLock::new` and `unlock` require it, and `lock` ensures it. `lend` gives such a value to its
+/// closure, and requires that the closure leaves one.
+///
+/// It has `Drop` as its parent, so that a lock can be dropped with its value.
 pub trait Fits: Drop {
-    /// What tells one lock from another in proofs, as the place of a bucket does; `()` where all
+    /// Tells one lock from another in proofs, as the place of a bucket does. It is `()` if all
     /// locks are alike.
     type Key;
 
-    /// The invariant of the value behind a lock of this key.
+    /// Says what the value behind a lock of this key satisfies.
     ghost fits: { Self.Key → Self → Type 0 };
 }
 
-/// A lock of one word around a value, which threads share by reference.
+/// A `WordLock` is a lock of one word around a value, which threads share by reference.
 ///
-/// A lock has two blocks on the heap, one of 24 words and one for the value, and points to them.
-/// If nobody else uses it, a `lock` and an `unlock` touch the lock itself, of 64 bytes, the line of
-/// its word and that of a word that nobody writes, and the lines of the value: four or five cache
-/// lines for a value of 40 bytes. Each goes by a pointer from the lock to the words, and by another
-/// to the value.
-///
-/// Upstream has it under this name, as one word in place.
+/// It has two blocks on the heap, one of 24 words and one for the value, and points to them. If
+/// nobody else uses it, a `lock` and an `unlock` touch the lock itself, of 64 bytes, the cache line
+/// of its word and that of a word that nobody writes, and those of the value: four or five cache
+/// lines for a value of 40 bytes.
 #[derive(Drop)]
 pub struct WordLock<T: Fits> {
     table: Table<Option<T>, (T::Key, View), T::Key, Order, Global>,
     ghost sized: { (table.shared.table_id.words ≡ 24) × (table.shared.table_id.slots ≡ 1) },
 }
 
-/// The value of a lock, and the right to it. It has no `Drop`, so it ends in `unlock`, which takes
-/// it if this lock gave it.
+/// A `Held` has the value of a lock that its owner holds.
 ///
-/// Upstream has no such type: there a caller keeps in mind that it holds the lock.
+/// It has no `Drop`, so it has to end in `unlock` of the lock that gave it.
 pub struct Held<T: Fits> {
-    /// The value, to read and to change.
+    /// The value, which may be read and changed.
     pub value: T,
 
     caller: Caller<T>,
 }
 
-/// The right to the value of a lock, which stays in the lock. It has no `Drop`, so it ends in
-/// `release`, which takes it if this lock's `claim` gave it.
+/// A `Claim` says that its owner holds a lock, while the value stays in the lock.
 ///
-/// Upstream has no such type: there a caller keeps in mind that it holds the lock.
+/// It has no `Drop`, so it has to end in `release` of the lock whose `claim` gave it.
 pub struct Claim<T: Fits> {
     caller: Caller<T>,
 }
@@ -106,16 +113,17 @@ pub struct Claim<T: Fits> {
 impl<T: Fits> WordLock<T> {
     ghost use Rattle.lot_word_lock.specs.WordLock.{IsCallerOf, IsClaimOn, IsHeldOf, IsTrying, HasFullSlot, Sees, SeesMore, key_of, seat_of};
 
-    /// A lock of this key that nobody holds, around a value that satisfies the key's invariant. The
-    /// key is for proofs alone: nothing reads or keeps it.
+    /// Creates a lock with this key that nobody holds, around a value that satisfies the invariant
+    /// of the key.
     ///
-    /// It asks for memory three times: for the block of the words, for the block of the value, and
-    /// for a block of the value's size that is freed before it returns. No other call of a lock
-    /// asks for any. Upstream's `new` is a `const fn` and asks for none.
+    /// The key is for proofs alone. Nothing reads or keeps it.
+    ///
+    /// It allocates the block of the words, the block of the value, and a third block of the
+    /// value's size, which it frees before it returns. No other call of a lock allocates.
     ///
     /// # Errors
     ///
-    /// `NoMemory` if a request for memory was refused. The value is dropped.
+    /// `NoMemory` if there is not enough memory. The value is dropped then.
     pub fn new(alloc: Global, value: T, key: &T::Key) -> Result<WordLock<T>, NoMemory>
         requires { T.fits key.now value }
         ensures { IfOk result (λ lock. key_of lock ≡ key.now) }
@@ -128,16 +136,16 @@ impl<T: Fits> WordLock<T> {
         }
     }
 
-    /// Waits until nobody holds the lock, and takes it with its value, which satisfies the lock's
-    /// invariant. Any thread may call it; one that holds the lock already waits forever.
+    /// Waits until nobody holds the lock, takes the lock, and returns its value, which satisfies
+    /// the lock's invariant.
     ///
-    /// If nobody holds the lock or is in the list, it is one exchange of the word. If somebody
-    /// holds it, it spins by a `SpinWait` while nobody is in the list, and then enters the list and
-    /// sleeps until it was removed; then it tries again, like any other caller. Where no place is
-    /// free it sleeps until the one that entered the list last is given back, or the first place
-    /// where the list is empty, though others may be before.
+    /// Any thread may call it. A thread that already holds the lock waits for ever.
     ///
-    /// Upstream's `lock` waits in the same way and gives nothing.
+    /// If nobody holds the lock and nobody is in the list, it is one exchange of the word. If
+    /// another caller holds the lock, it spins by a `SpinWait` while nobody is in the list. Then it
+    /// enters the list, sleeps until it was removed, and tries again like any other caller. If no
+    /// place is free, it sleeps until one certain place is given back, even if another is free
+    /// before: the newest of the list, or the first place if the list is empty.
     #[inline]
     pub fn lock<R: Wait>(&self, rt: &R) -> Held<T>
         ensures held { IsHeldOf self.now result }
@@ -148,15 +156,14 @@ impl<T: Fits> WordLock<T> {
         Held { value, caller }
     }
 
-    /// Puts the value back, which has to fit the lock's key, and lets the lock go. The contract
-    /// asks that this lock's `lock` gave what is passed. It does not wait.
+    /// Puts the value back and releases the lock.
     ///
-    /// If nobody is in the list, it is one exchange of the word. Else it reads the links of the
-    /// list, at most five times in all, tries the word up to three times, of which the last changes
-    /// it, removes the oldest place, and wakes its caller.
+    /// The value has to satisfy the invariant of the lock's key, and `held` has to come from this
+    /// lock. It does not wait.
     ///
-    /// Upstream's `unlock` is unsafe, since nothing shows that its caller holds the lock. It lets
-    /// the lock go first and works on the list after that.
+    /// If nobody is in the list, it is one exchange of the word. Otherwise it reads links of the
+    /// list, at most five times in all, tries to change the word up to three times, removes the
+    /// oldest place, and wakes its caller.
     #[inline]
     pub fn unlock(&self, held: Held<T>)
         requires held { IsHeldOf self.now held }
@@ -167,10 +174,10 @@ impl<T: Fits> WordLock<T> {
         self.let_go(caller);
     }
 
-    /// Waits as `lock` does, takes the lock, and leaves the value in it, for `lend`: a value of
-    /// several words is cheaper changed where it lies than taken out and put back.
+    /// Waits as `lock` does and takes the lock, but leaves the value in it.
     ///
-    /// Upstream's `lock` is this, without a value.
+    /// Use `lend` to change the value. A value of several words is cheaper to change in place than
+    /// to take out and put back.
     #[inline]
     pub fn claim<R: Wait>(&self, rt: &R) -> Claim<T>
         ensures { IsClaimOn (T.fits (key_of self.now)) self.now result }
@@ -180,10 +187,11 @@ impl<T: Fits> WordLock<T> {
         }
     }
 
-    /// Calls the visitor once, with the value, which satisfies the lock's invariant. It has to
-    /// leave a value that does. The contract asks that this lock's `claim` gave what is passed.
+    /// Calls the closure once with the value, which satisfies the lock's invariant, and returns
+    /// what it returned.
     ///
-    /// It does not wait, and touches the value alone. Upstream has no such call.
+    /// The closure has to leave a value that satisfies the invariant, and `claim` has to come from
+    /// this lock. It does not wait, and touches the value alone.
     #[inline]
     pub fn lend<A, F: FnOnce(&mut T) -> A>(&self, claim: &mut Claim<T>, visitor: F) -> A
         requires claim { IsClaimOn (T.fits (key_of self.now)) self.now claim.old }
@@ -198,10 +206,9 @@ impl<T: Fits> WordLock<T> {
         self.lend_value(&mut claim.caller, visitor)
     }
 
-    /// Lets the lock go, as `unlock` does. The contract asks that this lock's `claim` gave what is
-    /// passed.
+    /// Releases the lock, as `unlock` does.
     ///
-    /// Upstream's `unlock` is this, and unsafe.
+    /// `claim` has to come from this lock.
     #[inline]
     pub fn release(&self, claim: Claim<T>)
         requires { IsClaimOn (T.fits (key_of self.now)) self.now claim }
@@ -426,7 +433,9 @@ impl<T: Fits> WordLock<T> {
 }
 
 /// Between any two steps of its callers a word lock keeps its invariant, since the rule that the
-/// table of every lock keeps gives it. The state is one without the key that each caller carries.
+/// table of every lock keeps gives it.
+///
+/// The state is one without the key that each caller carries.
 pub fn word_locks_keep_their_invariant<T: Fits>()
     ensures { (key : T.Key) → (state : State (Option T) (T.Key × View))
         → ⟦<Order as TableRule<Option<T>, (T::Key, View), T::Key>>⟧.holds key state

@@ -1,4 +1,4 @@
-//! The value of a lock that is claimed, lent where it lies.
+//! This module lends the value of a lock that is claimed, where it is.
 
 ghost use Rattle.std.specs.Prelude.{◌≡◌};
 ghost use Rattle.std.specs.Borrow.{Lends, sem};
@@ -11,10 +11,10 @@ use super::steps::VALUE;
 use super::{Claim, Fits, WordLock};
 
 impl<T: Fits> Claim<T> {
-    /// The value of the lock, where it lies. The contract asks that this lock's `claim` gave the
-    /// claim; a `release` asks that what is left there fits.
+    /// Returns a mutable reference to the value of the lock.
     ///
-    /// It touches nothing.
+    /// The claim has to come from `claim` of this lock. `release` requires that the value that is
+    /// left there satisfies the invariant. It touches nothing.
     #[inline]
     pub fn value_mut<'a>(&'a mut self, lock: &'a WordLock<T>) -> &'a mut Option<T>
         requires claim { IsClaimOn (T.fits (key_of lock.now)) lock.now self.old }

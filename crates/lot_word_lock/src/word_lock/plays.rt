@@ -1,5 +1,7 @@
-//! The rule of a word lock's table, and what each step tells its caller. These types are for the
-//! proofs alone. A seat carries the lock's key beside its view, since no step can read it.
+//! This module has the rule of a word lock's table, and what each step tells its caller.
+//!
+//! These types are for proofs alone. A seat carries the key of the lock beside its view, because no
+//! step can read the key.
 
 ghost use Rattle.lot_word_lock.specs.WordView.{resting};
 ghost use Rattle.lot_word_lock.specs.WordKey.{UnderKey, TellsUnderKey};
@@ -10,7 +12,8 @@ use super::Fits;
 use super::view::View;
 use atomic_table::{Play, TableRule};
 
-/// What holds of the words, the value and all callers between any two steps.
+/// `Order` is the rule of the table: what holds of the words, the value and all callers between any
+/// two steps.
 pub struct Order;
 
 impl<T: Fits> TableRule<Option<T>, (T::Key, View), T::Key> for Order {

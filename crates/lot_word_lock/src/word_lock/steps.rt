@@ -1,4 +1,4 @@
-//! The steps of one caller on the words of a lock.
+//! This module has the steps of one caller on the words of a lock.
 
 ghost use Rattle.std.specs.Prelude.{◌≡◌, ◌≢◌, ℕ, List, ◌+◌, ◌-◌, ◌*◌, ◌/◌, ◌%◌, ◌^◌, ◌<◌, ◌≤◌, [], ◌∷◌, length, None, IfSome, IsTrue, IsFalse};
 ghost use Rattle.std.specs.Fn.{FnOnceReturnsAtMut, FnOnceTakesAtMut};
@@ -16,7 +16,7 @@ use super::{Fits, WORD_SLOTS, WordLock};
 use atomic_table::Seat;
 use std::sync::Wait;
 
-/// How many words a lock has: three cache lines of them.
+/// The number of words of a lock, which are three cache lines.
 pub(super) const WORDS: usize = 24;
 
 // The index of the lock's word.
@@ -32,7 +32,7 @@ const LAST_PLACE: usize = FIRST_PLACE + WORD_SLOTS - 1;
 // The index of a word that nobody writes.
 const UNWRITTEN: usize = 16;
 
-/// The index of the slot of the value.
+/// The index of the slot that has the value.
 pub(super) const VALUE: usize = 0;
 
 /// The mark of a place that nobody has.
@@ -41,21 +41,23 @@ const FREE: u64 = 0;
 /// The mark of a place that a caller has.
 pub(super) const TAKEN: u64 = 1;
 
-/// The mark of a place that a caller has, where another may sleep until it is given back.
+/// The mark of a place that a caller has, while another may sleep until it is given back.
 pub(super) const WANTED: u64 = 2;
 
-/// The lock's word while somebody holds the lock and nobody is in the list; in any word, the bit
-/// that tells that somebody holds it.
+/// The word of a lock that is held while nobody is in the list. In any other word, this bit says
+/// that the lock is held.
 pub(super) const LOCKED: u64 = 1;
 
-/// The link of a place that was told that it was removed from the list.
+/// The link of a place after its caller was told that it was removed from the list.
 pub(super) const TOLD: u64 = 0;
 
 /// The link of the oldest place in the list.
 pub(super) const OLDEST: u64 = 1;
 
-/// One caller of a word lock. It has no `Drop`, and none but this module reads its seat, so that
-/// each one made by `arrive` ends in `leave`.
+/// A `Caller` is one caller of a word lock.
+///
+/// It has no `Drop`, and only this module reads its seat. So each one that `arrive` creates ends in
+/// `leave`.
 pub struct Caller<T: Fits> {
     pub(super) seat: Seat<Option<T>, (T::Key, View)>,
 }
@@ -63,7 +65,7 @@ pub struct Caller<T: Fits> {
 impl<T: Fits> Caller<T> {
     ghost use Rattle.lot_word_lock.specs.WordLock.{seat_of};
 
-    /// Ends a caller that neither holds the lock nor owes anything.
+    /// Ends a caller that neither holds the lock nor has to tell another one of its removal.
     pub(super) fn leave(self)
         requires { seat_of self ≡ (resting, []) }
     {
@@ -74,7 +76,7 @@ impl<T: Fits> Caller<T> {
 impl<T: Fits> WordLock<T> {
     ghost use Rattle.lot_word_lock.specs.WordLock.{IsCallerOf, IsTrying, HasFullSlot, RemovesOnce, key_of, Sees, SeesMore, SlotIsWithHolder, seat_of};
 
-    /// A new caller.
+    /// Creates a caller.
     pub(super) fn arrive(&self) -> Caller<T>
         ensures lock { IsCallerOf self.now result }
         ensures rests { seat_of result ≡ (resting, []) }
@@ -86,19 +88,19 @@ impl<T: Fits> WordLock<T> {
         }
     }
 
-    /// The lock's word, as it was at one moment.
+    /// Returns the word of the lock, as it was at one moment.
     pub(super) fn word(&self) -> u64 {
         self.table.shared.peek(WORD)
     }
 
-    /// A place that nobody had at one moment.
+    /// Returns a place that nobody had at one moment, or `None` if there was none.
     pub(super) fn free_place(&self) -> Option<usize>
         ensures { IfSome result IsPlace }
     {
         (FIRST_PLACE..=LAST_PLACE).find(|&place| self.table.shared.peek(place + WORD_SLOTS) == FREE)
     }
 
-    /// Sets bit 0 of the word if the word is still this one. Answers whether it was.
+    /// Sets bit 0 of the word if the word is still the given one, and returns whether it was.
     pub(super) fn acquire(&self, caller: &mut Caller<T>, word: u64) -> bool
         requires lock { IsCallerOf self.now caller.old }
         requires tries { IsTrying caller.old 0 0 }
@@ -131,7 +133,7 @@ impl<T: Fits> WordLock<T> {
             .unwrap()
     }
 
-    /// Lends the value to the visitor, in its slot.
+    /// Calls the closure with the value, which stays in its slot.
     pub(super) fn lend_value<A, F: FnOnce(&mut T) -> A>(
         &self,
         caller: &mut Caller<T>,
@@ -172,8 +174,9 @@ impl<T: Fits> WordLock<T> {
         let None = old else { unreachable!() };
     }
 
-    /// The place that a caller asks for who found none free: the newest of the list, as the word
-    /// told it, or the first place where the list is empty.
+    /// Returns the place for which a caller asks that found none free.
+    ///
+    /// It is the newest of the list, as the word says, or the first place if the list is empty.
     pub(super) fn place_to_want(word: u64) -> usize
         ensures place { IsPlace result }
         ensures newest { IsPlace (word / 2) → result ≡ word / 2 }
@@ -185,8 +188,7 @@ impl<T: Fits> WordLock<T> {
         newest
     }
 
-    /// Takes the place if nobody has it, and leaves the mark there that it is taken, or wanted
-    /// besides. Answers whether it did.
+    /// Takes the place if nobody has it, writes the given mark, and returns whether it did.
     pub(super) fn take_place(&self, caller: &mut Caller<T>, place: usize, mark: u64) -> bool
         requires lock { IsCallerOf self.now caller.old }
         requires place { IsPlace place }
@@ -202,7 +204,7 @@ impl<T: Fits> WordLock<T> {
             == FREE
     }
 
-    /// Marks that the place is wanted, if somebody has it. Answers whether somebody has.
+    /// Marks that the place is wanted, if a caller has it, and returns whether a caller has it.
     pub(super) fn ask_for_place(&self, caller: &mut Caller<T>, place: usize) -> bool
         requires lock { IsCallerOf self.now caller.old }
         requires place { IsPlace place }
@@ -225,7 +227,7 @@ impl<T: Fits> WordLock<T> {
             .park(rt, place + WORD_SLOTS, WANTED as u32);
     }
 
-    /// Gives the place back, and wakes one who sleeps until then.
+    /// Gives the place back, and wakes a caller that sleeps for it.
     pub(super) fn give_back(&self, caller: &mut Caller<T>, place: usize)
         requires lock { IsCallerOf self.now caller.old }
         requires place { IsPlace place }
@@ -243,8 +245,10 @@ impl<T: Fits> WordLock<T> {
         }
     }
 
-    /// Writes the link of the caller's place: 1 more than `newest`, the place that entered before
-    /// it, or 1 where `newest` is 0, since the list is empty.
+    /// Writes the link of the caller's place.
+    ///
+    /// It is 1 more than `newest`, the place that entered before it. If `newest` is 0, the list is
+    /// empty, and the link is 1.
     pub(super) fn write_link(&self, caller: &mut Caller<T>, place: usize, newest: u64)
         requires lock { IsCallerOf self.now caller.old }
         requires place { IsPlace place }
@@ -258,8 +262,10 @@ impl<T: Fits> WordLock<T> {
             .store::<Link>(&mut caller.seat, place, 1 + newest);
     }
 
-    /// Makes the caller's place the newest of the list if the word is still this one, in which bit
-    /// 0 is set. Answers whether it was.
+    /// Makes the caller's place the newest of the list if the word is still the given one, and
+    /// returns whether it was.
+    ///
+    /// Bit 0 of the word is set.
     pub(super) fn enqueue(&self, caller: &mut Caller<T>, place: usize, word: u64) -> bool
         requires lock { IsCallerOf self.now caller.old }
         requires place { IsPlace place }
@@ -276,7 +282,8 @@ impl<T: Fits> WordLock<T> {
             == word
     }
 
-    /// The link of the place that the caller waits with. At 0 it waits no longer.
+    /// Returns the link of the place with which the caller waits. If it is 0, the caller waits no
+    /// longer.
     pub(super) fn own_link(&self, caller: &mut Caller<T>, place: usize) -> u64
         requires lock { IsCallerOf self.now caller.old }
         requires place { IsPlace place }
@@ -289,8 +296,10 @@ impl<T: Fits> WordLock<T> {
         self.table.shared.load::<Look>(&mut caller.seat, place)
     }
 
-    /// Makes the word 0 if it is still this one, which tells the whole list, of at most one place;
-    /// so it lets the lock go and removes that place. Answers the word as it was.
+    /// Makes the word 0 if it is still the given one, and returns the word as it was.
+    ///
+    /// The given word says that at most one place is in the list. So this releases the lock and
+    /// removes that place.
     pub(super) fn release_to_zero(&self, caller: &mut Caller<T>, word: u64) -> u64
         requires lock { IsCallerOf self.now caller.old }
         requires home { HasFullSlot (T.fits (key_of self.now)) caller.old }
@@ -311,7 +320,7 @@ impl<T: Fits> WordLock<T> {
             .compare_exchange::<ReleaseToZero>(&mut caller.seat, WORD, word, 0)
     }
 
-    /// The link of the newest place, which the word tells and the caller has seen.
+    /// Returns the link of the newest place, as the word says it and the caller has seen it.
     pub(super) fn first_link(&self, caller: &mut Caller<T>, word: u64) -> u64
         requires lock { IsCallerOf self.now caller.old }
         requires holds { SeesMore caller.old 0 word }
@@ -327,8 +336,9 @@ impl<T: Fits> WordLock<T> {
             .load::<ReadFirst>(&mut caller.seat, (word / 2) as usize)
     }
 
-    /// The link of the second place that the caller has seen. If there is a third, the caller lets
-    /// the first out of sight.
+    /// Returns the link of the second place that the caller has seen.
+    ///
+    /// If there is a third, the caller no longer keeps the first in sight.
     pub(super) fn next_link(&self, caller: &mut Caller<T>, place: usize) -> u64
         requires lock { IsCallerOf self.now caller.old }
         requires place { IsPlace place }
@@ -358,7 +368,7 @@ impl<T: Fits> WordLock<T> {
             .store::<Cut>(&mut caller.seat, place, OLDEST);
     }
 
-    /// Clears bit 0 of the word, after a cut.
+    /// Clears bit 0 of the word after a cut.
     pub(super) fn release_after_cut(&self, caller: &mut Caller<T>)
         requires lock { IsCallerOf self.now caller.old }
         requires home { HasFullSlot (T.fits (key_of self.now)) caller.old }
@@ -373,7 +383,7 @@ impl<T: Fits> WordLock<T> {
             .fetch_sub::<ReleaseAfterCut>(&mut caller.seat, WORD, LOCKED);
     }
 
-    /// Tells the place that it was removed, and wakes its caller.
+    /// Tells the caller of the place that it was removed, and wakes it.
     pub(super) fn tell(&self, caller: &mut Caller<T>, place: usize)
         requires lock { IsCallerOf self.now caller.old }
         requires place { IsPlace place }
@@ -387,8 +397,10 @@ impl<T: Fits> WordLock<T> {
         self.table.shared.wake_one(place);
     }
 
-    /// Sleeps while the link of the place is this one. The system compares the low 32 bits of a
-    /// word alone; a link is at most one above a place, and so they tell it.
+    /// Sleeps while the link of the place is the given one.
+    ///
+    /// The system compares only the low 32 bits of a word. They are enough, because a link is at
+    /// most one more than a place.
     pub(super) fn sleep<R: Wait>(&self, rt: &R, place: usize, link: u64)
         requires { IsPlace place }
     {

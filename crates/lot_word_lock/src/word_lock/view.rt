@@ -1,14 +1,15 @@
-//! What the proofs know of one caller of a word lock.
+//! This module has what the proofs know of one caller of a word lock.
 
 use std::collections::LinkedList;
 
-/// What a caller of a word lock may rely on and what others rely on it for. No value of it is made:
-/// proofs alone speak of it.
+/// A `View` is what a caller of a word lock may rely on, and what others rely on it for.
+///
+/// No value of it is ever created. Only proofs speak of it.
 pub enum View {
-    /// It neither holds the lock nor waits in the list.
+    /// The caller neither holds the lock nor waits in the list.
     Trying {
-        /// Whether it knows that it was removed from the list, and has neither had the lock nor
-        /// entered again since.
+        /// Says whether it knows that it was removed from the list, and has neither had the lock
+        /// nor entered the list since.
         told: bool,
 
         /// Its place, or 0 if it has none.
@@ -18,24 +19,24 @@ pub enum View {
         link: u64,
     },
 
-    /// It entered the list, and has not read 0 in its link since.
+    /// The caller has entered the list, and has not read 0 in its link since.
     Enqueued {
         /// Its place.
         place: u64,
     },
 
-    /// It holds the lock.
+    /// The caller holds the lock.
     Holding {
-        /// The oldest places of the list, as far as it has seen them, newest first.
+        /// The oldest places of the list, as far as the caller has seen them, newest first.
         seen: LinkedList<u64>,
 
-        /// The places that it has removed from the list.
+        /// The places that the caller has removed from the list.
         removed: LinkedList<u64>,
     },
 
-    /// It has let the lock go.
+    /// The caller has released the lock.
     Leaving {
-        /// The places that it removed, and has still to tell that.
+        /// The places that it removed, and whose callers it still has to tell.
         owed: LinkedList<u64>,
     },
 }
