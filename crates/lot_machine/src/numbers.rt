@@ -1,4 +1,4 @@
-//! The numbers that threads register under.
+//! This module has the numbers under which threads are registered.
 
 ghost use Rattle.std.specs.Prelude.{◌≡◌, ◌≢◌, ◌↔◌, ◌+◌, ◌<◌, ◌≤◌, Some, Err, IfSome, IfNone, IsErrOf, IfOk, length, replicate, slice_get, slice_set};
 ghost use Rattle.lot_machine.specs.Numbers.{count_registered, AreRegisteredBelow, IsLeastUnregistered};
@@ -8,10 +8,10 @@ use std::alloc::Global;
 use std::marker::Model;
 use std::mem;
 
-/// The greatest number of threads that a lot can be made for.
+/// This is the greatest number of threads for which a lot can be created.
 pub const MAX_THREADS: usize = 16_384;
 
-/// Whether a thread number is registered.
+/// A `Use` says whether a thread number is registered.
 #[derive(Copy, Clone, Eq, PartialEq, Debug)]
 pub enum Use {
     /// The number can be given to a thread.
@@ -21,11 +21,9 @@ pub enum Use {
     Registered,
 }
 
-/// The use of each thread number, of which there are at most `MAX_THREADS`, and how many are
-/// registered.
+/// `Numbers` records which thread numbers are registered, and how many.
 ///
-/// Upstream has no numbers: it counts its threads in the static `NUM_THREADS`, and a thread stands
-/// in a queue by the address of its data.
+/// There are at most `MAX_THREADS` numbers.
 #[derive(Drop)]
 pub struct Numbers {
     uses: Vec<Use>,
@@ -53,12 +51,14 @@ impl Model for Numbers {
 }
 
 impl Numbers {
-    /// So many numbers, none of them registered. It allocates the room for all of them.
+    /// Creates `max` numbers, from 0 on, none of which is registered.
+    ///
+    /// It allocates the room for all of them, and no other call allocates.
     ///
     /// # Errors
     ///
-    /// `TooManyThreads` exactly if `max` is above `MAX_THREADS`, and else `NoMemory` if memory
-    /// cannot be had.
+    /// `TooManyThreads` if and only if `max` is above `MAX_THREADS`. Otherwise `NoMemory` if there
+    /// is not enough memory.
     pub fn new(alloc: Global, max: usize) -> Result<Numbers, LotError>
         ensures too_many { IsErrOf result LotError.TooManyThreads ↔ (MAX_THREADS < max) }
         ensures not_full { result ≢ Err LotError.Full }
@@ -75,18 +75,18 @@ impl Numbers {
         })
     }
 
-    /// How many numbers are registered.
+    /// Returns how many numbers are registered.
     pub fn registered(&self) -> usize
         ensures { result ≡ count_registered self.now }
     {
         self.registered
     }
 
-    /// The least number that is not registered, if there is one.
+    /// Returns the least number that is not registered, or `None` if all are.
     ///
-    /// It begins behind the number that was registered last, or at the least one that was released
-    /// since, and passes over numbers up to the one that it answers. So threads that register one
-    /// after another pass over each number once.
+    /// It begins after the number that was registered last, or at the least one that was released
+    /// since, and looks at the numbers up to the one that it returns. So threads that register one
+    /// after another look at each number once.
     pub fn least_free(&self) -> Option<usize>
         ensures some { IfSome result (IsLeastUnregistered self.now) }
         ensures few { IfSome result (λ _. count_registered self.now < MAX_THREADS) }
@@ -95,7 +95,7 @@ impl Numbers {
         least_free_of(&self.uses, self.search_from)
     }
 
-    /// Registers the least free number. It allocates nothing.
+    /// Registers the least free number, which `number` has to be.
     pub fn register(&mut self, number: usize)
         requires { IsLeastUnregistered self.old number }
         ensures registered { self.new ≡ slice_set self.old number Use.Registered }
@@ -106,7 +106,7 @@ impl Numbers {
         self.search_from = number + 1;
     }
 
-    /// Frees the number. One that is not registered changes nothing. It allocates nothing.
+    /// Frees the number. If it is not registered, nothing changes.
     pub fn release(&mut self, number: usize)
         ensures not_registered { slice_get self.old number ≢ Some Use.Registered → self.new
             ≡ self.old }

@@ -1,4 +1,4 @@
-//! The records of what a thread holds.
+//! This module has the records of what a thread holds.
 
 ghost use Rattle.std.specs.Prelude.{◌≡◌, OnOk, OnErr, []};
 ghost use Rattle.lot_machine.specs.Records.{times_recorded, one_more, one_less};
@@ -7,8 +7,10 @@ use lot_base::token::NoMemory;
 use std::alloc::Global;
 use std::marker::Model;
 
-/// Keys, each as often as it was recorded. What is recorded last is mostly released first, so a
-/// release searches from the end.
+/// `Records` has keys, each as often as it was recorded.
+///
+/// The key that was recorded last is mostly the first to be released, so a release searches from
+/// the end.
 #[derive(Drop)]
 pub struct Records {
     keys: Vec<usize>,
@@ -23,7 +25,7 @@ impl Model for Records {
 }
 
 impl Records {
-    /// No records. It asks for no memory.
+    /// Creates empty records. It allocates nothing.
     pub fn new(alloc: Global) -> Records
         ensures { result ≡ [] }
     {
@@ -32,11 +34,11 @@ impl Records {
         }
     }
 
-    /// Records the key once more. It may ask for memory.
+    /// Records the key once more. It may allocate.
     ///
     /// # Errors
     ///
-    /// `NoMemory` if memory cannot be had. Nothing changed then.
+    /// `NoMemory` if there is not enough memory. Nothing was changed then.
     pub fn acquire(&mut self, key: usize) -> Result<(), NoMemory>
         ensures ok { OnOk result (times_recorded self.new
             ≡ one_more (times_recorded self.old) key) }
@@ -47,6 +49,8 @@ impl Records {
     }
 
     /// Records the key once less, if it was recorded.
+    ///
+    /// It visits the keys from the end, up to the one that it removes.
     pub fn release(&mut self, key: usize)
         ensures { times_recorded self.new ≡ one_less (times_recorded self.old) key }
     {
@@ -55,14 +59,14 @@ impl Records {
         }
     }
 
-    /// Forgets all that is recorded, and gives its memory back.
+    /// Removes all records, and frees their memory.
     pub fn clear(&mut self)
         ensures { self.new ≡ [] }
     {
         self.keys = Vec::new(*self.keys.allocator());
     }
 
-    /// How often the key is recorded.
+    /// Returns how often the key is recorded. It visits all keys.
     pub fn times(&self, key: usize) -> usize
         ensures { result ≡ times_recorded self.now key }
     {

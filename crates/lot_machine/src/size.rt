@@ -1,4 +1,4 @@
-//! How many buckets a table has.
+//! This module says how many buckets a table has.
 
 ghost use Rattle.std.specs.Prelude.{◌*◌, ◌≤◌};
 ghost use Rattle.lot_base.specs.Place.{IsTableSize};
@@ -6,17 +6,19 @@ ghost use Rattle.lot_machine.specs.Size.{IsSizeFor, IsTrimmedSize};
 
 use crate::numbers::MAX_THREADS;
 
-/// How many buckets a table has at first.
+/// This is the number of buckets of a new table.
 pub const INITIAL_BUCKETS: usize = 16;
 
-/// How many buckets a table has at least for each thread that is registered.
+/// This is the least number of buckets that a table has for each registered thread.
 pub const BUCKETS_PER_THREAD: usize = 3;
 
 // For how many threads a table has buckets where fewer are registered, as at first.
 const LEAST_THREADS: usize = 3;
 
-/// The size that a table of this size takes for so many threads: its own if that has 3 buckets for
-/// each, and else the next power of two of 3 buckets for each.
+/// Returns the size that a table of `size` buckets takes when `threads` threads are registered.
+///
+/// It is `size` if that is at least 3 buckets for each thread. Otherwise it is the least power of
+/// two that is.
 pub fn size_for(threads: usize, size: usize) -> usize
     requires size { IsTableSize size }
     requires threads { threads ≤ MAX_THREADS }
@@ -31,8 +33,11 @@ pub fn size_for(threads: usize, size: usize) -> usize
     wanted.next_power_of_two()
 }
 
-/// The size that a trim gives a table of this size with so many threads: the next power of two of 3
-/// buckets for each, and for 3 threads where there are fewer; its own if that is not larger.
+/// Returns the size that a trim gives to a table of `size` buckets with `threads` registered
+/// threads.
+///
+/// It is the least power of two that is at least 3 buckets for each thread, where fewer than 3
+/// threads count as 3. If `size` is smaller than that, it stays.
 pub fn trimmed_size(threads: usize, size: usize) -> usize
     requires size { IsTableSize size }
     requires room { 3 * threads ≤ size }

@@ -1,15 +1,17 @@
-//! Steps of threads as values, each with what its closures answer, and what a step answers.
+//! This module has steps as values, and the answers to steps.
+//!
+//! A step contains what its closures return. So a list of steps can be repeated.
 
 use lot_base::token::{FilterOp, ParkToken, RequeueOp, UnparkResult, UnparkToken};
 
-/// An unpark, with what its closures answer.
+/// An `Op` is an unpark, with what its closures return.
 #[derive(Debug, Drop)]
 pub enum Op {
     /// The first waiter of a key is unparked.
     One {
         /// The key whose first waiter is unparked.
         key: usize,
-        /// What the callback answers.
+        /// The token that the callback returns.
         token: UnparkToken,
     },
 
@@ -17,61 +19,60 @@ pub enum Op {
     All {
         /// The key whose waiters are unparked.
         key: usize,
-        /// The token that they are handed.
+        /// The token that the waiters are given.
         token: UnparkToken,
     },
 
-    /// Those waiters of a key are unparked that a filter chooses, which does not look at the park
-    /// tokens.
+    /// A filter chooses which waiters of a key are unparked. It does not look at their park tokens.
     Filter {
         /// The key whose waiters the filter sees.
         key: usize,
-        /// What the filter answers, in order, and `Skip` when these are used up.
+        /// What the filter returns, in order. When these are used up, it returns `Skip`.
         decisions: Vec<FilterOp>,
-        /// What the callback answers.
+        /// The token that the callback returns.
         token: UnparkToken,
     },
 
-    /// Waiters of a key are unparked or requeued onto another, which may be the same.
+    /// Waiters of a key are unparked, or moved to another key, which may be the same.
     Requeue {
-        /// The key whose waiters are unparked or requeued.
+        /// The key whose waiters are unparked or moved.
         from: usize,
-        /// The key that they are requeued onto.
+        /// The key to which they are moved.
         to: usize,
-        /// What `validate` answers.
+        /// What `validate` returns.
         op: RequeueOp,
-        /// What the callback answers.
+        /// The token that the callback returns.
         token: UnparkToken,
     },
 }
 
-/// A step of one thread, or of the lot, with what its closures answer.
+/// A `Step` is a step of one thread, or of the lot, with what its closures return.
 #[derive(Debug, Drop)]
 pub enum Step {
     /// A thread registers under the least free number.
     Register,
 
-    /// The number of a running thread is freed.
+    /// A running thread gives its number back, and its records are cleared.
     Retire {
         /// The number of the thread.
         thread: usize,
     },
 
-    /// A running thread comes to wait on a key.
+    /// A running thread parks on a key.
     Enter {
         /// The number of the thread.
         thread: usize,
-        /// The key that it waits on.
+        /// The key on which it parks.
         key: usize,
-        /// What `validate` answers.
+        /// What `validate` returns. The thread enters the list only if this is true.
         valid: bool,
-        /// What a filter sees of it.
+        /// The token that filters see.
         park_token: ParkToken,
-        /// Whether its deadline may pass.
+        /// Says whether it waits with a timeout, so that its deadline may pass.
         timed: bool,
     },
 
-    /// One of the four unparks.
+    /// Waiters are unparked in one of four ways.
     Unpark(Op),
 
     /// The deadline of a waiting thread passes.
@@ -80,19 +81,20 @@ pub enum Step {
         thread: usize,
     },
 
-    /// A thread whose deadline has passed looks whether it was unparked before, and runs again.
+    /// A late thread leaves its list and runs again. A thread that was taken before that runs again
+    /// with its token.
     Resolve {
         /// The number of the thread.
         thread: usize,
     },
 
-    /// A thread that was unparked runs again.
+    /// A thread that was taken runs again with its token.
     Return {
         /// The number of the thread.
         thread: usize,
     },
 
-    /// A running thread records a key.
+    /// A running thread records a key once more.
     Acquire {
         /// The number of the thread.
         thread: usize,
@@ -112,41 +114,41 @@ pub enum Step {
     Trim,
 }
 
-/// What a step answers.
+/// An `Answer` is what a step tells its caller.
 #[derive(Copy, Clone, Eq, PartialEq, Debug)]
 pub enum Answer {
     /// A thread was registered under this number.
     Registered(usize),
 
-    /// The greatest number of threads is registered.
+    /// The greatest number of threads is already registered.
     Full,
 
-    /// A request for memory was refused.
+    /// There was not enough memory.
     NoMemory,
 
-    /// The thread's number is free.
+    /// The number of the thread is free.
     Retired,
 
     /// The thread waits.
     Entered,
 
-    /// The validation answered false.
+    /// `validate` returned false, so the thread does not wait.
     Invalid,
 
-    /// The result of `One`, `Filter` or `Requeue`.
+    /// This is the result of `One`, `Filter` or `Requeue`.
     Unpark(UnparkResult),
 
-    /// How many threads `All` unparked.
+    /// This is the number of threads that `All` unparked.
     Count(usize),
 
-    /// The thread's deadline has passed.
+    /// The deadline of the thread has passed.
     Late,
 
-    /// The thread's wait timed out.
+    /// The wait of the thread timed out.
     TimedOut {
-        /// The key that it waited on.
+        /// The key on which it waited.
         key: usize,
-        /// Whether it was the last that waited there.
+        /// Says whether it was the last waiter of that key.
         last: bool,
     },
 
@@ -162,6 +164,6 @@ pub enum Answer {
     /// The table has no more buckets than its threads need.
     Trimmed,
 
-    /// The step does not fit the status of its thread.
+    /// The step is not allowed while its thread has the status that it has. Nothing was changed.
     Misfit,
 }
