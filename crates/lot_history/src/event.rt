@@ -1,16 +1,17 @@
-//! What a history consists of.
+//! This module has the events of which a history consists.
 
 use lot_machine::step::{Answer, Step};
 
-/// A step of a lot with its answer, and by whom it was added to the history. No value of it is
-/// made: proofs alone speak of it.
+/// An `Event` is a step of a lot with its answer, and the witness that added it to the history.
+///
+/// No value of it is ever created. Only proofs speak of it.
 pub struct Event {
     /// The number of the witness that added it.
     pub by: u64,
 
-    /// The step, with what its closures answered.
+    /// The step, with what its closures returned.
     pub step: Step,
 
-    /// What it answered.
+    /// The answer to the step.
     pub answer: Answer,
 }

@@ -1,7 +1,7 @@
-//! The history of a lot, its witnesses, and the parts of the machine.
+//! This module has the history of a lot, its witnesses, and the parts of the machine.
 //!
 //! A history is one word that never changes, so each call here is a few loads of it, or none. What
-//! was done is kept in the proofs alone.
+//! was done is known in proofs alone.
 
 ghost use Rattle.std.specs.Prelude.{◌≡◌, ◌∷◌, ◌++◌, [], List, IfOk};
 ghost use mathlib.Core.List.{IsPrefix};
@@ -16,33 +16,36 @@ use lot_base::token::NoMemory;
 use std::alloc::Global;
 use std::marker::Brand;
 
-/// The one history of a lot: all steps of the machine with one list for each key that threads made,
-/// in one order. Threads share it by reference.
+/// A `History` is the one list of all steps of the machine that the threads of a lot made, in one
+/// order.
 ///
-/// Upstream has no such type. It has two blocks on the heap, of a word and of a byte.
+/// Threads share it by reference. It has two blocks on the heap, one of a word and one of a byte.
 #[derive(Drop)]
 pub struct History {
     table: Table<(), View, usize, OneHistory, Global>,
     ghost sized: { table.shared.table_id.words ≡ 1 },
 }
 
-/// A witness of a history. It knows a beginning of the history, all that it has seen, and which
-/// steps in it are its own. It may have pieces of the machine, which it alone may change. It has no
-/// bytes, and may go to another thread.
+/// A `Witness` knows a beginning of a history: everything that its owner has seen.
+///
+/// It also knows which of these events it added itself. It may have pieces of the machine, which it
+/// alone may change. It takes no memory, and may be moved to another thread.
 #[derive(Drop)]
 pub struct Witness {
     seat: Seat<(), View>,
 }
 
-/// Pieces of the machine, for whoever takes the part, as the next holder of a lock. It has no
-/// bytes, and may lie in a table's slot.
+/// A `Part` has pieces of the machine, for the caller that takes it next, such as the next holder
+/// of a lock.
+///
+/// It takes no memory, and may be put into the slot of a table.
 #[derive(Drop)]
 pub struct Part {
     badge: Badge<View>,
 }
 
 impl Part {
-    /// No part, to stand where one was taken out.
+    /// Creates a part without pieces, which can stand where another was taken out.
     pub fn none() -> Part {
         Part {
             badge: Badge::blank(),
@@ -53,14 +56,14 @@ impl Part {
 impl History {
     ghost use Rattle.lot_history.specs.Witness.{Adds, Found, IsPartOf, IsStill, IsWitnessOf, Looks, events_of, id_of, max_threads_of, number_of, pieces_in, pieces_of, seen_by, view_of};
 
-    /// A history of a lot for at most this many threads, in which nothing was done, and its first
-    /// witness, which has all pieces of the machine.
+    /// Creates a history for a lot with at most `max_threads` threads, in which nothing was done,
+    /// and its first witness, which has all pieces of the machine.
     ///
-    /// It asks for two blocks. No other call asks for memory.
+    /// It allocates two blocks. No other call allocates.
     ///
     /// # Errors
     ///
-    /// `NoMemory` if memory cannot be had.
+    /// `NoMemory` if there is not enough memory.
     pub fn new(alloc: Global, max_threads: usize) -> Result<(History, Witness), NoMemory>
         ensures threads { IfOk result (λ made. max_threads_of made.0 ≡ max_threads) }
         ensures witness { IfOk result (λ made. IsWitnessOf made.0 made.1) }
@@ -72,7 +75,9 @@ impl History {
         Ok((History { table }, Witness { seat }))
     }
 
-    /// A new witness, which has seen nothing, has added nothing and has no piece. It costs a load.
+    /// Creates a witness that has seen nothing, has added nothing and has no piece.
+    ///
+    /// It costs one load.
     #[inline]
     pub fn witness(&self) -> Witness
         ensures witness { IsWitnessOf self.now result }
@@ -85,8 +90,9 @@ impl History {
         }
     }
 
-    /// Another witness, which has seen as much as this one, and has added nothing and has no piece.
-    /// It costs a load.
+    /// Creates a witness that has seen as much as this one.
+    ///
+    /// The new witness has added nothing and has no piece. It costs one load.
     pub fn tell(&self, me: &mut Witness) -> Witness
         requires witness { IsWitnessOf self.now me.old }
         ensures still { IsStill self.now me.old me.new }
@@ -101,8 +107,10 @@ impl History {
         }
     }
 
-    /// The witness sees the history as it is, which begins with all that the other has seen, too.
-    /// Of the other nothing changes. It costs three loads.
+    /// Lets this witness see the history as it is, which begins with everything that the other
+    /// witness has seen.
+    ///
+    /// What the other knows does not change. It costs three loads.
     pub fn hear(&self, me: &mut Witness, other: &mut Witness)
         requires witness { IsWitnessOf self.now me.old }
         requires other { IsWitnessOf self.now other.old }
@@ -117,8 +125,10 @@ impl History {
         self.look_as::<Brand>(me);
     }
 
-    /// The witness sees the history as it is, and learns that the machine which it leads to is as
-    /// its pieces say. It costs a load.
+    /// Lets this witness see the history as it is, and know that the machine to which it leads is
+    /// as the pieces of the witness say.
+    ///
+    /// It costs one load.
     pub fn look(&self, me: &mut Witness)
         requires { IsWitnessOf self.now me.old }
         ensures still { IsStill self.now me.old me.new }
@@ -127,14 +137,16 @@ impl History {
         self.look_as::<Brand>(me);
     }
 
-    /// Makes one step of the machine, of which `E` says which it is and what it answers. It is
-    /// added to the history, and leaves the pieces `after`. The caller proves that whatever the
-    /// machine is where the pieces of the witness are so, there is such a step which changes
-    /// nothing else. `Found` tells that the machine before the step was so.
+    /// Adds one step of the machine to the history, as an event of this witness.
     ///
-    /// The caller picks `after`, and `E` where that is `Brand`, from what the witness knows. Where
-    /// they depend on more, a function between has that for arguments, and a `ghost after` of its
-    /// own, as the one behind `give_back`. It costs a load.
+    /// `E` says which step it is, and what its answer is. The step leaves the witness with the
+    /// pieces `after`. The caller proves that such a step is possible in every machine that is as
+    /// the pieces of the witness say, and that it changes nothing else. `Found` says that the
+    /// machine before the step was as the pieces said.
+    ///
+    /// The caller picks `after`, and `E` if that is `Brand`, from what the witness knows. If they
+    /// depend on more, write a function between that takes the rest as arguments and has a `ghost
+    /// after` of its own, as `give_back` does. It costs one load.
     #[inline]
     pub fn add<E: Told>(&self, me: &mut Witness)
         ghost after: { List Piece }
@@ -148,8 +160,9 @@ impl History {
         self.add_as::<E, Brand>(me);
     }
 
-    /// Puts the pieces of the witness together otherwise, as where a table grows. It adds nothing
-    /// to the history. The caller picks `after`, as in `add`. It costs a load.
+    /// Puts the pieces of the witness together in another way, as is needed when a table grows.
+    ///
+    /// It adds nothing to the history. The caller picks `after`, as in `add`. It costs one load.
     #[inline]
     pub fn regroup(&self, me: &mut Witness)
         ghost after: { List Piece }
@@ -163,7 +176,9 @@ impl History {
         self.regroup_as::<Brand>(me);
     }
 
-    /// The witness takes the pieces of a part, behind its own. It costs a load.
+    /// Gives the pieces of the part to the witness, behind its own.
+    ///
+    /// It costs one load.
     #[inline]
     pub fn take(&self, me: &mut Witness, part: Part)
         requires witness { IsWitnessOf self.now me.old }
@@ -182,7 +197,9 @@ impl History {
         );
     }
 
-    /// The witness gives away its first piece. It costs a load.
+    /// Takes the first piece from the witness, and returns it as a part.
+    ///
+    /// It costs one load.
     #[inline]
     pub fn give(&self, me: &mut Witness) -> Part
         requires { IsWitnessOf self.now me.old }

@@ -1,10 +1,12 @@
-//! The rule of a history's table, and what its steps tell. All but `Told` are for the proofs alone.
+//! This module has the rule of a history's table, and what each of its steps tells. All types
+//! except `Told` are for proofs alone.
 
 use crate::view::View;
 use atomic_table::{Join, Play, Split, TableRule};
 use std::marker::{Brand, PhantomData};
 
-/// What holds of the history and of all seats between any two steps.
+/// `OneHistory` is the rule of the table: what holds of the history and of all seats between any
+/// two steps.
 pub struct OneHistory;
 
 impl TableRule<(), View, usize> for OneHistory {
@@ -16,8 +18,9 @@ impl TableRule<(), View, usize> for OneHistory {
     ghost first = { λ max_threads. first_view };
 }
 
-/// Which step `History::add` makes, by what is said of it and of its answer. Whoever calls a
-/// function that is generic in it picks that, and may name what a closure answers.
+/// `Told` says which step `History::add` makes, and what its answer is.
+///
+/// A caller of a function that is generic in it picks it, and may name what a closure returned.
 pub trait Told {
     ghost use Rattle.lot_machine.specs.declared.step.Answer.{Answer};
     ghost use Rattle.lot_machine.specs.declared.step.Step.{Step};
@@ -25,7 +28,7 @@ pub trait Told {
     ghost said: { Step → Answer → Type 0 };
 }
 
-/// Where a call picks nothing, it is a trim.
+/// If a caller picks nothing, the step is a trim.
 impl Told for Brand {
     ghost use Rattle.std.specs.Prelude.{◌≡◌};
     ghost use Rattle.lot_machine.specs.declared.step.Step.TheVariants.{Trim};
@@ -33,8 +36,8 @@ impl Told for Brand {
     ghost said = { λ step _. step ≡ Trim };
 }
 
-/// Of which history a step is, by which seat, and which pieces it leaves. Each call in this crate
-/// picks it.
+/// `Seated` says to which history a step belongs, which seat makes it, and which pieces it leaves.
+/// Each call in this crate picks it.
 pub(crate) trait Seated {
     ghost use Rattle.std.specs.Prelude.{ℕ, List};
     ghost use Rattle.lot_history.specs.declared.view.Piece.{Piece};
@@ -70,7 +73,7 @@ impl<E: Told, C: Seated> Play<(), View> for Add<E, C> {
         × Found C.max_threads C.number m.0 n.0 };
 }
 
-/// The history is seen as it is. What was heard of it begins it.
+/// The seat sees the history as it is, which begins with what it heard.
 pub(crate) struct Look<C> {
     of: PhantomData<C>,
 }
@@ -84,7 +87,7 @@ impl<C: Seated> Play<(), View> for Look<C> {
         Looks C.max_threads C.number m.0 n.0 × IsPrefix m.0.heard n.0.seen × (n.1 ≡ m.1) };
 }
 
-/// The pieces of a seat are put together otherwise.
+/// The pieces of a seat are put together in another way.
 pub(crate) struct Regroup<C> {
     of: PhantomData<C>,
 }
@@ -95,7 +98,7 @@ impl<C: Seated> Play<(), View> for Regroup<C> {
     ghost then = { λ _ m _ n. n ≡ (record m.0 { pieces = C.after }, m.1) };
 }
 
-/// A new seat knows of nothing.
+/// A new seat knows nothing.
 pub(crate) struct Arrive;
 
 impl Play<(), View> for Arrive {
@@ -116,7 +119,7 @@ impl Split<View> for Telling {
     ghost right = { λ v. told_view v.seen };
 }
 
-/// A seat gives a new one its first piece.
+/// A seat gives its first piece to a new one.
 pub(crate) struct Giving;
 
 impl Split<View> for Giving {
@@ -127,7 +130,7 @@ impl Split<View> for Giving {
     ghost right = { λ v. part_view (first_of v.pieces) };
 }
 
-/// A seat takes in what another has seen, and its pieces.
+/// A seat takes what another has seen, and its pieces.
 pub(crate) struct Taking;
 
 impl Join<View> for Taking {

@@ -1,5 +1,6 @@
-//! Steps that concern one thread alone, or none, ready to be called. A step of a bucket is made by
-//! `History::add` where the bucket is.
+//! This module has the steps that concern one thread alone, or none, each as a call of its own.
+//!
+//! A step of a bucket is added by `History::add`, where the bucket is.
 
 ghost use Rattle.std.specs.Prelude.{◌≡◌, ◌<◌, ◌∷◌, [], true, Bool, List, ℕ};
 ghost use Rattle.lot_machine.specs.Records.{one_less, one_more, times_recorded};
@@ -17,7 +18,9 @@ use lot_machine::step::{Answer, Step};
 use std::marker::Brand;
 
 impl History {
-    /// Adds a trim, which changes nothing of the machine. It costs a load.
+    /// Adds a trim, which changes nothing in the machine.
+    ///
+    /// It costs one load.
     pub fn trim(&self, me: &mut Witness)
         requires { IsWitnessOf self.now me.old }
         ensures still { IsStill self.now me.old me.new }
@@ -27,8 +30,10 @@ impl History {
         self.add::<Brand>(me);
     }
 
-    /// Adds that a thread, which was taken, comes back with its token. The witness has the thread's
-    /// piece before its others, and keeps it. It costs a load.
+    /// Adds that a thread that was taken comes back with its token.
+    ///
+    /// The first piece of the witness is that of the thread. The witness keeps it, with the status
+    /// `Running`. It costs one load.
     pub fn give_back(&self, me: &mut Witness, number: usize, token: UnparkToken)
         requires witness { IsWitnessOf self.now me.old }
         requires taken { pieces_of me.old
@@ -58,9 +63,11 @@ impl History {
         self.add::<E>(me);
     }
 
-    /// Adds that the least number that is free is registered. The witness has the numbers' piece
-    /// before its others, and keeps it, with that number among them; the thread's own two pieces
-    /// stand behind it then. The caller picks the numbers `after`. It costs a load.
+    /// Adds that the least free number is registered.
+    ///
+    /// The first piece of the witness is that of the numbers. The witness keeps it, with this
+    /// number added, and has the two pieces of the thread behind it. The caller picks the numbers
+    /// `after`. It costs one load.
     pub fn register(&self, me: &mut Witness, number: usize)
         ghost after: { List Bool }
         requires witness { IsWitnessOf self.now me.old }
@@ -103,9 +110,11 @@ impl History {
         self.add::<E>(me);
     }
 
-    /// Adds that a running thread ends its registration. The witness has the thread's piece, that
-    /// of its records and the numbers' before its others, and keeps the last, without that number.
-    /// The caller picks the numbers `after`. It costs a load.
+    /// Adds that a running thread gives its number back.
+    ///
+    /// The first three pieces of the witness are those of the thread, of its records and of the
+    /// numbers. The witness keeps only the last of them, without this number. The caller picks the
+    /// numbers `after`. It costs one load.
     pub fn retire(&self, me: &mut Witness, number: usize)
         ghost after: { List Bool }
         requires witness { IsWitnessOf self.now me.old }
@@ -146,9 +155,10 @@ impl History {
         self.add::<E>(me);
     }
 
-    /// Adds that a running thread records the key once more. The witness has the thread's piece and
-    /// that of its records before its others, and keeps both. The caller picks the keys `after`. It
-    /// costs a load.
+    /// Adds that a running thread records the key once more.
+    ///
+    /// The first two pieces of the witness are those of the thread and of its records. The witness
+    /// keeps both. The caller picks the keys `after`. It costs one load.
     pub fn acquire(&self, me: &mut Witness, number: usize, key: usize)
         ghost after: { List ℕ }
         requires witness { IsWitnessOf self.now me.old }
@@ -189,9 +199,10 @@ impl History {
         self.add::<E>(me);
     }
 
-    /// Adds that a running thread records the key once less, if it had recorded it. The witness has
-    /// the thread's piece and that of its records before its others, and keeps both. The caller
-    /// picks the keys `after`. It costs a load.
+    /// Adds that a running thread records the key once less, if it had recorded it.
+    ///
+    /// The first two pieces of the witness are those of the thread and of its records. The witness
+    /// keeps both. The caller picks the keys `after`. It costs one load.
     pub fn release(&self, me: &mut Witness, number: usize, key: usize)
         ghost after: { List ℕ }
         requires witness { IsWitnessOf self.now me.old }

@@ -1,12 +1,13 @@
-//! What a seat at the history knows, and which parts of the machine it alone may change. No value
-//! of these types is made: proofs alone speak of them.
+//! This module has what a witness knows, and the pieces of the machine that it alone may change.
+//!
+//! No value of these types is ever created. Only proofs speak of them.
 
 use crate::event::Event;
 use lot_base::token::ParkToken;
 use lot_machine::status::Status;
 use std::collections::LinkedList;
 
-/// A thread that stands in a list.
+/// A `Standing` is a thread that is in a list.
 pub struct Standing {
     /// The key of the list.
     pub key: u64,
@@ -14,43 +15,43 @@ pub struct Standing {
     /// The number of the thread.
     pub number: u64,
 
-    /// What a filter sees of it.
+    /// The token that filters see.
     pub park_token: ParkToken,
 
-    /// Whether it waits with a timeout.
+    /// Says whether it waits with a timeout.
     pub timed: bool,
 
-    /// Whether its deadline has passed.
+    /// Says whether its deadline has passed.
     pub late: bool,
 }
 
-/// A part of the machine, as it is. Whoever has it is alone to change it.
+/// A `Piece` is a part of the machine, as it is. Only its owner may change it.
 pub enum Piece {
-    /// The lists of all keys of one place in a table of this size, in one list, and the status of
-    /// each thread in it.
+    /// The lists of all keys of one place in a table of this size, as one list, with the status of
+    /// each thread in it. The size comes first, then the place.
     Lists(u64, u64, LinkedList<Standing>),
 
-    /// The status of a thread that stands in no list.
+    /// The status of a thread that is in no list.
     Thread(u64, Status),
 
     /// The keys that a thread has recorded.
     Records(u64, LinkedList<u64>),
 
-    /// Which numbers are registered; and of all that are not, status and records.
+    /// Which numbers are registered, and the status and records of all numbers that are not.
     Numbers(LinkedList<bool>),
 }
 
-/// What a seat knows.
+/// A `View` is what a witness knows.
 pub struct View {
-    /// The beginning of the history that it has seen.
+    /// The beginning of the history that the witness has seen.
     pub seen: LinkedList<Event>,
 
-    /// A beginning of the history that another has seen and told.
+    /// A beginning of the history that another witness has seen and told.
     pub heard: LinkedList<Event>,
 
-    /// The events that it added itself.
+    /// The events that the witness added itself.
     pub mine: LinkedList<Event>,
 
-    /// The parts of the machine that it alone may change.
+    /// The pieces of the machine that the witness alone may change.
     pub pieces: LinkedList<Piece>,
 }
