@@ -1,7 +1,9 @@
-//! A fair mutex and a condition variable for one caller, who takes every step of every thread. The
-//! mutex is handed over to its first waiter, and a notify moves those who sleep on the condition
-//! variable behind its waiters. Each list of steps is a run of a small machine, of which `laws`
-//! speaks.
+//! This module has a fair mutex and a condition variable for one caller, which takes every step of
+//! every thread.
+//!
+//! The mutex is handed over to its first waiter. A notify moves threads that sleep on the condition
+//! variable behind the waiters of the mutex. Each list of steps is a run of a small machine, and
+//! `laws` has the laws of that machine.
 
 mod fair_core;
 pub mod laws;

@@ -1,5 +1,5 @@
-//! Interleaved schedules: calls of the threaded lot cut into the steps between which other callers
-//! and threads can come.
+//! This module has interleaved schedules: the calls of the threaded lot, cut into the steps between
+//! which other callers and threads can act.
 
 ghost use Rattle.std.specs.Prelude.{◌≡◌, ◌≢◌, ◌↔◌, ◌⊎◌, ℕ, ◌+◌, ◌<◌, ◌++◌, List, Err, IsTrue, IsErrOf, IfOk, OnOk, OnErr, is_some, length, map};
 ghost use Rattle.lot_base.specs.Waiting.{has_any};
@@ -28,36 +28,38 @@ use std::marker::Model;
 use thread::{FineThread, free_threads};
 use told::{copied_ops, push_if_any};
 
-/// A step of an interleaved schedule: what one caller or one thread does without another between.
+/// A `FineStep` is what one caller or one thread does without another in between.
 ///
 /// An unpark of the threaded lot is `Begin`, a `Commit` for each thread that it took, `End`, and a
 /// `Wake` for each of them, which may come before `End`. A park is `Enter`, and after the sleep
-/// `Return`; or, where its deadline passes first, `Deadline`, and then `ReadKey` and `Look` until a
-/// `Look` answers how it ended. That the threaded lot's lines are these steps is read in its code:
-/// no contract tells it.
+/// `Return`. If its deadline passes first, it is `Enter`, `Deadline`, and then `ReadKey` and
+/// `Look`, until a `Look` says how the park ended.
 ///
-/// Callers and threads go by their numbers. In the threaded lot a caller is a thread that is inside
-/// an unpark.
+/// Callers and threads are named by their numbers. In the threaded lot a caller is a thread that is
+/// inside an unpark. No contract says that the code of the threaded lot consists of these steps;
+/// that is read in its code.
 #[derive(Debug, Drop)]
 pub enum FineStep {
-    /// A caller without an open section, who has woken all whom it was to wake, locks the buckets
-    /// of the operation's keys and does to their lists, and to the key words of those that it
-    /// requeues, what the operation says. It keeps those that it took.
+    /// A caller locks the buckets of the operation's keys, and does to their lists what the
+    /// operation says.
+    ///
+    /// The caller must have no open section and nobody left to wake. It also changes the key words
+    /// of the threads that it requeues. It keeps the nodes that it took.
     Begin {
         /// The number of the caller.
         caller: usize,
-        /// The unpark, with what its closures answer.
+        /// The unpark, with what its closures return.
         op: Op,
     },
 
-    /// A caller hands the first of those that its section has left to its thread, by the thread's
-    /// slot.
+    /// A caller hands the first of the nodes that its section still has to its thread, through the
+    /// thread's slot.
     Commit {
         /// The number of the caller.
         caller: usize,
     },
 
-    /// A caller whose section has handed on all that it took lets its buckets go.
+    /// A caller whose section has handed on all that it took unlocks its buckets.
     End {
         /// The number of the caller.
         caller: usize,
@@ -76,30 +78,32 @@ pub enum FineStep {
         thread: usize,
     },
 
-    /// A late thread reads its key word, which another may have changed by a requeue.
+    /// A late thread reads its key word, which another caller may have changed by a requeue.
     ReadKey {
         /// The number of the thread.
         thread: usize,
     },
 
-    /// A late thread that has read its key locks that key's bucket and looks whether it waits there
-    /// still: the second look, where its return from the sleep was the first.
+    /// A late thread that has read its key locks the bucket of that key, and looks whether it still
+    /// waits there.
+    ///
+    /// This is its second look, because it has already looked when its sleep ended.
     Look {
         /// The number of the thread.
         thread: usize,
     },
 
-    /// A running thread locks the bucket of the key and enters its list, if it is valid.
+    /// A running thread locks the bucket of the key, and enters its list if `valid` is true.
     Enter {
         /// The number of the thread.
         thread: usize,
-        /// The key that it waits on.
+        /// The key on which it parks.
         key: usize,
-        /// What `validate` answers.
+        /// What `validate` returns.
         valid: bool,
-        /// What a filter sees of it.
+        /// The token that filters see.
         park_token: ParkToken,
-        /// Whether its deadline may pass.
+        /// Says whether it waits with a timeout, so that its deadline may pass.
         timed: bool,
     },
 
@@ -118,7 +122,7 @@ pub enum FineStep {
         thread: usize,
     },
 
-    /// A running thread records the key.
+    /// A running thread records the key once more.
     Acquire {
         /// The number of the thread.
         thread: usize,
@@ -126,7 +130,7 @@ pub enum FineStep {
         key: usize,
     },
 
-    /// A running thread removes one record of the key, if it has one.
+    /// A running thread records the key once less, if it has recorded it.
     Release {
         /// The number of the thread.
         thread: usize,
@@ -134,49 +138,49 @@ pub enum FineStep {
         key: usize,
     },
 
-    /// The table becomes smaller, if it is too large for the threads that are registered. If it is,
-    /// this needs every bucket.
+    /// The table becomes smaller, if it is too large for the registered threads. If it is, this
+    /// needs every bucket.
     Trim,
 }
 
-/// What an interleaved step answers.
+/// A `FineAnswer` is what an interleaved step tells its caller.
 #[derive(Copy, Clone, Eq, PartialEq, Debug)]
 pub enum FineAnswer {
-    /// An answer that a step of a lot gives too: of `Begin` that of the unpark, of `Look` and
-    /// `Return` the outcome of the park, of `Enter`, `Register`, `Retire`, `Acquire`, `Release` and
-    /// `Trim` that of a lot, and of a step that does not fit `Misfit`. A deadline answers `Late`
-    /// below.
+    /// This is an answer that a step of a lot gives too.
+    ///
+    /// A `Begin` gives that of its unpark, and `Look` and `Return` give the outcome of the park.
+    /// `Enter`, `Register`, `Retire`, `Acquire`, `Release` and `Trim` give that of a lot. A step
+    /// that is not allowed gives `Misfit`. A deadline gives `FineAnswer::Late` instead.
     Answer(Answer),
 
-    /// The node of the thread of this number lies in its slot.
+    /// The node of the thread with this number is in its slot.
     Committed(usize),
 
-    /// The caller's buckets are free.
+    /// The buckets of the caller are free.
     Ended,
 
     /// A thread was woken.
     Woken,
 
-    /// The thread's deadline has passed.
+    /// The deadline of the thread has passed.
     Late,
 
-    /// The thread's key word.
+    /// This is the thread's key word.
     Read(usize),
 
-    /// The thread's key word is another key than it has read, and it is to read again.
+    /// The thread's key word is another key than the one that it read, so it has to read again.
     Retry,
 
-    /// A section holds a bucket that the step needs. Nothing changed.
+    /// A section holds a bucket that the step needs. Nothing was changed.
     Blocked,
 }
 
-/// A lot on which whoever has it borrowed takes every interleaved step of every thread and every
+/// A `FineLot` is a lot on which one caller takes every interleaved step of every thread and every
 /// caller, in any order.
 ///
-/// What it means is an interleaved state. Threads and callers go by their numbers. No call takes a
-/// lock: a bucket that a section holds is only noted.
-///
-/// Upstream has no such type.
+/// Its contracts say what a step does to the interleaved state that the lot means. Threads and
+/// callers are named by their numbers. No call takes a lock: that a section holds a bucket is only
+/// noted.
 #[derive(Drop)]
 pub struct FineLot {
     table: Table,
@@ -209,15 +213,15 @@ impl Model for FineLot {
 }
 
 impl FineLot {
-    /// A lot for at most this many threads, none of which is registered, and for this many callers,
-    /// none of which has a section open.
+    /// Creates a lot for at most `max_threads` threads, none of which is registered, and for
+    /// `callers` callers, none of which has an open section.
     ///
     /// It allocates the table, which has 16 buckets, and room for what it keeps of each number.
     ///
     /// # Errors
     ///
-    /// `TooManyThreads` exactly if either number is above `MAX_THREADS`, and else `NoMemory` if
-    /// memory cannot be had. Nothing was made then.
+    /// `TooManyThreads` if and only if `max_threads` or `callers` is above `MAX_THREADS`. Otherwise
+    /// `NoMemory` if there is not enough memory.
     pub fn new(alloc: Global, max_threads: usize, callers: usize) -> Result<FineLot, LotError>
         ensures too_many { IsErrOf result LotError.TooManyThreads
             ↔ ((MAX_THREADS < max_threads) ⊎ (MAX_THREADS < callers)) }
@@ -237,12 +241,13 @@ impl FineLot {
         })
     }
 
-    /// The numbers of the threads that stand in the list of the key, in order. It is one
-    /// `Bucket::list`, and does not ask whether a section holds the bucket.
+    /// Returns the numbers of the threads that are in the list of the key, in order.
+    ///
+    /// It does not look whether a section holds the bucket. It costs one `Bucket::list`.
     ///
     /// # Errors
     ///
-    /// `NoMemory` if memory for the list cannot be had. The empty list needs none.
+    /// `NoMemory` if there is not enough memory for the list. An empty list needs none.
     pub fn list(&self, key: usize) -> Result<Vec<usize>, NoMemory>
         ensures refused { OnErr result
             (IsTrue (has_any ((fine_state self.now).threads_view.lists key))) }
@@ -252,24 +257,26 @@ impl FineLot {
         self.table.list(*self.threads.allocator(), key)
     }
 
-    /// How many threads are registered.
+    /// Returns how many threads are registered.
     pub fn registered(&self) -> usize
         ensures { result ≡ threads_of ((fine_state self.now).threads_view) }
     {
         self.table.registered()
     }
 
-    /// How many buckets the table has.
+    /// Returns how many buckets the table has.
     pub fn size(&self) -> usize
         ensures { result ≡ (fine_state self.now).size }
     {
         self.table.size()
     }
 
-    /// Does nothing. Its contract tells what the lot's type keeps: the state that it means is
-    /// consistent, and so the node of each registered thread is in exactly one of four places, with
-    /// the thread, in the list of its key word, among those that open sections took, or in its
-    /// slot, and in no list but that; and no bucket is held by two open sections.
+    /// Does nothing, and states what always holds of such a lot: the state that it means is
+    /// consistent.
+    ///
+    /// So the node of each registered thread is in exactly one of four places: with the thread, in
+    /// the list of its key word, among those that open sections took, or in its slot. It is in no
+    /// other list. No bucket is held by two open sections.
     pub fn consistency(&self)
         ensures consistent { IsFineConsistent (fine_state self.now) }
         ensures one_place { let s = fine_state self.now in (number : ℕ)
@@ -288,25 +295,24 @@ impl FineLot {
 /// Does the interleaved steps one after another, and appends one answer for each, and the
 /// sequential steps to which the run amounts.
 ///
-/// The answers are those of a run of the interleaved machine: from the state that the lot meant
-/// before, by these steps, to the one that it means after. `FineLot::new` says what a new lot
-/// means. A step that does not fit is answered by `Misfit`, else a registration that finds no free
-/// number by `Full`, else a step that needs a bucket which an open section holds by `Blocked`, and
-/// else a registration, a recording or a trim that finds no memory by `NoMemory`. None of the four
-/// changes anything.
+/// The answers are those of a run of the interleaved machine, from the state that the lot meant
+/// before to the one that it means after. A step is answered by the first of these that applies:
+/// `Misfit` if it is not allowed, `Full` if it is a registration and no number is free, `Blocked`
+/// if it needs a bucket that an open section holds, and `NoMemory` if it is a registration, an
+/// acquire or a trim for which there is not enough memory. None of the four changes anything.
 ///
 /// The sequential steps, with their answers, are a run of the machine with one list of waiters for
 /// each key, between the sequential views of the two states. Their lists of decisions are copies.
-/// In the interleaved answers each thread's parks and outcomes take turns, so no park has two
-/// outcomes; and the threads that they count as unparked come back or are left at the end.
+/// In the interleaved answers the parks and outcomes of each thread take turns, so no park has two
+/// outcomes. The threads that they count as unparked come back, or are left at the end.
 ///
-/// It asks for room for all answers and sequential steps, and for the copies of all decisions,
-/// first, and costs what the steps cost.
+/// It first allocates room for all answers and sequential steps, and for the copies of all
+/// decisions. Then it costs what the steps cost.
 ///
 /// # Errors
 ///
-/// `NoMemory` if that room cannot be had, and never where there are no steps. The lot and the items
-/// of both lists are as before; the lists may have more room.
+/// `NoMemory` if there is not enough memory for that room, and never if there are no steps. The lot
+/// and the items of both lists are then as before, and the lists may have more room.
 pub fn run_fine(
     lot: &mut FineLot,
     steps: &[FineStep],

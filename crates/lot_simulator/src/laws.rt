@@ -1,5 +1,5 @@
-//! Laws of the machine with one list of waiters for each key, and calls of an exclusive lot that
-//! stand on them.
+//! This module re-exports the laws of the machine, and has calls of an exclusive lot that follow
+//! from them.
 
 ghost use Rattle.std.specs.Prelude.{◌≡◌, ◌≢◌, ◌↔◌, Err, false, length};
 ghost use Rattle.lot_base.specs.Waiting.{split_all, result_of};
@@ -17,8 +17,9 @@ pub use lot_machine::laws::{
     unparked_threads_come_back,
 };
 
-/// Unparks every waiter of the key by a filter that always answers `Unpark`: it does what
-/// `Lot::unpark_all` does, and answers their number in a result. It costs what
+/// Unparks every waiter of the key by a filter that always returns `Unpark`.
+///
+/// It does what `Lot::unpark_all` does, but returns an `UnparkResult`. It costs what
 /// `Lot::unpark_filter` costs.
 pub fn unpark_all_by_filter(lot: &mut Lot, key: usize, unpark_token: UnparkToken) -> UnparkResult
     ensures result { result ≡ result_of (split_all ((machine lot.old).lists key)) }
@@ -30,8 +31,10 @@ pub fn unpark_all_by_filter(lot: &mut Lot, key: usize, unpark_token: UnparkToken
     lot.unpark_chosen(key, |_| FilterOp::Unpark, |_| unpark_token)
 }
 
-/// Requeues every waiter of the key onto the same key: it changes nothing, and counts them. It
-/// costs what `Lot::unpark_requeue` costs.
+/// Requeues every waiter of the key to the same key, which changes nothing, and returns how many
+/// there are.
+///
+/// It costs what `Lot::unpark_requeue` costs.
 pub fn requeue_all_to_itself(lot: &mut Lot, key: usize) -> UnparkResult
     ensures result { result ≡ record {
       unparked_threads = 0;
@@ -49,12 +52,13 @@ pub fn requeue_all_to_itself(lot: &mut Lot, key: usize) -> UnparkResult
     )
 }
 
-/// Records the key for the thread and releases it again, so that the lot means what it meant. It
-/// costs what `Lot::acquire` and `Lot::release` cost.
+/// Records the key for the thread and releases it again, so that the lot means what it meant.
+///
+/// It costs what `Lot::acquire` and `Lot::release` cost.
 ///
 /// # Errors
 ///
-/// Those of `Lot::acquire`.
+/// The errors of `Lot::acquire`.
 pub fn acquire_and_release(lot: &mut Lot, number: usize, key: usize) -> Result<(), StepError>
     ensures fits { result ≢ Err StepError.Misfit
         ↔ ((machine lot.old).status number ≡ Status.Running) }

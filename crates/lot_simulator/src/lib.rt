@@ -1,6 +1,25 @@
-//! Parking without threads, for simulators and schedulers: an exclusive lot, whose every step one
-//! caller takes; an interleaved lot, whose caller takes the calls of threads in parts; a fair mutex
-//! on an exclusive lot; and records of what was done.
+//! This crate has parking lots without threads, for simulators and schedulers.
+//!
+//! One caller takes every step of every thread. The `lot` is the exclusive lot, whose steps are
+//! whole calls. In `interleaved` the calls of threads are cut into parts. `fair` has a fair mutex
+//! on an exclusive lot, and `record` and `recording_lot` keep a journal of what was done.
+//!
+//! # Differences from upstream
+//!
+//! Upstream has no lot without threads. These items do what parts of it do:
+//!
+//! - `Lot`: upstream's `park` is `enter`, and after the sleep `resolve`, or `give_back` for a
+//!   thread that was unparked. It registers a thread at its first park, and the end of the thread
+//!   retires it. `unpark_chosen` has no counterpart, because upstream's `unpark_filter` takes any
+//!   closure. `acquire` and `release` are `acquire_resource` and `release_resource` of upstream's
+//!   `deadlock`, which act for the thread that runs.
+//! - `Table`: upstream has its buckets in a `HashTable` and counts its threads in `NUM_THREADS`.
+//!   Both are static. There are no thread numbers, because a thread is in a queue by the address of
+//!   its data, and there is no greatest number of threads. Upstream counts a new thread first, and
+//!   then its `grow_hashtable` locks all buckets until the new table is published. Its table never
+//!   becomes smaller, so there is no `trim`, and the end of a thread only lowers the count.
+//! - `Thread` has parts of upstream's `ThreadData`.
+//! - `FineLot`, `FairCore`, `Record` and `RecordingLot` have no counterpart.
 #![tactic(auto)]
 
 pub mod fair;

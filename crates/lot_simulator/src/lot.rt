@@ -1,4 +1,4 @@
-//! The exclusive lot: the steps of parking on a lot that is borrowed for writing.
+//! This module has the exclusive lot, on which one caller at a time takes the steps of all threads.
 
 ghost use Rattle.std.specs.Prelude.{◌≡◌, ℕ, ◌≢◌, ◌↔◌, ◌<◌, ◌≤◌, ◌*◌, List, Ok, Err, IsTrue, IsOk, IsErrOf, IfOk, OnOk, OnErr, map, length, true, if◌then◌else◌};
 ghost use Rattle.lot_base.specs.Filter.{IsFilterCallable, IsFiltered};
@@ -28,15 +28,19 @@ use std::alloc::Global;
 use std::marker::Model;
 use thread::{Thread, commit, free_threads, start_waiting};
 
-/// A parking lot for one caller at a time, who takes every step of every thread: for schedulers
-/// and simulators.
+/// A `Lot` is a parking lot for one caller at a time, which takes every step of every thread.
 ///
-/// Threads go by their numbers. What each step does is told by the machine that the lot means,
-/// which has one list of waiters for each key. A step that does not fit the status of its thread
-/// answers `Misfit`, changes nothing and calls no closure. Only `new`, `register`, `trim`,
-/// `acquire` and `list` ask for memory. No call takes a lock.
+/// ```
+/// let number = lot.register()?;
+/// lot.enter(number, key, || true, DEFAULT_PARK_TOKEN, false)?;
+/// ```
 ///
-/// Upstream has no such type. Its `park` is `enter`, and after the sleep `resolve`.
+/// It is for simulators and schedulers. Threads are named by their numbers. The contract of each
+/// step says what it does to the machine that the lot means, which has one list of waiters for each
+/// key. A step that is not allowed while its thread has the status that it has returns `Misfit`,
+/// changes nothing and calls no closure.
+///
+/// Only `new`, `register`, `trim`, `acquire` and `list` allocate. No call takes a lock.
 #[derive(Drop)]
 pub struct Lot {
     table: Table,
@@ -59,14 +63,14 @@ impl Model for Lot {
 }
 
 impl Lot {
-    /// A lot for at most this many threads, none of which is registered.
+    /// Creates a lot for at most `max_threads` threads, none of which is registered.
     ///
     /// It allocates the table, which has 16 buckets, and room for what it keeps of each number.
     ///
     /// # Errors
     ///
-    /// `TooManyThreads` exactly if there are more than `MAX_THREADS`, and else `NoMemory` if memory
-    /// cannot be had. Nothing was made then.
+    /// `TooManyThreads` if and only if `max_threads` is above `MAX_THREADS`. Otherwise `NoMemory`
+    /// if there is not enough memory.
     pub fn new(alloc: Global, max_threads: usize) -> Result<Lot, LotError>
         ensures too_many { IsErrOf result LotError.TooManyThreads ↔ (MAX_THREADS < max_threads) }
         ensures not_full { result ≢ Err LotError.Full }
@@ -78,16 +82,16 @@ impl Lot {
         Ok(Lot { table, threads })
     }
 
-    /// Registers a thread under the least free number; it is running then, and has no records. This
-    /// asks for all the memory that the thread's parks will ever need: its node, and what the table
-    /// needs to grow, so that it has three buckets for each thread.
+    /// Registers a thread under the least free number, and returns that number.
     ///
-    /// It is one `Table::register`. Upstream's `park` does it at a thread's first use.
+    /// The thread runs, and has no records. This allocates all memory that the parks of the thread
+    /// will ever need: its node, and what the table needs to grow if it would have fewer than three
+    /// buckets for each thread. It costs one `Table::register`.
     ///
     /// # Errors
     ///
-    /// `Full` exactly if the greatest number of threads is registered, which is tested first, and
-    /// else `NoMemory` if memory cannot be had. Nothing changed then.
+    /// `Full` if and only if the greatest number of threads is already registered. Otherwise
+    /// `NoMemory` if there is not enough memory. Nothing was changed then.
     pub fn register(&mut self) -> Result<usize, LotError>
         ensures full { IsErrOf result LotError.Full ↔ IsFull (machine self.old) }
         ensures not_too_many { result ≢ Err LotError.TooManyThreads }
@@ -109,14 +113,11 @@ impl Lot {
         Ok(number)
     }
 
-    /// Frees the number of a running thread. It drops the thread's node and its records, and
-    /// allocates nothing.
-    ///
-    /// Upstream does it at the end of a thread.
+    /// Gives back the number of a running thread, and drops the thread's node and records.
     ///
     /// # Errors
     ///
-    /// `Misfit` exactly if the thread is not running. Nothing changed then.
+    /// `Misfit` if and only if the thread is not running. Nothing was changed then.
     pub fn retire(&mut self, number: usize) -> Result<(), Misfit>
         ensures fits { IsOk result ↔ ((machine self.old).status number ≡ Status.Running) }
         ensures ok { OnOk result (machine self.new
@@ -129,19 +130,20 @@ impl Lot {
         Ok(())
     }
 
-    /// Makes the table smaller, if it has more buckets than the threads that are registered need:
-    /// than the next power of two of three for each, counted as three threads where there are
-    /// fewer. It fits always, and every list, status and record stays as it was.
+    /// Makes the table smaller, if it has more buckets than its threads need.
     ///
-    /// It is one `Table::trim`: where the table is not too large it costs nothing and asks for no
-    /// memory. Else it asks for the smaller row of buckets, visits each bucket of the larger one
-    /// and each waiting node, and gives all the memory of the larger row back. Upstream's table
-    /// never becomes smaller.
+    /// They need the least power of two that is at least three buckets for each registered thread,
+    /// where fewer than three threads count as three. Every list, status and record stays as it
+    /// was.
+    ///
+    /// It costs one `Table::trim`. If the table is not too large, that is nothing. Otherwise it
+    /// allocates the smaller row of buckets, visits each bucket of the larger one and each waiting
+    /// node, and frees the larger row.
     ///
     /// # Errors
     ///
-    /// `NoMemory` if memory for the smaller row cannot be had, and never where the table is not too
-    /// large. Nothing changed then.
+    /// `NoMemory` if there is not enough memory for the smaller row, and never if the table is not
+    /// too large. Nothing was changed then.
     pub fn trim(&mut self) -> Result<(), NoMemory>
         ensures unchanged { machine self.new ≡ machine self.old }
         ensures size { OnOk result
@@ -154,15 +156,16 @@ impl Lot {
         self.table.trim()
     }
 
-    /// Puts a running thread last in the list of the key, if `validate` answers true: the first
-    /// half of upstream's `park`. Answers what `validate` answered; it is called once.
+    /// Calls `validate` once, puts a running thread last in the list of the key if it returns true,
+    /// and returns what it returned.
     ///
-    /// The park token is what a filter sees of the thread, and `timed` says that its deadline may
-    /// pass. It is one `Bucket::enter`, and allocates nothing.
+    /// Filters see the park token of the thread. `timed` says that its deadline may pass. It costs
+    /// one `Bucket::enter`.
     ///
     /// # Errors
     ///
-    /// `Misfit` exactly if the thread is not running. Nothing changed then, and nothing was called.
+    /// `Misfit` if and only if the thread is not running. Nothing was changed then, and `validate`
+    /// was not called.
     pub fn enter<V: FnOnce() -> bool>(
         &mut self,
         number: usize,
@@ -192,13 +195,11 @@ impl Lot {
         }
     }
 
-    /// Takes the first waiter of the key and hands its thread the token that `callback` answers.
+    /// Takes the first waiter of the key, and gives its thread the token that `callback` returns.
     ///
-    /// `callback` is called once, with the result that is answered too: `(1, 0, more)`, where
-    /// `more` says whether the key has another waiter, or `(0, 0, false)` where nobody waits. What
-    /// it answers then is ignored.
-    ///
-    /// It is one `Bucket::take_one`, and allocates nothing. Upstream has it under this name.
+    /// `callback` is called once, with the result that is also returned: `(1, 0, more)`, where
+    /// `more` says whether the key has another waiter, or `(0, 0, false)` if nobody waits. In that
+    /// case its token is not used. It costs one `Bucket::take_one`.
     pub fn unpark_one<F: FnOnce(UnparkResult) -> UnparkToken>(
         &mut self,
         key: usize,
@@ -217,10 +218,10 @@ impl Lot {
         result
     }
 
-    /// Takes every waiter of the key, in order, hands each thread the token, and answers how many
+    /// Takes every waiter of the key, in order, gives each thread the token, and returns how many
     /// there were.
     ///
-    /// It is one `Bucket::take_all`, and allocates nothing. Upstream has it under this name.
+    /// It costs one `Bucket::take_all`.
     pub fn unpark_all(&mut self, key: usize, unpark_token: UnparkToken) -> usize
         ensures answer { result ≡ length ((machine self.old).lists key) }
         ensures taken { machine self.new
@@ -233,15 +234,13 @@ impl Lot {
         count
     }
 
-    /// Takes the waiters of the key that the filter unparks, in order, and hands each thread the
-    /// token that `callback` answers.
+    /// Takes the waiters of the key for which the filter returns `Unpark`, in order, and gives each
+    /// thread the token that `callback` returns.
     ///
-    /// `filter` is called with the park token of each waiter of the key, in order, until it answers
-    /// `Stop`; that one and all behind it stay. `callback` is called once, then, with the result
-    /// that is answered too: how many were taken, 0, and whether a waiter of the key is left. What
-    /// it answers where none was taken is ignored.
-    ///
-    /// It is one `Bucket::take_filter`, and allocates nothing. Upstream has it under this name.
+    /// `filter` is called with the park token of each waiter of the key, in order, until it returns
+    /// `Stop`; that waiter and all behind it are left. Then `callback` is called once, with the
+    /// result that is also returned: how many threads were taken, 0, and whether a waiter of the
+    /// key is left. If none was taken, its token is not used. It costs one `Bucket::take_filter`.
     pub fn unpark_filter<F: FnMut(ParkToken) -> FilterOp, C: FnOnce(UnparkResult) -> UnparkToken>(
         &mut self,
         key: usize,
@@ -270,10 +269,10 @@ impl Lot {
         result
     }
 
-    /// Does what `unpark_filter` does, for closures that may be called at any time, as those
-    /// without conditions of their own: its caller proves nothing of the waiters.
+    /// Does what `unpark_filter` does, for closures that may be called at any time.
     ///
-    /// Upstream has one function for both.
+    /// Most closures have no conditions of their own. With such closures a caller of this function
+    /// proves nothing about the waiters.
     pub fn unpark_chosen<F: FnMut(ParkToken) -> FilterOp, C: FnOnce(UnparkResult) -> UnparkToken>(
         &mut self,
         key: usize,
@@ -296,16 +295,14 @@ impl Lot {
         self.unpark_filter(key, filter, callback)
     }
 
-    /// Unparks or requeues waiters of the key `from` onto the key `to`, as `validate` chooses. The
+    /// Unparks waiters of the key `from`, or moves them to the key `to`, as `validate` chooses. The
     /// keys may be equal.
     ///
-    /// `validate` is called first. If it aborts, nothing changes, `callback` is not called, and the
-    /// answer is the default result. Otherwise `callback` is called once with the operation and the
-    /// result that is answered too, also where nobody waits; a thread that is unparked is handed
-    /// the token that it answers. Requeued threads stand behind the waiters of `to`, in order.
-    ///
-    /// It is one `Bucket::requeue_one` or `requeue_two`, and allocates nothing. Upstream has it
-    /// under this name.
+    /// `validate` is called first. If it returns `Abort`, nothing changes, `callback` is not
+    /// called, and the default result is returned. Otherwise `callback` is called once, with the
+    /// operation and the result that is also returned, even if nobody waits. A thread that is
+    /// unparked is given the token that it returns. Threads that are moved are behind the waiters
+    /// of `to`, in order. It costs one `Bucket::requeue_one` or `requeue_two`.
     pub fn unpark_requeue<
         V: FnOnce() -> RequeueOp,
         C: FnOnce(RequeueOp, UnparkResult) -> UnparkToken,
@@ -336,13 +333,14 @@ impl Lot {
         result
     }
 
-    /// Lets the deadline of a thread pass that waits with a timeout. It stays in its list, until
-    /// `resolve` or an unpark takes it out. It allocates nothing.
+    /// Lets the deadline pass of a thread that waits with a timeout.
+    ///
+    /// The thread stays in its list until `resolve` or an unpark takes it out.
     ///
     /// # Errors
     ///
-    /// `Misfit` exactly if the thread does not wait with a timeout, or its deadline has passed.
-    /// Nothing changed then.
+    /// `Misfit` if and only if the thread does not wait with a timeout, or its deadline has already
+    /// passed. Nothing was changed then.
     pub fn deadline(&mut self, number: usize) -> Result<(), Misfit>
         ensures fits { IsOk result ↔ ((machine self.old).status number ≡ Status.Waiting true) }
         ensures ok { OnOk result (machine self.new
@@ -354,12 +352,11 @@ impl Lot {
         Ok(())
     }
 
-    /// Gives a thread that was taken its token, and lets it run again: the second half of
-    /// upstream's `park` of a thread that was unparked. It allocates nothing.
+    /// Lets a thread that was taken run again, and returns its token.
     ///
     /// # Errors
     ///
-    /// `Misfit` exactly if the thread was not taken. Nothing changed then.
+    /// `Misfit` if and only if the thread was not taken. Nothing was changed then.
     pub fn give_back(&mut self, number: usize) -> Result<UnparkToken, Misfit>
         ensures fits { IsOk result ↔ IsTrue (is_taken ((machine self.old).status number)) }
         ensures ok { IfOk result (λ token. ((machine self.old).status number ≡ Status.Taken token)
@@ -371,18 +368,17 @@ impl Lot {
         Ok(token)
     }
 
-    /// Ends the park of a thread whose deadline has passed, or that was taken, and lets it run
-    /// again: the second half of upstream's `park`, in full.
+    /// Ends the park of a thread that is late or was taken, and lets it run again.
     ///
-    /// A late thread leaves the list of the key that it waits on, and `timed_out` is called once
-    /// with that key and with whether its list is empty now; the answer is `TimedOut`. It is one
-    /// `Bucket::remove`. One that was taken is given its token, and `timed_out` is not called; the
-    /// answer is `Unparked` and never `Invalid`. It allocates nothing.
+    /// A late thread leaves the list of its key. `timed_out` is called once, with that key and with
+    /// whether its list is empty now, and the result is `TimedOut`. This costs one
+    /// `Bucket::remove`. A thread that was taken gets its token, `timed_out` is not called, and the
+    /// result is `Unparked`. The result is never `Invalid`.
     ///
     /// # Errors
     ///
-    /// `Misfit` exactly if the thread is neither late nor taken. Nothing changed then, and nothing
-    /// was called.
+    /// `Misfit` if and only if the thread is neither late nor taken. Nothing was changed or called
+    /// then.
     pub fn resolve<T: FnOnce(usize, bool)>(
         &mut self,
         number: usize,
@@ -433,16 +429,14 @@ impl Lot {
         answer
     }
 
-    /// Records that a running thread holds the resource of this key. A key that is recorded again
-    /// counts once more.
+    /// Records that a running thread holds the resource of this key.
     ///
-    /// It may ask for memory, for the records alone. Upstream's `deadlock::acquire_resource` does
-    /// it for the thread that runs.
+    /// A key that is recorded again counts once more. It may allocate, for the records alone.
     ///
     /// # Errors
     ///
-    /// `Misfit` exactly if the thread is not running, and else `NoMemory` if memory cannot be had.
-    /// Nothing changed then.
+    /// `Misfit` if and only if the thread is not running. Otherwise `NoMemory` if there is not
+    /// enough memory. Nothing was changed then.
     pub fn acquire(&mut self, number: usize, key: usize) -> Result<(), StepError>
         ensures fits { result ≢ Err StepError.Misfit
             ↔ ((machine self.old).status number ≡ Status.Running) }
@@ -456,15 +450,13 @@ impl Lot {
         Ok(())
     }
 
-    /// Records one less of this key for a running thread. Where the key is not recorded, it changes
-    /// nothing.
+    /// Records this key once less for a running thread, if it was recorded.
     ///
-    /// It searches the thread's records from the last one, and allocates nothing. Upstream's
-    /// `deadlock::release_resource` does it for the thread that runs.
+    /// It searches the thread's records from the last one.
     ///
     /// # Errors
     ///
-    /// `Misfit` exactly if the thread is not running. Nothing changed then.
+    /// `Misfit` if and only if the thread is not running. Nothing was changed then.
     pub fn release(&mut self, number: usize, key: usize) -> Result<(), Misfit>
         ensures fits { IsOk result ↔ ((machine self.old).status number ≡ Status.Running) }
         ensures ok { OnOk result (machine self.new
@@ -476,8 +468,9 @@ impl Lot {
         Ok(())
     }
 
-    /// How often the thread of this number has recorded the key. One that is free has recorded
-    /// nothing. It visits the thread's records.
+    /// Returns how often the thread with this number has recorded the key.
+    ///
+    /// A free number has recorded nothing. It visits the thread's records.
     pub fn records(&self, number: usize, key: usize) -> usize
         ensures { result ≡ (machine self.now).records number key }
     {
@@ -486,11 +479,12 @@ impl Lot {
             .map_or(0, |thread| thread.records(key))
     }
 
-    /// The numbers of the threads that wait on the key, in order. It is one `Bucket::list`.
+    /// Returns the numbers of the threads that wait on the key, in order. It costs one
+    /// `Bucket::list`.
     ///
     /// # Errors
     ///
-    /// `NoMemory` if memory for the list cannot be had. The empty list needs none.
+    /// `NoMemory` if there is not enough memory for the list. An empty list needs none.
     pub fn list(&self, key: usize) -> Result<Vec<usize>, NoMemory>
         ensures refused { OnErr result (IsTrue (has_any ((machine self.now).lists key))) }
         ensures numbers { IfOk result (λ numbers. numbers.items
@@ -499,7 +493,9 @@ impl Lot {
         self.table.list(*self.threads.allocator(), key)
     }
 
-    /// What the number is doing. One that is not below the greatest number of threads is `Free`.
+    /// Returns what the number is doing.
+    ///
+    /// A number that is not below the greatest number of threads is `Free`.
     pub fn status(&self, number: usize) -> Status
         ensures { result ≡ (machine self.now).status number }
     {
@@ -508,10 +504,11 @@ impl Lot {
             .map_or(Status::Free, |thread| thread.status())
     }
 
-    /// Does nothing. Its contract tells what the lot's type keeps: each thread that waits or is
-    /// late stands in one list, once, and any other in none; each waiter is timed as its thread
-    /// waits; a number that is not below the greatest number of threads is free; and a free number
-    /// has no records.
+    /// Does nothing, and states what always holds of a lot.
+    ///
+    /// Each thread that waits or is late is in one list, once, and any other thread is in none. A
+    /// waiter is timed if and only if its thread waits with a timeout. A number that is not below
+    /// the greatest number of threads is free, and a free number has no records.
     pub fn consistency(&self)
         ensures { IsConsistent (machine self.now) }
     {
@@ -519,15 +516,16 @@ impl Lot {
         let _ = &self.threads;
     }
 
-    /// How many threads are registered.
+    /// Returns how many threads are registered.
     pub fn registered(&self) -> usize
         ensures { result ≡ threads_of (machine self.now) }
     {
         self.table.registered()
     }
 
-    /// How many buckets the table has: a power of two from 16 to 65,536, and at least three for
-    /// each registered thread.
+    /// Returns how many buckets the table has.
+    ///
+    /// This is a power of two from 16 to 65,536, and at least three for each registered thread.
     pub fn size(&self) -> usize
         ensures value { result ≡ length self.now.buckets }
         ensures table { IsTableSize result }

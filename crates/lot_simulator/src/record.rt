@@ -1,4 +1,4 @@
-//! Records: an exclusive lot with a journal of what was done on it.
+//! This module has records: an exclusive lot with a journal of what was done on it.
 
 ghost use Rattle.std.specs.Prelude.{◌≡◌, ◌≢◌, ◌↔◌, ◌<◌, ◌≤◌, ◌+◌, [], IsErrOf, IfOk, Err, IsTrue, length};
 ghost use Rattle.lot_simulator.specs.Lot.{machine};
@@ -18,31 +18,32 @@ use std::alloc::Global;
 use std::marker::Model;
 use thiserror::Error;
 
-/// The greatest number of entries that a journal can have room for.
+/// This is the greatest number of entries for which a journal can have room.
 pub const MAX_JOURNAL: usize = 1_048_576;
 
-/// Why a step was not done on a record.
+/// A `RecordError` says why a step was not done on a record.
 #[derive(Copy, Clone, Eq, PartialEq, Debug, Drop, Error)]
 pub enum RecordError {
     /// The journal has no room for the step. The record is as it was.
     #[error("journal is full")]
     JournalFull,
 
-    /// A request for memory was refused. The lot is as it was, and the journal has the step with
-    /// that answer.
+    /// There was not enough memory. The lot is as it was, and the journal has the step with this
+    /// answer.
     #[error("no memory")]
     NoMemory,
 }
 
-/// An exclusive lot, and a journal of the steps that were done on it, each with its answer.
+/// A `Record` has an exclusive lot, and a journal of the steps that were done on it, each with its
+/// answer.
 ///
-/// The journal replays: its steps, done one after another on a new lot, can have its answers, and
-/// then leave that lot as this one is. It has room for a number of entries that `new` is told. Of
-/// that room one entry is set aside for each thread that has entered a queue and whose park has not
-/// ended, and one more while it entered with a timeout and its deadline has not passed; so no
-/// park is refused its end.
+/// The journal can be replayed: if its steps are done one after another on a new lot, they can have
+/// the same answers, and then that lot means what this one means.
 ///
-/// It has no counterpart upstream.
+/// The journal has room for the number of entries that `new` is given. A part of this room is set
+/// aside: one entry for each thread that has entered a list and whose park has not ended, and one
+/// more while such a thread waits with a timeout and its deadline has not passed. So neither a
+/// deadline nor the end of a park ever lacks room.
 #[derive(Drop)]
 pub struct Record {
     lot: Lot,
@@ -75,15 +76,16 @@ impl Model for Record {
 }
 
 impl Record {
-    /// A record of a new lot for at most this many threads, with an empty journal that has room for
-    /// `capacity` entries. No step asks for memory but what the lot asks for.
+    /// Creates a record of a new lot for at most `max_threads` threads, with an empty journal that
+    /// has room for `capacity` entries.
     ///
-    /// It allocates what `Lot::new` does, the journal's room, and a number for each thread.
+    /// It allocates what `Lot::new` does, the room of the journal, and a number for each thread.
+    /// After that, a step allocates only what the lot allocates for it.
     ///
     /// # Errors
     ///
-    /// `TooManyThreads` exactly if there are more than `MAX_THREADS`, and else `NoMemory` if memory
-    /// cannot be had. Nothing was made then.
+    /// `TooManyThreads` if and only if `max_threads` is above `MAX_THREADS`. Otherwise `NoMemory`
+    /// if there is not enough memory.
     pub fn new(alloc: Global, max_threads: usize, capacity: usize) -> Result<Record, LotError>
         requires { capacity ≤ MAX_JOURNAL }
         ensures too_many { IsErrOf result LotError.TooManyThreads ↔ (MAX_THREADS < max_threads) }
@@ -104,37 +106,38 @@ impl Record {
         })
     }
 
-    /// The greatest number of threads. Every number is below it.
+    /// Returns the greatest number of threads. Every thread number is below it.
     pub fn max_threads(&self) -> usize
         ensures { result ≡ (machine self.now.lot).max_threads }
     {
         self.aside.threads()
     }
 
-    /// The lot as it is now.
+    /// Returns the lot as it is now.
     pub fn lot(&self) -> &Lot
         ensures { result.now ≡ self.now.lot }
     {
         &self.lot
     }
 
-    /// The steps that were done, each with its answer, in order.
+    /// Returns the steps that were done, each with its answer, in order.
     pub fn journal(&self) -> &[(Step, Answer)]
         ensures { result.now ≡ self.now.journal }
     {
         self.journal.as_slice()
     }
 
-    /// Does the step as `Lot::apply` does, and journals it with its answer. A step that does not
-    /// fit is answered by `Ok(Misfit)`, and is not journalled.
+    /// Does the step as `Lot::apply` does, and adds it to the journal with its answer.
     ///
-    /// It costs what the lot's call costs that the step names, and a constant besides.
+    /// A step that is not allowed returns `Ok(Misfit)`, and is not added to the journal. It costs
+    /// what the call of the lot costs that the step names, and a constant.
     ///
     /// # Errors
     ///
-    /// `JournalFull` exactly if the step fits and there is no room for it: for its entry, where
-    /// that is not set aside, and for the entries that it sets aside. Nothing changed then.
-    /// `NoMemory` if the lot answered so; this is journalled, and the lot is as before.
+    /// `JournalFull` if and only if the step is allowed and there is no room for it: for its own
+    /// entry, unless that is set aside, and for the entries that it sets aside. Nothing was changed
+    /// then. `NoMemory` if the lot had not enough memory. The journal then has the step with this
+    /// answer, and the lot is as before.
     pub fn step(&mut self, step: Step) -> Result<Answer, RecordError>
         ensures { IsRecorded self.old step result self.new }
     {
@@ -151,8 +154,10 @@ impl Record {
         answer_told(answer)
     }
 
-    /// What holds of every record, for proofs: its journal replays to what its lot means, and its
-    /// entries with those that are set aside have room. It does nothing.
+    /// Does nothing, and states what always holds of a record.
+    ///
+    /// Its journal can be replayed to what its lot means, and there is room for its entries
+    /// together with those that are set aside.
     pub fn consistency(&self)
         ensures { IsRecord self.now }
     {
@@ -169,13 +174,16 @@ impl Record {
     }
 }
 
-/// A step is answered by `Misfit` exactly where it does not fit the status of its thread.
+/// States that a step is answered `Misfit` if and only if it is not allowed while its thread has
+/// the status that it has.
 pub fn misfits_do_not_fit()
     ensures { MisfitsDoNotFit }
 {}
 
-/// For each park that has no outcome yet a journal has an entry set aside, and one more while the
-/// park's deadline may pass; so no record refuses a deadline or the end of a park for want of room.
+/// States that a record never lacks room for a deadline or for the end of a park.
+///
+/// A journal has an entry set aside for each park that has no outcome yet, and one more while the
+/// deadline of the park may pass.
 pub fn ends_have_room()
     ensures entries { ParksHaveEntries }
     ensures room { EndsHaveRoom }

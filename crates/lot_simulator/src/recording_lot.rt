@@ -1,4 +1,5 @@
-//! Recording lots: threads share a record, and whatever they do, its journal replays.
+//! This module has recording lots: threads share a record, and whatever they do, its journal can be
+//! replayed.
 
 ghost use Rattle.std.specs.Prelude.{◌≡◌, ◌≢◌, ◌↔◌, ◌<◌, ◌≤◌, ◌+◌, ◌⊎◌, IsErrOf, IfOk, Err, All, length, vec_len};
 ghost use Rattle.std.specs.List.{sum_by};
@@ -22,29 +23,29 @@ use std::sync::ledger::{Blank, Ledger};
 use std::sync::{Mutex, Wait};
 pub use ticket::Ticket;
 
-/// A record that threads share by reference. Each step is done and journalled under one lock, so
-/// the journal is the history of an exclusive lot, whichever threads took the steps; and it tells
-/// as much as the threads were told: its totals are the sums of their tickets'.
+/// A `RecordingLot` is a record that threads share by reference.
 ///
-/// Each total is counted in a ledger of std's, which the three parameters name; a caller passes
-/// `Brand` for each, and a blank whose parts are as many as the workers.
+/// Each step is done and added to the journal under one lock. So the journal is the history of an
+/// exclusive lot, whichever threads took the steps. It also agrees with what the threads were told:
+/// its totals are the sums of the totals of their tickets.
 ///
-/// It has no counterpart upstream.
+/// Each total is counted in a ledger of std's. The three parameters name these ledgers. A caller
+/// passes `Brand` for each, and a blank whose parts are as many as the workers.
 #[derive(Drop)]
 pub struct RecordingLot<C: Ledger, W: Ledger, U: Ledger> {
     counted: Mutex<Counted<C, W, U>>,
 }
 
 impl<C: Ledger, W: Ledger, U: Ledger> RecordingLot<C, W, U> {
-    /// A recording lot of a new lot for at most this many threads, whose journal has room for
-    /// `capacity` entries, and a ticket for each worker.
+    /// Creates a recording lot and a ticket for each worker.
     ///
-    /// It allocates what `Record::new` does, and room for the tickets.
+    /// Its lot is new, for at most `max_threads` threads, and its journal has room for `capacity`
+    /// entries. It allocates what `Record::new` does, and room for the tickets.
     ///
     /// # Errors
     ///
-    /// `TooManyThreads` exactly if there are more threads or more workers than `MAX_THREADS`, and
-    /// else `NoMemory` if memory cannot be had. Nothing was made then.
+    /// `TooManyThreads` if and only if `max_threads` or `workers` is above `MAX_THREADS`. Otherwise
+    /// `NoMemory` if there is not enough memory.
     pub fn new(
         alloc: Global,
         max_threads: usize,
@@ -97,14 +98,16 @@ impl<C: Ledger, W: Ledger, U: Ledger> RecordingLot<C, W, U> {
         Ok((lot, tickets))
     }
 
-    /// Does the step as `Record::step` does, and adds its answer to the ticket's totals. It takes
-    /// the lot's lock, and waits for it. The contract does not know the record that it finds: it
-    /// says that the answer is one that some record gives to this step. That the step stands in the
-    /// journal with this answer is shown by tests; the contract ties both by the totals alone.
+    /// Does the step as `Record::step` does, and adds its answer to the totals of the ticket.
+    ///
+    /// It takes the lock of the lot, and waits for it. The contract does not know which record it
+    /// finds there, so it says that the answer is one that some record gives to this step. The
+    /// journal is tied to the answers only by the totals; that the step is in the journal with this
+    /// answer is tested.
     ///
     /// # Errors
     ///
-    /// Those of `Record::step`.
+    /// The errors of `Record::step`.
     pub fn step<R: Wait>(
         &self,
         rt: &R,
@@ -121,8 +124,9 @@ impl<C: Ledger, W: Ledger, U: Ledger> RecordingLot<C, W, U> {
         result
     }
 
-    /// Ends the recording: takes the tickets of all workers, and gives the record. It takes no
-    /// lock, since nobody else has the lot any more.
+    /// Ends the recording: takes the tickets of all workers, and returns the record.
+    ///
+    /// It takes no lock, because nobody else has the lot any more.
     pub fn close(self, tickets: Vec<Ticket<C, W, U>>) -> Record
         requires { (C.parts ≡ vec_len tickets) × (W.parts ≡ vec_len tickets)
             × (U.parts ≡ vec_len tickets) }
@@ -135,13 +139,15 @@ impl<C: Ledger, W: Ledger, U: Ledger> RecordingLot<C, W, U> {
     }
 }
 
-/// Whatever threads do on a recording lot, or on a record: the threads that its journal's unparks
-/// unparked are as many as its answers `Unparked` and the threads that are left taken.
+/// States that the threads which the unparks of a journal unparked are as many as its answers
+/// `Unparked` and the threads that are still taken.
+///
+/// It holds whatever threads do on a recording lot or on a record.
 pub fn unparked_are_woken_or_taken()
     ensures { UnparkedAreWokenOrTaken }
 {}
 
-/// No total of a journal is above the number of entries for which it has room.
+/// States that no total of a journal is above the number of entries for which it has room.
 pub fn totals_have_room()
     ensures { TotalsHaveRoom }
 {}

@@ -1,4 +1,5 @@
-//! Schedules: lists of steps of any threads, done one after another on an exclusive lot.
+//! This module has schedules: lists of steps of any threads, which are done one after another on an
+//! exclusive lot.
 
 ghost use Rattle.std.specs.Prelude.{◌≡◌, ℕ, ◌+◌, ◌<◌, ◌++◌, List, length, vec_len, vec_capacity, OnOk, OnErr};
 ghost use Rattle.lot_machine.specs.declared.step.Answer.{Answer};
@@ -17,26 +18,27 @@ pub use lot_machine::step::{Answer, Op, Step};
 
 /// Does the steps one after another, and appends one answer for each.
 ///
-/// The answers are those of a run of the machine with one list of waiters for each key: from what
-/// the lot meant before, by these steps, to what it means after. `Lot::new` says what a new lot
-/// means. A step that does not fit, as every step of a number that is free, is answered by
-/// `Misfit`. A registration, a recording or a trim that finds no memory is answered by `NoMemory`.
+/// The answers are those of a run of the machine with one list of waiters for each key: from the
+/// machine that the lot meant before, by these steps, to the one that it means after. A step that
+/// is not allowed while its thread has the status that it has, such as every step of a free number,
+/// is answered `Misfit`. A registration, an acquire or a trim for which there is not enough memory
+/// is answered `NoMemory`.
 ///
-/// Each thread's parks and outcomes take turns in these answers, so no park has two outcomes; an
-/// outcome comes first only for a thread that was parked before. This follows from the run, by
-/// `laws::parks_and_outcomes_alternate`. Steps and answers leave nothing open about what the lot
-/// means after, by `laws::answers_fix_the_run`.
+/// In these answers the parks and outcomes of each thread take turns, so no park has two outcomes.
+/// An outcome comes first only for a thread that was parked before. This follows from the run, by
+/// `laws::parks_and_outcomes_alternate`. By `laws::answers_fix_the_run`, steps and answers
+/// determine what the lot means after.
 ///
-/// The number of buckets follows steps and answers: it changes at registrations and trims alone,
-/// and keeps three buckets for each registered thread. A trim is refused only where it would make
-/// the table smaller.
+/// The number of buckets follows from steps and answers too: only registrations and trims change
+/// it, and it stays at least three for each registered thread. A trim is refused only if it would
+/// make the table smaller.
 ///
-/// It asks for room for all answers first, and costs what the steps cost.
+/// It first allocates room for all answers, and then costs what the steps cost.
 ///
 /// # Errors
 ///
-/// `NoMemory` if room for the answers cannot be had, and never where `answers` has it. The lot and
-/// the answers are as before then, and `answers` may have more room.
+/// `NoMemory` if there is not enough memory for the answers, and never if `answers` already has
+/// room for them. The lot and the answers are then as before, and `answers` may have more room.
 pub fn run(lot: &mut Lot, steps: &[Step], answers: &mut Vec<Answer>) -> Result<(), NoMemory>
     ensures ran { OnOk result (record {
       given : List Answer;

@@ -1,5 +1,6 @@
-//! The hash table of an exclusive lot: the numbers that threads register under, and the buckets. It
-//! grows with the threads that are registered, and a trim makes it smaller again.
+//! This module has the hash table of an exclusive lot: its thread numbers and its buckets.
+//!
+//! The table grows with the number of registered threads, and a trim makes it smaller again.
 
 ghost use Rattle.std.specs.Prelude.{◌≡◌, ◌≢◌, ◌↔◌, ◌+◌, ◌*◌, ◌<◌, ◌≤◌, [], Some, IsTrue, IsErrOf, IfOk, OnOk, OnErr, length, nat_lt, replicate, slice_set, slice_get};
 ghost use Rattle.lot_base.specs.Place.{IsTableSize, place_of};
@@ -21,14 +22,11 @@ use std::alloc::Global;
 use std::marker::Model;
 use std::mem;
 
-/// The numbers that threads register under, and a row of buckets. The place of a key in that row is
-/// that of `place`.
+/// A `Table` has the numbers under which threads register, and a row of buckets.
 ///
-/// There are always a power of two of buckets, at least 16 and at least 3 for each registered
-/// thread. Each has its own place and the table's size.
-///
-/// Upstream calls the buckets `HashTable` and counts the threads in `NUM_THREADS`. Both are
-/// statics, and there are no numbers: a thread stands in a queue by the address of its data.
+/// A key's bucket is at the place that `place` returns for the key. The number of buckets is always
+/// a power of two, at least 16, and at least 3 for each registered thread. Each bucket knows its
+/// place and the size of the table.
 #[derive(Drop)]
 pub struct Table {
     cells: Vec<Bucket>,
@@ -51,16 +49,14 @@ impl Model for Table {
 }
 
 impl Table {
-    /// Makes a table of 16 empty buckets, for at most `max` threads. No number is registered.
+    /// Creates a table of 16 empty buckets for at most `max` threads, none of which is registered.
     ///
     /// It allocates the room for all numbers and for the buckets.
     ///
     /// # Errors
     ///
-    /// `TooManyThreads` exactly if `max` is above `MAX_THREADS`, and `NoMemory` if memory cannot be
-    /// had. Nothing was made.
-    ///
-    /// Upstream's first table has 16 buckets too, and its number of threads has no limit.
+    /// `TooManyThreads` if and only if `max` is above `MAX_THREADS`. Otherwise `NoMemory` if there
+    /// is not enough memory.
     pub fn new(alloc: Global, max: usize) -> Result<Table, LotError>
         ensures too_many { IsErrOf result LotError.TooManyThreads ↔ (MAX_THREADS < max) }
         ensures not_full { result ≢ Err LotError.Full }
@@ -73,14 +69,14 @@ impl Table {
         Ok(Table { cells, numbers })
     }
 
-    /// How many numbers are registered.
+    /// Returns how many numbers are registered.
     pub fn registered(&self) -> usize
         ensures { result ≡ count_registered self.now.numbers }
     {
         self.numbers.registered()
     }
 
-    /// How many buckets there are.
+    /// Returns how many buckets there are.
     pub fn size(&self) -> usize
         ensures value { result ≡ length self.now.cells }
         ensures table { IsTableSize result }
@@ -89,7 +85,7 @@ impl Table {
         self.cells.len()
     }
 
-    /// Whether one registration more makes it grow.
+    /// Returns whether one more registration makes the table grow.
     pub fn is_too_small_for_one_more(&self) -> bool
         ensures { result
             ≡ nat_lt (length self.now.cells) (3 * (count_registered self.now.numbers + 1)) }
@@ -97,7 +93,7 @@ impl Table {
         self.cells.len() < BUCKETS_PER_THREAD * (self.numbers.registered() + 1)
     }
 
-    /// Whether a trim makes it smaller.
+    /// Returns whether a trim makes the table smaller.
     pub fn is_too_large(&self) -> bool
         ensures { IsTrue result
             ↔ IsTooLarge (count_registered self.now.numbers) (length self.now.cells) }
@@ -105,7 +101,7 @@ impl Table {
         trimmed_size(self.numbers.registered(), self.cells.len()) < self.cells.len()
     }
 
-    /// The bucket at the key's place.
+    /// Returns the bucket of the key.
     pub fn bucket(&self, key: usize) -> &Bucket
         ensures bucket { slice_get self.now.cells (place_of key (length self.now.cells))
             ≡ Some result.now }
@@ -115,22 +111,20 @@ impl Table {
         &self.cells[place(key, self.cells.len())]
     }
 
-    /// Registers the least free number and answers it. A table that would have less than 3 buckets
-    /// for each thread grows to the next power of two of 3 buckets for each; the list of every key
-    /// stays as it was.
+    /// Registers the least free number, and returns it.
     ///
-    /// It passes over the numbers that may be free, up to the one that it answers
-    /// (`Numbers::least_free`), and allocates nothing unless the table grows. Growth allocates the
-    /// buckets of the new table before it changes anything, and then takes each waiting node once
-    /// from its bucket and puts it last, by one `push_back`, into that of its key.
+    /// If the table would have fewer than 3 buckets for each thread, it grows to the least power of
+    /// two that is enough. The list of every key stays as it was.
+    ///
+    /// It looks at the numbers that may be free, up to the one that it returns
+    /// (`Numbers::least_free`), and allocates nothing unless the table grows. To grow, it allocates
+    /// the buckets of the new table before it changes anything. Then it takes each waiting node
+    /// once, and puts it last into the new bucket of its key, by one `push_back`.
     ///
     /// # Errors
     ///
-    /// `Full` exactly if the greatest number of threads is registered, which is tested first, and
-    /// `NoMemory` if memory for a larger table cannot be had. Nothing changed.
-    ///
-    /// Upstream counts the thread first, and its `grow_hashtable` locks all buckets and keeps them
-    /// locked until the new table is published.
+    /// `Full` if and only if the greatest number of threads is already registered. Otherwise
+    /// `NoMemory` if there is not enough memory for a larger table. Nothing was changed then.
     pub fn register(&mut self) -> Result<usize, LotError>
         ensures full { IsErrOf result LotError.Full
             ↔ (count_registered self.old.numbers ≡ length self.old.numbers) }
@@ -154,21 +148,20 @@ impl Table {
         Ok(number)
     }
 
-    /// Makes the table smaller, if it has more buckets than it needs: than the next power of two of
-    /// 3 for each registered thread, counted as 3 threads where there are fewer. Then it has that
-    /// many; the list of every key stays as it was.
+    /// Makes the table smaller, if it has more buckets than it needs.
     ///
-    /// One that is not too large is left, at no cost. Else it allocates the smaller row of buckets
-    /// before it changes anything, visits each bucket of the larger one, takes each waiting node
-    /// once from there and puts it last, by one `push_back`, into the bucket of its key, and then
-    /// gives all the memory of the larger row back.
+    /// It needs the least power of two that is at least 3 buckets for each registered thread, where
+    /// fewer than 3 threads count as 3. The list of every key stays as it was.
+    ///
+    /// If the table is not too large, this costs nothing. Otherwise it allocates the smaller row of
+    /// buckets before it changes anything, visits each bucket of the larger one, takes each waiting
+    /// node once from there, puts it last into the new bucket of its key, by one `push_back`, and
+    /// then frees the larger row.
     ///
     /// # Errors
     ///
-    /// `NoMemory` if memory for the smaller row cannot be had, and never where the table is not too
-    /// large. Nothing changed.
-    ///
-    /// Upstream's table never becomes smaller.
+    /// `NoMemory` if there is not enough memory for the smaller row, and never if the table is not
+    /// too large. Nothing was changed then.
     pub fn trim(&mut self) -> Result<(), NoMemory>
         ensures numbers { self.new.numbers ≡ self.old.numbers }
         ensures size { OnOk result (IsTrimmedSize (count_registered self.old.numbers)
@@ -182,9 +175,9 @@ impl Table {
         resize(&mut self.cells, size)
     }
 
-    /// Frees the number. One that is not registered changes nothing. The table keeps its size.
+    /// Frees the number. If it is not registered, nothing changes.
     ///
-    /// It allocates nothing and passes over nothing. Upstream only counts one thread less.
+    /// The table keeps its size. No number is searched.
     pub fn release(&mut self, number: usize)
         ensures cells { self.new.cells ≡ self.old.cells }
         ensures not_registered { slice_get self.old.numbers number ≢ Some Use.Registered → self.new
@@ -194,7 +187,7 @@ impl Table {
         self.numbers.release(number);
     }
 
-    /// Takes the bucket at the key's place and leaves an empty one there. It allocates nothing.
+    /// Takes the bucket of the key, and leaves an empty one at its place.
     pub fn take(&mut self, key: usize) -> Bucket
         ensures taken { result ≡ bucket_at self.old.cells (place_of key (length self.old.cells)) }
         ensures place { result.place ≡ place_of key (length self.old.cells) }
@@ -210,8 +203,10 @@ impl Table {
         mem::replace(&mut self.cells[place], Bucket::new(place, size))
     }
 
-    /// Puts a bucket of the table's size to its own place, in the place of the bucket there, which
-    /// is dropped with its nodes. It allocates nothing.
+    /// Puts a bucket to its own place.
+    ///
+    /// It has to have the size of the table. The bucket that was at this place is dropped, with its
+    /// nodes.
     pub fn put(&mut self, bucket: Bucket)
         requires { bucket.size ≡ length self.old.cells }
         ensures { self.new

@@ -1,4 +1,4 @@
-//! A fair mutex and a condition variable without threads, on an exclusive lot.
+//! This module has the fair mutex and its condition variable, on an exclusive lot.
 
 ghost use Rattle.std.specs.Prelude.{◌≡◌, ◌≢◌, ◌↔◌, ℕ, ◌<◌, [], Err, IsTrue, IsFalse, IsErrOf, IfOk, OnErr};
 ghost use Rattle.lot_machine.specs.declared.numbers.TheConstants.{MAX_THREADS};
@@ -18,10 +18,10 @@ const MUTEX_KEY: usize = 0;
 /// The key on which threads wait for the condition variable.
 const CONDVAR_KEY: usize = 1;
 
-/// What a thread number is doing.
+/// A `FairStatus` says what a thread number is doing.
 #[derive(Copy, Clone, Eq, PartialEq, Debug)]
 pub enum FairStatus {
-    /// The number is not registered. No step of that number fits.
+    /// The number is not registered. No step of that number is allowed.
     Free,
 
     /// The thread neither holds the mutex nor waits.
@@ -33,10 +33,10 @@ pub enum FairStatus {
     /// The thread waits for the mutex or on the condition variable.
     Queued,
 
-    /// The thread has come to wait on the condition variable, and still holds the mutex.
+    /// The thread is in the list of the condition variable, and still holds the mutex.
     Leaving,
 
-    /// The thread was handed the mutex, and has not returned yet.
+    /// The thread was handed the mutex, and has not gone on yet.
     Handed,
 }
 
@@ -53,14 +53,15 @@ enum Holder {
     Thread(usize),
 }
 
-/// A fair mutex and a condition variable for one caller at a time, who takes every step of every
-/// thread: for schedulers and simulators.
+/// A `FairCore` is a fair mutex and a condition variable for one caller at a time, which takes
+/// every step of every thread.
 ///
-/// Threads go by their numbers. What a step does is told by a small machine, whose state is
-/// `fair_state` of the core: the threads that wait for the mutex, those on the condition variable,
-/// each first in first, and what each thread is doing. A step that does not fit answers `Misfit`
-/// and changes nothing. Only `new`, a registration, and the lists ask for memory. No call takes a
-/// lock.
+/// It is for simulators and schedulers. Threads are named by their numbers. What a step does is
+/// said by a small machine, whose state is `fair_state` of the core: the threads that wait for the
+/// mutex, those that sleep on the condition variable, each in order of arrival, and what each
+/// thread is doing. A step that is not allowed is answered `Misfit` and changes nothing.
+///
+/// Only `new`, a registration and the lists allocate. No call takes a lock.
 #[derive(Drop)]
 pub struct FairCore {
     lot: Lot,
@@ -80,15 +81,15 @@ impl Model for FairCore {
 }
 
 impl FairCore {
-    /// A mutex that nobody holds and a condition variable on which nobody sleeps, for at most this
-    /// many threads, none of which is registered.
+    /// Creates a mutex that nobody holds and a condition variable on which nobody sleeps, for at
+    /// most `max_threads` threads, none of which is registered.
     ///
     /// It costs what `Lot::new` costs.
     ///
     /// # Errors
     ///
-    /// `TooManyThreads` exactly if there are more than `MAX_THREADS`, and else `NoMemory` if memory
-    /// cannot be had. Nothing was made then.
+    /// `TooManyThreads` if and only if `max_threads` is above `MAX_THREADS`. Otherwise `NoMemory`
+    /// if there is not enough memory.
     pub fn new(alloc: Global, max_threads: usize) -> Result<FairCore, LotError>
         ensures too_many { IsErrOf result LotError.TooManyThreads ↔ (MAX_THREADS < max_threads) }
         ensures not_full { result ≢ Err LotError.Full }
@@ -101,11 +102,12 @@ impl FairCore {
         })
     }
 
-    /// The numbers of the threads that wait for the mutex, in order. It is one `Lot::list`.
+    /// Returns the numbers of the threads that wait for the mutex, in order. It costs one
+    /// `Lot::list`.
     ///
     /// # Errors
     ///
-    /// `NoMemory` if memory for the list cannot be had. The empty list needs none.
+    /// `NoMemory` if there is not enough memory for the list. An empty list needs none.
     pub fn waiters(&self) -> Result<Vec<usize>, NoMemory>
         ensures refused { OnErr result ((fair_state self.now).waiters ≢ []) }
         ensures numbers { IfOk result (λ numbers. numbers.items ≡ (fair_state self.now).waiters) }
@@ -113,12 +115,12 @@ impl FairCore {
         self.lot.list(MUTEX_KEY)
     }
 
-    /// The numbers of the threads that sleep on the condition variable, in order. It is one
-    /// `Lot::list`.
+    /// Returns the numbers of the threads that sleep on the condition variable, in order. It costs
+    /// one `Lot::list`.
     ///
     /// # Errors
     ///
-    /// `NoMemory` if memory for the list cannot be had. The empty list needs none.
+    /// `NoMemory` if there is not enough memory for the list. An empty list needs none.
     pub fn sleepers(&self) -> Result<Vec<usize>, NoMemory>
         ensures refused { OnErr result ((fair_state self.now).sleepers ≢ []) }
         ensures numbers { IfOk result (λ numbers. numbers.items ≡ (fair_state self.now).sleepers) }
@@ -126,7 +128,7 @@ impl FairCore {
         self.lot.list(CONDVAR_KEY)
     }
 
-    /// Whether a thread holds the mutex: whether one is holding, leaving or handed it.
+    /// Returns whether a thread holds the mutex: whether one is `Holding`, `Leaving` or `Handed`.
     pub fn is_locked(&self) -> bool
         ensures locked { IsTrue result ↔ IsLocked (fair_state self.now) }
         ensures unlocked { IsFalse result ↔ IsUnlocked (fair_state self.now) }
@@ -134,7 +136,9 @@ impl FairCore {
         self.holder != Holder::Nobody
     }
 
-    /// What the number is doing. One that is not below the greatest number of threads is `Free`.
+    /// Returns what the number is doing.
+    ///
+    /// A number that is not below the greatest number of threads is `Free`.
     pub fn status(&self, number: usize) -> FairStatus
         ensures { result ≡ (fair_state self.now).status number }
     {
@@ -149,9 +153,11 @@ impl FairCore {
         }
     }
 
-    /// Does nothing. Its contract tells what the core's type keeps: at most one thread holds the
-    /// mutex; nobody waits for it while nobody holds it; and each thread that is queued or leaving
-    /// stands in exactly one of the two lists, once, and any other in none.
+    /// Does nothing, and states what always holds of a core.
+    ///
+    /// At most one thread holds the mutex. Nobody waits for it while nobody holds it. Each thread
+    /// that is `Queued` or `Leaving` is in exactly one of the two lists, once, and any other thread
+    /// is in none.
     pub fn consistency(&self)
         ensures { IsFairConsistent (fair_state self.now) }
     {
@@ -159,10 +165,11 @@ impl FairCore {
         let _ = &self.holder;
     }
 
-    /// Does the step, and answers what it gave.
+    /// Does the step, and returns its answer.
     ///
-    /// It costs what the lot's call costs: `register`, `retire`, `enter` at `Lock` and `Wait`,
-    /// `unpark_one` at `Unlock` and `Leave`, `give_back` at `Return`, `unpark_requeue` at a notify.
+    /// It costs what one call of the lot costs: `register`, `retire`, `enter` for `Lock` and
+    /// `Wait`, `unpark_one` for `Unlock` and `Leave`, `give_back` for `Return`, and
+    /// `unpark_requeue` for a notify.
     pub fn apply(&mut self, step: &FairStep) -> FairAnswer
         ensures { IsFairStep (fair_state self.old) step.now result (fair_state self.new) }
     {

@@ -1,4 +1,4 @@
-//! Steps of threads as values, and lists of them.
+//! This module has steps of a fair mutex as values, and does lists of them.
 
 ghost use Rattle.std.specs.Prelude.{◌≡◌, ◌+◌, ◌<◌, ◌++◌, List, length, vec_len, vec_capacity, OnOk, OnErr};
 ghost use Rattle.lot_machine.specs.Run.{IsRun};
@@ -10,25 +10,25 @@ ghost use Rattle.lot_simulator.specs.FairCore.{fair_state};
 use super::fair_core::FairCore;
 use lot_base::token::{NoMemory, UnparkResult};
 
-/// A step of one thread, or a notify, which anybody may do.
+/// A `FairStep` is a step of one thread, or a notify, which anybody may do.
 #[derive(Copy, Clone, Eq, PartialEq, Debug)]
 pub enum FairStep {
-    /// A thread is registered under the least free number, and is idle.
+    /// A thread registers under the least free number, and is idle.
     Register,
 
-    /// The number of an idle thread is free.
+    /// An idle thread gives its number back.
     Retire {
         /// The number of the thread.
         thread: usize,
     },
 
-    /// An idle thread locks the mutex if nobody holds it, and else queues for it.
+    /// An idle thread locks the mutex if nobody holds it, and otherwise queues for it.
     Lock {
         /// The number of the thread.
         thread: usize,
     },
 
-    /// A holding thread hands the mutex to the first that waits for it, or frees it.
+    /// A thread that holds the mutex hands it to the first waiter, or frees it if nobody waits.
     Unlock {
         /// The number of the thread.
         thread: usize,
@@ -40,79 +40,79 @@ pub enum FairStep {
         thread: usize,
     },
 
-    /// A holding thread comes to stand last on the condition variable, with the mutex still held.
+    /// A thread that holds the mutex goes to the end of the list of the condition variable, and
+    /// still holds the mutex.
     Wait {
         /// The number of the thread.
         thread: usize,
     },
 
-    /// A thread that has come to wait lets the mutex go, as `Unlock` does.
+    /// A thread that has gone to the condition variable releases the mutex, as `Unlock` does.
     Leave {
         /// The number of the thread.
         thread: usize,
     },
 
-    /// The first thread on the condition variable is handed the mutex if nobody holds it, and else
-    /// queues for it.
+    /// The first thread on the condition variable is handed the mutex if nobody holds it, and
+    /// otherwise queues for it.
     NotifyOne,
 
-    /// Each thread on the condition variable queues for the mutex, in order, but that the first is
-    /// handed it if nobody holds it.
+    /// All threads on the condition variable queue for the mutex, in order. If nobody holds it, the
+    /// first is handed it.
     NotifyAll,
 }
 
-/// What a step answers.
+/// A `FairAnswer` is what a step tells its caller.
 #[derive(Copy, Clone, Eq, PartialEq, Debug)]
 pub enum FairAnswer {
     /// A thread was registered under this number.
     Registered(usize),
 
-    /// The greatest number of threads is registered.
+    /// The greatest number of threads is already registered.
     Full,
 
-    /// A request for memory was refused, at a registration.
+    /// There was not enough memory for a registration.
     NoMemory,
 
-    /// The thread's number is free.
+    /// The number of the thread is free.
     Retired,
 
     /// The thread holds the mutex.
     Locked,
 
-    /// The thread stands last among those who wait for the mutex.
+    /// The thread is the last of those that wait for the mutex.
     Queued,
 
-    /// The thread let the mutex go.
+    /// The thread has released the mutex.
     Unlocked {
-        /// Whether it was handed to a waiter, which may be the same thread.
+        /// Says whether the mutex was handed to a waiter, which may be the same thread.
         handed: bool,
     },
 
-    /// The thread stands last on the condition variable, and has still to leave the mutex.
+    /// The thread is the last on the condition variable, and still has to leave the mutex.
     Waiting,
 
-    /// What a notify did: how many threads were handed the mutex, how many it moved behind those
-    /// who wait for it, and whether any still sleeps.
+    /// This is what a notify did: how many threads were handed the mutex, how many were moved
+    /// behind those that wait for it, and whether any still sleep.
     Notified(UnparkResult),
 
-    /// The step does not fit the status of its thread.
+    /// The step is not allowed while its thread has the status that it has. Nothing was changed.
     Misfit,
 }
 
 /// Does the steps one after another, and appends one answer for each.
 ///
 /// The answers are those of a run of the machine of a fair mutex, from the state of the core before
-/// to its state after; `FairCore::new` says what the state of a new core is. In every state at most
-/// one thread holds the mutex, and nobody waits for it while nobody holds it. A step that does not
-/// fit is answered by `Misfit`, and a registration that finds no memory by `NoMemory`; neither
-/// changes anything.
+/// to its state after. In every state at most one thread holds the mutex, and nobody waits for it
+/// while nobody holds it. A step that is not allowed is answered `Misfit`, and a registration for
+/// which there is not enough memory is answered `NoMemory`. Neither changes anything.
 ///
-/// It asks for room for all answers first, and costs what the steps cost.
+/// It first allocates room for all answers, and then costs what the steps cost.
 ///
 /// # Errors
 ///
-/// `NoMemory` if room for the answers cannot be had, and never where `answers` has it. The core and
-/// the answers are as before then, and `answers` may have more room.
+/// `NoMemory` if there is not enough memory for the answers, and never if `answers` already has
+/// room for them. The core and the answers are then as before, and `answers` may have more room.
 pub fn run_fair(
     core: &mut FairCore,
     steps: &[FairStep],

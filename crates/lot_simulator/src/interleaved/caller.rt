@@ -1,4 +1,4 @@
-//! What an interleaved lot keeps for each caller.
+//! This module has what an interleaved lot keeps for each caller.
 
 ghost use Rattle.std.specs.Prelude.{◌≡◌, ◌≢◌, ◌↔◌, ◌+◌, ◌-◌, ◌≤◌, ◌==◌, ◌&&◌, List, [], ◌∷◌, true, Some, None, is_some, is_none, IsOk, IfOk, OnOk, OnErr, IfSome, IfNone, length, map, replicate};
 ghost use Rattle.std.specs.List.{list_any};

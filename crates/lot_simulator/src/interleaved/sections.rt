@@ -1,4 +1,4 @@
-//! The beginning of a section of an interleaved lot, on its table and its threads.
+//! This module begins a section of an interleaved lot, on its table and its threads.
 
 ghost use Rattle.std.specs.Prelude.{◌≡◌, length, map};
 ghost use Rattle.lot_base.specs.NodeLists.{saturated, split_to, with_saturated_counts, with_token};

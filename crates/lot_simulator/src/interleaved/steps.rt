@@ -1,4 +1,5 @@
-//! The steps of an interleaved lot. Each does what the interleaved machine's rule says.
+//! This module has the steps of an interleaved lot. Each does what the rule of the interleaved
+//! machine says.
 
 ghost use Rattle.std.specs.Prelude.{ℕ, ◌≡◌, false, true, Some, None};
 ghost use Rattle.std.specs.List.{list_any};

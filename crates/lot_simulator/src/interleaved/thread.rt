@@ -1,4 +1,5 @@
-//! What an interleaved lot keeps for each thread number, and where the thread's node is.
+//! This module has what an interleaved lot keeps for each thread number, and where the thread's
+//! node is.
 
 ghost use Rattle.std.specs.Prelude.{◌≡◌, ◌≢◌, ◌↔◌, [], Bool, true, Some, None, Err, IsTrue, IsOk, IfOk, OnOk, OnErr, IfSome, IfNone, map};
 ghost use Rattle.std.specs.List.{range_with_len};

@@ -1,4 +1,4 @@
-//! The sequential steps to which an interleaved run amounts.
+//! This module finds the sequential steps to which an interleaved run amounts.
 
 ghost use Rattle.std.specs.Prelude.{◌≡◌, ◌+◌, ◌<◌, ◌≤◌, ◌++◌, ◌==◌, IfOk, OnErr, length, vec_capacity, vec_len};
 ghost use Rattle.std.specs.List.{list_any};

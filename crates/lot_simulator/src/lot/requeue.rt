@@ -1,4 +1,5 @@
-//! A requeue on the table of an exclusive lot: within one bucket, or from one to another.
+//! This module does a requeue on the table of an exclusive lot, within one bucket or from one
+//! bucket to another.
 
 ghost use Rattle.std.specs.Prelude.{◌≡◌, ◌≢◌, map};
 ghost use Rattle.lot_base.specs.Requeue.{numbers};

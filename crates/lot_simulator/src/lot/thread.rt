@@ -1,4 +1,4 @@
-//! What a lot keeps for each thread number, and where the thread's node is.
+//! This module has what a lot keeps for each thread number, and where the thread's node is.
 
 ghost use Rattle.std.specs.Prelude.{◌≡◌, ◌≢◌, ◌↔◌, true, [], Err, IsTrue, IsOk, IfOk, OnOk, OnErr, map, slice_set};
 ghost use Rattle.std.specs.List.{range_with_len};
@@ -27,12 +27,12 @@ enum State {
     Taken(Box<Node>),
 }
 
-/// What a lot keeps for a thread number: what the thread is doing, the key that it waits on or last
-/// came to wait on, its records of what it holds, and its node while it runs or is taken.
+/// A `Thread` is what a lot keeps for one thread number.
 ///
-/// Both lots without threads have one for each number: the exclusive lot as it stands, and the
-/// interleaved lot, for which no thread is ever taken, beside its slot. Upstream's `ThreadData` has
-/// parts of it.
+/// It has the status of the thread, the key on which the thread waits or last waited, the records
+/// of what the thread holds, and the thread's node while the thread runs or is taken. Both lots
+/// without threads have one for each number. In the interleaved lot no `Thread` is ever taken,
+/// because a slot beside it has the node then.
 #[derive(Drop)]
 pub struct Thread {
     number: usize,
@@ -59,7 +59,7 @@ impl Model for Thread {
 }
 
 impl Thread {
-    /// A free number, with the key 0 and no records. It asks for no memory.
+    /// Creates a free number, with key 0 and no records. It allocates nothing.
     pub fn new(alloc: Global, number: usize) -> Thread
         ensures { result ≡ free_thread number }
     {
@@ -71,21 +71,21 @@ impl Thread {
         }
     }
 
-    /// The key that was set last.
+    /// Returns the key that was set last.
     pub fn key(&self) -> usize
         ensures { result ≡ self.now.key }
     {
         self.key
     }
 
-    /// Sets the key, which is that of the list in which a waiting thread stands.
+    /// Sets the key, which is that of the list in which a waiting thread is.
     pub fn set_key(&mut self, key: usize)
         ensures { self.new ≡ record self.old { key = key } }
     {
         self.key = key;
     }
 
-    /// What the thread is doing.
+    /// Returns the status of the thread.
     pub fn status(&self) -> Status
         ensures { result ≡ self.now.status }
     {
@@ -98,7 +98,7 @@ impl Thread {
         }
     }
 
-    /// Gives the thread of a free number its node, and lets it run.
+    /// Gives a free number its node, and lets its thread run.
     pub fn register(&mut self, node: Box<Node>)
         requires number { (fields node.value).number ≡ self.old.number }
         requires free { self.old.status ≡ Status.Free }
@@ -107,11 +107,11 @@ impl Thread {
         self.state = State::Running(node);
     }
 
-    /// Drops the node and the records of a running thread, whose number is free then.
+    /// Drops the node and the records of a running thread, whose number is then free.
     ///
     /// # Errors
     ///
-    /// `Misfit` exactly if the thread is not running. Nothing changed then.
+    /// `Misfit` if and only if the thread is not running. Nothing was changed then.
     pub fn retire(&mut self) -> Result<(), Misfit>
         ensures fits { IsOk result ↔ (self.old.status ≡ Status.Running) }
         ensures ok { OnOk result (self.new
@@ -130,11 +130,11 @@ impl Thread {
         }
     }
 
-    /// Takes the node of a running thread, which waits from then on. Its key stays.
+    /// Takes the node of a running thread, which waits from then on. Its key stays as it is.
     ///
     /// # Errors
     ///
-    /// `Misfit` exactly if the thread is not running. Nothing changed then.
+    /// `Misfit` if and only if the thread is not running. Nothing was changed then.
     pub fn start_waiting(&mut self, timed: bool) -> Result<Box<Node>, Misfit>
         ensures fits { IsOk result ↔ (self.old.status ≡ Status.Running) }
         ensures ok { IfOk result (λ node. ((fields node.value).number ≡ self.old.number)
@@ -150,7 +150,7 @@ impl Thread {
         }
     }
 
-    /// Gives a thread that waits in no queue any more its node back, and lets it run.
+    /// Gives its node back to a thread that is no longer in a list, and lets the thread run.
     pub fn stop_waiting(&mut self, node: Box<Node>)
         requires number { (fields node.value).number ≡ self.old.number }
         requires queued { IsTrue (is_queued self.old.status) }
@@ -171,11 +171,12 @@ impl Thread {
         self.state = State::Taken(node);
     }
 
-    /// Lets the deadline of a thread pass that waits with a timeout.
+    /// Lets the deadline pass of a thread that waits with a timeout.
     ///
     /// # Errors
     ///
-    /// `Misfit` exactly if the thread does not wait with a timeout. Nothing changed then.
+    /// `Misfit` if and only if the thread does not wait with a timeout, or its deadline has already
+    /// passed. Nothing was changed then.
     pub fn deadline(&mut self) -> Result<(), Misfit>
         ensures fits { IsOk result ↔ (self.old.status ≡ Status.Waiting true) }
         ensures ok { OnOk result (self.new ≡ record self.old { status = Status.Late }) }
@@ -195,12 +196,12 @@ impl Thread {
         self.records.times(key)
     }
 
-    /// Records the key once more for a running thread. It may ask for memory.
+    /// Records the key once more for a running thread. It may allocate.
     ///
     /// # Errors
     ///
-    /// `Misfit` exactly if the thread is not running, and else `NoMemory` if memory cannot be had.
-    /// Nothing changed then.
+    /// `Misfit` if and only if the thread is not running. Otherwise `NoMemory` if there is not
+    /// enough memory. Nothing was changed then.
     pub fn acquire(&mut self, key: usize) -> Result<(), StepError>
         ensures fits { result ≢ Err StepError.Misfit ↔ (self.old.status ≡ Status.Running) }
         ensures kept { self.new ≡ record self.old { records = self.new.records } }
@@ -221,7 +222,7 @@ impl Thread {
     ///
     /// # Errors
     ///
-    /// `Misfit` exactly if the thread is not running. Nothing changed then.
+    /// `Misfit` if and only if the thread is not running. Nothing was changed then.
     pub fn release(&mut self, key: usize) -> Result<(), Misfit>
         ensures fits { IsOk result ↔ (self.old.status ≡ Status.Running) }
         ensures kept { self.new ≡ record self.old { records = self.new.records } }

@@ -1,4 +1,4 @@
-//! How many entries of a journal are set aside for each thread.
+//! This module counts how many entries of a journal are set aside for each thread.
 
 ghost use Rattle.std.specs.Prelude.{◌≡◌, ◌+◌, ◌<◌, ◌^◌, IfOk, IfSome, length, replicate};
 ghost use Rattle.std.specs.List.{sum};

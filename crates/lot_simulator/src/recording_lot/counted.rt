@@ -1,4 +1,4 @@
-//! What the lock of a recording lot keeps.
+//! This module has what the lock of a recording lot protects.
 
 ghost use Rattle.std.specs.Prelude.{◌≡◌, length, vec_len};
 ghost use Rattle.std.specs.List.{sum_by};

@@ -1,4 +1,4 @@
-//! One of a ticket's totals.
+//! This module has one of the totals of a ticket.
 
 ghost use Rattle.std.specs.Prelude.{◌≡◌, ◌+◌, ◌<◌, ◌^◌};
 

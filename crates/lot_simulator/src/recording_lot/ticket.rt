@@ -1,4 +1,4 @@
-//! What a worker of a recording lot was told, added up.
+//! This module adds up what a worker of a recording lot was told.
 
 ghost use Rattle.std.specs.Prelude.{◌≡◌, ◌+◌};
 ghost use Rattle.lot_simulator.specs.TicketState.{TicketState, new_ticket};
@@ -7,10 +7,11 @@ use super::tally::Tally;
 use std::marker::Model;
 use std::sync::ledger::{Ledger, Share};
 
-/// A worker's right to take steps on a recording lot, and the totals of what it was told of them.
+/// A `Ticket` is a worker's right to take steps on a recording lot, and the totals of what it was
+/// told.
 ///
-/// Each worker has one, and it cannot be copied. `RecordingLot::close` takes all of them; one that
-/// is dropped before leaves a lot that cannot be closed.
+/// Each worker has one, and it cannot be copied. `RecordingLot::close` takes all of them. If one is
+/// dropped before, the lot can never be closed.
 #[derive(Drop)]
 pub struct Ticket<C: Ledger, W: Ledger, U: Ledger> {
     pub(super) count: Tally<C>,
@@ -44,21 +45,21 @@ impl<C: Ledger, W: Ledger, U: Ledger> Ticket<C, W, U> {
         }
     }
 
-    /// How many of its steps were journalled.
+    /// Returns how many of its steps were added to the journal.
     pub fn count(&self) -> usize
         ensures { result ≡ self.now.count }
     {
         self.count.total()
     }
 
-    /// How many of its steps were answered by `Unparked`.
+    /// Returns how many of its steps were answered `Unparked`.
     pub fn woken(&self) -> usize
         ensures { result ≡ self.now.woken }
     {
         self.woken.total()
     }
 
-    /// How many threads its unparks unparked.
+    /// Returns how many threads its unparks unparked.
     pub fn unparked(&self) -> usize
         ensures { result ≡ self.now.unparked }
     {

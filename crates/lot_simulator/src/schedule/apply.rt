@@ -1,4 +1,5 @@
-//! How a step is applied: by the lot's call that it names, with closures that answer as it says.
+//! This module does a step by the call of the lot that it names, with closures that return what the
+//! step says.
 
 ghost use Rattle.std.specs.Prelude.{◌≡◌, length};
 ghost use Rattle.lot_base.specs.Waiting.{result_of, split_filter};
@@ -17,7 +18,7 @@ use lot_base::token::{
 };
 
 impl Lot {
-    /// Does the step, with closures that answer as the step says, and answers what it gave.
+    /// Does the step, with closures that return what the step says, and returns its answer.
     ///
     /// It costs what the call costs that the step names.
     pub fn apply(&mut self, step: &Step) -> Answer

@@ -1,4 +1,4 @@
-//! How nodes move into the buckets of a larger or smaller table.
+//! This module moves nodes into the buckets of a larger or smaller table.
 
 ghost use Rattle.std.specs.Prelude.{◌≡◌, ◌≢◌, ◌*◌, ◌≤◌, ◌++◌, ◌∷◌, [], ℕ, IfOk, OnOk, OnErr, All, length};
 ghost use Rattle.lot_base.specs.BucketState.{KeepsPlace};
@@ -14,11 +14,11 @@ use lot_base::queue::Node;
 use lot_base::token::NoMemory;
 use std::alloc::Global;
 
-/// Empty buckets, one for each place of a table of this size. It allocates the row alone.
+/// Creates an empty bucket for each place of a table of `size` buckets. It allocates the row alone.
 ///
 /// # Errors
 ///
-/// `NoMemory` if memory cannot be had.
+/// `NoMemory` if there is not enough memory.
 pub(super) fn empty_buckets(alloc: Global, size: usize) -> Result<Vec<Bucket>, NoMemory>
     requires { IsTableSize size }
     ensures count { IfOk result (λ row. length row.items ≡ size) }
@@ -31,8 +31,7 @@ pub(super) fn empty_buckets(alloc: Global, size: usize) -> Result<Vec<Bucket>, N
     Ok(row)
 }
 
-/// Moves the nodes of the bucket into the buckets of their keys, in order. It takes each node once
-/// and allocates nothing.
+/// Moves the nodes of the bucket into the buckets of their keys, in order. It takes each node once.
 fn rehash_bucket(bucket: &mut Bucket, row: &mut Vec<Bucket>)
     requires size { IsTableSize (length row.old.items) }
     requires row { IsRowOf (length row.old.items) row.old.items }

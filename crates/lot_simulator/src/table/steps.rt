@@ -1,5 +1,7 @@
-//! The steps of parking on a table: each is done by the bucket of its key, or by those of its two
-//! keys, and told by what becomes of the lists of all keys.
+//! This module has the steps of parking on a table.
+//!
+//! Each step is done by the bucket of its key, or by those of its two keys. The contract says what
+//! becomes of the lists of all keys.
 
 ghost use Rattle.std.specs.Prelude.{◌≡◌, List, IsTrue, IfErr, IfOk, IfSome, OnOk, OnErr, MatchOption, Some, None, is_ok, length, not};
 ghost use Rattle.std.specs.List.{find};
@@ -21,10 +23,13 @@ use lot_base::token::{FilterOp, NoMemory, ParkToken, RequeueOp, UnparkResult, Un
 use std::alloc::Global;
 
 impl Table {
-    /// Puts the node last in the list of its key, or gives it back if `validate` answers false.
+    /// Calls `validate` once, and puts the node last in the list of its key if it returns true.
     ///
-    /// It is one `Bucket::enter`, and allocates nothing. Upstream's `park` does it while it has the
-    /// bucket locked.
+    /// It costs one `Bucket::enter`.
+    ///
+    /// # Errors
+    ///
+    /// The node itself, if `validate` returns false. Nothing was changed then.
     pub fn enter<V: FnOnce() -> bool>(
         &mut self,
         node: Box<Node>,
@@ -46,10 +51,9 @@ impl Table {
         entered
     }
 
-    /// Takes the first waiter of the key, with the token that `callback` answers; the answer is as
-    /// that of `Bucket::take_one`.
+    /// Takes the first waiter of the key, with the token that `callback` returns.
     ///
-    /// It is one `Bucket::take_one`, and allocates nothing.
+    /// It calls `callback` and returns as `Bucket::take_one` does, and costs one call of it.
     pub fn take_one<C: FnOnce(UnparkResult) -> UnparkToken>(
         &mut self,
         key: usize,
@@ -70,10 +74,9 @@ impl Table {
         done
     }
 
-    /// Takes all waiters of the key, in order, with the token, and answers how many there were, or
-    /// `usize::MAX` where no `usize` can hold the count.
+    /// Takes all waiters of the key, in order, with the token, and returns how many there were.
     ///
-    /// It is one `Bucket::take_all`, and allocates nothing.
+    /// The count is `usize::MAX` if no `usize` can hold it. It costs one `Bucket::take_all`.
     pub fn take_all(&mut self, key: usize, token: UnparkToken) -> (usize, Queue)
         requires { Represents self.old.cells (waiters_in self.old.cells) }
 
@@ -88,10 +91,10 @@ impl Table {
         done
     }
 
-    /// Takes those waiters of the key that the filter unparks, in order, with the token that
-    /// `callback` answers; the closures are called as by `Bucket::take_filter`.
+    /// Takes the waiters of the key for which the filter returns `Unpark`, in order, with the token
+    /// that `callback` returns.
     ///
-    /// It is one `Bucket::take_filter`, and allocates nothing.
+    /// It calls the closures as `Bucket::take_filter` does, and costs one call of it.
     pub fn take_filter<F: FnMut(ParkToken) -> FilterOp, C: FnOnce(UnparkResult) -> UnparkToken>(
         &mut self,
         key: usize,
@@ -122,12 +125,11 @@ impl Table {
         done
     }
 
-    /// Requeues waiters of the key `from` onto the key `to`, as `validate` chooses; `moved` is
-    /// called with the number of each that moves and with whether it is timed, in order, before
-    /// `callback`.
+    /// Unparks waiters of the key `from`, or moves them to the key `to`, as `validate` chooses.
     ///
-    /// It is one `Bucket::requeue_one`, or `requeue_two` where the keys have different places, and
-    /// allocates nothing.
+    /// `moved` is called for each thread that is moved, in order, with its number and whether it
+    /// waits with a timeout, before `callback` is called. It costs one `Bucket::requeue_one`, or
+    /// one `requeue_two` if the keys have different places.
     pub fn requeue<
         V: FnOnce() -> RequeueOp,
         C: FnOnce(RequeueOp, UnparkResult) -> UnparkToken,
@@ -169,11 +171,11 @@ impl Table {
         done
     }
 
-    /// Takes the waiter of this number out of the list of the key, if it is there, and answers its
-    /// node and what `timed_out` answered, which is called with the key and with whether nobody
-    /// else is in its list.
+    /// Takes the waiter with this number out of the list of the key, if it is there, and returns
+    /// its node and what `timed_out` returned.
     ///
-    /// It is one `Bucket::remove`, and allocates nothing.
+    /// `timed_out` is called with the key, and with whether nobody else is in its list. It costs
+    /// one `Bucket::remove`.
     pub fn remove<A, T: FnOnce(usize, bool) -> A>(
         &mut self,
         number: usize,
@@ -203,11 +205,11 @@ impl Table {
         removed
     }
 
-    /// The numbers of the waiters of the key, in order. It is one `Bucket::list`.
+    /// Returns the numbers of the waiters of the key, in order. It costs one `Bucket::list`.
     ///
     /// # Errors
     ///
-    /// `NoMemory` if memory for the list cannot be had. The empty list needs none.
+    /// `NoMemory` if there is not enough memory for the list. An empty list needs none.
     pub fn list(&self, alloc: Global, key: usize) -> Result<Vec<usize>, NoMemory>
         ensures refused { OnErr result (IsTrue (has_any (nodes_in self.now.cells key))) }
         ensures told { IfOk result (λ list. list.items ≡ numbers (nodes_in self.now.cells key)) }
