@@ -1,8 +1,11 @@
-//! Scripts: steps and questions to an exclusive lot as lines of text, and an answer for each line.
+//! This module has scripts: each line is a step of an exclusive lot or a question to it, and gets
+//! an answer.
 //!
-//! The first line is `lot M` and makes a lot for at most `M` threads. Each other line is a step or
-//! a question. A line is words with one blank between two, and at most 4,096 bytes; numbers are
-//! decimal, without leading zeros, up to `usize::MAX`. The last line may lack its line feed.
+//! The first line is `lot M`, which creates a lot for at most `M` threads. Each other line is a
+//! step or a question. The README of the crate lists all of them.
+//!
+//! A line consists of words with one blank between two, and has at most 4,096 bytes. Numbers are
+//! decimal, without leading zeros, up to `usize::MAX`. The last line need not end in a line feed.
 
 ghost use Rattle.std.specs.Prelude.{◌≡◌, ℕ, List, option_map, IfSome, IfErr};
 ghost use Rattle.std.specs.Io.KnownBytes.{Appends, Keeps};
@@ -34,18 +37,40 @@ use std::io::{BufRead, Write};
 
 /// Does the lines of the input one after another, and writes an answer for each.
 ///
-/// The lot lives as long as the call. Each line is read, done and answered before the next is
-/// read, so the memory for lines is that of the longest, at most 4,096 bytes. Lines are read by
-/// `fill_buf` and `consume` alone. Answers are written by `write` alone, in pieces, without a
-/// request for memory; at the end of the input the writer is flushed. A read that was interrupted
-/// is tried again, a write is not. It takes no lock. It has no counterpart upstream.
+/// ```text
+/// lot 2
+/// register
+/// enter 0 7 yes 0 untimed
+/// one 7 42
+/// return 0
+/// ```
+///
+/// These lines are answered
+///
+/// ```text
+/// ok
+/// number 0
+/// entered
+/// unparked 1 requeued 0 more false
+/// unparked 42
+/// ```
+///
+/// The lot is dropped at the end of the call. Each line is read, done and answered before the next
+/// one is read, so the lines need the memory of the longest of them, at most 4,096 bytes. It takes
+/// no lock.
+///
+/// Lines are read by `fill_buf` and `consume` alone. Answers are written by `write` alone, in
+/// pieces, and this allocates nothing. At the end of the input the writer is flushed. A read that
+/// was interrupted is tried again; a write is not.
 ///
 /// # Errors
 ///
 /// The fault of the first line that cannot be done or answered. The answers of the lines before it
-/// are written; none of its own is, but at `WriteFailed` a beginning of it may be, and all of it if
-/// the flush at the end fails, which is a fault of the last line. A step or a list for which the
-/// lot has no memory is no fault: it is answered `no memory`, and the script goes on.
+/// are written, and nothing of its own answer. Only after `WriteFailed` a beginning of its answer
+/// may be written, or all of it if the flush at the end failed, which is a fault of the last line.
+///
+/// If the lot has not enough memory for a step or a list, that is no fault. The answer is `no
+/// memory`, and the script goes on.
 pub fn script<R: BufRead + Drop, W: Write>(
     alloc: Global,
     mut input: R,

@@ -1,4 +1,4 @@
-//! Scripts over ends that have no buffers.
+//! This module does scripts over readers and writers that have no buffers.
 
 ghost use Rattle.std.specs.Prelude.{◌≡◌, ◌≢◌, ◌≤◌, ◌+◌, [], min, Ok, Err, IfSome, IfErr, IsErrAnd, OnOk, MatchResult};
 ghost use Rattle.std.specs.Io.Buffered.{reader_remaining, writer_contents, writer_buffer};
@@ -18,18 +18,20 @@ use line_counter::LineCounter;
 use std::alloc::Global;
 use std::io::{BufReader, BufWriter, Read, Write};
 
-/// Does the lines of the input as `script` does, over ends without buffers: both get one here. Its
-/// contract says that it ends as a script may; what it writes is shown by tests.
+/// Does the lines of the input as `script` does, and gives the reader and the writer a buffer each.
 ///
-/// Answers that are held back are written out before a read of the input, which may wait, and at
-/// the end or a fault. So a line that is typed is answered at once, and a file at full speed. Once
-/// a write or a flush failed, nothing more is read, done or written.
+/// Answers that are held back are written before the input is read again, which may wait, and at
+/// the end or a fault. So a line that is typed is answered at once, and a file is answered at full
+/// speed. After a write or a flush has failed, nothing more is read, done or written.
+///
+/// The contract says that it ends as a script may. What it writes is tested.
 ///
 /// # Errors
 ///
-/// As `script`; without memory for the buffers, `NoMemory` at line 1. At `WriteFailed` the line is
-/// the first whose answer was not written whole, though lines behind it may be done; where all
-/// were written and the flush alone failed, it is the last line that was answered.
+/// The errors of `script`, and `NoMemory` at line 1 if there is not enough memory for the buffers.
+/// After `WriteFailed` the line is the first one whose answer was not written as a whole, and lines
+/// after it may have been done. If all answers were written and only the flush failed, it is the
+/// last line that was answered.
 pub fn buffered_script<R: Read + Drop, W: Write>(
     alloc: Global,
     input: R,

@@ -1,4 +1,4 @@
-//! What a line of a script asks for.
+//! This module has the commands of which a script consists.
 
 ghost use Rattle.std.specs.Prelude.{◌≡◌, IfOk, IfErr, IsErrOf, ◌⊎◌};
 ghost use Rattle.lot_script.specs.declared.script.command.Command.{Command};
@@ -11,19 +11,19 @@ use super::parse::parse_command;
 use lot_simulator::schedule::Step;
 use std::alloc::Global;
 
-/// What a line of a script but the first asks for.
+/// A `Command` is what a line of a script asks for, except the first line.
 #[derive(Drop)]
 pub enum Command {
-    /// A step of the lot.
+    /// The line asks for a step of the lot.
     Do(Step),
 
-    /// Who waits on the key?
+    /// The line asks which threads wait on the key.
     List {
         /// The key.
         key: usize,
     },
 
-    /// How often has the thread recorded the key?
+    /// The line asks how often the thread has recorded the key.
     Records {
         /// The number of the thread.
         thread: usize,
@@ -31,18 +31,19 @@ pub enum Command {
         key: usize,
     },
 
-    /// How many buckets has the table, and how many threads are registered?
+    /// The line asks how many buckets the table has, and how many threads are registered.
     Size,
 }
 
 impl Command {
-    /// What the line asks for, which stands here without its line feed. The decisions of a filter
-    /// ask for memory.
+    /// Returns what the line asks for.
+    ///
+    /// `line` is without its line feed. It allocates for the decisions of a filter.
     ///
     /// # Errors
     ///
-    /// `BadStep` if the line has the words of no command, and else `NoMemory` if memory cannot be
-    /// had.
+    /// `BadStep` if the words of the line are no command. Otherwise `NoMemory` if there is not
+    /// enough memory.
     pub fn of(alloc: Global, line: &[u8]) -> Result<Command, Cause>
         ensures found { IfOk result (λ command. IsLine (command_words command) line.now) }
         ensures bad { IsErrOf result Cause.BadStep

@@ -1,4 +1,4 @@
-//! Why a script stopped.
+//! This module has the causes for which a script stops.
 
 ghost use Rattle.std.specs.Prelude.{◌≡◌};
 ghost use Rattle.lot_script.specs.declared.script.fault.Cause.{Cause};
@@ -6,11 +6,11 @@ ghost use Rattle.lot_script.specs.declared.script.fault.Cause.{Cause};
 use std::alloc::{AllocError, AllocFailed};
 use thiserror::Error;
 
-/// What was wrong with a line.
+/// A `Cause` says what was wrong with a line.
 #[derive(Eq, PartialEq, Debug, Drop, Error)]
 pub enum Cause {
-    /// The line is none of those that may stand there, or longer than 4,096 bytes, or there is no
-    /// line at all.
+    /// The line is none of those that are allowed there, or it is longer than 4,096 bytes, or there
+    /// is no line at all.
     #[error("bad step")]
     BadStep,
 
@@ -18,7 +18,7 @@ pub enum Cause {
     #[error("too many threads")]
     TooManyThreads,
 
-    /// A request for memory was refused: for the lot, a line, a filter's decisions, or the buffers
+    /// There was not enough memory for the lot, a line, the decisions of a filter, or the buffers
     /// of `buffered_script`.
     #[error("no memory")]
     NoMemory,
@@ -27,8 +27,9 @@ pub enum Cause {
     #[error("read failed")]
     ReadFailed,
 
-    /// The answer could not be written, since the writer told an error or took no byte; or the
-    /// writer could not be flushed, behind the last line or, by `buffered_script`, before a read.
+    /// The answer could not be written, because the writer returned an error or took no byte, or
+    /// the writer could not be flushed. It is flushed after the last line, and by `buffered_script`
+    /// also before a read.
     #[error("write failed")]
     WriteFailed,
 }
@@ -49,13 +50,13 @@ impl<T: Drop> From<AllocFailed<T>> for Cause {
     }
 }
 
-/// The line at which a script stopped, and why.
+/// A `Fault` is the line at which a script stopped, and the cause.
 #[derive(Eq, PartialEq, Debug, Drop, Error)]
 #[error("line {line}: {cause}")]
 pub struct Fault {
-    /// The number of the line, from 1.
+    /// The number of the line, counted from 1.
     pub line: usize,
 
-    /// What was wrong with it.
+    /// What was wrong with the line.
     pub cause: Cause,
 }

@@ -1,4 +1,4 @@
-//! Lines of an input.
+//! This module reads the lines of an input.
 
 ghost use Rattle.std.specs.Prelude.{◌≡◌, ◌<◌, ◌≤◌, length, take, slice_index, IfSome, OnOk};
 ghost use Rattle.lot_script.specs.Private.Turns.{HasNoFeed, IsLineRead, IsPartRead};
@@ -6,7 +6,7 @@ ghost use Rattle.lot_script.specs.Private.Turns.{HasNoFeed, IsLineRead, IsPartRe
 use super::fault::Cause;
 use std::io::{BufRead, ErrorKind};
 
-/// How many bytes a line of a script may have, its line feed not counted.
+/// The greatest number of bytes of a line, without its line feed.
 pub(super) const MAX_LINE: usize = 4096;
 
 // What was found where a line may begin.

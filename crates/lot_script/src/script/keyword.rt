@@ -1,4 +1,4 @@
-//! The first words of lines.
+//! This module has the first words of lines.
 
 ghost use Rattle.std.specs.Prelude.{◌≡◌, ◌≢◌, IfSome, IfNone};
 ghost use Rattle.lot_script.specs.declared.script.keyword.Keyword.{Keyword};

@@ -1,4 +1,4 @@
-//! Text for a writer.
+//! This module writes text to a writer.
 
 ghost use Rattle.std.specs.Prelude.{◌≡◌, ◌+◌, ◌<◌, decimal};
 ghost use Rattle.lot_script.specs.declared.script.fault.Cause.TheVariants.{WriteFailed};

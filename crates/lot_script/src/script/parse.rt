@@ -1,4 +1,4 @@
-//! From a line to what it asks for.
+//! This module turns a line into the command for which it asks.
 
 ghost use Rattle.std.specs.Prelude.{◌≡◌, ◌≢◌, ℕ, ◌<◌, ◌≤◌, ◌^◌, ◌∷◌, [], List, decimal, length, Some, IfSome, IfNone, IfOk, IfErr, IsErrOf, ◌⊎◌};
 ghost use Rattle.lot_base.specs.declared.token.FilterOp.{FilterOp};

@@ -1,4 +1,4 @@
-//! Replies as lines of text.
+//! This module writes replies as lines of text.
 
 ghost use Rattle.std.specs.Prelude.{◌≡◌, ◌++◌, ◌∷◌, [], ℕ, List, decimal, codes, if◌then◌else◌, IfErr, OnOk, OnErr};
 ghost use Rattle.std.specs.Io.KnownBytes.{Appends};
@@ -14,11 +14,12 @@ use lot_base::token::UnparkResult;
 use lot_simulator::schedule::Answer;
 use std::io::Write;
 
-/// Writes what a script answers where a step of the lot answers this, without a line feed.
+/// Writes the line with which a script answers a step that has this answer, without a line feed.
 ///
 /// # Errors
 ///
-/// `WriteFailed` if the writer tells an error or takes no byte. A beginning may be written then.
+/// `WriteFailed` if the writer returns an error or takes no byte. A beginning of the line may be
+/// written then.
 pub fn write_answer<W: Write>(output: &mut W, answer: Answer) -> Result<(), Cause>
     ensures written { OnOk result (Appends (W.contents output.old) (W.contents output.new)
         (line_of (answer_words answer))) }

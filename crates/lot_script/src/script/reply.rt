@@ -1,4 +1,4 @@
-//! What a lot replies to a command.
+//! This module gets the reply of a lot to a command.
 
 ghost use Rattle.lot_script.specs.Reply.{state_of, IsReply};
 

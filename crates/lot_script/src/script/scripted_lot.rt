@@ -1,4 +1,4 @@
-//! The lot of a script, line by line.
+//! This module has the lot of a script, which does one line at a time.
 
 ghost use Rattle.std.specs.Prelude.{◌≡◌, ◌≢◌, ℕ, ◌≤◌, [], List, Some, None, Err, length, option_map, option_copied, is_some, IfOk, IfErr};
 ghost use Rattle.std.specs.Io.KnownBytes.{Appends};
@@ -20,10 +20,9 @@ use std::alloc::Global;
 use std::io::Write;
 use std::marker::Model;
 
-/// The lot that the first line of a script has made, or none yet.
+/// A `ScriptedLot` does the lines of a script one at a time, and shows the lot between them.
 ///
-/// It does the lines of a script one at a time, and shows the lot between them. `script` does the
-/// lines of its input so.
+/// It has no lot until the first line has created one. `script` does the lines of its input by it.
 #[derive(Drop)]
 pub struct ScriptedLot {
     alloc: Global,
@@ -40,14 +39,14 @@ impl Model for ScriptedLot {
 }
 
 impl ScriptedLot {
-    /// No lot yet. This asks for no memory.
+    /// Creates a `ScriptedLot` that has no lot yet. It allocates nothing.
     pub fn new(alloc: Global) -> ScriptedLot
         ensures { result ≡ None }
     {
         ScriptedLot { alloc, lot: None }
     }
 
-    /// The lot, once a line has made it.
+    /// Returns the lot, or `None` if no line has created it yet.
     pub fn lot(&self) -> Option<&Lot>
         ensures value { option_copied result ≡ self.now }
         ensures made { is_some result ≡ is_some self.now }
@@ -55,17 +54,17 @@ impl ScriptedLot {
         self.lot.as_ref()
     }
 
-    /// Does what the line says, which stands here without its line feed, and writes the answer and
-    /// a line feed. The first line makes the lot.
+    /// Does what the line says, and writes the answer and a line feed.
     ///
-    /// The answer is written by `write` alone, in pieces, without a request for memory. A step or a
-    /// list for which the lot has no memory is no fault: it is answered `no memory`.
+    /// `line` is without its line feed. The first line creates the lot. The answer is written by
+    /// `write` alone, in pieces, and this allocates nothing. If the lot has not enough memory for a
+    /// step or a list, that is no fault, and the answer is `no memory`.
     ///
     /// # Errors
     ///
-    /// The cause for which a script would stop here, which is not `ReadFailed`. The lot is as it
-    /// was, and nothing is written; but at `WriteFailed` the line is done, and of its answer a
-    /// beginning may be written.
+    /// The cause for which a script would stop here. It is never `ReadFailed`. The lot is as it
+    /// was, and nothing is written. Only after `WriteFailed` the line was done, and a beginning of
+    /// its answer may be written.
     pub fn answer<W: Write>(&mut self, line: &[u8], output: &mut W) -> Result<(), Cause>
         ensures answered { (written : List ℕ)
             × Appends (W.contents output.old) (W.contents output.new) written

@@ -1,4 +1,4 @@
-//! The words of a line, one after another.
+//! This module takes the words of a line, one after another.
 
 ghost use Rattle.std.specs.Prelude.{◌≡◌, ◌≢◌, ℕ, ◌<◌, ◌+◌, ◌^◌, ◌∷◌, [], List, Bool, IfSome, IfNone, MatchOption, decimal, if◌then◌else◌, ◌==◌, position, IsSome, ◌⊎◌};
 ghost use Rattle.lot_script.specs.Words.{number};

@@ -1,4 +1,4 @@
-//! A writer that counts the lines that it has taken.
+//! This module has a writer that counts the lines that it has taken.
 
 ghost use Rattle.std.specs.Prelude.{◌≡◌};
 
