@@ -1,7 +1,11 @@
-//! A parking lot: queues of waiting threads by key, for building mutexes, condition variables and
-//! schedulers. This crate is where everything of it is found by the names that it has upstream: the
-//! lot that threads share, which is `lot_threads`, and beside it the lots without threads, which
-//! are `lot_simulator`.
+//! This crate has every public item of Rust's `parking_lot_core`, under the name that it has there.
+//!
+//! It re-exports two crates and has no code of its own. `lot_threads` is the lot that threads
+//! share: lists of waiting threads by key, for building mutexes, condition variables and
+//! schedulers. `lot_simulator` has the lots without threads. A crate that needs no simulator should
+//! depend on `lot_threads` alone.
+//!
+//! `docs/DIFFERENCES.md` says what differs from the Rust crate.
 #![tactic(auto)]
 
 pub mod table;

@@ -1,3 +1,4 @@
-//! The hash table of the lots without threads, and for how many threads a lot can be made.
+//! This module re-exports the hash table of the lots without threads, and the greatest number of
+//! threads of a lot.
 
 pub use lot_simulator::table::{MAX_THREADS, Table, Use};
