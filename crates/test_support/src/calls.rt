@@ -1,5 +1,6 @@
-//! Lots, members, and calls of them. The functions have no clauses, so that a test's proof carries
-//! none of what it does not need.
+//! This module has lots, members, and short calls of them.
+//!
+//! The functions have no clauses. So the proof of a test carries nothing that it does not need.
 
 use lot_threads::{
     FilterOp, LotError, Member, NoMemory, ParkResult, ParkToken, ParkingLot, RequeueOp,
@@ -10,13 +11,15 @@ use std::alloc::Global;
 use std::sync::Wait;
 use std::time::{Clock, Instant};
 
-/// The key of a test that needs one alone.
+/// This is the key of tests that need only one.
 pub const KEY: usize = 7;
 
-/// The token of unparks. It is not the default.
+/// This is the token that unparks give. It is not the default.
 pub const TOKEN: UnparkToken = UnparkToken(42);
 
-/// A way to unpark the thread that waits first on a key.
+/// A `Way` is one of four ways to unpark the first waiter of a key.
+///
+/// `All` and `Filter` unpark all other waiters too, and `Requeue` moves them to `KEY`.
 #[derive(Copy, Clone)]
 pub enum Way {
     One,
@@ -25,18 +28,18 @@ pub enum Way {
     Requeue,
 }
 
-/// Every way to unpark.
+/// These are all ways to unpark.
 pub const WAYS: [Way; 4] = [Way::One, Way::All, Way::Filter, Way::Requeue];
 
-/// What a filter is shown of each thread that parks. It is not the default.
+/// This is the park token of every thread that parks. It is not the default.
 pub const PARK_TOKEN: ParkToken = ParkToken(usize::MAX);
 
-/// A lot for so many threads.
+/// Creates a lot for at most `threads` threads.
 pub fn new_lot<P: ThreadParkerT>(alloc: Global, threads: usize) -> Result<ParkingLot<P>, LotError> {
     ParkingLot::new(alloc, threads)
 }
 
-/// Registers so many threads.
+/// Registers the given number of threads.
 pub fn register_all<'a, P: ThreadParkerT, R: Wait>(
     rt: &R,
     alloc: Global,
@@ -50,7 +53,8 @@ pub fn register_all<'a, P: ThreadParkerT, R: Wait>(
     Ok(members)
 }
 
-/// Registers so many threads, and retires them. It tells whether there was room for them.
+/// Registers the given number of threads, retires them, and returns whether there was room for
+/// them.
 pub fn come_and_go<P: ThreadParkerT, R: Wait>(
     rt: &R,
     alloc: Global,
@@ -66,7 +70,7 @@ pub fn come_and_go<P: ThreadParkerT, R: Wait>(
     true
 }
 
-/// The numbers of those who wait on the key.
+/// Returns the numbers of the threads that wait on the key.
 pub fn waiting<P: ThreadParkerT, R: Wait>(
     rt: &R,
     alloc: Global,
@@ -76,7 +80,7 @@ pub fn waiting<P: ThreadParkerT, R: Wait>(
     lot.list(rt, alloc, key)
 }
 
-/// Parks on the key, and does this before it sleeps.
+/// Parks on the key, and calls the closure before the thread sleeps.
 pub fn park_and<P: ThreadParkerT, R: Wait + Clock, B: FnOnce()>(
     rt: &R,
     member: &mut Member<'_, P>,
@@ -117,7 +121,7 @@ fn unpark_by_filter<P: ThreadParkerT, R: Wait>(
     unpark_chosen(rt, lot, key, |_| FilterOp::Unpark, |_| token).unparked_threads
 }
 
-/// Requeues by this operation.
+/// Does a requeue with this operation.
 pub fn requeue<P: ThreadParkerT, R: Wait>(
     rt: &R,
     lot: &ParkingLot<P>,
@@ -129,7 +133,7 @@ pub fn requeue<P: ThreadParkerT, R: Wait>(
     unpark_requeue(rt, lot, from, to, || op, |_, _| token)
 }
 
-/// Moves all waiters to the other key, and tells how many there were.
+/// Moves all waiters to the other key, and returns how many there were.
 pub fn move_all<P: ThreadParkerT, R: Wait>(
     rt: &R,
     lot: &ParkingLot<P>,
@@ -139,7 +143,8 @@ pub fn move_all<P: ThreadParkerT, R: Wait>(
     requeue(rt, lot, from, to, RequeueOp::RequeueAll, TOKEN).requeued_threads
 }
 
-/// Unparks the thread that waits first on the key, this way, and tells how many were unparked.
+/// Unparks the first waiter of the key in the given way, and returns how many threads were
+/// unparked.
 pub fn unpark<P: ThreadParkerT, R: Wait>(
     rt: &R,
     lot: &ParkingLot<P>,

@@ -1,5 +1,7 @@
-//! Faults that a test's own parker notes. No token can tell them, since a node comes back with the
-//! one that the unpark gave: a wait with a deadline tells them to its clock.
+//! This module counts the faults that a parker of a test has noted.
+//!
+//! No token can report them, because a node comes back with the token that the unpark gave. So a
+//! wait with a deadline reports them to its clock.
 
 use crate::calls::{KEY, wait};
 use crate::clock::now;
@@ -9,26 +11,26 @@ use std::sync::Wait;
 use std::sync::atomic::{AtomicUsize, Ordering};
 use std::time::{Clock, Duration};
 
-/// How many faults a parker has noted.
+/// `Faults` counts how many faults a parker has noted.
 #[derive(Drop)]
 pub struct Faults {
     count: AtomicUsize,
 }
 
 impl Faults {
-    /// None.
+    /// Creates a count of 0.
     pub fn new() -> Faults {
         Faults {
             count: AtomicUsize::new(0),
         }
     }
 
-    /// Notes one more.
+    /// Notes one more fault.
     pub fn note(&self) {
         self.count.fetch_add(1, Ordering::SeqCst);
     }
 
-    /// Reads the time since 1970 once for each, which nobody else does.
+    /// Reports each fault by reading the time since 1970 once, which nothing else does.
     pub fn tell<R: Clock>(&self, rt: &R) {
         for _ in 0..self.count.load(Ordering::SeqCst) {
             let _ = rt.since_1970();
@@ -56,8 +58,10 @@ impl<R: Clock> Clock for Listener<R> {
     }
 }
 
-/// How many faults the thread's parker has noted. The thread parks for it once more, until a
-/// deadline that has passed. `None` says that the park ended otherwise than at its deadline.
+/// Returns how many faults the parker of the thread has noted.
+///
+/// To learn it, the thread parks once more, with a deadline that has passed. `None` means that this
+/// park did not end at its deadline.
 pub fn faults_of<P: ThreadParkerT, R: Wait + Clock>(
     rt: &R,
     member: &mut Member<'_, P>,

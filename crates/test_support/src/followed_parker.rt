@@ -1,4 +1,5 @@
-//! A parker whose thread is held up as it comes to park, or is followed as it is woken.
+//! This module has a parker that holds its thread up before a park, or holds up the thread that
+//! wakes it.
 
 use crate::waits::comes_within;
 use lot_threads::{
@@ -10,7 +11,7 @@ use std::sync::atomic::{AtomicBool, AtomicUsize, Ordering};
 use std::time::{Clock, Instant};
 use std::{hint, thread};
 
-/// A thread that is unparked from this key is held up as it next comes to park.
+/// A thread that is unparked from this key is held up before its next park.
 pub const GATE: usize = 1;
 
 // Some tens of milliseconds of a processor, and some times in which others go on.
@@ -21,10 +22,12 @@ const SPINS_AT_ONCE: usize = 50_000;
 // So often whoever wakes a thread yields before it goes on.
 const TURNS: usize = 1_000_000;
 
-/// A `YieldParker`. Whoever unparks a thread from the gate goes on once that prepares to park
-/// again, which takes the thread long: so the other can act between what the thread does before a
-/// park and the park. And whoever first unparks thread 0 from another key goes on once that has
-/// parked again: so other threads can act between an unpark's section and what follows it.
+/// A `FollowedParker` is a `YieldParker` that gives other threads time to act at two points.
+///
+/// A thread that unparks another from the gate goes on when that one prepares to park again, which
+/// takes it long. So it can act between what the other does before its park and the park itself. A
+/// thread that is the first to unpark thread 0 from another key goes on when thread 0 has parked
+/// again. So other threads can act between the section of an unpark and what comes after it.
 #[derive(Drop)]
 pub struct FollowedParker {
     parker: YieldParker,
@@ -118,7 +121,7 @@ impl ParkerT for FollowedParker {
     }
 }
 
-/// What is left to do after an unpark.
+/// A `FollowedHandle` stands for what is left to do after an unpark.
 #[derive(Drop)]
 pub struct FollowedHandle {
     handle: YieldHandle,

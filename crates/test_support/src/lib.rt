@@ -1,6 +1,9 @@
-//! What tests of threads stand on: lots and members, thin calls of them, waits for what other
-//! threads do, clocks, and parkers that hold their threads up or look whether they are called in
-//! order. Nothing here ends the process: what is refused is answered, and a test expects it.
+//! This crate has what tests of threads share: lots and members, short calls of them, waits for
+//! what other threads do, clocks, and parkers that hold their threads up or check the order of
+//! their calls.
+//!
+//! Nothing here ends the process. A call that is refused returns that, and the test decides what it
+//! expects.
 #![tactic(auto)]
 
 pub mod calls;

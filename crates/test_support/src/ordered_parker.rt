@@ -1,4 +1,4 @@
-//! A parker that looks whether it is called in order.
+//! This module has a parker that checks the order in which it is called.
 
 use crate::faults::Faults;
 use lot_threads::{
@@ -18,9 +18,11 @@ const PARK_UNTIL: usize = 3;
 
 const PARK: usize = 4;
 
-/// A `YieldParker` that notes its calls. Its deadlines pass before it has looked. Its thread parks
-/// twice: the first time in vain, since that is not valid, and then until it is unparked. Each call
-/// that was not in its order is a fault, which a third park tells.
+/// An `OrderedParker` is a `YieldParker` that notes its calls.
+///
+/// Its deadlines pass before it has looked. Its thread parks twice: the first time `validate`
+/// returns false, and the second time it is unparked. Each call that was out of order is a fault,
+/// and a third park reports it.
 #[derive(Drop)]
 pub struct OrderedParker {
     parker: YieldParker,

@@ -1,4 +1,4 @@
-//! Scenes: what threads do on one lot, as a text.
+//! This module plays scenes: texts that say what threads do on one lot.
 //!
 //! ```text
 //! # A late thread that another moves meanwhile leaves its new key.
@@ -11,11 +11,12 @@
 //! raise moved
 //! ```
 //!
-//! A line `thread` begins a registered thread, `thread 10` ten that do the same, and `caller` one
-//! without a number. `lot 6` says for how many threads the lot is, if not for those that register.
-//! What stands before the first thread is done before any of them begins. Each further line is an
-//! action, with the outcome that it has to have behind `->`. A line whose first word ends in `:`
-//! says what a closure of the next call does.
+//! - `thread` begins a registered thread, `thread 10` begins ten that do the same, and `caller`
+//!   begins one without a number.
+//! - `lot 6` says for how many threads the lot is. Without it, the lot is for those that register.
+//! - Lines before the first thread are done before any thread begins.
+//! - A line whose first word ends in `:` says what a closure of the next call does.
+//! - Each other line is an action. The outcome that it has to have stands behind `->`.
 
 mod calls;
 mod deeds;
@@ -227,9 +228,12 @@ impl<'t, P: ThreadParkerT> Stage<'t, P> {
     }
 }
 
-/// Plays a scene on a lot with parkers of this type. It answers the number of the first line that
-/// went otherwise than it says, and `None` where all went well and as many parks ended by an unpark
-/// as the unparks answered. 0 says that they were not as many, or that a thread was refused.
+/// Plays a scene on a lot with parkers of type `P`, and returns `None` if everything went as it
+/// says.
+///
+/// Otherwise it returns the number of the first line that went differently. It returns 0 if the lot
+/// or a thread was refused, or if the number of parks that were unparked is not the number that the
+/// unparks returned.
 pub fn play<P, R>(rt: &R, alloc: Global, text: &str, values: &[usize]) -> Option<usize>
 where
     P: ThreadParkerT + Send + Sync,

@@ -1,4 +1,4 @@
-//! Waits for what other threads do, each of which gives up after very many turns.
+//! This module waits for what other threads do. Each wait gives up after very many turns.
 
 use crate::calls::waiting;
 use lot_threads::{ParkingLot, ThreadParkerT};
@@ -7,15 +7,16 @@ use std::sync::Wait;
 use std::sync::atomic::{AtomicUsize, Ordering};
 use std::thread;
 
-/// So often a thread yields before it gives up.
+/// A thread yields this many times before it gives up.
 pub const TURNS: usize = 10_000_000;
 
-/// Waits until there are so many, and tells whether there were.
+/// Waits until the count is at least `least`, and returns whether it came to that.
 pub fn comes_to(count: &AtomicUsize, least: usize) -> bool {
     comes_within(TURNS, count, least)
 }
 
-/// Waits so many turns at most until there are so many, and tells whether there were.
+/// Waits at most the given number of turns until the count is at least `least`, and returns whether
+/// it came to that.
 pub fn comes_within(turns: usize, count: &AtomicUsize, least: usize) -> bool {
     for _ in 0..turns {
         if count.load(Ordering::SeqCst) >= least {
@@ -26,7 +27,7 @@ pub fn comes_within(turns: usize, count: &AtomicUsize, least: usize) -> bool {
     false
 }
 
-/// Whether so many threads wait on the key.
+/// Returns whether exactly the given number of threads wait on the key.
 pub fn are_waiting<P: ThreadParkerT, R: Wait>(
     rt: &R,
     alloc: Global,
@@ -40,7 +41,8 @@ pub fn are_waiting<P: ThreadParkerT, R: Wait>(
     }
 }
 
-/// Waits until so many threads wait on the key, and tells whether they did.
+/// Waits until exactly the given number of threads wait on the key, and returns whether it came to
+/// that.
 pub fn come_by_turns<P: ThreadParkerT, R: Wait>(
     rt: &R,
     alloc: Global,

@@ -1,6 +1,7 @@
-//! Words of a script for threads: a line is an action, by words with spaces between them.
+//! This module reads the words of a script for threads: a line is an action, in words with spaces
+//! between them.
 
-/// The words of a line, or of a part of it, that are still to be read.
+/// `Words` has the words of a line, or of a part of it, that are still to be read.
 #[derive(Copy, Clone)]
 pub struct Words<'t> {
     rest: &'t str,
@@ -9,8 +10,10 @@ pub struct Words<'t> {
 }
 
 impl<'t> Words<'t> {
-    /// The words of this text. `$0` in it stands for the first of the values, and so on, and `mine`
-    /// for the number of the thread that reads it.
+    /// Creates the words of this text.
+    ///
+    /// In it `$0` stands for the first of the values, and so on, and `mine` for the number of the
+    /// thread that reads it.
     pub fn of(text: &'t str, values: &'t [usize], mine: usize) -> Words<'t> {
         Words {
             rest: text,
@@ -19,7 +22,7 @@ impl<'t> Words<'t> {
         }
     }
 
-    /// The next word. `None` says that there is none.
+    /// Takes the next word, or returns `None` if there is none.
     pub fn word(&mut self) -> Option<&'t str> {
         let text = self.rest.trim_start();
         let (word, rest) = text.split_once(' ').unwrap_or((text, ""));
@@ -33,7 +36,7 @@ impl<'t> Words<'t> {
         self.values.get(place).copied()
     }
 
-    /// The next word, as a number. `greatest` is the greatest of all.
+    /// Takes the next word as a number. The word `greatest` is `usize::MAX`.
     pub fn number(&mut self) -> Option<usize> {
         match self.word()? {
             "greatest" => Some(usize::MAX),
@@ -45,7 +48,7 @@ impl<'t> Words<'t> {
         }
     }
 
-    /// The next word, as a number, or else this one where there is none.
+    /// Takes the next word as a number, or returns the default if there is no word.
     pub fn number_or(&mut self, default: usize) -> Option<usize> {
         if self.rest.trim_start().is_empty() {
             Some(default)
@@ -54,7 +57,7 @@ impl<'t> Words<'t> {
         }
     }
 
-    /// Whether the next word is this one, which is read then.
+    /// Takes the next word if it is the wanted one, and returns whether it is.
     pub fn reads(&mut self, wanted: &str) -> bool {
         let mut ahead = *self;
         let is_next = ahead.word().unwrap_or("") == wanted;
@@ -64,7 +67,7 @@ impl<'t> Words<'t> {
         is_next
     }
 
-    /// What was found, once all words were read. `None` says that there are more.
+    /// Returns what was found if all words were read, and `None` if there are more.
     pub fn end(&mut self, found: bool) -> Option<bool> {
         if self.rest.trim_start().is_empty() {
             Some(found)

@@ -1,4 +1,4 @@
-//! The calls of a scene's threads, and what their closures do.
+//! This module does the calls of a scene's threads, and what their closures do.
 
 use super::Stage;
 use super::outcomes::{
@@ -18,7 +18,7 @@ use std::sync::atomic::Ordering;
 use std::thread;
 use std::time::Clock;
 
-/// Where a call stands in its scene.
+/// A `Call` says where a call is in its scene.
 #[derive(Copy, Clone)]
 pub(super) struct Call {
     // The place of the first line that may be about its closures.

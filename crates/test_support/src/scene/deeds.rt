@@ -1,4 +1,5 @@
-//! What threads of a scene do that needs no closure. A closure of a call does it too.
+//! This module does what threads of a scene do without a closure. A closure of a call can do it
+//! too.
 
 use super::Stage;
 use super::outcomes::{count_answered, way_of};
@@ -16,7 +17,7 @@ use std::{hint, thread};
 const TURNS_INSIDE: usize = 2_000;
 
 impl<P: ThreadParkerT> Stage<'_, P> {
-    /// The count of the next word.
+    /// Returns the count that the next word names.
     pub(super) fn count(&self, words: &mut Words<'_>) -> Option<&AtomicUsize> {
         let letter = words.word()?.as_bytes().first().copied()?;
         self.counts.get(usize::from(letter % 32))
@@ -144,7 +145,7 @@ impl<P: ThreadParkerT> Stage<'_, P> {
         words.end(is_well)
     }
 
-    /// Does what needs no closure. A closure does it too.
+    /// Does an action that needs no closure. A closure can do it too.
     pub(super) fn do_deed<R: Wait + Clock>(
         &self,
         rt: &R,

@@ -1,5 +1,5 @@
-//! What the words of a scene's line say of a call: until when it waits, what it chooses, and how it
-//! is to end.
+//! This module reads what the words of a line say of a call: until when it waits, what it chooses,
+//! and how it has to end.
 
 use crate::calls::{WAYS, Way};
 use crate::clock::{FAR, from_now, now};
@@ -7,8 +7,8 @@ use crate::words::Words;
 use lot_threads::{FilterOp, ParkResult, RequeueOp, UnparkResult, UnparkToken};
 use std::time::{Clock, Instant};
 
-/// The instant at which a park of this word ends, or after so many milliseconds. `Some(None)` says
-/// never.
+/// Returns the deadline of a park for this word, or for this number of milliseconds. `Some(None)`
+/// means that it has none.
 pub(super) fn deadline_of<R: Clock>(rt: &R, word: &str) -> Option<Option<Instant>> {
     match word {
         "forever" => Some(None),
@@ -18,7 +18,7 @@ pub(super) fn deadline_of<R: Clock>(rt: &R, word: &str) -> Option<Option<Instant
     }
 }
 
-/// The operation of this name.
+/// Returns the operation with this name.
 pub(super) fn requeue_op_of(word: &str) -> Option<RequeueOp> {
     match word {
         "abort" => Some(RequeueOp::Abort),
@@ -28,7 +28,7 @@ pub(super) fn requeue_op_of(word: &str) -> Option<RequeueOp> {
     }
 }
 
-/// The way of this name, or at the place that a value tells.
+/// Returns the way with this name, or the one whose place a value gives.
 pub(super) fn way_of(words: &mut Words<'_>) -> Option<Way> {
     let mut ahead = *words;
     let place = match ahead.word()? {
@@ -45,7 +45,8 @@ pub(super) fn way_of(words: &mut Words<'_>) -> Option<Way> {
     WAYS.get(place).copied()
 }
 
-/// What a filter decides of the thread at this place: `s` skips it, and another letter unparks it.
+/// Returns what a filter decides on the thread at this place: `s` skips it, and any other letter,
+/// or a missing one, unparks it.
 pub(super) fn decision_of(letters: &str, place: usize) -> FilterOp {
     let letter = letters.as_bytes().get(place).copied().unwrap_or(b'u');
     if letter == b's' {
@@ -64,7 +65,7 @@ fn was_last(words: &mut Words<'_>, told: Option<(usize, bool)>) -> Option<bool> 
     }
 }
 
-/// Whether a park ended as the words say, if they say so.
+/// Returns whether a park ended as the words say, if they say so.
 pub(super) fn park_ended(
     words: &mut Words<'_>,
     ended: ParkResult,
@@ -85,7 +86,7 @@ pub(super) fn park_ended(
     words.end((ended, told) == expected)
 }
 
-/// Whether an unpark answered as the words say, if they say so.
+/// Returns whether an unpark returned what the words say, if they say so.
 pub(super) fn unpark_answered(words: &mut Words<'_>, answer: UnparkResult) -> Option<bool> {
     if !words.reads("->") {
         return words.end(true);
@@ -97,7 +98,7 @@ pub(super) fn unpark_answered(words: &mut Words<'_>, answer: UnparkResult) -> Op
     words.end(are_so_many && have_more == answer.have_more_threads)
 }
 
-/// Whether a call answered the number that the words say, if they say one.
+/// Returns whether a call returned the number that the words say, if they say one.
 pub(super) fn count_answered(words: &mut Words<'_>, count: usize) -> Option<bool> {
     if !words.reads("->") {
         return words.end(true);

@@ -1,8 +1,8 @@
-//! The lines of a scene: which begin threads, and how many.
+//! This module reads which lines of a scene begin threads, and how many.
 
 use crate::words::Words;
 
-/// Whether a line says what a closure of the next call does.
+/// Returns whether a line says what a closure of the next call does.
 pub(super) fn is_about_closure(line: &str) -> bool {
     let mut words = Words::of(line, &[], 0);
     words.reads("validate:")
@@ -12,14 +12,14 @@ pub(super) fn is_about_closure(line: &str) -> bool {
         || words.reads("callback:")
 }
 
-/// Whether a line is more than a comment, and does not say for how many threads the lot is.
+/// Returns whether a line is more than a comment, and does not say for how many threads the lot is.
 pub(super) fn is_action(line: &str) -> bool {
     let mut words = Words::of(line, &[], 0);
     let head = words.word().unwrap_or("");
     !head.is_empty() && head != "#" && head != "lot"
 }
 
-/// How many threads a line begins whose first word is this one.
+/// Returns how many threads the line begins, if its first word is `kind`.
 pub(super) fn begun(line: &str, values: &[usize], kind: &str) -> usize {
     let mut words = Words::of(line, values, 0);
     if words.reads(kind) {
@@ -29,8 +29,9 @@ pub(super) fn begun(line: &str, values: &[usize], kind: &str) -> usize {
     }
 }
 
-/// How many threads there are, and for how many the lot is: as many as it says, or as many as
-/// register.
+/// Returns how many threads there are, and for how many the lot is.
+///
+/// The second number is the one that the text says, or else the number of threads that register.
 pub(super) fn sizes(text: &str, values: &[usize]) -> (usize, usize) {
     let (mut all, mut registering, mut room) = (0_usize, 0_usize, 0);
     for line in text.lines() {
