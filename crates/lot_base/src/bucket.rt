@@ -126,7 +126,7 @@ impl Bucket {
     ///
     /// # Errors
     ///
-    /// The node itself, if `validate` returns false. Nothing was changed then.
+    /// Returns the node itself if `validate` returns false. Nothing was changed then.
     pub fn enter<V: FnOnce() -> bool>(
         &mut self,
         node: Box<Node>,
@@ -411,7 +411,7 @@ impl Bucket {
     ///
     /// # Errors
     ///
-    /// `NoMemory` if there is not enough memory for the list. An empty list needs none.
+    /// Returns `NoMemory` if there is not enough memory for the list. An empty list needs none.
     pub fn list(&self, alloc: Global, key: usize) -> Result<Vec<usize>, NoMemory>
         ensures refused { OnErr result (IsTrue (has_any (lists_of self.now.nodes key))) }
         ensures numbers { IfOk result (λ numbers.

@@ -54,7 +54,7 @@ impl Node {
     ///
     /// # Errors
     ///
-    /// `NoMemory` if there is not enough memory for the box.
+    /// Returns `NoMemory` if there is not enough memory for the box.
     pub fn new(alloc: Global, number: usize) -> Result<Box<Node>, NoMemory>
         ensures { IfOk result (λ node. fields node.value ≡ new_node number) }
     {

@@ -97,7 +97,7 @@ pub trait ParkerT: Sized + Drop {
     ///
     /// # Errors
     ///
-    /// `NoMemory` if there is not enough memory.
+    /// Returns `NoMemory` if there is not enough memory.
     fn new(
         alloc: Global,
         key: &ParkerKey<<Self::Payload as Payload>::Home>,

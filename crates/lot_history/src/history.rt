@@ -63,7 +63,7 @@ impl History {
     ///
     /// # Errors
     ///
-    /// `NoMemory` if there is not enough memory.
+    /// Returns `NoMemory` if there is not enough memory.
     pub fn new(alloc: Global, max_threads: usize) -> Result<(History, Witness), NoMemory>
         ensures threads { IfOk result (λ made. max_threads_of made.0 ≡ max_threads) }
         ensures witness { IfOk result (λ made. IsWitnessOf made.0 made.1) }

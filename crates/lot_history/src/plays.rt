@@ -25,6 +25,7 @@ pub trait Told {
     ghost use Rattle.lot_machine.specs.declared.step.Answer.{Answer};
     ghost use Rattle.lot_machine.specs.declared.step.Step.{Step};
 
+    /// States what holds of the step and of its answer.
     ghost said: { Step → Answer → Type 0 };
 }
 

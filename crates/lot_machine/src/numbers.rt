@@ -57,8 +57,8 @@ impl Numbers {
     ///
     /// # Errors
     ///
-    /// `TooManyThreads` if and only if `max` is above `MAX_THREADS`. Otherwise `NoMemory` if there
-    /// is not enough memory.
+    /// Returns `TooManyThreads` if and only if `max` is above `MAX_THREADS`. Otherwise returns
+    /// `NoMemory` if there is not enough memory.
     pub fn new(alloc: Global, max: usize) -> Result<Numbers, LotError>
         ensures too_many { IsErrOf result LotError.TooManyThreads ↔ (MAX_THREADS < max) }
         ensures not_full { result ≢ Err LotError.Full }

@@ -38,7 +38,7 @@ impl Records {
     ///
     /// # Errors
     ///
-    /// `NoMemory` if there is not enough memory. Nothing was changed then.
+    /// Returns `NoMemory` if there is not enough memory. Nothing was changed then.
     pub fn acquire(&mut self, key: usize) -> Result<(), NoMemory>
         ensures ok { OnOk result (times_recorded self.new
             ≡ one_more (times_recorded self.old) key) }

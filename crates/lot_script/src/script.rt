@@ -65,9 +65,10 @@ use std::io::{BufRead, Write};
 ///
 /// # Errors
 ///
-/// The fault of the first line that cannot be done or answered. The answers of the lines before it
-/// are written, and nothing of its own answer. Only after `WriteFailed` a beginning of its answer
-/// may be written, or all of it if the flush at the end failed, which is a fault of the last line.
+/// Returns the fault of the first line that cannot be done or answered. The answers of the lines
+/// before it are written, and nothing of its own answer. Only after `WriteFailed` a beginning of
+/// its answer may be written, or all of it if the flush at the end failed, which is a fault of the
+/// last line.
 ///
 /// If the lot has not enough memory for a step or a list, that is no fault. The answer is `no
 /// memory`, and the script goes on.

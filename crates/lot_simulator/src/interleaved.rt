@@ -220,8 +220,8 @@ impl FineLot {
     ///
     /// # Errors
     ///
-    /// `TooManyThreads` if and only if `max_threads` or `callers` is above `MAX_THREADS`. Otherwise
-    /// `NoMemory` if there is not enough memory.
+    /// Returns `TooManyThreads` if and only if `max_threads` or `callers` is above `MAX_THREADS`.
+    /// Otherwise returns `NoMemory` if there is not enough memory.
     pub fn new(alloc: Global, max_threads: usize, callers: usize) -> Result<FineLot, LotError>
         ensures too_many { IsErrOf result LotError.TooManyThreads
             ↔ ((MAX_THREADS < max_threads) ⊎ (MAX_THREADS < callers)) }
@@ -247,7 +247,7 @@ impl FineLot {
     ///
     /// # Errors
     ///
-    /// `NoMemory` if there is not enough memory for the list. An empty list needs none.
+    /// Returns `NoMemory` if there is not enough memory for the list. An empty list needs none.
     pub fn list(&self, key: usize) -> Result<Vec<usize>, NoMemory>
         ensures refused { OnErr result
             (IsTrue (has_any ((fine_state self.now).threads_view.lists key))) }
@@ -311,8 +311,8 @@ impl FineLot {
 ///
 /// # Errors
 ///
-/// `NoMemory` if there is not enough memory for that room, and never if there are no steps. The lot
-/// and the items of both lists are then as before, and the lists may have more room.
+/// Returns `NoMemory` if there is not enough memory for that room, and never if there are no steps.
+/// The lot and the items of both lists are then as before, and the lists may have more room.
 pub fn run_fine(
     lot: &mut FineLot,
     steps: &[FineStep],

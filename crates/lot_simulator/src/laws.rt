@@ -58,7 +58,7 @@ pub fn requeue_all_to_itself(lot: &mut Lot, key: usize) -> UnparkResult
 ///
 /// # Errors
 ///
-/// The errors of `Lot::acquire`.
+/// Returns the errors of `Lot::acquire`.
 pub fn acquire_and_release(lot: &mut Lot, number: usize, key: usize) -> Result<(), StepError>
     ensures fits { result ≢ Err StepError.Misfit
         ↔ ((machine lot.old).status number ≡ Status.Running) }

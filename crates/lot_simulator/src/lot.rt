@@ -69,8 +69,8 @@ impl Lot {
     ///
     /// # Errors
     ///
-    /// `TooManyThreads` if and only if `max_threads` is above `MAX_THREADS`. Otherwise `NoMemory`
-    /// if there is not enough memory.
+    /// Returns `TooManyThreads` if and only if `max_threads` is above `MAX_THREADS`. Otherwise
+    /// returns `NoMemory` if there is not enough memory.
     pub fn new(alloc: Global, max_threads: usize) -> Result<Lot, LotError>
         ensures too_many { IsErrOf result LotError.TooManyThreads ↔ (MAX_THREADS < max_threads) }
         ensures not_full { result ≢ Err LotError.Full }
@@ -90,8 +90,8 @@ impl Lot {
     ///
     /// # Errors
     ///
-    /// `Full` if and only if the greatest number of threads is already registered. Otherwise
-    /// `NoMemory` if there is not enough memory. Nothing was changed then.
+    /// Returns `Full` if and only if the greatest number of threads is already registered.
+    /// Otherwise returns `NoMemory` if there is not enough memory. Nothing was changed then.
     pub fn register(&mut self) -> Result<usize, LotError>
         ensures full { IsErrOf result LotError.Full ↔ IsFull (machine self.old) }
         ensures not_too_many { result ≢ Err LotError.TooManyThreads }
@@ -117,7 +117,7 @@ impl Lot {
     ///
     /// # Errors
     ///
-    /// `Misfit` if and only if the thread is not running. Nothing was changed then.
+    /// Returns `Misfit` if and only if the thread is not running. Nothing was changed then.
     pub fn retire(&mut self, number: usize) -> Result<(), Misfit>
         ensures fits { IsOk result ↔ ((machine self.old).status number ≡ Status.Running) }
         ensures ok { OnOk result (machine self.new
@@ -142,8 +142,8 @@ impl Lot {
     ///
     /// # Errors
     ///
-    /// `NoMemory` if there is not enough memory for the smaller row, and never if the table is not
-    /// too large. Nothing was changed then.
+    /// Returns `NoMemory` if there is not enough memory for the smaller row, and never if the table
+    /// is not too large. Nothing was changed then.
     pub fn trim(&mut self) -> Result<(), NoMemory>
         ensures unchanged { machine self.new ≡ machine self.old }
         ensures size { OnOk result
@@ -164,8 +164,8 @@ impl Lot {
     ///
     /// # Errors
     ///
-    /// `Misfit` if and only if the thread is not running. Nothing was changed then, and `validate`
-    /// was not called.
+    /// Returns `Misfit` if and only if the thread is not running. Nothing was changed then, and
+    /// `validate` was not called.
     pub fn enter<V: FnOnce() -> bool>(
         &mut self,
         number: usize,
@@ -339,8 +339,8 @@ impl Lot {
     ///
     /// # Errors
     ///
-    /// `Misfit` if and only if the thread does not wait with a timeout, or its deadline has already
-    /// passed. Nothing was changed then.
+    /// Returns `Misfit` if and only if the thread does not wait with a timeout, or its deadline has
+    /// already passed. Nothing was changed then.
     pub fn deadline(&mut self, number: usize) -> Result<(), Misfit>
         ensures fits { IsOk result ↔ ((machine self.old).status number ≡ Status.Waiting true) }
         ensures ok { OnOk result (machine self.new
@@ -356,7 +356,7 @@ impl Lot {
     ///
     /// # Errors
     ///
-    /// `Misfit` if and only if the thread was not taken. Nothing was changed then.
+    /// Returns `Misfit` if and only if the thread was not taken. Nothing was changed then.
     pub fn give_back(&mut self, number: usize) -> Result<UnparkToken, Misfit>
         ensures fits { IsOk result ↔ IsTrue (is_taken ((machine self.old).status number)) }
         ensures ok { IfOk result (λ token. ((machine self.old).status number ≡ Status.Taken token)
@@ -377,8 +377,8 @@ impl Lot {
     ///
     /// # Errors
     ///
-    /// `Misfit` if and only if the thread is neither late nor taken. Nothing was changed or called
-    /// then.
+    /// Returns `Misfit` if and only if the thread is neither late nor taken. Nothing was changed or
+    /// called then.
     pub fn resolve<T: FnOnce(usize, bool)>(
         &mut self,
         number: usize,
@@ -435,8 +435,8 @@ impl Lot {
     ///
     /// # Errors
     ///
-    /// `Misfit` if and only if the thread is not running. Otherwise `NoMemory` if there is not
-    /// enough memory. Nothing was changed then.
+    /// Returns `Misfit` if and only if the thread is not running. Otherwise returns `NoMemory` if
+    /// there is not enough memory. Nothing was changed then.
     pub fn acquire(&mut self, number: usize, key: usize) -> Result<(), StepError>
         ensures fits { result ≢ Err StepError.Misfit
             ↔ ((machine self.old).status number ≡ Status.Running) }
@@ -456,7 +456,7 @@ impl Lot {
     ///
     /// # Errors
     ///
-    /// `Misfit` if and only if the thread is not running. Nothing was changed then.
+    /// Returns `Misfit` if and only if the thread is not running. Nothing was changed then.
     pub fn release(&mut self, number: usize, key: usize) -> Result<(), Misfit>
         ensures fits { IsOk result ↔ ((machine self.old).status number ≡ Status.Running) }
         ensures ok { OnOk result (machine self.new
@@ -484,7 +484,7 @@ impl Lot {
     ///
     /// # Errors
     ///
-    /// `NoMemory` if there is not enough memory for the list. An empty list needs none.
+    /// Returns `NoMemory` if there is not enough memory for the list. An empty list needs none.
     pub fn list(&self, key: usize) -> Result<Vec<usize>, NoMemory>
         ensures refused { OnErr result (IsTrue (has_any ((machine self.now).lists key))) }
         ensures numbers { IfOk result (λ numbers. numbers.items

@@ -84,8 +84,8 @@ impl Record {
     ///
     /// # Errors
     ///
-    /// `TooManyThreads` if and only if `max_threads` is above `MAX_THREADS`. Otherwise `NoMemory`
-    /// if there is not enough memory.
+    /// Returns `TooManyThreads` if and only if `max_threads` is above `MAX_THREADS`. Otherwise
+    /// returns `NoMemory` if there is not enough memory.
     pub fn new(alloc: Global, max_threads: usize, capacity: usize) -> Result<Record, LotError>
         requires { capacity ≤ MAX_JOURNAL }
         ensures too_many { IsErrOf result LotError.TooManyThreads ↔ (MAX_THREADS < max_threads) }
@@ -134,10 +134,10 @@ impl Record {
     ///
     /// # Errors
     ///
-    /// `JournalFull` if and only if the step is allowed and there is no room for it: for its own
-    /// entry, unless that is set aside, and for the entries that it sets aside. Nothing was changed
-    /// then. `NoMemory` if the lot had not enough memory. The journal then has the step with this
-    /// answer, and the lot is as before.
+    /// Returns `JournalFull` if and only if the step is allowed and there is no room for it: for
+    /// its own entry, unless that is set aside, and for the entries that it sets aside. Nothing was
+    /// changed then. Returns `NoMemory` if the lot had not enough memory. The journal then has the
+    /// step with this answer, and the lot is as before.
     pub fn step(&mut self, step: Step) -> Result<Answer, RecordError>
         ensures { IsRecorded self.old step result self.new }
     {

@@ -44,8 +44,8 @@ impl<C: Ledger, W: Ledger, U: Ledger> RecordingLot<C, W, U> {
     ///
     /// # Errors
     ///
-    /// `TooManyThreads` if and only if `max_threads` or `workers` is above `MAX_THREADS`. Otherwise
-    /// `NoMemory` if there is not enough memory.
+    /// Returns `TooManyThreads` if and only if `max_threads` or `workers` is above `MAX_THREADS`.
+    /// Otherwise returns `NoMemory` if there is not enough memory.
     pub fn new(
         alloc: Global,
         max_threads: usize,
@@ -107,7 +107,7 @@ impl<C: Ledger, W: Ledger, U: Ledger> RecordingLot<C, W, U> {
     ///
     /// # Errors
     ///
-    /// The errors of `Record::step`.
+    /// Returns the errors of `Record::step`.
     pub fn step<R: Wait>(
         &self,
         rt: &R,

@@ -37,8 +37,8 @@ pub use lot_machine::step::{Answer, Op, Step};
 ///
 /// # Errors
 ///
-/// `NoMemory` if there is not enough memory for the answers, and never if `answers` already has
-/// room for them. The lot and the answers are then as before, and `answers` may have more room.
+/// Returns `NoMemory` if there is not enough memory for the answers, and never if `answers` already
+/// has room for them. The lot and the answers are then as before, and `answers` may have more room.
 pub fn run(lot: &mut Lot, steps: &[Step], answers: &mut Vec<Answer>) -> Result<(), NoMemory>
     ensures ran { OnOk result (record {
       given : List Answer;

@@ -55,8 +55,8 @@ impl Table {
     ///
     /// # Errors
     ///
-    /// `TooManyThreads` if and only if `max` is above `MAX_THREADS`. Otherwise `NoMemory` if there
-    /// is not enough memory.
+    /// Returns `TooManyThreads` if and only if `max` is above `MAX_THREADS`. Otherwise returns
+    /// `NoMemory` if there is not enough memory.
     pub fn new(alloc: Global, max: usize) -> Result<Table, LotError>
         ensures too_many { IsErrOf result LotError.TooManyThreads ↔ (MAX_THREADS < max) }
         ensures not_full { result ≢ Err LotError.Full }
@@ -123,8 +123,9 @@ impl Table {
     ///
     /// # Errors
     ///
-    /// `Full` if and only if the greatest number of threads is already registered. Otherwise
-    /// `NoMemory` if there is not enough memory for a larger table. Nothing was changed then.
+    /// Returns `Full` if and only if the greatest number of threads is already registered.
+    /// Otherwise returns `NoMemory` if there is not enough memory for a larger table. Nothing was
+    /// changed then.
     pub fn register(&mut self) -> Result<usize, LotError>
         ensures full { IsErrOf result LotError.Full
             ↔ (count_registered self.old.numbers ≡ length self.old.numbers) }
@@ -160,8 +161,8 @@ impl Table {
     ///
     /// # Errors
     ///
-    /// `NoMemory` if there is not enough memory for the smaller row, and never if the table is not
-    /// too large. Nothing was changed then.
+    /// Returns `NoMemory` if there is not enough memory for the smaller row, and never if the table
+    /// is not too large. Nothing was changed then.
     pub fn trim(&mut self) -> Result<(), NoMemory>
         ensures numbers { self.new.numbers ≡ self.old.numbers }
         ensures size { OnOk result (IsTrimmedSize (count_registered self.old.numbers)

@@ -123,7 +123,7 @@ impl<T: Fits> WordLock<T> {
     ///
     /// # Errors
     ///
-    /// `NoMemory` if there is not enough memory. The value is dropped then.
+    /// Returns `NoMemory` if there is not enough memory. The value is dropped then.
     pub fn new(alloc: Global, value: T, key: &T::Key) -> Result<WordLock<T>, NoMemory>
         requires { T.fits key.now value }
         ensures { IfOk result (λ lock. key_of lock ≡ key.now) }

@@ -78,7 +78,7 @@ impl<'l> Barrier<'l> {
     ///
     /// # Errors
     ///
-    /// `NoMemory` if there is not enough memory. This version allocates nothing.
+    /// Returns `NoMemory` if there is not enough memory. This version allocates nothing.
     pub fn new(lot: &'l Lot, parties: usize) -> Result<Barrier<'l>, NoMemory>
         ensures { IfOk result (λ barrier. parties_of barrier ≡ parties) }
     {
@@ -91,6 +91,8 @@ impl<'l> Barrier<'l> {
     }
 
     /// Hands out the parties of the barrier, as many as it was created for.
+    ///
+    /// Here each of these threads waits once, and learns whether it led the round:
     ///
     /// ```
     /// let mut parties = Vec::new(alloc);

@@ -126,7 +126,7 @@ impl<'l> Condvar<'l> {
     ///
     /// # Errors
     ///
-    /// `NoMemory` if there is not enough memory. This version allocates nothing.
+    /// Returns `NoMemory` if there is not enough memory. This version allocates nothing.
     pub fn new(lot: &'l Lot) -> Result<Condvar<'l>, NoMemory> {
         Ok(Condvar {
             lot,

@@ -19,6 +19,8 @@ use std::{fmt, sync};
 
 /// A `LazyLock` computes its value by a closure when a thread first asks for it.
 ///
+/// Here `compute` is called by the first thread that calls `force`:
+///
 /// ```
 /// let lazy = LazyLock::new(&lot, || compute(&runs))?;
 /// let value = lazy.force(rt);
@@ -36,7 +38,7 @@ impl<'l, T: Drop, F: FnOnce() -> T> LazyLock<'l, T, F> {
     ///
     /// # Errors
     ///
-    /// `NoMemory` if there is not enough memory. This version allocates nothing.
+    /// Returns `NoMemory` if there is not enough memory. This version allocates nothing.
     pub fn new(lot: &'l Lot, f: F) -> Result<LazyLock<'l, T, F>, NoMemory>
     where
         F: Drop,

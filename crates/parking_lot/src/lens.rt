@@ -5,6 +5,8 @@ use std::ops::{Deref, DerefMut};
 
 /// A `Lens` names a part of a value, for example one field of a struct.
 ///
+/// Here `Second` names the second number of a pair of numbers:
+///
 /// ```
 /// impl Lens<Pair> for Second {
 ///     type Part = usize;
@@ -55,7 +57,7 @@ impl<G: Deref, L: Release<G>> Guard<G, L> {
     ///
     /// # Errors
     ///
-    /// The guard, if the closure chooses no lens. The lock is still locked then.
+    /// Returns the guard if the closure chooses no lens. The lock is still locked then.
     pub fn try_map<N: Lens<G::Target>, C: FnOnce(&G::Target) -> Option<N>>(
         guard: Guard<G, L>,
         choose: C,

@@ -44,8 +44,8 @@ impl Lot {
     ///
     /// # Errors
     ///
-    /// `TooManyThreads` if and only if `threads` is above `MAX_THREADS`, which is 16,384. Otherwise
-    /// `NoMemory` if there is not enough memory.
+    /// Returns `TooManyThreads` if and only if `threads` is above `MAX_THREADS`, which is 16,384.
+    /// Otherwise returns `NoMemory` if there is not enough memory.
     pub fn new(alloc: Global, threads: usize) -> Result<Lot, LotError>
         ensures too_many { IsErrOf result LotError.TooManyThreads ↔ (MAX_THREADS < threads) }
         ensures not_full { result ≢ Err LotError.Full }
@@ -66,7 +66,7 @@ impl Lot {
     ///
     /// # Errors
     ///
-    /// The errors of `Lot::new`.
+    /// Returns the errors of `Lot::new`.
     pub fn for_ever(alloc: Global, threads: usize) -> Result<&'static Lot, LotError>
         ensures too_many { IsErrOf result LotError.TooManyThreads ↔ (MAX_THREADS < threads) }
         ensures not_full { result ≢ Err LotError.Full }

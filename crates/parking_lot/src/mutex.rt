@@ -75,6 +75,8 @@ impl Fairness for InOrder {
 
 /// A `Mutex` protects a value, so that only one thread at a time can use it.
 ///
+/// Here `count` is a closure that several threads may call:
+///
 /// ```
 /// let lot = Lot::new(rt.alloc(), 4)?;
 /// let total = Mutex::new(&lot, 0u64)?;
@@ -186,7 +188,7 @@ impl<'l, T, F: Fairness> MutexIn<'l, T, F> {
     ///
     /// # Errors
     ///
-    /// `NoMemory` if there is not enough memory. This version allocates nothing.
+    /// Returns `NoMemory` if there is not enough memory. This version allocates nothing.
     pub fn new(lot: &'l Lot, value: T) -> Result<MutexIn<'l, T, F>, NoMemory> {
         Ok(MutexIn {
             lot,
@@ -508,7 +510,7 @@ impl<'a, 'r, 'l, T, R: Wait, F: Fairness> MutexGuardIn<'a, 'r, 'l, T, R, F> {
     ///
     /// # Errors
     ///
-    /// The guard, if there is not enough memory for it. The mutex is still locked then.
+    /// Returns the guard if there is not enough memory for it. The mutex is still locked then.
     pub fn leak(guard: Self, alloc: Global) -> Result<&'a mut T, Self>
         ensures { IfErr result (λ back. mutex_of back ≡ mutex_of guard.entry) }
     {

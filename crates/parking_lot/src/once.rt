@@ -47,7 +47,7 @@ impl<'l> Once<'l> {
     ///
     /// # Errors
     ///
-    /// `NoMemory` if there is not enough memory. This version allocates nothing.
+    /// Returns `NoMemory` if there is not enough memory. This version allocates nothing.
     pub fn new(lot: &'l Lot) -> Result<Once<'l>, NoMemory> {
         Ok(Once {
             queue: WaitQueue::new(lot),

@@ -48,7 +48,7 @@ impl<'l, T> OnceLock<'l, T> {
     ///
     /// # Errors
     ///
-    /// `NoMemory` if there is not enough memory. This version allocates nothing.
+    /// Returns `NoMemory` if there is not enough memory. This version allocates nothing.
     pub fn new(lot: &'l Lot) -> Result<OnceLock<'l, T>, NoMemory> {
         Ok(OnceLock {
             queue: WaitQueue::new(lot),
@@ -74,7 +74,7 @@ impl<'l, T> OnceLock<'l, T> {
     ///
     /// # Errors
     ///
-    /// The value that was passed in, if the cell already has one.
+    /// Returns the value that was passed in if the cell already has one.
     pub fn set<R: Wait + Clock>(&self, rt: &R, value: T) -> Result<(), T> {
         if self.begin(rt).is_some() {
             return Err(value);
@@ -111,8 +111,8 @@ impl<'l, T> OnceLock<'l, T> {
     ///
     /// # Errors
     ///
-    /// The error of the closure. The cell is still without a value then, and the next thread that
-    /// asks for it runs its own closure.
+    /// Returns the error of the closure. The cell is still without a value then, and the next
+    /// thread that asks for it runs its own closure.
     #[inline]
     pub fn get_or_try_init<R: Wait + Clock, E, F: FnOnce() -> Result<T, E> + Drop>(
         &self,

@@ -62,6 +62,8 @@ impl<'l> Owner<'l> {
 /// A `ReentrantMutex` keeps other threads away from a value, and may be locked again by the owner
 /// that holds it.
 ///
+/// Here one thread locks it twice:
+///
 /// ```
 /// let owner = mutex.owner();
 /// let first = mutex.lock(rt, &owner);
@@ -107,7 +109,7 @@ impl<'l, T> ReentrantMutex<'l, T> {
     ///
     /// # Errors
     ///
-    /// `NoMemory` if there is not enough memory. This version allocates nothing.
+    /// Returns `NoMemory` if there is not enough memory. This version allocates nothing.
     pub fn new(lot: &'l Lot, value: T) -> Result<ReentrantMutex<'l, T>, NoMemory>
         ensures { IfOk result (λ mutex. lot_of mutex ≡ lot.now) }
     {

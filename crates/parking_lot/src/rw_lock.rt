@@ -123,7 +123,7 @@ impl<'l, T> RwLock<'l, T> {
     ///
     /// # Errors
     ///
-    /// `NoMemory` if there is not enough memory. This version allocates nothing.
+    /// Returns `NoMemory` if there is not enough memory. This version allocates nothing.
     pub fn new(lot: &'l Lot, value: T) -> Result<RwLock<'l, T>, NoMemory>
     where
         T: Drop,

@@ -57,7 +57,7 @@ impl<'l> Semaphore<'l> {
     ///
     /// # Errors
     ///
-    /// `NoMemory` if there is not enough memory. This version allocates nothing.
+    /// Returns `NoMemory` if there is not enough memory. This version allocates nothing.
     pub fn new(lot: &'l Lot, permits: usize) -> Result<Semaphore<'l>, NoMemory> {
         Ok(Semaphore {
             queue: WaitQueue::new(lot),

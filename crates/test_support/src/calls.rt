@@ -18,13 +18,18 @@ pub const KEY: usize = 7;
 pub const TOKEN: UnparkToken = UnparkToken(42);
 
 /// A `Way` is one of four ways to unpark the first waiter of a key.
-///
-/// `All` and `Filter` unpark all other waiters too, and `Requeue` moves them to `KEY`.
 #[derive(Copy, Clone)]
 pub enum Way {
+    /// The first waiter is unparked, and the others wait on.
     One,
+
+    /// All waiters are unparked.
     All,
+
+    /// All waiters are unparked, by a filter.
     Filter,
+
+    /// The first waiter is unparked, and the others are moved to `KEY`.
     Requeue,
 }
 

@@ -34,7 +34,7 @@ impl<L: Payload> ParkerT for YieldParker<L> {
     ///
     /// # Errors
     ///
-    /// `NoMemory` if there is not enough memory.
+    /// Returns `NoMemory` if there is not enough memory.
     fn new(alloc: Global, key: &ParkerKey<L::Home>) -> Result<YieldParker<L>, NoMemory> {
         Ok(YieldParker {
             slot: LockedSlot::new(alloc, key)?,

@@ -36,7 +36,7 @@ impl<L: Payload> ParkerT for ThreadParker<L> {
     ///
     /// # Errors
     ///
-    /// `NoMemory` if there is not enough memory.
+    /// Returns `NoMemory` if there is not enough memory.
     fn new(alloc: Global, key: &ParkerKey<L::Home>) -> Result<ThreadParker<L>, NoMemory> {
         Ok(ThreadParker {
             slot: LockedSlot::new(alloc, key)?,

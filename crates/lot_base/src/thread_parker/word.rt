@@ -348,7 +348,7 @@ impl<L: Payload> ParkerT for WordParker<L> {
     ///
     /// # Errors
     ///
-    /// `NoMemory` if there is not enough memory.
+    /// Returns `NoMemory` if there is not enough memory.
     fn new(alloc: Global, key: &ParkerKey<L::Home>) -> Result<WordParker<L>, NoMemory> {
         let slot = LoadedSlot::new(key.number);
         let mut slots = Vec::with_capacity(alloc, 1)?;

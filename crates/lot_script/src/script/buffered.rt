@@ -28,10 +28,10 @@ use std::io::{BufReader, BufWriter, Read, Write};
 ///
 /// # Errors
 ///
-/// The errors of `script`, and `NoMemory` at line 1 if there is not enough memory for the buffers.
-/// After `WriteFailed` the line is the first one whose answer was not written as a whole, and lines
-/// after it may have been done. If all answers were written and only the flush failed, it is the
-/// last line that was answered.
+/// Returns the errors of `script`, and `NoMemory` at line 1 if there is not enough memory for the
+/// buffers. After `WriteFailed` the line is the first one whose answer was not written as a whole,
+/// and lines after it may have been done. If all answers were written and only the flush failed, it
+/// is the last line that was answered.
 pub fn buffered_script<R: Read + Drop, W: Write>(
     alloc: Global,
     input: R,

@@ -42,8 +42,8 @@ impl Command {
     ///
     /// # Errors
     ///
-    /// `BadStep` if the words of the line are no command. Otherwise `NoMemory` if there is not
-    /// enough memory.
+    /// Returns `BadStep` if the words of the line are no command. Otherwise returns `NoMemory` if
+    /// there is not enough memory.
     pub fn of(alloc: Global, line: &[u8]) -> Result<Command, Cause>
         ensures found { IfOk result (λ command. IsLine (command_words command) line.now) }
         ensures bad { IsErrOf result Cause.BadStep

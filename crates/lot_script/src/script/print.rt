@@ -18,8 +18,8 @@ use std::io::Write;
 ///
 /// # Errors
 ///
-/// `WriteFailed` if the writer returns an error or takes no byte. A beginning of the line may be
-/// written then.
+/// Returns `WriteFailed` if the writer returns an error or takes no byte. A beginning of the line
+/// may be written then.
 pub fn write_answer<W: Write>(output: &mut W, answer: Answer) -> Result<(), Cause>
     ensures written { OnOk result (Appends (W.contents output.old) (W.contents output.new)
         (line_of (answer_words answer))) }

@@ -62,9 +62,9 @@ impl ScriptedLot {
     ///
     /// # Errors
     ///
-    /// The cause for which a script would stop here. It is never `ReadFailed`. The lot is as it
-    /// was, and nothing is written. Only after `WriteFailed` the line was done, and a beginning of
-    /// its answer may be written.
+    /// Returns the cause for which a script would stop here. It is never `ReadFailed`. The lot is
+    /// as it was, and nothing is written. Only after `WriteFailed` the line was done, and a
+    /// beginning of its answer may be written.
     pub fn answer<W: Write>(&mut self, line: &[u8], output: &mut W) -> Result<(), Cause>
         ensures answered { (written : List ℕ)
             × Appends (W.contents output.old) (W.contents output.new) written

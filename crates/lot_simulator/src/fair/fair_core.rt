@@ -88,8 +88,8 @@ impl FairCore {
     ///
     /// # Errors
     ///
-    /// `TooManyThreads` if and only if `max_threads` is above `MAX_THREADS`. Otherwise `NoMemory`
-    /// if there is not enough memory.
+    /// Returns `TooManyThreads` if and only if `max_threads` is above `MAX_THREADS`. Otherwise
+    /// returns `NoMemory` if there is not enough memory.
     pub fn new(alloc: Global, max_threads: usize) -> Result<FairCore, LotError>
         ensures too_many { IsErrOf result LotError.TooManyThreads ↔ (MAX_THREADS < max_threads) }
         ensures not_full { result ≢ Err LotError.Full }
@@ -107,7 +107,7 @@ impl FairCore {
     ///
     /// # Errors
     ///
-    /// `NoMemory` if there is not enough memory for the list. An empty list needs none.
+    /// Returns `NoMemory` if there is not enough memory for the list. An empty list needs none.
     pub fn waiters(&self) -> Result<Vec<usize>, NoMemory>
         ensures refused { OnErr result ((fair_state self.now).waiters ≢ []) }
         ensures numbers { IfOk result (λ numbers. numbers.items ≡ (fair_state self.now).waiters) }
@@ -120,7 +120,7 @@ impl FairCore {
     ///
     /// # Errors
     ///
-    /// `NoMemory` if there is not enough memory for the list. An empty list needs none.
+    /// Returns `NoMemory` if there is not enough memory for the list. An empty list needs none.
     pub fn sleepers(&self) -> Result<Vec<usize>, NoMemory>
         ensures refused { OnErr result ((fair_state self.now).sleepers ≢ []) }
         ensures numbers { IfOk result (λ numbers. numbers.items ≡ (fair_state self.now).sleepers) }

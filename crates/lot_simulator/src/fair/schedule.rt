@@ -111,8 +111,9 @@ pub enum FairAnswer {
 ///
 /// # Errors
 ///
-/// `NoMemory` if there is not enough memory for the answers, and never if `answers` already has
-/// room for them. The core and the answers are then as before, and `answers` may have more room.
+/// Returns `NoMemory` if there is not enough memory for the answers, and never if `answers` already
+/// has room for them. The core and the answers are then as before, and `answers` may have more
+/// room.
 pub fn run_fair(
     core: &mut FairCore,
     steps: &[FairStep],

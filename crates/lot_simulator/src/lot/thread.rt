@@ -111,7 +111,7 @@ impl Thread {
     ///
     /// # Errors
     ///
-    /// `Misfit` if and only if the thread is not running. Nothing was changed then.
+    /// Returns `Misfit` if and only if the thread is not running. Nothing was changed then.
     pub fn retire(&mut self) -> Result<(), Misfit>
         ensures fits { IsOk result ↔ (self.old.status ≡ Status.Running) }
         ensures ok { OnOk result (self.new
@@ -134,7 +134,7 @@ impl Thread {
     ///
     /// # Errors
     ///
-    /// `Misfit` if and only if the thread is not running. Nothing was changed then.
+    /// Returns `Misfit` if and only if the thread is not running. Nothing was changed then.
     pub fn start_waiting(&mut self, timed: bool) -> Result<Box<Node>, Misfit>
         ensures fits { IsOk result ↔ (self.old.status ≡ Status.Running) }
         ensures ok { IfOk result (λ node. ((fields node.value).number ≡ self.old.number)
@@ -175,8 +175,8 @@ impl Thread {
     ///
     /// # Errors
     ///
-    /// `Misfit` if and only if the thread does not wait with a timeout, or its deadline has already
-    /// passed. Nothing was changed then.
+    /// Returns `Misfit` if and only if the thread does not wait with a timeout, or its deadline has
+    /// already passed. Nothing was changed then.
     pub fn deadline(&mut self) -> Result<(), Misfit>
         ensures fits { IsOk result ↔ (self.old.status ≡ Status.Waiting true) }
         ensures ok { OnOk result (self.new ≡ record self.old { status = Status.Late }) }
@@ -200,8 +200,8 @@ impl Thread {
     ///
     /// # Errors
     ///
-    /// `Misfit` if and only if the thread is not running. Otherwise `NoMemory` if there is not
-    /// enough memory. Nothing was changed then.
+    /// Returns `Misfit` if and only if the thread is not running. Otherwise returns `NoMemory` if
+    /// there is not enough memory. Nothing was changed then.
     pub fn acquire(&mut self, key: usize) -> Result<(), StepError>
         ensures fits { result ≢ Err StepError.Misfit ↔ (self.old.status ≡ Status.Running) }
         ensures kept { self.new ≡ record self.old { records = self.new.records } }
@@ -222,7 +222,7 @@ impl Thread {
     ///
     /// # Errors
     ///
-    /// `Misfit` if and only if the thread is not running. Nothing was changed then.
+    /// Returns `Misfit` if and only if the thread is not running. Nothing was changed then.
     pub fn release(&mut self, key: usize) -> Result<(), Misfit>
         ensures fits { IsOk result ↔ (self.old.status ≡ Status.Running) }
         ensures kept { self.new ≡ record self.old { records = self.new.records } }

@@ -18,7 +18,7 @@ use std::alloc::Global;
 ///
 /// # Errors
 ///
-/// `NoMemory` if there is not enough memory.
+/// Returns `NoMemory` if there is not enough memory.
 pub(super) fn empty_buckets(alloc: Global, size: usize) -> Result<Vec<Bucket>, NoMemory>
     requires { IsTableSize size }
     ensures count { IfOk result (λ row. length row.items ≡ size) }

@@ -29,7 +29,7 @@ impl Table {
     ///
     /// # Errors
     ///
-    /// The node itself, if `validate` returns false. Nothing was changed then.
+    /// Returns the node itself if `validate` returns false. Nothing was changed then.
     pub fn enter<V: FnOnce() -> bool>(
         &mut self,
         node: Box<Node>,
@@ -209,7 +209,7 @@ impl Table {
     ///
     /// # Errors
     ///
-    /// `NoMemory` if there is not enough memory for the list. An empty list needs none.
+    /// Returns `NoMemory` if there is not enough memory for the list. An empty list needs none.
     pub fn list(&self, alloc: Global, key: usize) -> Result<Vec<usize>, NoMemory>
         ensures refused { OnErr result (IsTrue (has_any (nodes_in self.now.cells key))) }
         ensures told { IfOk result (λ list. list.items ≡ numbers (nodes_in self.now.cells key)) }

@@ -46,7 +46,7 @@ impl<'a, 'r, 'l, T, R: Wait> RwLockUpgradableReadGuard<'a, 'r, 'l, T, R> {
     ///
     /// # Errors
     ///
-    /// The guard, if others read. It still reads and may upgrade.
+    /// Returns the guard if others read. It still reads and may upgrade.
     pub fn try_upgrade(guard: Self) -> Result<RwLockWriteGuard<'a, 'r, 'l, T, R>, Self> {
         let (held, locked) = guard.into_parts();
         locked.lock.begin_upgrade(held);
@@ -80,7 +80,7 @@ impl<'a, 'r, 'l, T, R: Wait> RwLockUpgradableReadGuard<'a, 'r, 'l, T, R> {
     ///
     /// # Errors
     ///
-    /// The guard, if others read until then. It still reads and may upgrade.
+    /// Returns the guard if others read until then. It still reads and may upgrade.
     pub fn upgrade_for(
         guard: Self,
         duration: Duration,
@@ -99,7 +99,7 @@ impl<'a, 'r, 'l, T, R: Wait> RwLockUpgradableReadGuard<'a, 'r, 'l, T, R> {
     ///
     /// # Errors
     ///
-    /// The guard, if others read until then. It still reads and may upgrade.
+    /// Returns the guard if others read until then. It still reads and may upgrade.
     pub fn upgrade_until(
         guard: Self,
         deadline: Instant,
