@@ -296,10 +296,14 @@ impl FineLot {
 /// sequential steps to which the run amounts.
 ///
 /// The answers are those of a run of the interleaved machine, from the state that the lot meant
-/// before to the one that it means after. A step is answered by the first of these that applies:
-/// `Misfit` if it is not allowed, `Full` if it is a registration and no number is free, `Blocked`
-/// if it needs a bucket that an open section holds, and `NoMemory` if it is a registration, an
-/// acquire or a trim for which there is not enough memory. None of the four changes anything.
+/// before to the one that it means after. Four answers say that a step was not done and changed
+/// nothing. The first that applies is given:
+///
+/// - `Misfit`, if the step is not allowed;
+/// - `Full`, if it is a registration and no number is free;
+/// - `Blocked`, if it needs a bucket that an open section holds;
+/// - `NoMemory`, if it is a registration, an acquire or a trim for which there is not enough
+///   memory.
 ///
 /// The sequential steps, with their answers, are a run of the machine with one list of waiters for
 /// each key, between the sequential views of the two states. Their lists of decisions are copies.

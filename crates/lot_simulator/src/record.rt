@@ -41,9 +41,9 @@ pub enum RecordError {
 /// the same answers, and then that lot means what this one means.
 ///
 /// The journal has room for the number of entries that `new` is given. A part of this room is set
-/// aside: one entry for each thread that has entered a list and whose park has not ended, and one
-/// more while such a thread waits with a timeout and its deadline has not passed. So neither a
-/// deadline nor the end of a park ever lacks room.
+/// aside. There is one entry for each thread that has entered a list and whose park has not ended.
+/// There is one more while such a thread waits with a timeout and its deadline has not passed. So
+/// neither a deadline nor the end of a park ever lacks room.
 #[derive(Drop)]
 pub struct Record {
     lot: Lot,

@@ -155,9 +155,9 @@ impl Table {
     /// fewer than 3 threads count as 3. The list of every key stays as it was.
     ///
     /// If the table is not too large, this costs nothing. Otherwise it allocates the smaller row of
-    /// buckets before it changes anything, visits each bucket of the larger one, takes each waiting
-    /// node once from there, puts it last into the new bucket of its key, by one `push_back`, and
-    /// then frees the larger row.
+    /// buckets before it changes anything. Then it visits each bucket of the larger one, and puts
+    /// each waiting node last into the new bucket of its key, by one `push_back`. At the end it
+    /// frees the larger row.
     ///
     /// # Errors
     ///

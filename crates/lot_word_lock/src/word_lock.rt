@@ -83,10 +83,10 @@ pub trait Fits: Drop {
 
 /// A `WordLock` is a lock of one word around a value, which threads share by reference.
 ///
-/// It has two blocks on the heap, one of 24 words and one for the value, and points to them. If
-/// nobody else uses it, a `lock` and an `unlock` touch the lock itself, of 64 bytes, the cache line
-/// of its word and that of a word that nobody writes, and those of the value: four or five cache
-/// lines for a value of 40 bytes.
+/// It has 64 bytes, and points to two blocks on the heap, one of 24 words and one for the value. A
+/// `lock` and an `unlock` that meet no other caller touch few cache lines: that of the lock itself,
+/// that of its word, that of a word that nobody writes, and those of the value. For a value of 40
+/// bytes these are four or five.
 #[derive(Drop)]
 pub struct WordLock<T: Fits> {
     table: Table<Option<T>, (T::Key, View), T::Key, Order, Global>,

@@ -92,7 +92,7 @@ impl<'l> Barrier<'l> {
 
     /// Hands out the parties of the barrier, as many as it was created for.
     ///
-    /// Here each of these threads waits once, and learns whether it led the round:
+    /// Here each thread waits once, and learns whether it led the round:
     ///
     /// ```
     /// let mut parties = Vec::new(alloc);

@@ -11,9 +11,9 @@
 //!   again.
 //! - A notify looks at `sleepers`. If it is set, the notify takes the first thread, or all threads,
 //!   off the list. In that section it clears `sleepers` if nobody is left.
-//! - A notify by the holder of the mutex moves the threads to the key of the mutex if all of them
-//!   came with it, and sets the `parked` of that mutex, so that its unlock wakes them. Otherwise it
-//!   wakes them at once.
+//! - A notify by the holder of the mutex looks whether all threads came with that mutex. If so, it
+//!   moves them to the key of the mutex and sets the `parked` of the mutex, so that its unlock
+//!   wakes them. Otherwise it wakes them at once.
 //! - A thread whose deadline passes after it was moved has had its notify, so it did not time out.
 //!
 //! No thread is forgotten. A thread that waits holds the mutex when it notes itself, and unlocks it

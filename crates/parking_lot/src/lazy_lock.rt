@@ -66,7 +66,7 @@ impl<'l, T: Drop, F: FnOnce() -> T> LazyLock<'l, T, F> {
         }
     }
 
-    /// Returns the value if it is already computed, and otherwise `None`.
+    /// Returns the value if it is already computed, and otherwise `None`. It does not wait.
     #[inline]
     pub fn get(&self) -> Option<&T> {
         self.value.get()

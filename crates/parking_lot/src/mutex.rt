@@ -225,7 +225,7 @@ impl<'l, T, F: Fairness> MutexIn<'l, T, F> {
         Some(self.guard(rt, self.try_take()?))
     }
 
-    /// Locks the mutex as `lock` does, but returns `None` if it cannot within the duration.
+    /// Locks the mutex as `lock` does, but returns `None` if it cannot do so within the duration.
     pub fn lock_for<'a, 'r, R: Wait + Clock>(
         &'a self,
         rt: &'r R,
@@ -240,7 +240,7 @@ impl<'l, T, F: Fairness> MutexIn<'l, T, F> {
         Some(self.guard(rt, held))
     }
 
-    /// Locks the mutex as `lock` does, but returns `None` if it cannot before the deadline.
+    /// Locks the mutex as `lock` does, but returns `None` if it cannot do so before the deadline.
     pub fn lock_until<'a, 'r, R: Wait + Clock>(
         &'a self,
         rt: &'r R,
@@ -542,8 +542,8 @@ impl<'a, 'r, 'l, T, R: Wait + Clock, F: Fairness> MutexGuardIn<'a, 'r, 'l, T, R,
         mutex.lock(rt)
     }
 
-    /// Unlocks the mutex, calls the closure, locks the mutex again, and returns what the closure
-    /// returned.
+    /// Unlocks the mutex, calls the closure, locks the mutex again, and returns the new guard with
+    /// what the closure returned.
     pub fn unlocked<A, C: FnOnce() -> A>(guard: Self, call: C) -> (Self, A)
         requires { C.pre call }
         ensures mutex { mutex_of result.0 ≡ mutex_of guard.entry }

@@ -57,7 +57,7 @@ impl<'l, T> OnceLock<'l, T> {
         })
     }
 
-    /// Returns the value if it is set, and otherwise `None`.
+    /// Returns the value if it is set, and otherwise `None`. It does not wait.
     #[inline]
     pub fn get(&self) -> Option<&T> {
         self.value.get()
@@ -70,7 +70,7 @@ impl<'l, T> OnceLock<'l, T> {
         self.value.get_mut()
     }
 
-    /// Sets the value, after it has waited while another thread computes one.
+    /// Sets the value; if another thread is computing one, it first waits for that.
     ///
     /// # Errors
     ///

@@ -74,8 +74,9 @@ impl<'l> Owner<'l> {
 /// or a lock of its own. The mutex can be shared between threads if `T: Sync`, so those cells are
 /// atomics or locks.
 ///
-/// A call proves that its owner belongs to the lot of the mutex, because owners of two lots may
-/// have the same number. If `ReentrantMutex::owner` created the owner, nothing is left to prove.
+/// The contract of each call requires that the owner belongs to the lot of the mutex, because
+/// owners of two lots may have the same number. If `ReentrantMutex::owner` created the owner,
+/// nothing is left to prove.
 #[derive(Drop)]
 pub struct ReentrantMutex<'l, T> {
     queue: WaitQueue<'l>,
@@ -161,7 +162,7 @@ impl<'l, T> ReentrantMutex<'l, T> {
         }
     }
 
-    /// Locks the mutex as `lock` does, but returns `None` if it cannot within the duration.
+    /// Locks the mutex as `lock` does, but returns `None` if it cannot do so within the duration.
     pub fn lock_for<'a, 'r, R: Wait + Clock>(
         &'a self,
         rt: &'r R,
@@ -179,7 +180,7 @@ impl<'l, T> ReentrantMutex<'l, T> {
         }
     }
 
-    /// Locks the mutex as `lock` does, but returns `None` if it cannot before the deadline.
+    /// Locks the mutex as `lock` does, but returns `None` if it cannot do so before the deadline.
     pub fn lock_until<'a, 'r, R: Wait + Clock>(
         &'a self,
         rt: &'r R,

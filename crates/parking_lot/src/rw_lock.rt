@@ -157,7 +157,7 @@ impl<'l, T> RwLock<'l, T> {
         Some(self.read_guard(rt, held))
     }
 
-    /// Locks for reading as `read` does, but returns `None` if it cannot within the duration.
+    /// Locks for reading as `read` does, but returns `None` if it cannot do so within the duration.
     pub fn read_for<'a, 'r, R: Wait + Clock>(
         &'a self,
         rt: &'r R,
@@ -167,7 +167,7 @@ impl<'l, T> RwLock<'l, T> {
         Some(self.read_guard(rt, held))
     }
 
-    /// Locks for reading as `read` does, but returns `None` if it cannot before the deadline.
+    /// Locks for reading as `read` does, but returns `None` if it cannot do so before the deadline.
     pub fn read_until<'a, 'r, R: Wait + Clock>(
         &'a self,
         rt: &'r R,
@@ -199,7 +199,7 @@ impl<'l, T> RwLock<'l, T> {
         Some(self.read_guard(rt, held))
     }
 
-    /// Locks for reading as `read_recursive` does, but returns `None` if it cannot within the
+    /// Locks for reading as `read_recursive` does, but returns `None` if it cannot do so within the
     /// duration.
     pub fn read_recursive_for<'a, 'r, R: Wait + Clock>(
         &'a self,
@@ -210,7 +210,7 @@ impl<'l, T> RwLock<'l, T> {
         Some(self.read_guard(rt, held))
     }
 
-    /// Locks for reading as `read_recursive` does, but returns `None` if it cannot before the
+    /// Locks for reading as `read_recursive` does, but returns `None` if it cannot do so before the
     /// deadline.
     pub fn read_recursive_until<'a, 'r, R: Wait + Clock>(
         &'a self,
@@ -232,7 +232,8 @@ impl<'l, T> RwLock<'l, T> {
         self.write_guard(rt, self.take(rt, Writer::Comes))
     }
 
-    /// Locks for writing if nobody has the lock; otherwise returns `None` at once.
+    /// Locks for writing if nobody has the lock and it is reserved for nobody; otherwise returns
+    /// `None` at once.
     ///
     /// While another thread upgrades or downgrades, that thread has the lock.
     #[inline]
@@ -244,7 +245,8 @@ impl<'l, T> RwLock<'l, T> {
         Some(self.write_guard(rt, held))
     }
 
-    /// Locks for writing as `write` does, but returns `None` if it cannot within the duration.
+    /// Locks for writing as `write` does, but returns `None` if it cannot do so within the
+    /// duration.
     pub fn write_for<'a, 'r, R: Wait + Clock>(
         &'a self,
         rt: &'r R,
@@ -254,7 +256,8 @@ impl<'l, T> RwLock<'l, T> {
         Some(self.write_guard(rt, held))
     }
 
-    /// Locks for writing as `write` does, but returns `None` if it cannot before the deadline.
+    /// Locks for writing as `write` does, but returns `None` if it cannot do so before the
+    /// deadline.
     pub fn write_until<'a, 'r, R: Wait + Clock>(
         &'a self,
         rt: &'r R,
@@ -286,7 +289,7 @@ impl<'l, T> RwLock<'l, T> {
         Some(self.upgradable_guard(rt, held, upgradable))
     }
 
-    /// Locks as `upgradable_read` does, but returns `None` if it cannot within the duration.
+    /// Locks as `upgradable_read` does, but returns `None` if it cannot do so within the duration.
     pub fn upgradable_read_for<'a, 'r, R: Wait + Clock>(
         &'a self,
         rt: &'r R,
@@ -298,7 +301,7 @@ impl<'l, T> RwLock<'l, T> {
         }
     }
 
-    /// Locks as `upgradable_read` does, but returns `None` if it cannot before the deadline.
+    /// Locks as `upgradable_read` does, but returns `None` if it cannot do so before the deadline.
     pub fn upgradable_read_until<'a, 'r, R: Wait + Clock>(
         &'a self,
         rt: &'r R,
@@ -307,7 +310,7 @@ impl<'l, T> RwLock<'l, T> {
         self.upgradable_read_at_most(rt, Some(deadline))
     }
 
-    /// Returns whether a thread has the lock.
+    /// Returns whether a thread has the lock, or it is reserved for one.
     ///
     /// It finds out by locking for writing for a moment. A thread that tries in that moment may
     /// find the lock locked.

@@ -117,7 +117,8 @@ impl<'l> Semaphore<'l> {
         self.permit_if(self.try_take(permits), rt, permits)
     }
 
-    /// Takes one permit as `acquire` does, but returns `None` if it cannot within the duration.
+    /// Takes one permit as `acquire` does, but returns `None` if it cannot do so within the
+    /// duration.
     pub fn acquire_for<'a, 'r, R: Wait + Clock>(
         &'a self,
         rt: &'r R,
@@ -130,7 +131,8 @@ impl<'l> Semaphore<'l> {
         self.permit_if(took, rt, 1)
     }
 
-    /// Takes one permit as `acquire` does, but returns `None` if it cannot before the deadline.
+    /// Takes one permit as `acquire` does, but returns `None` if it cannot do so before the
+    /// deadline.
     pub fn acquire_until<'a, 'r, R: Wait + Clock>(
         &'a self,
         rt: &'r R,
@@ -142,7 +144,8 @@ impl<'l> Semaphore<'l> {
         self.acquire_many_until(rt, 1, deadline)
     }
 
-    /// Takes permits as `acquire_many` does, but returns `None` if it cannot before the deadline.
+    /// Takes permits as `acquire_many` does, but returns `None` if it cannot do so before the
+    /// deadline.
     ///
     /// It takes all of them or none.
     pub fn acquire_many_until<'a, 'r, R: Wait + Clock>(

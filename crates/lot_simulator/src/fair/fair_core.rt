@@ -57,8 +57,8 @@ enum Holder {
 /// every step of every thread.
 ///
 /// It is for simulators and schedulers. Threads are named by their numbers. What a step does is
-/// said by a small machine, whose state is `fair_state` of the core: the threads that wait for the
-/// mutex, those that sleep on the condition variable, each in order of arrival, and what each
+/// said by a small machine. Its state, `fair_state` of the core, has the threads that wait for the
+/// mutex and those that sleep on the condition variable, each in order of arrival, and what each
 /// thread is doing. A step that is not allowed is answered `Misfit` and changes nothing.
 ///
 /// Only `new`, a registration and the lists allocate. No call takes a lock.

@@ -75,7 +75,7 @@ impl<'a, 'r, 'l, T, R: Wait> RwLockUpgradableReadGuard<'a, 'r, 'l, T, R> {
         }
     }
 
-    /// Exchanges the read for a write as `upgrade` does, but gives up if it cannot within the
+    /// Exchanges the read for a write as `upgrade` does, but gives up if it cannot do so within the
     /// duration.
     ///
     /// # Errors
@@ -94,7 +94,7 @@ impl<'a, 'r, 'l, T, R: Wait> RwLockUpgradableReadGuard<'a, 'r, 'l, T, R> {
         }
     }
 
-    /// Exchanges the read for a write as `upgrade` does, but gives up if it cannot before the
+    /// Exchanges the read for a write as `upgrade` does, but gives up if it cannot do so before the
     /// deadline.
     ///
     /// # Errors

@@ -114,8 +114,8 @@ impl<'a, 'r, 'l, T, R: Wait> RwLockReadGuard<'a, 'r, 'l, T, R> {
         lock.read(rt)
     }
 
-    /// Releases the lock, calls the closure, locks for reading again, and returns what the closure
-    /// returned.
+    /// Releases the lock, calls the closure, locks for reading again, and returns the new guard
+    /// with what the closure returned.
     pub fn unlocked<A, C: FnOnce() -> A>(guard: Self, call: C) -> (Self, A)
     where
         R: Clock,
@@ -163,7 +163,7 @@ impl<'a, 'r, 'l, T, R: Wait> RwLockUpgradableReadGuard<'a, 'r, 'l, T, R> {
     }
 
     /// Releases the lock, calls the closure, locks for reading with the right to upgrade again, and
-    /// returns what the closure returned.
+    /// returns the new guard with what the closure returned.
     pub fn unlocked<A, C: FnOnce() -> A>(guard: Self, call: C) -> (Self, A)
     where
         R: Clock,
@@ -207,8 +207,8 @@ impl<'a, 'r, 'l, T, R: Wait> RwLockWriteGuard<'a, 'r, 'l, T, R> {
         lock.write(rt)
     }
 
-    /// Releases the lock, calls the closure, locks for writing again, and returns what the closure
-    /// returned.
+    /// Releases the lock, calls the closure, locks for writing again, and returns the new guard
+    /// with what the closure returned.
     pub fn unlocked<A, C: FnOnce() -> A>(guard: Self, call: C) -> (Self, A)
     where
         R: Clock,
