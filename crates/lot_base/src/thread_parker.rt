@@ -63,7 +63,7 @@ pub struct ParkerKey<H> {
 ///
 /// A parker belongs to one thread, its owner, and has a slot for the owner's node. While the slot
 /// is empty, the owner is parked or may park. A node in the slot means that an unpark of the owner
-/// was committed: it can no longer be undone, and the owner will find its node.
+/// was committed, and the owner may take the node and go on.
 ///
 /// The contract of each call keeps the law of the trait: a node that comes back has the number of
 /// the owner, and a payload that comes with it fits it.

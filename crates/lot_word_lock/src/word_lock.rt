@@ -13,10 +13,10 @@
 //!   the caller was told that its place was removed.
 //! - Words 12 to 15 are the marks of the places. A mark is 0 while nobody has the place, 1 while a
 //!   caller has it, and 2 if another caller sleeps until it is given back.
-//! - Word 16 is read by callers that arrive.
+//! - The other words are written by nobody. A caller that arrives reads word 16.
 //!
-//! Nobody writes the other words. They keep links and marks out of the cache line of word 0, and
-//! the words of the next lock out of the cache lines of these.
+//! The words that nobody writes keep links and marks out of the cache line of word 0, and the words
+//! of the next lock out of the cache lines of these.
 //!
 //! # The protocol
 //!
@@ -82,6 +82,17 @@ pub trait Fits: Drop {
 }
 
 /// A `WordLock` is a lock of one word around a value, which threads share by reference.
+///
+/// Here `pair` has two numbers that `Fits` wants to be equal, and both change in their place:
+///
+/// ```
+/// let mut claim = lock.claim(rt);
+/// lock.lend(&mut claim, |pair| {
+///     pair.first = pair.first.wrapping_add(1);
+///     pair.second = pair.second.wrapping_add(1);
+/// });
+/// lock.release(claim);
+/// ```
 ///
 /// It has 64 bytes, and points to two blocks on the heap, one of 24 words and one for the value. A
 /// `lock` and an `unlock` that meet no other caller touch few cache lines: that of the lock itself,

@@ -76,8 +76,8 @@ impl WaitTimeoutResult {
 /// `wait_while`.
 ///
 /// Threads may wait on one condition variable with several mutexes, and some of those may be fair.
-/// Each thread takes its place in the lot of the condition variable, so create both with the same
-/// lot: with two lots the notifies still work, but always wake at once.
+/// Each thread waits in the lot of the condition variable, so create both with the same lot: with
+/// two lots the notifies still work, but always wake at once.
 #[derive(Drop)]
 pub struct Condvar<'l> {
     lot: &'l Lot,
@@ -138,8 +138,8 @@ impl<'l> Condvar<'l> {
 
     /// Unlocks the mutex of the guard, waits for a notify, and locks the mutex again.
     ///
-    /// It may return without a notify. It does so where the lot has no free place: then the mutex
-    /// was unlocked for a moment.
+    /// It may return without a notify. It does so if the lot is full; then the mutex was unlocked
+    /// for a moment.
     pub fn wait<'a, 'r, 'm, T, R: Wait + Clock, F: Fairness>(
         &self,
         guard: MutexGuardIn<'a, 'r, 'm, T, R, F>,
@@ -168,9 +168,9 @@ impl<'l> Condvar<'l> {
 
     /// Waits as `wait` does, but no longer than until the deadline.
     ///
-    /// The result says whether the deadline passed before a notify came. If the lot has no free
-    /// place, it returns early, after the mutex was unlocked for a moment, and the result says that
-    /// the time was not over.
+    /// The result says whether the deadline passed before a notify came. If the lot is full, it
+    /// returns early, after the mutex was unlocked for a moment, and the result says that the time
+    /// was not over.
     pub fn wait_until<'a, 'r, 'm, T, R: Wait + Clock, F: Fairness>(
         &self,
         guard: MutexGuardIn<'a, 'r, 'm, T, R, F>,

@@ -55,6 +55,12 @@ impl<G: Deref, L: Release<G>> Guard<G, L> {
     /// Lets the closure look at the value and choose a lens, and returns a guard of the part that
     /// this lens names.
     ///
+    /// Here `choose_second` returns `Some(Second)` or `None`:
+    ///
+    /// ```
+    /// let chosen = Guard::try_map(mutex.lock(rt), choose_second).ok();
+    /// ```
+    ///
     /// # Errors
     ///
     /// Returns the guard if the closure chooses no lens. The lock is still locked then.

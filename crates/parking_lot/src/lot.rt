@@ -19,12 +19,12 @@ const YIELDS: u32 = 10;
 // The number of a lot that has none yet.
 const UNNUMBERED: u64 = 0;
 
-/// A `Lot` is the place where threads wait for the locks that were created with it.
+/// In a `Lot`, threads wait for the locks that were created with it.
 ///
 /// A program makes one and creates each lock with it. Each lock has keys of its own in the lot.
 ///
-/// The lot has a fixed number of places for threads that wait, whichever of its locks they wait
-/// for. A thread that need not wait takes no place. A thread that finds no place free yields the
+/// Only a fixed number of threads can wait in it at the same time, whichever of its locks they wait
+/// for. Threads that need not wait do not count. A thread that finds the lot full yields the
 /// processor and tries again. So a lot that is too small costs processor time and the order of
 /// arrival, but the locks stay correct.
 #[derive(Drop)]

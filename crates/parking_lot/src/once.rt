@@ -35,6 +35,12 @@ use std::{fmt, sync};
 pub struct Begun(());
 
 /// A `Once` runs one closure, although many threads may ask for it.
+///
+/// ```
+/// once.call_once(rt, |_begun| {
+///     came.fetch_add(1, Ordering::SeqCst);
+/// });
+/// ```
 #[derive(Drop)]
 pub struct Once<'l> {
     queue: WaitQueue<'l>,

@@ -36,6 +36,10 @@ const RUNNING: usize = 1;
 const DONE: usize = 2;
 
 /// A `OnceLock` is a cell that is set once, and that any thread then reads at the cost of one load.
+///
+/// ```
+/// let value = *cell.get_or_init(rt, || compute(runs, number));
+/// ```
 #[derive(Drop)]
 pub struct OnceLock<'l, T> {
     queue: WaitQueue<'l>,

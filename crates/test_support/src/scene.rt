@@ -232,8 +232,8 @@ impl<'t, P: ThreadParkerT> Stage<'t, P> {
 /// says.
 ///
 /// Otherwise it returns the number of the first line that went differently. It returns 0 if the lot
-/// or a thread was refused, or if the number of parks that were unparked is not the number that the
-/// unparks returned.
+/// could not be created, if the threads could not be started, or if the number of parks that were
+/// unparked is not the number that the unparks returned.
 pub fn play<P, R>(rt: &R, alloc: Global, text: &str, values: &[usize]) -> Option<usize>
 where
     P: ThreadParkerT + Send + Sync,
