@@ -54,13 +54,14 @@ pub fn taken_threads_come_back()
     ensures { TakenThreadsComeBack }
 {}
 
-/// States that threads leave the list of a key in the order in which they entered it.
+/// States that threads leave the list of a key in the order in which they entered it, except
+/// through filters, requeues and deadlines.
 ///
-/// It speaks of two threads that entered the list of a key, one after the other. Since the first
-/// one entered, no filter was used on the key, no requeue was made from it, and the first thread
-/// did not time out there. If an unpark of one or of all then takes the second thread, an unpark of
-/// these two kinds has taken the first one before, or this one takes it too, in front of the
-/// second.
+/// Take two threads that entered the list of a key, one after the other. Assume that since the
+/// first one entered, no filter was used on the key, no requeue was made from it, and the first
+/// thread did not time out there. If an unpark of one or of all then takes the second thread, an
+/// unpark of these two kinds has taken the first one before, or this one takes it too, in front of
+/// the second.
 pub fn first_come_first_out()
     ensures { FirstComeFirstOut }
 {}
