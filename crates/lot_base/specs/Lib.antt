@@ -18,7 +18,7 @@ pub mod Filter
 pub mod Requeue
 pub mod Fold
 pub mod Chain
--- Last a slot with what goes beside its first node, and the rule of a parker of one word, after `State`, `Me` and `Step` of the crate atomic_table.
+-- Last the slot of a parker, and the rule of a parker of one word, after `State`, `Me` and `Step` of the crate atomic_table.
 pub mod Loaded
 pub mod WordParkerRule
 -- The definitions of the word lock, of the crate below.

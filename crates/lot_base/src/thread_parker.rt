@@ -9,7 +9,7 @@ ghost use Rattle.std.specs.Prelude.{◌≡◌, [], ◌∷◌, ◌++◌, ◌↔�
 ghost use Rattle.lot_word_lock.specs.WordLock.{key_of};
 ghost use Rattle.lot_base.specs.Node.{fields, option_nodes};
 ghost use Rattle.lot_base.specs.NodeFields.{NodeFields};
-ghost use Rattle.lot_base.specs.Loaded.{HasNoNode, IsSlotFor};
+ghost use Rattle.lot_base.specs.Loaded.{HasNoNode, IsUnparked, IsSlotFor};
 
 mod generic;
 mod mutex;
@@ -121,10 +121,9 @@ pub trait ParkerT: Sized + Drop {
     ///
     /// The owner calls it when its node is in a queue, and with no lock held. It holds no lock
     /// while it sleeps.
-    fn park<R: Wait>(&self, rt: &R) -> (Box<Node>, Option<Self::Payload>)
+    fn park<R: Wait>(&self, rt: &R) -> (Box<Node>, Self::Payload)
         ensures node { (fields result.0.value).number ≡ owner self.now }
-        ensures payload { IfSome result.1
-            (Self.Payload.fits (home self.now) (fields result.0.value)) };
+        ensures payload { Self.Payload.fits (home self.now) (fields result.0.value) result.1 };
 
     /// Waits as `park` does, but returns `None` if the slot is still empty after the deadline.
     ///
@@ -134,10 +133,10 @@ pub trait ParkerT: Sized + Drop {
         &self,
         rt: &R,
         timeout: Instant,
-    ) -> Option<(Box<Node>, Option<Self::Payload>)>
+    ) -> Option<(Box<Node>, Self::Payload)>
         ensures node { IfSome result (λ back. (fields back.0.value).number ≡ owner self.now) }
-        ensures payload { IfSome result (λ back. IfSome back.1
-            (Self.Payload.fits (home self.now) (fields back.0.value))) };
+        ensures payload { IfSome result (λ back.
+            Self.Payload.fits (home self.now) (fields back.0.value) back.1) };
 
     /// Puts a node of the owner into the slot, and a payload beside it: this commits the unpark.
     ///
@@ -145,8 +144,8 @@ pub trait ParkerT: Sized + Drop {
     /// not. A thread that took the node out of a queue calls this, and may still have that bucket
     /// locked. It waits for the locks of the parker alone.
     ///
-    /// A slot has room for one payload. If there is a node in it already, the new node is put
-    /// behind, and its payload is dropped.
+    /// A slot has room for one node, and each thread has one. If there is a node in the slot
+    /// already, its owner is unparked already: that node stays, and the new one is dropped.
     fn unpark_lock<R: Wait>(
         &self,
         rt: &R,
@@ -265,22 +264,21 @@ fn time_left<R: Clock>(rt: &R, deadline: Instant) -> Option<Duration> {
         .filter(|left| !left.is_zero())
 }
 
-// A slot, and the payload that was put beside its first node, unless that node went.
+// Where a parker's owner finds its node when it was unparked, and the payload beside it.
 #[derive(Drop)]
 struct LoadedSlot<L: Payload> {
-    slot: Slot,
-    payload: Option<L>,
+    owner: usize,
+    unparked: Option<(Box<Node>, L)>,
 }
 
 impl<L: Payload> LoadedSlot<L> {
     // An empty slot of the thread of this number.
     fn new(number: usize) -> LoadedSlot<L>
-        ensures slot { result.slot ≡ record { owner = number; nodes = [] } }
-        ensures payload { IsNone result.payload }
+        ensures { result ≡ record { owner = number; unparked = None } }
     {
         LoadedSlot {
-            slot: Slot::new(number),
-            payload: None,
+            owner: number,
+            unparked: None,
         }
     }
 
@@ -289,38 +287,29 @@ impl<L: Payload> LoadedSlot<L> {
     fn is_empty(&self) -> bool
         ensures { IsTrue result ↔ HasNoNode self.now }
     {
-        self.slot.is_empty()
+        self.unparked.is_none()
     }
 
-    // Puts a node of the owner last, and its payload beside it where it is the first.
+    // Puts a node of the owner into the slot, and its payload beside it, unless one is there.
     #[inline]
     fn put(&mut self, node: Box<Node>, payload: L)
-        requires { (fields node.value).number ≡ self.old.slot.owner }
-        ensures slot { self.new.slot ≡ record self.old.slot {
-          nodes = self.old.slot.nodes ++ fields node.value ∷ [];
-        } }
-        ensures first { HasNoNode self.old → self.new.payload ≡ Some payload }
-        ensures behind { (HasNoNode self.old → ⊥) → self.new.payload ≡ self.old.payload }
+        ensures owner { self.new.owner ≡ self.old.owner }
+        ensures empty { HasNoNode self.old → self.new.unparked ≡ Some (node, payload) }
+        ensures full { (HasNoNode self.old → ⊥) → self.new.unparked ≡ self.old.unparked }
     {
         if self.is_empty() {
-            self.payload = Some(payload);
+            self.unparked = Some((node, payload));
         }
-        self.slot.put(node);
     }
 
-    // Takes the first node, if there is one, and writes its payload.
+    // Takes what the slot holds.
     #[inline]
-    fn take(&mut self, payload: &mut Option<L>) -> Option<Box<Node>>
-        ensures owner { self.new.slot.owner ≡ self.old.slot.owner }
-        ensures taken { IfSome result (λ node.
-            (self.old.slot.nodes ≡ fields node.value ∷ self.new.slot.nodes)
-            × (payload.new ≡ self.old.payload) × (self.new.payload ≡ None)
-            × ((fields node.value).number ≡ self.old.slot.owner)) }
-        ensures none { IfNone result (self.new ≡ self.old) }
+    fn take(&mut self) -> Option<(Box<Node>, L)>
+        ensures owner { self.new.owner ≡ self.old.owner }
+        ensures taken { result ≡ self.old.unparked }
+        ensures empty { HasNoNode self.new }
     {
-        let node = self.slot.take()?;
-        *payload = self.payload.take();
-        Some(node)
+        self.unparked.take()
     }
 }
 
@@ -356,7 +345,7 @@ impl<L: Payload> LockedSlot<L> {
         is_empty
     }
 
-    // Puts a node of the owner last, and its payload beside it where it is the first.
+    // Puts a node of the owner into the slot, and its payload beside it, unless one is there.
     fn put<R: Wait>(&self, rt: &R, node: Box<Node>, payload: L)
         requires node { (fields node.value).number ≡ (key_of self.now.lock).number }
         requires payload { L.fits (key_of self.now.lock).home (fields node.value) payload }
@@ -366,16 +355,14 @@ impl<L: Payload> LockedSlot<L> {
         self.lock.unlock(held);
     }
 
-    // Takes the first node, if there is one, and writes its payload.
-    fn take<R: Wait>(&self, rt: &R, payload: &mut Option<L>) -> Option<Box<Node>>
-        ensures node { IfSome result (λ node.
-            (fields node.value).number ≡ (key_of self.now.lock).number) }
-        ensures payload { IfSome result (λ node. IfSome payload.new
-            (L.fits (key_of self.now.lock).home (fields node.value))) }
+    // Takes what the slot holds.
+    fn take<R: Wait>(&self, rt: &R) -> Option<(Box<Node>, L)>
+        ensures { IfSome result (IsUnparked
+            (L.fits (key_of self.now.lock).home) (key_of self.now.lock).number) }
     {
         let mut held = self.lock.lock(rt);
-        let node = held.value.take(payload);
+        let unparked = held.value.take();
         self.lock.unlock(held);
-        node
+        unparked
     }
 }

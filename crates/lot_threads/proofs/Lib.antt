@@ -9,6 +9,7 @@ pub mod LookLemmas
 pub mod WithinLemmas
 pub mod RecordingLemmas
 pub mod AnswerLemmas
+pub mod CommitLemmas
 pub mod RequeueLemmas
 pub mod LockLemmas
 pub mod HalfLemmas

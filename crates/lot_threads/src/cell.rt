@@ -1,6 +1,6 @@
 //! The buckets of a lot, each with its part of the history, behind a lock.
 
-ghost use Rattle.std.specs.Prelude.{◌≡◌, ◌∷◌, ◌<◌, [], length, IfOk, IfSome};
+ghost use Rattle.std.specs.Prelude.{◌≡◌, ◌∷◌, ◌+◌, ◌<◌, ◌^◌, [], length, IfOk, IfSome};
 ghost use Rattle.lot_base.specs.Place.{IsTableSize};
 ghost use Rattle.lot_history.specs.Views.{rest_of};
 ghost use Rattle.lot_history.specs.Witness.{IsPartOf, IsStill, IsWitnessOf, events_of, id_of, max_threads_of, pieces_of};
@@ -20,7 +20,6 @@ use lot_history::history::{History, Part, Witness};
 use lot_machine::size::INITIAL_BUCKETS;
 use std::alloc::Global;
 use std::sync::Wait;
-use std::thread;
 
 // A bucket, and beside it its piece of the machine: the lists of all keys of its place.
 #[derive(Drop)]
@@ -53,22 +52,9 @@ impl Fits for Slot {
     ghost fits = { λ key slot. FitsSlot key slot };
 }
 
-// Takes the bucket of a row in use away from its place. Whoever has the registry locked alone does
-// that, so it is there once no section has it, but no contract tells so.
-pub(crate) fn take_away<R: Wait>(rt: &R, lock: &WordLock<Slot>) -> Cell
-    ensures { FitsCell (key_of lock.now) result }
-{
-    for _ in rt.forever() {
-        if let Some(cell) = taken_from(rt, lock) {
-            return cell;
-        }
-        thread::yield_now();
-    }
-    unreachable!()
-}
-
-// The bucket of this place, which is away then, or `None` where it was away.
-fn taken_from<R: Wait>(rt: &R, lock: &WordLock<Slot>) -> Option<Cell>
+// Takes the bucket of this place away, or answers `None` where it is away, since its row is not in
+// use.
+pub(crate) fn take_away<R: Wait>(rt: &R, lock: &WordLock<Slot>) -> Option<Cell>
     ensures { IfSome result (FitsCell (key_of lock.now)) }
 {
     let mut held = lock.lock(rt);
@@ -111,6 +97,14 @@ pub(crate) fn lock_at(row: &[WordLock<Slot>], place: usize) -> &WordLock<Slot>
 
 // How many rows there may be: of 16 to 65,536 buckets.
 pub(crate) const MOST_ROWS: usize = 13;
+
+// How many buckets the row of this index has.
+pub(crate) fn row_size(index: usize) -> usize
+    requires { index < 13 }
+    ensures { result ≡ 2 ^ (index + 4) }
+{
+    1 << (index + 4)
+}
 
 // What the slot of a row keeps: the row is of the lot and of the size that its tag tells.
 pub(crate) struct OfTag;

@@ -31,35 +31,12 @@ use lot_machine::status::Status;
 use lot_machine::step::{Answer, Op, Step};
 use std::alloc::Global;
 use std::marker::Brand;
-use std::sync::Wait;
-use std::{mem, thread};
+use std::mem;
 
-// Takes the first waiter of the key out of its bucket, and tells so. The witness has the pieces of
-// those that were taken, one at most.
+// Takes the first waiter of the key out of its bucket, in a critical section that has the bucket's
+// part, and tells so. The witness has the pieces of those that were taken, one at most.
 #[inline]
-pub(crate) fn take_one_of<C: FnOnce(&CriticalSection, UnparkResult) -> UnparkToken>(
-    history: &History,
-    me: &mut Witness,
-    licence: Licence,
-    cell: &mut Cell,
-    key: usize,
-    callback: C,
-) -> (UnparkResult, Queue)
-    requires idle { IsIdle history.now me.old }
-    requires cell { IsCellFor history.now key cell.old }
-    requires callable { MayCallBack C.FnOnce callback history.now key }
-
-    ensures still { IsStill history.now me.old me.new }
-    ensures unparked { UnparksOne C.FnOnce callback key history.now me.old result.0 me.new }
-    ensures taken { TakesFrom history.now cell.old cell.new result.1 me.new }
-    ensures one { length result.1 ≤ 1 }
-{
-    take_one_with::<Brand, C>(history, me, licence, cell, key, callback)
-}
-
-// The same, in a section in which the bucket is as its part says.
-#[inline]
-fn take_one_with<E: Told, C: FnOnce(&CriticalSection, UnparkResult) -> UnparkToken>(
+pub(crate) fn take_one_of<E: Told, C: FnOnce(&CriticalSection, UnparkResult) -> UnparkToken>(
     history: &History,
     me: &mut Witness,
     licence: Licence,
@@ -258,9 +235,10 @@ pub(crate) fn enter_in<V: FnOnce(&CriticalSection) -> bool>(
 }
 
 // Takes the node of a thread whose deadline has passed out of the bucket of its key, calls
-// `timed_out` and tells so; or answers `None` if the node is not there, since an unpark took it.
-pub(crate) fn leave_in<R: Wait, T: FnOnce(&CriticalSection, usize, bool)>(
-    rt: &R,
+// `timed_out` and tells so; or answers `None` if the node is not there, since an unpark took it. It
+// leaves a node there that says that its thread has no timeout: no contract tells that the node of
+// a thread with a deadline says otherwise, and then that thread would wait for an unpark.
+pub(crate) fn leave_in<T: FnOnce(&CriticalSection, usize, bool)>(
     history: &History,
     me: &mut Witness,
     licence: Licence,
@@ -283,15 +261,10 @@ pub(crate) fn leave_in<R: Wait, T: FnOnce(&CriticalSection, usize, bool)>(
     ensures unchanged { IfNone result ((seen_by me.new ≡ seen_by me.old)
         × (events_of me.new ≡ events_of me.old)) }
 {
-    let Some((node, last)) = cell.bucket.remove(number, key, |_, last| last) else {
+    let Some((node, last)) = cell.bucket.remove_timed(number, key) else {
         licence.spend();
         return None;
     };
-    // A thread whose deadline has passed entered with a timeout, but no contract tells what the
-    // node of a thread says.
-    if !node.timed {
-        never(rt);
-    }
     let section = CriticalSection::of(mem::replace(&mut cell.part, Part::none()));
     timed_out(&section, key, last);
     cell.part = section.into_part();
@@ -332,14 +305,4 @@ fn entry_for(node: &Node) -> Entry
         park_token: node.park_token,
         timed: node.timed,
     }
-}
-
-// Waits for ever, where the code does not come.
-#[cold]
-#[inline(never)]
-pub(crate) fn never<R: Wait>(rt: &R) -> ! {
-    for _ in rt.forever() {
-        thread::yield_now();
-    }
-    unreachable!()
 }

@@ -15,7 +15,6 @@ ghost use Rattle.lot_threads.specs.Within.{IsParkedWithin, MayPark};
 use crate::critical_section::CriticalSection;
 use crate::parker::ThreadParkerT;
 pub use crate::shared_lot::ParkingLot;
-use crate::visitor::Visitor;
 use lot_base::queue::Node;
 use lot_base::thread_parker::ParkerT;
 use lot_base::token::{
@@ -146,19 +145,6 @@ impl<P: ThreadParkerT> ParkingLot<P> {
         // The data of a thread that does not wait has its node: its type keeps that.
         self.release(rt, &mut witness, node.unwrap(), thread, records);
         witness
-    }
-
-    /// A visitor of the lot: a caller with a witness of its own, which has seen nothing and added
-    /// nothing. It costs a load.
-    ///
-    /// Upstream has no such call.
-    #[inline]
-    pub fn visitor(&self) -> Visitor<'_, P>
-        ensures lot { result.history ≡ self.now }
-        ensures nothing_seen { seen_by result.witness ≡ [] }
-        ensures nothing_added { events_of result.witness ≡ [] }
-    {
-        Visitor::of(self, self.history().witness())
     }
 
     /// The numbers of the threads that stand in the list of the key, in order, as `Visitor::list`

@@ -164,7 +164,14 @@ impl<'a, P: ThreadParkerT> Section<'a, P> {
         let key = self.key;
         let slot = self.claim.value_mut(self.lock).as_mut().unwrap();
         let cell = slot.cell.as_mut().unwrap();
-        let (result, taken) = take_one_of(lot.history(), me, licence, cell, key, callback);
+        let (result, taken) = take_one_of::<Brand, C>(
+            lot.history(),
+            me,
+            licence,
+            cell,
+            key,
+            callback,
+        );
         (result, lot.commit_one(rt, me, taken))
     }
 
@@ -253,7 +260,9 @@ impl<'a, P: ThreadParkerT> Section<'a, P> {
         let from = self.key;
         let slot = self.claim.value_mut(self.lock).as_mut().unwrap();
         let cell = slot.cell.as_mut().unwrap();
-        let (result, taken) = lot.requeue_in_one(me, licence, cell, from, to, validate, callback);
+        let (result, taken) = lot.requeue_in_one::<Brand, V, C>(
+            me, licence, cell, from, to, validate, callback,
+        );
         (result, lot.commit_one(rt, me, taken))
     }
 
@@ -288,7 +297,7 @@ impl<'a, P: ThreadParkerT> Section<'a, P> {
         let source = slot.cell.as_mut().unwrap();
         let slot = target.claim.value_mut(target.lock).as_mut().unwrap();
         let other = slot.cell.as_mut().unwrap();
-        let (result, taken) = lot.requeue_across(
+        let (result, taken) = lot.requeue_across::<Brand, V, C>(
             me, licence, source, other, from, to, validate, callback,
         );
         (result, lot.commit_one(rt, me, taken))
@@ -328,9 +337,8 @@ impl<'a, P: ThreadParkerT> Section<'a, P> {
 
     /// Takes a thread whose deadline has passed out of the list of the key and calls `timed_out`,
     /// or answers `None` if it does not stand there, since an unpark took it.
-    pub(crate) fn leave<R: Wait, T: FnOnce(&CriticalSection, usize, bool)>(
+    pub(crate) fn leave<T: FnOnce(&CriticalSection, usize, bool)>(
         &mut self,
-        rt: &R,
         me: &mut Witness,
         licence: Licence,
         number: usize,
@@ -351,7 +359,7 @@ impl<'a, P: ThreadParkerT> Section<'a, P> {
         let key = self.key;
         let slot = self.claim.value_mut(self.lock).as_mut().unwrap();
         let cell = slot.cell.as_mut().unwrap();
-        leave_in(rt, history, me, licence, cell, number, key, timed_out)
+        leave_in(history, me, licence, cell, number, key, timed_out)
     }
 
     /// Sees the history with the bucket's part, and lists the threads of the key.

@@ -18,7 +18,7 @@ use crate::numbered_nodes::NumberedNodes;
 use crate::section::Licence;
 use lot_base::bucket::Bucket;
 use lot_base::queue::Queue;
-use lot_base::token::{ParkToken, UnparkToken};
+use lot_base::token::ParkToken;
 use lot_history::history::{History, Part, Witness};
 use lot_history::plays::Told;
 use lot_machine::records;
@@ -453,25 +453,4 @@ fn add_resolved(
     ensures pieces { pieces_of me.new ≡ lists_in bucket.now ∷ Thread number Status.Running ∷ [] }
 {
     add_with::<Brand, (&Bucket, usize, usize, bool)>(history, me, &(bucket, number, key, last));
-}
-
-// Adds that a thread comes back with the token with which its piece says that it was taken, and
-// gives the piece.
-pub(crate) fn add_return(
-    history: &History,
-    me: &mut Witness,
-    number: usize,
-    token: UnparkToken,
-    taken: Part,
-) -> Part
-    requires idle { IsIdle history.now me.old }
-    requires taken { Has (id_of history.now) (Thread number (Status.Taken token) ∷ []) taken }
-    ensures idle { StaysIdle history.now me.old me.new }
-    ensures extends { Extends history.now me.old (Step.Return number)
-        (Answer.Unparked token) me.new }
-    ensures thread { Has (id_of history.now) (Thread number Status.Running ∷ []) result }
-{
-    history.take(me, taken);
-    history.give_back(me, number, token);
-    history.give(me)
 }

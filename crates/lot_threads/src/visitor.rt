@@ -44,6 +44,24 @@ pub struct Visitor<'a, P: ThreadParkerT> {
     ghost own: { IsIdle lot.now witness },
 }
 
+impl<P: ThreadParkerT> ParkingLot<P> {
+    /// A visitor of the lot: a caller with a witness of its own, which has seen nothing and added
+    /// nothing. It costs a load.
+    ///
+    /// Upstream has no such call.
+    #[inline]
+    pub fn visitor(&self) -> Visitor<'_, P>
+        ensures lot { result.history ≡ self.now }
+        ensures nothing_seen { seen_by result.witness ≡ [] }
+        ensures nothing_added { events_of result.witness ≡ [] }
+    {
+        Visitor {
+            lot: self,
+            witness: self.history().witness(),
+        }
+    }
+}
+
 impl<'a, P: ThreadParkerT> Model for Visitor<'a, P> {
     ghost use Rattle.lot_threads.specs.Visitors.{VisitorState};
 

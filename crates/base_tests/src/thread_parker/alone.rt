@@ -53,8 +53,8 @@ fn take_a_commit<P: ThreadParkerT, R: Wait + Abort>(rt: &R, parker: &P, node: Bo
     expect_empty(rt, parker, "a late unpark fills no slot");
 }
 
-// Two nodes come back in the order in which they were put.
-fn take_two_commits<P: ThreadParkerT, R: Wait + Abort>(
+// A commit to a slot that holds a node already leaves that one there, and unparks nobody twice.
+fn commit_twice<P: ThreadParkerT, R: Wait + Abort>(
     rt: &R,
     parker: &P,
     second: Box<Node>,
@@ -66,12 +66,12 @@ fn take_two_commits<P: ThreadParkerT, R: Wait + Abort>(
     drop(parker.unpark_lock(rt, second, ()));
     drop(parker.unpark_lock(rt, third, ()));
     expect_token(rt, parker, 43);
-    expect_token(rt, parker, 44);
+    expect_empty(rt, parker, "the node was taken");
 }
 
-// No clause says when a slot is full, nor which of two nodes comes first. This refuses a parker
-// whose `timed_out` has one answer always, whose `park` gives the second node first, or whose
-// `unpark_lock` drops the node, so that the first `park` does not end.
+// No clause says when a slot is full, nor which of two nodes stays. This refuses a parker whose
+// `timed_out` has one answer always, that keeps the second node, or whose `unpark_lock` drops the
+// node, so that the first `park` does not end.
 fn takes_turns<P: ThreadParkerT, R: Wait + Abort>(rt: &R, alloc: Global) {
     let parker: P = new_parker(rt, alloc);
     parker.prepare_park();
@@ -79,7 +79,7 @@ fn takes_turns<P: ThreadParkerT, R: Wait + Abort>(rt: &R, alloc: Global) {
     take_a_commit(rt, &parker, owners_node(rt, alloc, 42));
     let second = owners_node(rt, alloc, 43);
     let third = owners_node(rt, alloc, 44);
-    take_two_commits(rt, &parker, second, third);
+    commit_twice(rt, &parker, second, third);
 }
 
 // No clause says when a timed wait ends. With a `park_until` that looks at no clock, this does not
@@ -103,13 +103,11 @@ fn waits_to_the_deadline<P: ThreadParkerT, R: Wait + Clock + Abort>(rt: &R, allo
 }
 
 // No clause says that a node in the slot is found. This refuses a `park_until` that answers `None`
-// at a deadline without a look, or gives the second of two nodes first.
+// at a deadline without a look.
 fn looks_after_the_deadline<P: ThreadParkerT, R: Wait + Clock + Abort>(rt: &R, alloc: Global) {
     let parker: P = new_parker(rt, alloc);
     let late = parker.unpark_lock(rt, owners_node(rt, alloc, 42), ());
-    drop(parker.unpark_lock(rt, owners_node(rt, alloc, 43), ()));
     expect_found(rt, &parker, 42);
-    expect_found(rt, &parker, 43);
     late.unpark(&parker);
     expect_empty(rt, &parker, "a late unpark fills no slot");
 }

@@ -36,24 +36,14 @@ fn node_and_parcel(rt: &impl Abort, alloc: Global, token: usize) -> (Box<Node>, 
     (node, Parcel { token })
 }
 
-// The node that comes next has this token, and this comes beside it.
-fn expect_back<P: ParkerT<Payload = Parcel>, R: Wait + Abort>(
-    rt: &R,
-    parker: &P,
-    token: usize,
-    beside: Option<usize>,
-) {
+// The node that comes next has this token, and so has what comes beside it.
+fn expect_back<P: ParkerT<Payload = Parcel>, R: Wait + Abort>(rt: &R, parker: &P, token: usize) {
     let (node, parcel) = parker.park(rt);
-    let comes = match parcel {
-        Some(parcel) => beside == Some(parcel.token.0),
-        None => beside.is_none(),
-    };
-    let is_back = comes && node.park_token.0 == token;
+    let is_back = node.park_token.0 == token && parcel.token.0 == token;
     expect_each(rt, is_back, "a node and what comes beside it", token);
 }
 
-// No clause says that a payload comes out. This refuses a slot that keeps the payload, or drops it,
-// and one that lays the second payload beside the first node.
+// No clause says which node comes out. This refuses a slot that keeps the second of two, or both.
 fn a_payload_comes_with_its_node<P: ParkerT<Payload = Parcel>, R: Wait + Abort>(
     rt: &R,
     alloc: Global,
@@ -68,8 +58,7 @@ fn a_payload_comes_with_its_node<P: ParkerT<Payload = Parcel>, R: Wait + Abort>(
         drop(parker.unpark_lock(rt, first, parcel));
         let (second, parcel) = node_and_parcel(rt, alloc, 42);
         drop(parker.unpark_lock(rt, second, parcel));
-        expect_back(rt, &parker, round, Some(round));
-        expect_back(rt, &parker, 42, None);
+        expect_back(rt, &parker, round);
     }
 }
 

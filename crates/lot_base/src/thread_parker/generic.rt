@@ -50,11 +50,10 @@ impl<L: Payload> ParkerT for YieldParker<L> {
     }
 
     /// Locks the slot for each look, and yields between its looks.
-    fn park<R: Wait>(&self, rt: &R) -> (Box<Node>, Option<L>) {
-        let mut payload = None;
+    fn park<R: Wait>(&self, rt: &R) -> (Box<Node>, L) {
         for _ in rt.forever() {
-            if let Some(node) = self.slot.take(rt, &mut payload) {
-                return (node, payload);
+            if let Some(unparked) = self.slot.take(rt) {
+                return unparked;
             }
             thread_yield();
         }
@@ -64,16 +63,11 @@ impl<L: Payload> ParkerT for YieldParker<L> {
     /// Locks the slot for each look, and yields between its looks.
     ///
     /// It reads the clock before each look, so the last look comes after the deadline.
-    fn park_until<R: Wait + Clock>(
-        &self,
-        rt: &R,
-        timeout: Instant,
-    ) -> Option<(Box<Node>, Option<L>)> {
-        let mut payload = None;
+    fn park_until<R: Wait + Clock>(&self, rt: &R, timeout: Instant) -> Option<(Box<Node>, L)> {
         for _ in rt.forever() {
             let is_late = time_left(rt, timeout).is_none();
-            if let Some(node) = self.slot.take(rt, &mut payload) {
-                return Some((node, payload));
+            if let Some(unparked) = self.slot.take(rt) {
+                return Some(unparked);
             }
             if is_late {
                 return None;
@@ -83,7 +77,7 @@ impl<L: Payload> ParkerT for YieldParker<L> {
         unreachable!()
     }
 
-    /// Locks the slot and puts the node last.
+    /// Locks the slot and puts the node in it.
     fn unpark_lock<R: Wait>(&self, rt: &R, node: Box<Node>, payload: L) -> YieldHandle {
         let number = node.number;
         self.slot.put(rt, node, payload);

@@ -56,12 +56,11 @@ impl<L: Payload> ParkerT for ThreadParker<L> {
     /// Locks the mutex, and sleeps on the condition variable until there is a node.
     ///
     /// The mutex is unlocked while it sleeps. If it is woken without a node, it sleeps again.
-    fn park<R: Wait>(&self, rt: &R) -> (Box<Node>, Option<L>) {
-        let mut payload = None;
+    fn park<R: Wait>(&self, rt: &R) -> (Box<Node>, L) {
         let mut changes = self.changes.lock(rt);
         for _ in rt.forever() {
-            if let Some(node) = self.slot.take(rt, &mut payload) {
-                return (node, payload);
+            if let Some(unparked) = self.slot.take(rt) {
+                return unparked;
             }
             changes = self.filled.wait(rt, changes);
         }
@@ -71,16 +70,11 @@ impl<L: Payload> ParkerT for ThreadParker<L> {
     /// Does what `park` does, but sleeps at most until the deadline.
     ///
     /// It reads the clock after each look, while the mutex is still locked.
-    fn park_until<R: Wait + Clock>(
-        &self,
-        rt: &R,
-        timeout: Instant,
-    ) -> Option<(Box<Node>, Option<L>)> {
-        let mut payload = None;
+    fn park_until<R: Wait + Clock>(&self, rt: &R, timeout: Instant) -> Option<(Box<Node>, L)> {
         let mut changes = self.changes.lock(rt);
         for _ in rt.forever() {
-            if let Some(node) = self.slot.take(rt, &mut payload) {
-                return Some((node, payload));
+            if let Some(unparked) = self.slot.take(rt) {
+                return Some(unparked);
             }
             let left = time_left(rt, timeout)?;
             let (locked, _) = self.filled.wait_timeout(rt, changes, left);
@@ -89,7 +83,7 @@ impl<L: Payload> ParkerT for ThreadParker<L> {
         unreachable!()
     }
 
-    /// Locks the mutex and puts the node last.
+    /// Locks the mutex and puts the node into the slot.
     fn unpark_lock<R: Wait>(&self, rt: &R, node: Box<Node>, payload: L) -> UnparkHandle {
         let number = node.number;
         let changes = self.changes.lock(rt);

@@ -9,7 +9,7 @@
 //! and that one thread at a time does. That the owner is woken is tested.
 
 ghost use Rattle.std.specs.Prelude.{◌≡◌, ◌≢◌, ◌⊎◌, ◌↔◌, IsTrue, IfSome};
-ghost use Rattle.lot_base.specs.Loaded.{HasNoNode, IsSlotFor};
+ghost use Rattle.lot_base.specs.Loaded.{HasNoNode, IsSlotFor, IsUnparked};
 ghost use Rattle.lot_base.specs.Node.{fields};
 ghost use Rattle.lot_base.specs.WordParkerRule.{ParkerOrderly, OpenTells, Untold, HasSlot, Tells, MaySleep};
 
@@ -187,7 +187,7 @@ impl<L: Payload> WordParker<L> {
         self.table.shared.store::<Step>(&mut seat, WORD, word);
     }
 
-    // Puts a node of the owner last, and its payload beside it where it is the first.
+    // Puts a node of the owner into the slot, and its payload beside it, unless one is there.
     #[inline]
     fn put(&self, seat: &mut Seat<LoadedSlot<L>, ParkerKey<L::Home>>, node: Box<Node>, payload: L)
         requires table { seat.old.table_id ≡ self.now.table.shared.table_id }
@@ -202,31 +202,23 @@ impl<L: Payload> WordParker<L> {
         seat.slot_mut(&self.table.shared, SLOT).put(node, payload);
     }
 
-    // Takes the first node, if there is one, and writes its payload. Answers the node, and whether
-    // no other is left.
+    // Takes what the slot holds.
     #[inline]
-    fn take_first(
-        &self,
-        seat: &mut Seat<LoadedSlot<L>, ParkerKey<L::Home>>,
-        payload: &mut Option<L>,
-    ) -> (Option<Box<Node>>, bool)
+    fn take_out(&self, seat: &mut Seat<LoadedSlot<L>, ParkerKey<L::Home>>) -> Option<(Box<Node>, L)>
         requires table { seat.old.table_id ≡ self.now.table.shared.table_id }
         requires slot { HasSlot seat.old.me (IsSlotFor
             (L.fits self.now.table.shared.key.home) self.now.table.shared.key.number) }
         ensures table { seat.new.table_id ≡ seat.old.table_id }
-        ensures slot { HasSlot seat.new.me (λ slot. (IsTrue result.1 ↔ HasNoNode slot) × IsSlotFor
+        ensures slot { HasSlot seat.new.me (λ slot. HasNoNode slot × IsSlotFor
             (L.fits self.now.table.shared.key.home) self.now.table.shared.key.number slot) }
-        ensures node { IfSome result.0 (λ node.
-            (fields node.value).number ≡ self.now.table.shared.key.number) }
-        ensures payload { IfSome result.0 (λ node. IfSome payload.new
-            (L.fits self.now.table.shared.key.home (fields node.value))) }
+        ensures unparked { IfSome result (IsUnparked
+            (L.fits self.now.table.shared.key.home) self.now.table.shared.key.number) }
     {
-        let slot = seat.slot_mut(&self.table.shared, SLOT);
-        let node = slot.take(payload);
-        (node, slot.is_empty())
+        seat.slot_mut(&self.table.shared, SLOT).take()
     }
 
-    // Puts a node of the owner last, and puts the slot back. Answers whether the owner may sleep.
+    // Puts a node of the owner into the slot, unless one is there, and puts the slot back. Answers
+    // whether the owner may sleep.
     #[inline]
     fn fill(&self, mut opened: OpenSlot<L>, node: Box<Node>, payload: L) -> bool
         requires table { opened.seat.table_id ≡ self.now.table.shared.table_id }
@@ -242,22 +234,20 @@ impl<L: Payload> WordParker<L> {
         word == FULL_ASLEEP
     }
 
-    // Takes the first node and writes its payload, or answers `None` if the slot was empty at a
-    // look. The owner is awake, so no mark of its sleep is left.
+    // Takes the node and its payload, or answers `None` if the slot was empty at a look. The owner
+    // is awake, so no mark of its sleep is left.
     #[inline]
-    fn take<R: Wait>(&self, rt: &R, payload: &mut Option<L>) -> Option<Box<Node>>
-        ensures node { IfSome result (λ node.
-            (fields node.value).number ≡ self.now.table.shared.key.number) }
-        ensures payload { IfSome result (λ node. IfSome payload.new
-            (L.fits self.now.table.shared.key.home (fields node.value))) }
+    fn take<R: Wait>(&self, rt: &R) -> Option<(Box<Node>, L)>
+        ensures { IfSome result (IsUnparked
+            (L.fits self.now.table.shared.key.home) self.now.table.shared.key.number) }
     {
         if says_empty(self.word(rt)) {
             return None;
         }
         let mut opened = self.open(rt);
-        let (node, is_empty) = self.take_first(&mut opened.seat, payload);
-        self.close(opened, if is_empty { EMPTY } else { FULL });
-        node
+        let unparked = self.take_out(&mut opened.seat);
+        self.close(opened, EMPTY);
+        unparked
     }
 
     // Marks that the owner sleeps, if the slot is empty. Answers whether the mark is there.
@@ -282,49 +272,41 @@ impl<L: Payload> WordParker<L> {
             .compare_exchange::<Step>(&mut seat, WORD, EMPTY_ASLEEP, EMPTY);
     }
 
-    // Sleeps until the slot holds a node, takes it and writes its payload.
+    // Sleeps until the slot holds a node, and takes it with its payload.
     #[cold]
     #[inline(never)]
-    fn park_slow<R: Wait>(&self, rt: &R, payload: &mut Option<L>) -> Box<Node>
-        ensures node { (fields result.value).number ≡ self.now.table.shared.key.number }
-        ensures payload { IfSome payload.new
-            (L.fits self.now.table.shared.key.home (fields result.value)) }
+    fn park_slow<R: Wait>(&self, rt: &R) -> (Box<Node>, L)
+        ensures { IsUnparked
+            (L.fits self.now.table.shared.key.home) self.now.table.shared.key.number result }
     {
         for _ in rt.forever() {
             if self.mark_asleep() {
                 self.table.shared.park(rt, WORD, EMPTY_ASLEEP as u32);
             }
-            if let Some(node) = self.take(rt, payload) {
-                return node;
+            if let Some(unparked) = self.take(rt) {
+                return unparked;
             }
         }
         unreachable!()
     }
 
-    // Sleeps until the slot holds a node, takes it and writes its payload, or until the deadline.
+    // Sleeps until the slot holds a node, and takes it with its payload, or until the deadline.
     #[cold]
     #[inline(never)]
-    fn park_until_slow<R: Wait + Clock>(
-        &self,
-        rt: &R,
-        timeout: Instant,
-        payload: &mut Option<L>,
-    ) -> Option<Box<Node>>
-        ensures node { IfSome result (λ node.
-            (fields node.value).number ≡ self.now.table.shared.key.number) }
-        ensures payload { IfSome result (λ node. IfSome payload.new
-            (L.fits self.now.table.shared.key.home (fields node.value))) }
+    fn park_until_slow<R: Wait + Clock>(&self, rt: &R, timeout: Instant) -> Option<(Box<Node>, L)>
+        ensures { IfSome result (IsUnparked
+            (L.fits self.now.table.shared.key.home) self.now.table.shared.key.number) }
     {
         for _ in rt.forever() {
             let Some(left) = time_left(rt, timeout) else {
-                return self.take(rt, payload);
+                return self.take(rt);
             };
             if self.mark_asleep() {
                 let shared = &self.table.shared;
                 shared.park_timeout(rt, WORD, EMPTY_ASLEEP as u32, left);
             }
-            if let Some(node) = self.take(rt, payload) {
-                return Some(node);
+            if let Some(unparked) = self.take(rt) {
+                return Some(unparked);
             }
         }
         unreachable!()
@@ -380,33 +362,25 @@ impl<L: Payload> ParkerT for WordParker<L> {
     ///
     /// If it is woken without a node, it sleeps again.
     #[inline]
-    fn park<R: Wait>(&self, rt: &R) -> (Box<Node>, Option<L>) {
-        let mut payload = None;
-        let node = match self.take(rt, &mut payload) {
-            Some(node) => node,
-            None => self.park_slow(rt, &mut payload),
-        };
-        (node, payload)
+    fn park<R: Wait>(&self, rt: &R) -> (Box<Node>, L) {
+        match self.take(rt) {
+            Some(unparked) => unparked,
+            None => self.park_slow(rt),
+        }
     }
 
     /// Does what `park` does, but sleeps at most until the deadline.
     ///
     /// It reads the clock after each look, and looks once more after the deadline.
     #[inline]
-    fn park_until<R: Wait + Clock>(
-        &self,
-        rt: &R,
-        timeout: Instant,
-    ) -> Option<(Box<Node>, Option<L>)> {
-        let mut payload = None;
-        let node = match self.take(rt, &mut payload) {
-            Some(node) => node,
-            None => self.park_until_slow(rt, timeout, &mut payload)?,
-        };
-        Some((node, payload))
+    fn park_until<R: Wait + Clock>(&self, rt: &R, timeout: Instant) -> Option<(Box<Node>, L)> {
+        match self.take(rt) {
+            Some(unparked) => Some(unparked),
+            None => self.park_until_slow(rt, timeout),
+        }
     }
 
-    /// Makes the word busy, puts the node last, and stores that the slot is full.
+    /// Makes the word busy, puts the node into the slot, and stores that the slot is full.
     ///
     /// It waits only while another thread does the same, or while the owner takes a node.
     #[inline]

@@ -1,4 +1,8 @@
 //! How the table grows with the threads that are registered, and how it is trimmed.
+//!
+//! Whoever has the registry locked, and nobody else, changes which row is in use, and moves its
+//! buckets. So the row in use was made and has its buckets, though no contract tells so: the code
+//! moves what is there.
 
 ghost use Rattle.std.specs.Prelude.{◌≡◌, ◌+◌, ◌*◌, ◌<◌, ◌≤◌, ◌^◌, length, IfOk, OnErr, OnOk};
 ghost use Rattle.lot_machine.specs.Size.{IsSizeFor, IsTrimmedSize};
@@ -11,7 +15,7 @@ ghost use Rattle.lot_threads.specs.Halves.{IsHalfSize};
 ghost use Rattle.lot_threads.specs.Idle.{IsIdle, StaysIdle};
 
 use super::ParkingLot;
-use crate::cell::{Slot, lock_at, new_row, put, take_away};
+use crate::cell::{Slot, lock_at, new_row, put, row_size, take_away};
 use crate::halves::{join, split};
 use crate::parker::ThreadParkerT;
 use crate::registry::Registry;
@@ -45,61 +49,41 @@ impl<P: ThreadParkerT> ParkingLot<P> {
             (3 * (count_registered registry.old.numbers + 1) ≤ size_in registry.new) }
         ensures err { OnErr result (registry.new.row ≡ registry.old.row) }
     {
-        let row = self.made_row(rt, registry.row);
-        if row.len() >= BUCKETS_PER_THREAD * (registry.threads() + 1) {
+        if row_size(registry.row) >= BUCKETS_PER_THREAD * (registry.threads() + 1) {
             return Ok(());
         }
-        self.grow(rt, alloc, registry, row)
+        self.grow(rt, alloc, registry)
     }
 
-    // Puts the row of twice the size in use in the place of this one.
-    fn grow<R: Wait>(
-        &self,
-        rt: &R,
-        alloc: Global,
-        registry: &mut Registry,
-        row: &Vec<WordLock<Slot>>,
-    ) -> Result<(), NoMemory>
+    // Puts the row of twice the size in use in the place of the present one.
+    fn grow<R: Wait>(&self, rt: &R, alloc: Global, registry: &mut Registry) -> Result<(), NoMemory>
         requires registry { IsRegistry (id_of self.now) (max_threads_of self.now) registry.old }
         requires below { registry.old.row + 1 < 13 }
-        requires row { IsRow (id_of self.now) (max_threads_of self.now) (size_in registry.old)
-            row.now.items }
         ensures registry { IsRegistry (id_of self.now) (max_threads_of self.now) registry.new }
         ensures numbers { registry.new.numbers ≡ registry.old.numbers }
         ensures row { OnOk result (registry.new.row ≡ registry.old.row + 1) }
         ensures err { OnErr result (registry.new.row ≡ registry.old.row) }
     {
         let index = registry.row + 1;
-        let larger = self.row_or_new(rt, alloc, &mut registry.witness, index, 2 * row.len())?;
-        self.double(rt, &mut registry.witness, row, larger);
+        self.make_row(alloc, &mut registry.witness, index)?;
+        self.move_to_larger(rt, &mut registry.witness, registry.row);
         registry.row = index;
         self.current.store(index, Ordering::SeqCst);
         Ok(())
     }
 
-    // The row of this index, which has this size, and is made if it was not needed before.
-    fn row_or_new<R: Wait>(
-        &self,
-        rt: &R,
-        alloc: Global,
-        me: &mut Witness,
-        index: usize,
-        size: usize,
-    ) -> Result<&Vec<WordLock<Slot>>, NoMemory>
+    // Makes the row of this index, if it was not needed before.
+    fn make_row(&self, alloc: Global, me: &mut Witness, index: usize) -> Result<(), NoMemory>
         requires fresh { IsFresh (id_of self.now) me.old }
         requires below { index < 13 }
-        requires size { size ≡ 2 ^ (index + 4) }
         ensures fresh { IsFresh (id_of self.now) me.new }
-        ensures row { IfOk result (λ row. IsRow (id_of self.now) (max_threads_of self.now)
-            size row.now.items) }
     {
-        if let Some(row) = self.row(index) {
-            return Ok(row);
+        if self.row(index).is_none() {
+            let home = self.history.give(me);
+            let row = new_row(alloc, row_size(index), self.threads.len(), home)?;
+            let _ = self.row_slot(index).set(row);
         }
-        let home = self.history.give(me);
-        let row = new_row(alloc, size, self.threads.len(), home)?;
-        let _ = self.row_slot(index).set(row);
-        Ok(self.made_row(rt, index))
+        Ok(())
     }
 
     // Makes the table as small as the registered threads allow, and tells the history.
@@ -123,37 +107,51 @@ impl<P: ThreadParkerT> ParkingLot<P> {
         ensures size { IsTrimmedSize (count_registered registry.old.numbers)
             (size_in registry.old) (size_in registry.new) }
     {
-        let mut row = self.made_row(rt, registry.row);
-        let size = trimmed_size(registry.threads(), row.len());
-        while size < row.len() {
-            row = self.shrink(rt, registry, row);
+        let size = trimmed_size(registry.threads(), row_size(registry.row));
+        while size < row_size(registry.row) {
+            self.shrink(rt, registry);
         }
     }
 
-    // Puts the row of half the size in use in the place of this one, and answers it.
-    fn shrink<R: Wait>(
-        &self,
-        rt: &R,
-        registry: &mut Registry,
-        larger: &Vec<WordLock<Slot>>,
-    ) -> &Vec<WordLock<Slot>>
+    // Puts the row of half the size in use in the place of the present one.
+    fn shrink<R: Wait>(&self, rt: &R, registry: &mut Registry)
         requires registry { IsRegistry (id_of self.now) (max_threads_of self.now) registry.old }
         requires above { 0 < registry.old.row }
         requires room { 2 * (3 * count_registered registry.old.numbers) ≤ size_in registry.old }
-        requires larger { IsRow (id_of self.now) (max_threads_of self.now) (size_in registry.old)
-            larger.now.items }
         ensures registry { IsRegistry (id_of self.now) (max_threads_of self.now) registry.new }
         ensures numbers { registry.new.numbers ≡ registry.old.numbers }
         ensures index { registry.new.row + 1 ≡ registry.old.row }
-        ensures row { IsRow (id_of self.now) (max_threads_of self.now) (size_in registry.new)
-            result.now.items }
     {
         let index = registry.row - 1;
-        let row = self.made_row(rt, index);
-        self.halve(rt, &mut registry.witness, row, larger);
+        self.move_to_smaller(rt, &mut registry.witness, index);
         registry.row = index;
         self.current.store(index, Ordering::SeqCst);
-        row
+    }
+
+    // Moves the buckets of the row of this index to the next row.
+    fn move_to_larger<R: Wait>(&self, rt: &R, me: &mut Witness, index: usize)
+        requires fresh { IsFresh (id_of self.now) me.old }
+        requires below { index + 1 < 13 }
+        ensures { IsFresh (id_of self.now) me.new }
+    {
+        if let Some(row) = self.row(index)
+            && let Some(larger) = self.row(index + 1)
+        {
+            self.double(rt, me, row, larger);
+        }
+    }
+
+    // Moves the buckets of the row behind the one of this index to this one.
+    fn move_to_smaller<R: Wait>(&self, rt: &R, me: &mut Witness, index: usize)
+        requires fresh { IsFresh (id_of self.now) me.old }
+        requires below { index + 1 < 13 }
+        ensures { IsFresh (id_of self.now) me.new }
+    {
+        if let Some(row) = self.row(index)
+            && let Some(larger) = self.row(index + 1)
+        {
+            self.halve(rt, me, row, larger);
+        }
     }
 
     // Takes the buckets of a row away, one after another, and puts what each has into the two of
@@ -174,10 +172,11 @@ impl<P: ThreadParkerT> ParkingLot<P> {
         ensures { IsFresh (id_of self.now) me.new }
     {
         for place in 0..row.len() {
-            let cell = take_away(rt, lock_at(row, place));
-            let (low, high) = split(&self.history, me, cell);
-            put(rt, &self.history, me, lock_at(larger, 2 * place), low);
-            put(rt, &self.history, me, lock_at(larger, 2 * place + 1), high);
+            if let Some(cell) = take_away(rt, lock_at(row, place)) {
+                let (low, high) = split(&self.history, me, cell);
+                put(rt, &self.history, me, lock_at(larger, 2 * place), low);
+                put(rt, &self.history, me, lock_at(larger, 2 * place + 1), high);
+            }
         }
     }
 
@@ -201,8 +200,12 @@ impl<P: ThreadParkerT> ParkingLot<P> {
         for place in 0..row.len() {
             let low = take_away(rt, lock_at(larger, 2 * place));
             let high = take_away(rt, lock_at(larger, 2 * place + 1));
-            let cell = join(&self.history, me, place, row.len(), low, high);
-            put(rt, &self.history, me, lock_at(row, place), cell);
+            if let Some(low) = low
+                && let Some(high) = high
+            {
+                let cell = join(&self.history, me, place, row.len(), low, high);
+                put(rt, &self.history, me, lock_at(row, place), cell);
+            }
         }
     }
 }

@@ -1,7 +1,7 @@
 //! How the nodes that an unpark took are handed to their threads, each with a letter beside it, and
 //! how a thread takes its letter.
 
-ghost use Rattle.std.specs.Prelude.{◌≡◌, ◌∷◌, ◌<◌, ◌≤◌, [], length, map, min, All, IfSome};
+ghost use Rattle.std.specs.Prelude.{◌≡◌, ◌∷◌, ◌<◌, ◌≤◌, [], length, map, min, All};
 ghost use Rattle.lot_base.specs.Node.{fields};
 ghost use Rattle.lot_machine.specs.declared.step.Answer.{Answer};
 ghost use Rattle.lot_machine.specs.declared.step.Step.{Step};
@@ -13,9 +13,7 @@ ghost use Rattle.lot_threads.specs.Idle.{IsIdle, StaysIdle};
 
 use super::ParkingLot;
 use super::handles::{HANDLES, Handles, Room};
-use crate::cell_steps::never;
 use crate::parker::{Letter, ThreadParkerT};
-use crate::told::add_return;
 use lot_base::queue::{Node, Queue};
 use lot_base::thread_parker::UnparkHandleT;
 use lot_history::history::{Part, Witness};
@@ -44,7 +42,7 @@ impl<P: ThreadParkerT> ParkingLot<P> {
         while let Some(node) = taken.pop_front() {
             let part = self.history.give(me);
             let handle = self.hand_over(rt, node, part);
-            self.wake_if_any(handles.put(handle));
+            self.wake(handles.put(handle));
         }
         handles
     }
@@ -86,20 +84,16 @@ impl<P: ThreadParkerT> ParkingLot<P> {
             .unpark_lock(rt, node, Letter { part })
     }
 
-    // Wakes the thread whose unpark was committed. Its number is that of a thread of this lot, so
-    // none is skipped; no contract of a handle says so.
-    pub(super) fn wake(&self, handle: P::UnparkHandle) {
+    // Wakes the thread whose unpark was committed, if there is one. Its number is that of a thread
+    // of this lot, so none is skipped; no contract of a handle says so.
+    #[inline]
+    pub(super) fn wake(&self, handle: Option<P::UnparkHandle>) {
+        let Some(handle) = handle else {
+            return;
+        };
         let number = handle.number();
         if number < self.threads.len() {
             handle.unpark(self.parker(number));
-        }
-    }
-
-    // Wakes the thread whose unpark was committed, if there is one.
-    #[inline]
-    pub(super) fn wake_if_any(&self, handle: Option<P::UnparkHandle>) {
-        if let Some(handle) = handle {
-            self.wake(handle);
         }
     }
 
@@ -110,32 +104,24 @@ impl<P: ThreadParkerT> ParkingLot<P> {
             let Some(handle) = handles.take() else {
                 return;
             };
-            self.wake(handle);
+            self.wake(Some(handle));
         }
     }
 
     // A thread that was unparked comes back: opens the letter that came beside its node, and
-    // answers the thread's piece. The letter is there, since no other node lay in the slot before,
-    // but no contract tells so, and else this would wait.
-    pub(crate) fn come_back<R: Wait>(
-        &self,
-        rt: &R,
-        me: &mut Witness,
-        node: &Node,
-        letter: Option<Letter>,
-    ) -> Part
+    // answers the thread's piece.
+    pub(crate) fn come_back(&self, me: &mut Witness, node: &Node, letter: Letter) -> Part
         requires idle { IsIdle self.now me.old }
-        requires letter { IfSome letter (λ letter.
-            Has (id_of self.now) (thread_taken (fields node.now) ∷ []) letter.part) }
+        requires letter { Has (id_of self.now) (thread_taken (fields node.now) ∷ []) letter.part }
         ensures idle { StaysIdle self.now me.old me.new }
         ensures extends { Extends self.now me.old (Step.Return node.now.number)
             (Answer.Unparked node.now.unpark_token) me.new }
         ensures thread { Has (id_of self.now)
             (Thread node.now.number Status.Running ∷ []) result }
     {
-        let Some(Letter { part }) = letter else {
-            never(rt);
-        };
-        add_return(&self.history, me, node.number, node.unpark_token, part)
+        let Letter { part } = letter;
+        self.history.take(me, part);
+        self.history.give_back(me, node.number, node.unpark_token);
+        self.history.give(me)
     }
 }

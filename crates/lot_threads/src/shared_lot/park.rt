@@ -87,18 +87,18 @@ impl<P: ThreadParkerT> ParkingLot<P> {
         let parker = self.parker(number);
         let Some(timeout) = timeout else {
             let (node, letter) = parker.park(rt);
-            let thread = self.come_back(rt, me, &node, letter);
+            let thread = self.come_back(me, &node, letter);
             return (ParkResult::Unparked(node.unpark_token), thread, node);
         };
         if let Some((node, letter)) = parker.park_until(rt, timeout) {
-            let thread = self.come_back(rt, me, &node, letter);
+            let thread = self.come_back(me, &node, letter);
             return (ParkResult::Unparked(node.unpark_token), thread, node);
         }
         if let Some((thread, node)) = self.leave(rt, me, number, timed_out) {
             return (ParkResult::TimedOut, thread, node);
         }
         let (node, letter) = parker.park(rt);
-        let thread = self.come_back(rt, me, &node, letter);
+        let thread = self.come_back(me, &node, letter);
         (ParkResult::Unparked(node.unpark_token), thread, node)
     }
 
@@ -123,7 +123,7 @@ impl<P: ThreadParkerT> ParkingLot<P> {
             × (events_of me.new ≡ events_of me.old)) }
     {
         let (mut section, licence) = self.open_own(rt, number);
-        let left = section.leave(rt, me, licence, number, timed_out);
+        let left = section.leave(me, licence, number, timed_out);
         section.close();
         left
     }

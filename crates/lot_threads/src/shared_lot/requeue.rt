@@ -67,13 +67,13 @@ impl<P: ThreadParkerT> ParkingLot<P> {
         let Some(mut target) = target else {
             let (result, handle) = source.requeue_here(rt, me, licence, to, validate, callback);
             source.close();
-            self.wake_if_any(handle);
+            self.wake(handle);
             return result;
         };
         let (result, handle) = source.requeue_to(rt, me, licence, &mut target, validate, callback);
         source.close();
         target.close();
-        self.wake_if_any(handle);
+        self.wake(handle);
         result
     }
 
@@ -194,34 +194,6 @@ impl<P: ThreadParkerT> ParkingLot<P> {
     // Requeues waiters of the key `from` onto the key `to`, where both have one bucket, and tells
     // so. The witness has the pieces of those that were taken, one at most.
     pub(crate) fn requeue_in_one<
-        V: FnOnce(&CriticalSection) -> RequeueOp,
-        C: FnOnce(&CriticalSection, RequeueOp, UnparkResult) -> UnparkToken,
-    >(
-        &self,
-        me: &mut Witness,
-        licence: Licence,
-        cell: &mut Cell,
-        from: usize,
-        to: usize,
-        validate: V,
-        callback: C,
-    ) -> (UnparkResult, Queue)
-        requires idle { IsIdle self.now me.old }
-        requires cell { IsCellFor self.now from cell.old }
-        requires to { place_of to cell.old.bucket.size ≡ cell.old.bucket.place }
-        requires callable { MayRequeueWithin V.FnOnce C.FnOnce validate callback self.now from }
-
-        ensures still { IsStill self.now me.old me.new }
-        ensures requeued { RequeuesWithin V.FnOnce C.FnOnce validate callback from to self.now
-            me.old result.0 me.new }
-        ensures taken { TakesFrom self.now cell.old cell.new result.1 me.new }
-        ensures one { length result.1 ≤ 1 }
-    {
-        self.requeue_one_with::<Brand, V, C>(me, licence, cell, from, to, validate, callback)
-    }
-
-    // The same, in a section in which the bucket is as its part says.
-    fn requeue_one_with<
         E: Told,
         V: FnOnce(&CriticalSection) -> RequeueOp,
         C: FnOnce(&CriticalSection, RequeueOp, UnparkResult) -> UnparkToken,
@@ -277,41 +249,6 @@ impl<P: ThreadParkerT> ParkingLot<P> {
 
     // Does what `requeue_in_one` does, where each key has a bucket of its own.
     pub(crate) fn requeue_across<
-        V: FnOnce(&CriticalSection) -> RequeueOp,
-        C: FnOnce(&CriticalSection, RequeueOp, UnparkResult) -> UnparkToken,
-    >(
-        &self,
-        me: &mut Witness,
-        licence: Licence,
-        source: &mut Cell,
-        target: &mut Cell,
-        from: usize,
-        to: usize,
-        validate: V,
-        callback: C,
-    ) -> (UnparkResult, Queue)
-        requires idle { IsIdle self.now me.old }
-        requires source { IsCellFor self.now from source.old }
-        requires target { IsCellFor self.now to target.old }
-        requires size { target.old.bucket.size ≡ source.old.bucket.size }
-        requires places { target.old.bucket.place ≢ source.old.bucket.place }
-        requires callable { MayRequeueWithin V.FnOnce C.FnOnce validate callback self.now from }
-
-        ensures still { IsStill self.now me.old me.new }
-        ensures requeued { RequeuesWithin V.FnOnce C.FnOnce validate callback from to self.now
-            me.old result.0 me.new }
-        ensures taken { TakesFrom self.now source.old source.new result.1 me.new }
-        ensures target { IsCell (id_of self.now) (max_threads_of self.now) target.new }
-        ensures place { KeepsPlace target.old.bucket target.new.bucket }
-        ensures one { length result.1 ≤ 1 }
-    {
-        self.requeue_across_with::<Brand, V, C>(
-            me, licence, source, target, from, to, validate, callback,
-        )
-    }
-
-    // The same, in a section in which the first bucket is as its part says.
-    fn requeue_across_with<
         E: Told,
         V: FnOnce(&CriticalSection) -> RequeueOp,
         C: FnOnce(&CriticalSection, RequeueOp, UnparkResult) -> UnparkToken,

@@ -34,21 +34,6 @@ impl<P: ThreadParkerT> ParkingLot<P> {
         self.row_slot(index).get()
     }
 
-    // The row of this index, which was made before. No contract tells so, and the loop would look
-    // again.
-    pub(super) fn made_row<R: Wait>(&self, rt: &R, index: usize) -> &Vec<WordLock<Slot>>
-        requires { index < 13 }
-        ensures { IsRow (id_of self.now) (max_threads_of self.now) (2 ^ (index + 4))
-            result.now.items }
-    {
-        for _ in rt.forever() {
-            if let Some(row) = self.row(index) {
-                return row;
-            }
-        }
-        unreachable!()
-    }
-
     // The row that is in use, or was as `current` was read. It was made before, but no contract
     // tells so.
     #[inline]

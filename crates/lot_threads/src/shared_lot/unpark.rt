@@ -35,7 +35,7 @@ impl<P: ThreadParkerT> ParkingLot<P> {
         let (mut section, licence) = Section::open(rt, self, key);
         let (result, handle) = section.take_one(rt, me, licence, callback);
         section.close();
-        self.wake_if_any(handle);
+        self.wake(handle);
         result
     }
 

@@ -1,9 +1,8 @@
 use denote.Ref.{Bor}
-use Rattle.std.proofs.Common.{◌≡◌, Bool, true, false, not, List, [], ◌∷◌, refl, rules, sym, ap, ◌∙◌, subst}
+use Rattle.std.proofs.Common.{◌≡◌, List, [], ◌∷◌, refl, sym, ap, ◌∙◌, subst}
 use Rattle.lot_base.specs.BucketState.{BucketState}
 use Rattle.lot_base.specs.Node.{fields}
-use Rattle.lot_base.specs.NodeLists.{has_number, lists_of}
-use Rattle.lot_base.specs.Waiting.{has_any, without_first}
+use Rattle.lot_base.specs.NodeLists.{lists_of}
 use Rattle.lot_machine.specs.declared.status.Status.TheVariants as status
 use Rattle.lot_machine.specs.declared.step.Answer.TheVariants as answer
 use Rattle.lot_machine.specs.declared.step.Step.TheVariants as step
@@ -22,21 +21,16 @@ use Rattle.lot_threads.proofs.WithinLemmas.{finds_late, is_section}
 use Rattle.lot_threads.proofs.BelowLemmas.{below-left, split_without, without_parts}
 use Rattle.lot_threads.proofs.cell_steps.leave_in.Goals as goal
 
-not_false : (b : Bool) → not b ≡ false → b ≡ true
-not_false true same = refl
-not_false false same = absurd (cc (same))
-
 pub add_timeout-thread-requires-clause-deadline : goal.add_timeout-thread-requires-clause-deadline
 add_timeout-thread-requires-clause-deadline g c =
     let bound = max_threads_of c.args.history.now in
     let old = c.args.cell.now.bucket in
     let node = fields c.in-Some.node.value in
-    let is_timed : not node.timed ≡ false = search rules in
     subst (λ (pieces : List Piece). Moves bound (Is (step.Deadline c.args.number) answer.Late) pieces
     (late_pieces c.args.number pieces)) (sym (ap pieces_in (c.into_part.ensures ∙ (c.of-section.ensures ∙ c.replace.ensures.value))
     ∙ c.requires.cell.own.part.pieces))
     (removes_late bound old.size old.place c.args.key c.args.number old.nodes node [] c.requires.cell.here
-    c.in-Some.ensures.removed.0 (not_false node.timed is_timed))
+    c.in-Some.ensures.removed.0 c.in-Some.ensures.removed.1)
 
 pub add_timeout-thread-requires-clause-resolve : goal.add_timeout-thread-requires-clause-resolve
 add_timeout-thread-requires-clause-resolve g c =
@@ -44,15 +38,15 @@ add_timeout-thread-requires-clause-resolve g c =
     let number = c.args.number in
     let key = c.args.key in
     let old = c.args.cell.now.bucket in
-    let new = c.remove.new.self in
-    let told = c.remove.ensures in
-    let last : c.in-Some.last ≡ not (has_any (without_first (has_number number) (lists_of old.nodes key))) = search rules in
+    let new = c.remove_timed.new.self in
+    let told = c.remove_timed.ensures in
+    let removed = c.in-Some.ensures.removed in
     subst (λ (pieces : List Piece). Moves bound (Is (step.Resolve number) (answer.TimedOut key c.in-Some.last))
     (late_pieces number pieces) (lists_in new ∷ Thread number status.Running ∷ [])) (sym (ap pieces_in (c.into_part.ensures
     ∙ (c.of-section.ensures ∙ c.replace.ensures.value)) ∙ c.requires.cell.own.part.pieces))
-    (rw (told.place.place, told.place.size, last)
+    (rw (told.place.place, told.place.size, removed.2)
     (removes bound old.size old.place key number old.nodes (fields c.in-Some.node.value) [] c.requires.cell.here
-    c.in-Some.ensures.removed.0 new.nodes told.lists))
+    removed.0 new.nodes removed.3))
 
 pub returns-clause-cell : goal.returns-clause-cell
 returns-clause-cell g c =
@@ -65,7 +59,7 @@ returns-clause-cell g c =
           Has (id_of c.args.history.now) (lists_in bucket ∷ []) c.add_timeout-thread.new.cell.part)
           (sym same) c.add_timeout-thread.ensures.part;
       below = rw same (below-left bound c.args.key nodes (split_without c.args.number waiting)
-          (without_parts c.args.number waiting) c.requires.cell.own.below c.remove.new.self.nodes c.remove.ensures.lists);
+          (without_parts c.args.number waiting) c.requires.cell.own.below c.remove_timed.new.self.nodes c.in-Some.ensures.removed.3);
     }
 
 -- the section in which `timed_out` was told has the bucket as the step found it

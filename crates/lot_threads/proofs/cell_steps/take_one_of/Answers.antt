@@ -1,49 +1,101 @@
-use Rattle.std.proofs.Common.{◌≡◌, sym, ◌∙◌, subst}
+use Rattle.std.proofs.Common.{◌≡◌, List, [], ◌∷◌, refl, sym, subst, rules}
+use Rattle.lot_base.specs.BucketState.{BucketState}
+use Rattle.lot_base.specs.NodeLists.{lists_of}
+use Rattle.lot_base.specs.Waiting.{result_of, split_first}
 use Rattle.lot_base.specs.declared.token.UnparkResult.{UnparkResult}
-use Rattle.lot_machine.specs.declared.step.Answer.{Answer}
 use Rattle.lot_machine.specs.declared.step.Answer.TheVariants as answer
-use Rattle.lot_machine.specs.declared.step.Step.{Step}
-use Rattle.lot_history.specs.Witness.{Extends}
-use Rattle.lot_threads.proofs.AnswerLemmas.{same_result}
-use Rattle.lot_threads.proofs.WithinLemmas.{finds, first_result, is_section}
+use Rattle.lot_machine.specs.declared.step.Op.TheVariants as op
+use Rattle.lot_machine.specs.declared.step.Step.TheVariants as step
+use Rattle.lot_history.specs.Moves.{Moves}
+use Rattle.lot_history.specs.Witness.{id_of, max_threads_of, pieces_of}
+use Rattle.lot_history.specs.declared.view.Piece.{Piece}
+use Rattle.lot_history.specs.Pieces.{AllSo}
+use Rattle.lot_history.proofs.NodeLemmas.{takes_one}
+use Rattle.lot_threads.specs.Cells.{Has, lists_in, threads_in}
+use Rattle.lot_threads.proofs.BelowLemmas.{below-left, below-taken, first_parts}
+use Rattle.lot_threads.proofs.TakingLemmas.{taking_moves}
 use Rattle.lot_threads.proofs.cell_steps.take_one_of.Goals as goal
 
-pub take_one_with-requires-clause-callable : goal.take_one_with-requires-clause-callable
-take_one_with-requires-clause-callable g c =
-    let history = c.args.history.now in
-    let bucket = c.args.cell.now.bucket in
-    let key = c.args.key in
-    let here = c.requires.cell.here in
-    λ section has.
-    subst (λ (found : UnparkResult). g.C.FnOnce.pre c.args.callback (section, (found, tt)))
-    (first_result history bucket key here section.now has)
-    (c.requires.callable section (is_section history bucket key here section.now has))
+pub add_taken-requires-clause-moves : goal.add_taken-requires-clause-moves
+add_taken-requires-clause-moves g c =
+    let bound = max_threads_of c.args.history.now in
+    let old = c.args.cell.now.bucket in
+    let new = c.take_one-taken.new.self in
+    let told = c.take_one-taken.ensures in
+    let token = told.taken.0 in
+    let found = c.take_one-taken.result.0 in
+    let called = told.taken.1 in
+    let pieces : pieces_of c.take.new.me ≡ lists_in old ∷ [] =
+    rw (
+      c.take.ensures.pieces,
+      c.requires.idle.no_pieces,
+      c.into_part.ensures,
+      c.of-section.ensures,
+      c.replace.ensures.value,
+    ) c.requires.cell.own.part.pieces in
+    subst (λ (pieces : List Piece). Moves bound (λ s a. g.E.Told.said s a × (a ≡ answer.Unpark found)) pieces
+    (lists_in new ∷ threads_in c.take_one-taken.result.1)) (sym pieces)
+    (taking_moves bound old new token (split_first (lists_of old.nodes c.args.key)).taken c.take_one-taken.result.1
+    told.place told.taken.2 (op.One c.args.key token)
+    (answer.Unpark (result_of (split_first (lists_of old.nodes c.args.key))))
+    (λ s a. g.E.Told.said s a × (a ≡ answer.Unpark found))
+    (subst (λ (given : UnparkResult). g.E.Told.said (step.Unpark (op.One c.args.key token)) (answer.Unpark given)
+    × (answer.Unpark given ≡ answer.Unpark found)) told.answer (
+      c.requires.said called.1.0 found token
+          (rw (called.1.1, c.of-section.ensures, c.replace.ensures.value) c.requires.cell.own.part) called.1.2,
+      refl,
+    ))
+    (takes_one bound old.size old.place c.args.key old.nodes new.nodes token [] c.requires.cell.here told.lists))
 
--- the section in which the callback was called has the bucket as the step found it
-pub returns-clause-unparked : goal.returns-clause-unparked
-returns-clause-unparked g c =
-    let history = c.args.history.now in
-    let bucket = c.args.cell.now.bucket in
-    let key = c.args.key in
-    let callback = c.args.callback in
-    let here = c.requires.cell.here in
-    let result = c.take_one_with.result.0 in
-    let old = c.args.me.now in
-    let new = c.take_one_with.new.me in
-    let adds = c.take_one_with.ensures.adds in
-    let finds_bucket = c.take_one_with.ensures.found in
-    let said = adds.is_said.0 in
-    let section = said.0 in
-    let token = said.2 in
-    let has = said.3 in
-    let same : said.1 ≡ result = same_result said.1 result (sym said.6 ∙ adds.is_said.1) in
-    record {
-      section = section;
-      within = is_section history bucket key here section.now has;
-      token = token;
-      called = subst (λ (found : UnparkResult). g.C.FnOnce.post callback (section, (found, tt)) token) same said.4;
-      extends = subst (λ (s : Step). Extends history old s (answer.Unpark result) new) said.5
-          (subst (λ (a : Answer). Extends history old adds.step a new) adds.is_said.1 adds.extends);
-      found = finds_bucket.found;
-      finds = finds history bucket key here section.now has finds_bucket.found.machine finds_bucket.so;
-    }
+pub take_one-taken-requires : goal.take_one-taken-requires
+take_one-taken-requires g c = λ lent is.
+    c.requires.callable lent (rw (is, c.of-section.ensures, c.replace.ensures.value) c.requires.cell.own.part)
+
+pub returns-clause-found : goal.returns-clause-found
+returns-clause-found g c = record {
+  found = record {
+    before = c.add_taken.ensures.found.before;
+    last = c.add_taken.ensures.found.last;
+    machine = c.add_taken.ensures.found.machine;
+    begins = search rules;
+    seen = search rules;
+    leads = search rules;
+    so = search rules;
+  };
+  so = (
+      let old = c.args.cell.now.bucket in
+      let pieces : pieces_of c.take.new.me ≡ lists_in old ∷ [] =
+      rw (
+        c.take.ensures.pieces,
+        c.requires.idle.no_pieces,
+        c.into_part.ensures,
+        c.of-section.ensures,
+        c.replace.ensures.value,
+      ) c.requires.cell.own.part.pieces in
+      subst (λ (ps : List Piece). AllSo c.add_taken.ensures.found.machine ps) pieces c.add_taken.ensures.found.so
+      );
+}
+
+pub returns-clause-taken : goal.returns-clause-taken
+returns-clause-taken g c = record {
+  pieces = search rules;
+  cell = (
+      let bound = max_threads_of c.args.history.now in
+      let same = c.add_taken.ensures.bucket in
+      let nodes = c.args.cell.now.bucket.nodes in
+      record {
+        part = subst (λ (bucket : BucketState). Has (id_of c.args.history.now) (lists_in bucket ∷ []) c.add_taken.new.cell.part)
+            (sym same) c.add_taken.ensures.part;
+        below = rw same (below-left bound c.args.key nodes (split_first (lists_of nodes c.args.key))
+            (first_parts (lists_of nodes c.args.key)) c.requires.cell.own.below
+            c.take_one-taken.new.self.nodes c.take_one-taken.ensures.lists);
+      }
+      );
+  place = search rules;
+  below = (
+      let told = c.take_one-taken.ensures.taken in
+      let nodes = c.args.cell.now.bucket.nodes in
+      below-taken (max_threads_of c.args.history.now) c.args.key nodes (split_first (lists_of nodes c.args.key))
+      (first_parts (lists_of nodes c.args.key)) c.requires.cell.own.below told.0 c.take_one-taken.result.1 told.2
+      );
+}

@@ -1,34 +1,17 @@
-use Rattle.std.proofs.Common.{◌∙◌, rules}
-use Rattle.lot_threads.specs.Requeues.{RequeuesWithin}
+use Rattle.std.proofs.Common.{rules}
+use Rattle.lot_threads.specs.Cells.{IsCellFor}
+use Rattle.lot_threads.proofs.CommitLemmas.{requeues}
 use Rattle.lot_threads.proofs.section.Section.requeue_here.Goals as goal
 
 -- the commit adds nothing
 pub returns-clause-requeued : goal.returns-clause-requeued
 returns-clause-requeued g c =
-    let told : RequeuesWithin g.V.FnOnce g.C.FnOnce c.args.validate c.args.callback c.args.self.now.key c.args.to
-    c.args.self.now.lot.now c.args.me.now c.requeue_in_one-taken.result.0 c.requeue_in_one-taken.new.me = search rules in
-    let extends = told.extends in
-    record {
-      section = told.section;
-      within = told.within;
-      op = told.op;
-      token = told.token;
-      calls = told.calls;
-      extends = record {
-        between = extends.between;
-        seen = c.commit_one.ensures.seen ∙ extends.seen;
-        mine = c.commit_one.ensures.nothing_added ∙ extends.mine;
-        all_mine = search rules;
-        history = search rules;
-      };
-      found = record {
-        before = told.found.before;
-        last = told.found.last;
-        machine = told.found.machine;
-        begins = told.found.begins;
-        seen = c.commit_one.ensures.seen ∙ told.found.seen;
-        leads = told.found.leads;
-        so = told.found.so;
-      };
-      finds = told.finds;
-    }
+    let history = c.args.self.now.lot.now in
+    let from = c.args.self.now.key in
+    let cell = c.unwrap-cell.result.now in
+    let own : IsCellFor history from cell = search rules in
+    let told = c.requeue_in_one-taken.ensures in
+    let committed = c.commit_one.ensures in
+    requeues history cell.bucket from own.here c.args.me.now c.requeue_in_one-taken.new.me c.commit_one.new.me
+    committed.seen committed.nothing_added c.requeue_in_one-taken.result.0 g.V.FnOnce g.C.FnOnce c.args.validate
+    c.args.callback c.args.to told.adds told.found.found told.found.so

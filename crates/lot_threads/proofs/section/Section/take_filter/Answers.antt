@@ -1,31 +1,27 @@
-use Rattle.std.proofs.Common.{◌∙◌, rules}
+use Rattle.std.proofs.Common.{rules}
+use Rattle.lot_machine.specs.declared.step.Answer.TheVariants as answer
+use Rattle.lot_machine.specs.declared.step.Op.TheVariants.{Filter}
+use Rattle.lot_machine.specs.declared.step.Step.TheVariants.{Unpark}
 use Rattle.lot_threads.specs.Within.{UnparksWithin}
+use Rattle.lot_threads.proofs.CommitLemmas.{extends_still, found_still}
 use Rattle.lot_threads.proofs.section.Section.take_filter.Goals as goal
 
 -- the commits add nothing
 pub returns-clause-unparked : goal.returns-clause-unparked
 returns-clause-unparked g c =
-    let told : UnparksWithin g.F.FnMut g.C.FnOnce c.args.filter c.args.callback c.args.self.now.key c.args.self.now.lot.now
-    c.args.me.now c.take_filter_of-taken.result.0 c.take_filter_of-taken.new.me = search rules in
-    let extends = told.extends in
+    let history = c.args.self.now.lot.now in
+    let key = c.args.self.now.key in
+    let result = c.take_filter_of-taken.result.0 in
+    let taken = c.take_filter_of-taken.new.me in
+    let told : UnparksWithin g.F.FnMut g.C.FnOnce c.args.filter c.args.callback key history c.args.me.now result taken =
+    search rules in
+    let committed = c.commit.ensures in
+    let new = c.commit.new.me in
     record {
       decisions = told.decisions;
       token = told.token;
-      extends = record {
-        between = extends.between;
-        seen = c.commit.ensures.seen ∙ extends.seen;
-        mine = c.commit.ensures.nothing_added ∙ extends.mine;
-        all_mine = search rules;
-        history = search rules;
-      };
-      found = record {
-        before = told.found.before;
-        last = told.found.last;
-        machine = told.found.machine;
-        begins = told.found.begins;
-        seen = c.commit.ensures.seen ∙ told.found.seen;
-        leads = told.found.leads;
-        so = told.found.so;
-      };
+      extends = extends_still history c.args.me.now taken new committed.seen
+          (Unpark (Filter key told.decisions told.token)) (answer.Unpark result) committed.nothing_added told.extends;
+      found = found_still history c.args.me.now taken new committed.seen told.found;
       calls = told.calls;
     }

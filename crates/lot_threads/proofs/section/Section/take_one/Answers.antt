@@ -1,33 +1,32 @@
-use Rattle.std.proofs.Common.{◌∙◌, rules}
-use Rattle.lot_threads.specs.Within.{UnparksOne}
+use Rattle.std.proofs.Common.{rules, sym, subst}
+use Rattle.lot_history.specs.declared.history.History.{History}
+use Rattle.lot_threads.specs.Cells.{IsCellFor}
+use Rattle.lot_threads.specs.Within.{MayCallBack, UnparksOne}
+use Rattle.lot_threads.proofs.CommitLemmas.{may_call_back, unparks_one}
 use Rattle.lot_threads.proofs.section.Section.take_one.Goals as goal
+
+pub take_one_of-taken-requires-clause-callable : goal.take_one_of-taken-requires-clause-callable
+take_one_of-taken-requires-clause-callable g c =
+    let history = c.history.result.now in
+    let key = c.args.self.now.key in
+    let cell = c.unwrap-cell.result.now in
+    let own : IsCellFor history key cell = search rules in
+    may_call_back g.C.FnOnce c.args.callback history cell.bucket key own.here
+    (subst (λ (h : History). MayCallBack g.C.FnOnce c.args.callback h key) (sym c.history.ensures.history)
+    c.requires.callable)
 
 -- the commit adds nothing
 pub returns-clause-unparked : goal.returns-clause-unparked
 returns-clause-unparked g c =
-    let told : UnparksOne g.C.FnOnce c.args.callback c.args.self.now.key c.args.self.now.lot.now c.args.me.now
-    c.take_one_of-taken.result.0 c.take_one_of-taken.new.me = search rules in
-    let extends = told.extends in
-    record {
-      section = told.section;
-      within = told.within;
-      token = told.token;
-      called = told.called;
-      extends = record {
-        between = extends.between;
-        seen = c.commit_one.ensures.seen ∙ extends.seen;
-        mine = c.commit_one.ensures.nothing_added ∙ extends.mine;
-        all_mine = search rules;
-        history = search rules;
-      };
-      found = record {
-        before = told.found.before;
-        last = told.found.last;
-        machine = told.found.machine;
-        begins = told.found.begins;
-        seen = c.commit_one.ensures.seen ∙ told.found.seen;
-        leads = told.found.leads;
-        so = told.found.so;
-      };
-      finds = told.finds;
-    }
+    let history = c.history.result.now in
+    let key = c.args.self.now.key in
+    let cell = c.unwrap-cell.result.now in
+    let own : IsCellFor history key cell = search rules in
+    let result = c.take_one_of-taken.result.0 in
+    let told = c.take_one_of-taken.ensures in
+    let committed = c.commit_one.ensures in
+    let new = c.commit_one.new.me in
+    subst (λ (h : History). UnparksOne g.C.FnOnce c.args.callback key h c.args.me.now result new)
+    c.history.ensures.history
+    (unparks_one history cell.bucket key own.here c.args.me.now c.take_one_of-taken.new.me new committed.seen
+    committed.nothing_added result g.C.FnOnce c.args.callback told.adds told.found)

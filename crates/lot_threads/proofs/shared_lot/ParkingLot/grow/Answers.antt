@@ -2,11 +2,6 @@ use Rattle.std.proofs.Common.{◌+◌, arith, refl}
 use Rattle.lot_threads.proofs.SizeLemmas.{next_size}
 use Rattle.lot_threads.proofs.shared_lot.ParkingLot.grow.Goals as goal
 
-pub row_or_new-requires-clause-size : goal.row_or_new-requires-clause-size
-row_or_new-requires-clause-size g c κs within =
-    let row = c.args.registry.now.row in
-    let twice = next_size row (row + 1) refl in omega (arith, twice, c.len.ensures, c.requires.row.count)
-
 pub returns-clause-registry : goal.returns-clause-registry
 returns-clause-registry g c =
     let row = c.args.registry.now.row in
@@ -15,7 +10,7 @@ returns-clause-registry g c =
       few = c.requires.registry.few;
       count = c.requires.registry.count;
       part = c.requires.registry.part;
-      witness = c.double.ensures;
+      witness = c.move_to_larger.ensures;
       row = c.requires.below;
       room = omega (arith, twice, c.requires.registry.room);
     }

@@ -1,39 +1,162 @@
-use Rattle.std.proofs.Common.{◌≡◌, sym, ◌∙◌, subst}
+use Rattle.std.proofs.Common.{◌≡◌, List, [], ◌∷◌, ◌++◌, refl, sym, ◌∙◌, subst, rules}
+use Rattle.lot_base.specs.BucketState.{BucketState}
+use Rattle.lot_base.specs.NodeFields.{NodeFields}
+use Rattle.lot_base.specs.NodeLists.{lists_of}
+use Rattle.lot_base.specs.Waiting.{split_by}
 use Rattle.lot_base.specs.declared.token.UnparkResult.{UnparkResult}
-use Rattle.lot_machine.specs.declared.step.Answer.{Answer}
 use Rattle.lot_machine.specs.declared.step.Answer.TheVariants as answer
-use Rattle.lot_machine.specs.declared.step.Step.{Step}
-use Rattle.lot_history.specs.Witness.{Extends}
-use Rattle.lot_threads.specs.Requeues.{ChoosesWithin}
-use Rattle.lot_threads.proofs.AnswerLemmas.{same_result}
-use Rattle.lot_threads.proofs.WithinLemmas.{finds, is_section}
+use Rattle.lot_machine.specs.declared.step.Op.TheVariants as op
+use Rattle.lot_machine.specs.declared.step.Step.TheVariants as step
+use Rattle.lot_history.specs.Moves.{Moves}
+use Rattle.lot_history.specs.Pieces.{AllSo}
+use Rattle.lot_history.specs.Witness.{id_of, max_threads_of, pieces_in}
+use Rattle.lot_history.specs.declared.history.History.{History}
+use Rattle.lot_history.specs.declared.view.Piece.{Piece}
+use Rattle.lot_threads.specs.Cells.{Has, lists_in, threads_in}
+use Rattle.lot_threads.proofs.BelowLemmas.{below-left, below-taken}
+use Rattle.lot_threads.proofs.RequeueLemmas.{across_moves, below-target, one_taken, requeue_parts}
+use Rattle.lot_threads.proofs.WithinLemmas.{is_section}
 use Rattle.lot_threads.proofs.shared_lot.ParkingLot.requeue_across.Goals as goal
 
--- the section in which the closures were called has the bucket as the step found it
-pub returns-clause-requeued : goal.returns-clause-requeued
-returns-clause-requeued g c =
+pub requeue_two-taken-requires-clause-validate : goal.requeue_two-taken-requires-clause-validate
+requeue_two-taken-requires-clause-validate g c =
     let history = c.args.self.now in
     let bucket = c.args.source.now.bucket in
-    let from = c.args.from in
-    let here = c.requires.source.here in
-    let result = c.requeue_across_with.result.0 in
-    let old = c.args.me.now in
-    let new = c.requeue_across_with.new.me in
-    let adds = c.requeue_across_with.ensures.adds in
-    let finds_bucket = c.requeue_across_with.ensures.found in
-    let told = adds.is_said.0.1 in
-    let same : adds.is_said.0.0 ≡ result =
-    same_result adds.is_said.0.0 result (sym told.answer ∙ adds.is_said.1) in
-    record {
-      section = told.section;
-      within = is_section history bucket from here told.section told.has;
-      op = told.op;
-      token = told.token;
-      calls = subst (λ (found : UnparkResult).
-          ChoosesWithin g.V.FnOnce g.C.FnOnce c.args.validate c.args.callback told.section told.op found told.token) same
-          told.calls;
-      extends = subst (λ (s : Step). Extends history old s (answer.Unpark result) new) told.step
-          (subst (λ (a : Answer). Extends history old adds.step a new) adds.is_said.1 adds.extends);
-      found = finds_bucket.found;
-      finds = finds history bucket from here told.section told.has finds_bucket.found.machine (finds_bucket.so.0, tt);
+    λ lent is. c.requires.callable.may_choose lent
+    (is_section history bucket c.args.from c.requires.source.here lent.now
+    (rw (is, c.of-first.ensures, c.replace.ensures.value) c.requires.source.own.part))
+
+pub requeue_two-taken-requires-clause-callable : goal.requeue_two-taken-requires-clause-callable
+requeue_two-taken-requires-clause-callable g c =
+    let history = c.args.self.now in
+    let bucket = c.args.source.now.bucket in
+    λ op chosen. record {
+      may_move = search rules;
+      may_call_back = λ goes_on last moved. λ lent is. c.requires.callable.may_call_back chosen.0 lent
+          (is_section history bucket c.args.from c.requires.source.here chosen.0.now
+          (rw (chosen.1, c.of-first.ensures, c.replace.ensures.value) c.requires.source.own.part))
+          (is ∙ sym chosen.1) op chosen.2 goes_on (lists_of bucket.nodes c.args.from);
     }
+
+pub add_requeue-requires-clause-moves : goal.add_requeue-requires-clause-moves
+add_requeue-requires-clause-moves g c =
+    let bound = max_threads_of c.self.inside.history in
+    let source = c.args.source.now.bucket in
+    let target = c.args.target.now.bucket in
+    let source_new = c.requeue_two-taken.new.self in
+    let target_new = c.requeue_two-taken.new.target in
+    let from = c.args.from in
+    let to = c.args.to in
+    let taken = c.requeue_two-taken.result.1 in
+    let keeps = c.requeue_two-taken.ensures.place in
+    let told = c.requeue_two-taken.ensures.requeued in
+    let token = told.called.token in
+    let found = c.requeue_two-taken.result.0 in
+    let source_pieces : pieces_in c.into_part.result ≡ lists_in source ∷ [] =
+    rw (c.into_part.ensures, c.of-first.ensures, c.replace.ensures.value) c.requires.source.own.part.pieces in
+    subst (λ (pieces : List Piece). Moves bound (λ s a. g.E.Told.said s a × (a ≡ answer.Unpark found))
+    (pieces ++ pieces_in c.args.target.now.part) (lists_in source_new ∷ lists_in target_new ∷ threads_in taken))
+    (sym source_pieces)
+    (subst (λ (pieces : List Piece). Moves bound (λ s a. g.E.Told.said s a × (a ≡ answer.Unpark found))
+    (lists_in source ∷ pieces) (lists_in source_new ∷ lists_in target_new ∷ threads_in taken))
+    (sym c.requires.target.own.part.pieces)
+    (across_moves bound from to told.op token source target source_new target_new keeps.0 keeps.1 c.requires.size
+    c.requires.places c.requires.source.here c.requires.target.here taken
+    (λ s a. g.E.Told.said s a × (a ≡ answer.Unpark found)) told.called.takes
+    (subst (λ (given : UnparkResult).
+    g.E.Told.said (step.Unpark (op.Requeue from to told.op token)) (answer.Unpark given)
+    × (answer.Unpark given ≡ answer.Unpark found)) told.called.results (
+      c.requires.said found (step.Unpark (op.Requeue from to told.op token)) (answer.Unpark found) (record {
+        section = c.of-first.result;
+        has = rw (c.of-first.ensures, c.replace.ensures.value) c.requires.source.own.part;
+        op = told.op;
+        token = token;
+        calls = record {
+          asked = told.chosen.0;
+          is_asked_there = told.chosen.1;
+          chosen = told.chosen.2;
+          called = λ goes_on. (told.called.calls_back goes_on).2;
+        };
+        step = refl;
+        answer = refl;
+      }),
+      refl,
+    )) told.lists told.targets))
+
+pub returns-clause-found : goal.returns-clause-found
+returns-clause-found g c =
+    let source = c.args.source.now.bucket in
+    let target = c.args.target.now.bucket in
+    let found = c.add_requeue.ensures.found in
+    let pieces : pieces_in c.into_part.result ++ pieces_in c.args.target.now.part ≡ lists_in source ∷ lists_in target ∷ [] =
+    rw (
+      c.into_part.ensures,
+      c.of-first.ensures,
+      c.replace.ensures.value,
+      c.requires.source.own.part.pieces,
+      c.requires.target.own.part.pieces,
+    ) refl in
+    record {
+      found = record {
+        before = found.found.before;
+        last = found.found.last;
+        machine = found.found.machine;
+        begins = search rules;
+        seen = search rules;
+        leads = search rules;
+        so = search rules;
+      };
+      so = subst (λ (ps : List Piece). AllSo found.found.machine ps) pieces found.so;
+    }
+
+pub returns-clause-taken : goal.returns-clause-taken
+returns-clause-taken g c = record {
+  pieces = search rules;
+  cell = (
+      let told = c.requeue_two-taken.ensures.requeued in
+      let same = c.add_requeue.ensures.buckets.0 in
+      let part = c.add_requeue.new.source.part in
+      let bound = max_threads_of c.args.self.now in
+      let nodes = c.args.source.now.bucket.nodes in
+      let waiting : List NodeFields = lists_of nodes c.args.from in
+      record {
+        part = subst (λ (history : History). Has (id_of history) (lists_in c.add_requeue.new.source.bucket ∷ []) part)
+            c.self.view_is
+            (subst (λ (bucket : BucketState). Has (id_of c.self.inside.history) (lists_in bucket ∷ []) part) (sym same)
+            c.add_requeue.ensures.source);
+        below = rw same (below-left bound c.args.from nodes (split_by told.op waiting) (requeue_parts told.op waiting)
+            c.requires.source.own.below c.requeue_two-taken.new.self.nodes told.lists);
+      }
+      );
+  place = search rules;
+  below = (
+      let told = c.requeue_two-taken.ensures.requeued in
+      let nodes = c.args.source.now.bucket.nodes in
+      let waiting : List NodeFields = lists_of nodes c.args.from in
+      below-taken (max_threads_of c.args.self.now) c.args.from nodes (split_by told.op waiting)
+      (requeue_parts told.op waiting) c.requires.source.own.below told.called.token c.requeue_two-taken.result.1
+      told.called.takes
+      );
+}
+
+pub returns-clause-target : goal.returns-clause-target
+returns-clause-target g c =
+    let told = c.requeue_two-taken.ensures.requeued in
+    let same = c.add_requeue.ensures.buckets.1 in
+    let part = c.add_requeue.new.target.part in
+    let bound = max_threads_of c.args.self.now in
+    record {
+      part = subst (λ (history : History). Has (id_of history) (lists_in c.add_requeue.new.target.bucket ∷ []) part)
+          c.self.view_is
+          (subst (λ (bucket : BucketState). Has (id_of c.self.inside.history) (lists_in bucket ∷ []) part) (sym same)
+          c.add_requeue.ensures.target);
+      below = rw same (below-target bound c.args.from c.args.to told.op c.args.source.now.bucket.nodes
+          c.requires.source.own.below c.args.target.now.bucket.nodes c.requeue_two-taken.new.target.nodes
+          c.requires.target.own.below told.targets);
+    }
+
+pub returns-clause-one : goal.returns-clause-one
+returns-clause-one g c =
+    let told = c.requeue_two-taken.ensures.requeued in
+    one_taken told.op (lists_of c.args.source.now.bucket.nodes c.args.from) c.requeue_two-taken.result.1
+    told.called.token told.called.takes

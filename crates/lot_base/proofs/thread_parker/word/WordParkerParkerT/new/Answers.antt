@@ -12,4 +12,4 @@ new-requires g c =
     let slot = c.new-slot.result in
     let made = c.push_reserved.ensures.items ∙ ap (λ xs. xs ++ slot ∷ []) c.in_ok-slots.ensures.items in
     subst (λ (xs : List (LoadedSlot _ _)). ParkerOrderly fits key (opening (replicate 15 0) xs key))
-    (sym made) (starts fits key slot (record { owner = search rules; payload = search rules }) (search rules))
+    (sym made) (starts fits key slot (record { owner = search rules; unparked = search rules }) (search rules))
