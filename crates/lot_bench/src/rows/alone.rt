@@ -1,8 +1,7 @@
 //! What one thread does with the lot, again and again.
 
-use crate::calls::unpark_first;
-use crate::rows::turns::park_while;
-use lot_threads::{DEFAULT_UNPARK_TOKEN, Member, ParkResult, ParkingLot, ThreadParkerT};
+use crate::rows::turns::{park_while, unparks};
+use lot_threads::{Member, ParkResult, ParkingLot, ThreadParkerT};
 use parking_lot::{Once, Semaphore};
 use std::sync::Wait;
 use std::sync::atomic::AtomicU64;
@@ -22,8 +21,7 @@ pub fn unparks_nobody<P: ThreadParkerT, R: Wait>(
 ) -> bool {
     let (mut key, mut unparked) = (first, 0usize);
     for _ in 0..calls {
-        let result = unpark_first(rt, lot, key, DEFAULT_UNPARK_TOKEN);
-        unparked = unparked.wrapping_add(result.unparked_threads);
+        unparked = unparked.wrapping_add(unparks(rt, lot, key));
         key = key.wrapping_add(step);
     }
     unparked == 0
@@ -59,7 +57,7 @@ pub fn unparks_itself_on_each<P: ThreadParkerT, R: Wait + Clock>(
     let mut unparked = 0usize;
     for key in 0..keys {
         let unpark_itself = || {
-            unpark_first(rt, lot, key, DEFAULT_UNPARK_TOKEN);
+            unparks(rt, lot, key);
         };
         let result = park_while(rt, member, key, word, 0, unpark_itself, None);
         unparked = unparked.wrapping_add(usize::from(result.is_unparked()));

@@ -1,10 +1,9 @@
 //! Two threads that hand a turn to each other.
 
-use crate::calls::{park_if, unpark_first};
 use crate::rows::alone::nothing;
 use lot_threads::{
     DEFAULT_PARK_TOKEN, DEFAULT_UNPARK_TOKEN, Member, ParkResult, ParkingLot, ThreadParkerT,
-    unpark_all,
+    unpark_all, unpark_one,
 };
 use std::sync::Wait;
 use std::sync::atomic::{AtomicU64, Ordering};
@@ -41,8 +40,22 @@ pub fn park_while<P: ThreadParkerT, R: Wait + Clock, B: FnOnce()>(
     requires { B.pre before_sleep }
 {
     let validate = || word.load(Ordering::SeqCst) == value;
-    let entry = (key, DEFAULT_PARK_TOKEN, timeout);
-    park_if(rt, member, entry, validate, before_sleep).0
+    member.park(
+        rt,
+        key,
+        validate,
+        before_sleep,
+        |_, _| (),
+        DEFAULT_PARK_TOKEN,
+        timeout,
+    )
+}
+
+/// Unparks the first waiter of the key, and tells how many that were. A row that returned the whole
+/// `UnparkResult` would measure how its padding is copied.
+#[inline]
+pub fn unparks<P: ThreadParkerT, R: Wait>(rt: &R, lot: &ParkingLot<P>, key: usize) -> usize {
+    unpark_one(rt, lot, key, |_| DEFAULT_UNPARK_TOKEN).unparked_threads
 }
 
 /// Parks while the word is 0, and counts that it has come. False says that it was not let in.
@@ -91,7 +104,7 @@ fn unparks_surely<P: ThreadParkerT, R: Wait>(
     key: usize,
 ) -> bool {
     for _ in 0..TURNS {
-        if unpark_first(rt, lot, key, DEFAULT_UNPARK_TOKEN).unparked_threads == 1 {
+        if unparks(rt, lot, key) == 1 {
             return true;
         }
         hint::spin_loop();
@@ -115,7 +128,7 @@ pub fn takes_turns_by_word<P: ThreadParkerT, R: Wait + Clock>(
         let has_turn = awaits_turn(rt, member, word, side);
         let next = if has_turn { (side ^ 1) as u64 } else { OVER };
         word.store(next, Ordering::SeqCst);
-        unpark_first(rt, lot, side ^ 1, DEFAULT_UNPARK_TOKEN);
+        unparks(rt, lot, side ^ 1);
         if !has_turn {
             return false;
         }
