@@ -14,8 +14,8 @@
 //! }
 //! ```
 //!
-//! A call that may block or wake takes the runtime, `rt`. `docs/GUIDE.md` has more examples, and
-//! `docs/THEOREMS.md` says what is proved of these locks.
+//! A call that may block or wake takes the runtime, `rt`, unless it takes a guard, which has it.
+//! `docs/GUIDE.md` has more examples, and `docs/THEOREMS.md` says what is proved of these locks.
 //!
 //! # Calls with a deadline
 //!
