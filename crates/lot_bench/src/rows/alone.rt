@@ -1,10 +1,10 @@
 //! What one thread does with the lot, again and again.
 
-use crate::rows::turns::{park_while, unparks};
-use lot_threads::{Member, ParkResult, ParkingLot, ThreadParkerT};
+use crate::rows::turns::unparks;
+use lot_threads::{DEFAULT_PARK_TOKEN, Member, ParkResult, ParkingLot, ThreadParkerT};
 use parking_lot::{Once, Semaphore};
 use std::sync::Wait;
-use std::sync::atomic::AtomicU64;
+use std::sync::atomic::{AtomicU64, Ordering};
 use std::time::{Clock, Instant};
 
 /// Before a thread sleeps it does nothing.
@@ -28,7 +28,8 @@ pub fn unparks_nobody<P: ThreadParkerT, R: Wait>(
 }
 
 /// Parks where the validation answers false unless the word is 0. False says that a park did not
-/// end with this result.
+/// end with this result. Its closures are those of no other row, so that the park becomes a part of
+/// the loop, as in a program that parks at one place.
 pub fn parks<P: ThreadParkerT, R: Wait + Clock>(
     rt: &R,
     member: &mut Member<'_, P>,
@@ -39,7 +40,15 @@ pub fn parks<P: ThreadParkerT, R: Wait + Clock>(
 ) -> bool {
     let mut ended = 0usize;
     for _ in 0..calls {
-        let result = park_while(rt, member, 1, word, 0, nothing, timeout);
+        let result = member.park(
+            rt,
+            1,
+            || word.load(Ordering::SeqCst) == 0,
+            nothing,
+            |_, _| (),
+            DEFAULT_PARK_TOKEN,
+            timeout,
+        );
         ended = ended.wrapping_add(usize::from(result == expected));
     }
     ended == calls
@@ -56,10 +65,17 @@ pub fn unparks_itself_on_each<P: ThreadParkerT, R: Wait + Clock>(
     let lot = member.lot();
     let mut unparked = 0usize;
     for key in 0..keys {
-        let unpark_itself = || {
-            unparks(rt, lot, key);
-        };
-        let result = park_while(rt, member, key, word, 0, unpark_itself, None);
+        let result = member.park(
+            rt,
+            key,
+            || word.load(Ordering::SeqCst) == 0,
+            || {
+                unparks(rt, lot, key);
+            },
+            |_, _| (),
+            DEFAULT_PARK_TOKEN,
+            None,
+        );
         unparked = unparked.wrapping_add(usize::from(result.is_unparked()));
     }
     unparked == keys

@@ -1,10 +1,10 @@
 //! Threads that wait on one key, and one that leads them.
 
-use crate::calls::{register, requeue, retire};
+use crate::calls::{register, retire};
 use crate::rows::measure::nanoseconds_since;
 use crate::rows::scene::Scene;
 use crate::rows::turns::{OVER, comes_and_parks, comes_to};
-use lot_threads::{DEFAULT_UNPARK_TOKEN, RequeueOp, ThreadParkerT, unpark_all};
+use lot_threads::{DEFAULT_UNPARK_TOKEN, RequeueOp, ThreadParkerT, unpark_all, unpark_requeue};
 use std::alloc::Global;
 use std::sync::Wait;
 use std::sync::atomic::Ordering;
@@ -81,7 +81,14 @@ impl<P: ThreadParkerT> Scene<'_, '_, P> {
     }
 
     fn moves<R: Wait>(&self, rt: &R, from: usize, to: usize) -> usize {
-        let op = RequeueOp::RequeueAll;
-        requeue(rt, self.lot, from, to, op, DEFAULT_UNPARK_TOKEN).requeued_threads
+        let moved = unpark_requeue(
+            rt,
+            self.lot,
+            from,
+            to,
+            || RequeueOp::RequeueAll,
+            |_, _| DEFAULT_UNPARK_TOKEN,
+        );
+        moved.requeued_threads
     }
 }
