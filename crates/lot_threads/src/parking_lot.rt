@@ -14,6 +14,7 @@ ghost use Rattle.lot_threads.specs.Within.{IsParkedWithin, MayPark};
 
 use crate::critical_section::CriticalSection;
 use crate::parker::ThreadParkerT;
+use crate::section::Section;
 pub use crate::shared_lot::ParkingLot;
 use lot_base::queue::Node;
 use lot_base::thread_parker::ParkerT;
@@ -288,7 +289,10 @@ pub fn park_within<
 
     // Queue: validate and enter in one section.
     lot.parker(number).prepare_park();
-    if let Err((thread, node)) = lot.enter(rt, me, thread, node, validate) {
+    let (mut section, licence) = Section::open(rt, lot, key);
+    let entered = section.enter(me, licence, thread, node, validate);
+    section.close();
+    if let Err((thread, node)) = entered {
         thread_data.thread = thread;
         thread_data.node = Some(node);
         return ParkResult::Invalid;

@@ -96,7 +96,11 @@ impl<'a, P: ThreadParkerT> Section<'a, P> {
         ensures lock { IfSome result (λ opened. opened.0.lock.now ≡ lock.now) }
         ensures key { IfSome result (λ opened. opened.0.key ≡ key) }
     {
-        let claim = claim_bucket(rt, lock)?;
+        let mut claim = lock.claim(rt);
+        if is_away(lock, &mut claim) {
+            lock.release(claim);
+            return None;
+        }
         let section = Section {
             lot,
             lock,
@@ -329,10 +333,17 @@ impl<'a, P: ThreadParkerT> Section<'a, P> {
             × Has (id_of self.old.lot.now)
             (Thread (fields node.value).number Status.Running ∷ []) back.0) }
     {
-        let history = self.lot.history();
+        let lot = self.lot;
+        let key = self.key;
+        let number = node.number;
+        let timed = node.timed;
         let slot = self.claim.value_mut(self.lock).as_mut().unwrap();
         let cell = slot.cell.as_mut().unwrap();
-        enter_in(history, me, licence, cell, thread, node, validate)
+        let entered = enter_in(lot.history(), me, licence, cell, thread, node, validate);
+        if entered.is_ok() {
+            lot.note_key(number, timed, key);
+        }
+        entered
     }
 
     /// Takes a thread whose deadline has passed out of the list of the key and calls `timed_out`,
@@ -376,20 +387,7 @@ impl<'a, P: ThreadParkerT> Section<'a, P> {
     }
 }
 
-// Claims the lock, or answers `None` where its bucket is away, since the row is not in use there.
-#[inline]
-fn claim_bucket<R: Wait>(rt: &R, lock: &WordLock<Slot>) -> Option<Claim<Slot>>
-    ensures { IfSome result (HasBucket lock.now) }
-{
-    let mut claim = lock.claim(rt);
-    if is_away(lock, &mut claim) {
-        lock.release(claim);
-        return None;
-    }
-    Some(claim)
-}
-
-// Looks whether the bucket is away.
+// Looks whether the bucket is away, since the row is not in use there.
 #[inline]
 fn is_away(lock: &WordLock<Slot>, claim: &mut Claim<Slot>) -> bool
     requires { IsClaimOn (FitsSlot (key_of lock.now)) lock.now claim.old }

@@ -191,7 +191,7 @@ impl<P: ThreadParkerT> ParkingLot<P> {
 
     // Notes in which list a thread stands that has a timeout: only after its deadline does a thread
     // look where it stands. It writes no key that is noted already, since a load costs less.
-    fn note_key(&self, number: usize, timed: bool, key: usize) {
+    pub(crate) fn note_key(&self, number: usize, timed: bool, key: usize) {
         if timed
             && let Some(thread) = self.threads.get(number)
             && thread.key.load(Ordering::SeqCst) != key

@@ -1,15 +1,14 @@
-//! How a thread comes to park: it enters the list of a key, waits, and comes back, or leaves the
-//! list in which it stands then.
+//! How a thread waits that entered the list of a key: it comes back, or leaves the list in which it
+//! stands then.
 
-ghost use Rattle.std.specs.Prelude.{◌≡◌, ◌≢◌, ◌∷◌, ◌<◌, ℕ, [], false, Bool, IfErr, IfNone, IfSome, None, OnOk, is_ok};
+ghost use Rattle.std.specs.Prelude.{◌≡◌, ◌≢◌, ◌∷◌, ◌<◌, ℕ, [], Bool, IfNone, IfSome, None};
 ghost use Rattle.std.specs.Option.{is_some};
 ghost use Rattle.lot_base.specs.Node.{fields};
 ghost use Rattle.lot_history.specs.Witness.{events_of, id_of, max_threads_of, seen_by};
 ghost use Rattle.lot_history.specs.declared.view.Piece.TheVariants.{Thread};
-ghost use Rattle.lot_threads.specs.Cells.{Has, IsBelow};
+ghost use Rattle.lot_threads.specs.Cells.{Has};
 ghost use Rattle.lot_threads.specs.Idle.{IsIdle, StaysIdle};
-ghost use Rattle.lot_threads.specs.Members.{entry_of};
-ghost use Rattle.lot_threads.specs.Within.{EndsWithin, Enters, MayTellTimeout, MayValidate, Refuses, TellsTimeout};
+ghost use Rattle.lot_threads.specs.Within.{EndsWithin, MayTellTimeout, TellsTimeout};
 
 use super::ParkingLot;
 use crate::critical_section::CriticalSection;
@@ -24,46 +23,6 @@ use std::sync::Wait;
 use std::time::{Clock, Instant};
 
 impl<P: ThreadParkerT> ParkingLot<P> {
-    // The section in which a thread comes to park: puts it last in the list of its node's key, or
-    // gives its piece and its node back if `validate` answers false.
-    pub(crate) fn enter<R: Wait, V: FnOnce(&CriticalSection) -> bool>(
-        &self,
-        rt: &R,
-        me: &mut Witness,
-        thread: Part,
-        node: Box<Node>,
-        validate: V,
-    ) -> Result<(), (Part, Box<Node>)>
-        requires idle { IsIdle self.now me.old }
-        requires below { IsBelow (max_threads_of self.now) (fields node.value) }
-        requires thread { Has (id_of self.now)
-            (Thread (fields node.value).number Status.Running ∷ []) thread }
-        requires callable { MayValidate V.FnOnce validate self.now (fields node.value).key }
-
-        ensures idle { StaysIdle self.now me.old me.new }
-        ensures entered { OnOk result (Enters V.FnOnce validate self.now
-            (entry_of (fields node.value)) me.old me.new) }
-        ensures refused { IfErr result (λ back. Refuses V.FnOnce validate self.now
-            (entry_of (fields node.value)) me.old me.new) }
-        ensures returned { IfErr result (λ back. (back.1.value ≡ node.value)
-            × Has (id_of self.now)
-            (Thread (fields node.value).number Status.Running ∷ []) back.0) }
-    {
-        let Node {
-            number,
-            key,
-            timed,
-            ..
-        } = *node;
-        let (mut section, licence) = Section::open(rt, self, key);
-        let entered = section.enter(me, licence, thread, node, validate);
-        if entered.is_ok() {
-            self.note_key(number, timed, key);
-        }
-        section.close();
-        entered
-    }
-
     // The wait of a thread that entered a list: sleeps until an unpark of it was committed, or
     // until the deadline, and then leaves the list in which it stands, unless an unpark took it
     // meanwhile.

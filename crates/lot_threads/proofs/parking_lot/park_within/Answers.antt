@@ -19,11 +19,11 @@ returns-clause-parked g c =
     } in
     let timed = is_some c.args.timeout in
     let ended : ParkResult = c.wait-result.result.0 in
-    let slept : (entered : Bor Witness) × (entered.now ≡ c.enter.new.me)
+    let slept : (entered : Bor Witness) × (entered.now ≡ c.enter-entered.new.me)
     × g.B.FnOnce.post c.args.before_sleep (entered, tt) tt = (_, refl, c.before_sleep.ensures) in
     let enters : Enters g.V.FnOnce c.args.validate old.history (entry_for old c.args.key c.args.park_token timed)
-    old.witness c.enter.new.me = search rules in
-    let ends : EndsWithin g.T.FnOnce c.args.timed_out old.history old.number timed ended c.enter.new.me new.witness =
+    old.witness c.enter-entered.new.me = search rules in
+    let ends : EndsWithin g.T.FnOnce c.args.timed_out old.history old.number timed ended c.enter-entered.new.me new.witness =
     search rules in
     ends_within g.V.FnOnce g.B.FnOnce g.T.FnOnce c.args.validate c.args.before_sleep c.args.timed_out old c.args.key
     c.args.park_token timed slept.0 (search rules) enters slept.2 ended new ends
