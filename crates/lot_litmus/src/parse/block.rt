@@ -1,12 +1,13 @@
 //! Blocks: what is open, and what comes when it is closed.
 
 use super::draft::Label;
-use super::error::ParseError;
-use super::keyword::Keyword;
-use super::lot::{Filter, Park, Requeue, Waking};
-use super::names::{Meaning, Origin};
-use super::parser::{Parser, Scope};
-use crate::code::{Instruction, Local, Operand};
+use super::error::Wrong;
+use super::names::{Meaning, Scope};
+use super::park::Park;
+use super::parser::Parser;
+use super::requeue::Requeue;
+use super::wake::{Filter, Waking};
+use crate::code::{Instruction, Key, Local, Operand};
 
 /// A block that is open, and the statement that it belongs to.
 #[derive(Clone, Copy)]
@@ -36,7 +37,8 @@ pub(super) enum Block {
 /// A macro that is expanded.
 #[derive(Clone, Copy)]
 pub(super) struct Expansion {
-    pub(super) index: usize,
+    /// The first token of its text.
+    pub(super) body: usize,
     pub(super) end: Label,
 
     /// The token behind the call.
@@ -59,116 +61,107 @@ pub(super) struct Loop {
 }
 
 impl Block {
-    /// Whether the lot runs it.
-    pub(super) fn is_run_by_lot(&self) -> bool {
-        matches!(
-            self,
-            Block::Validate(..)
-                | Block::BeforeSleep(_)
-                | Block::TimedOut(_)
-                | Block::Filter(_)
-                | Block::Moves(_)
-                | Block::Callback(..)
-        )
+    /// The keys whose buckets are known to be locked in it, if buckets are locked.
+    pub(super) fn section(&self) -> Option<[Option<Key>; 2]> {
+        match *self {
+            Block::Validate(park, _) => Some([Some(park.key), None]),
+            Block::TimedOut(_) => Some([None, None]),
+            Block::Filter(filter) => Some([Some(filter.key), None]),
+            Block::Moves(requeue) => Some([Some(requeue.key), Some(requeue.other)]),
+            Block::Callback(waking, _) => Some(waking.keys()),
+            _ => None,
+        }
     }
 
-    /// Whether a bucket is locked in it.
-    pub(super) fn is_in_section(&self) -> bool {
-        self.is_run_by_lot() && !matches!(self, Block::BeforeSleep(_))
+    /// Whether the lot runs it.
+    pub(super) fn is_run_by_lot(&self) -> bool {
+        matches!(self, Block::BeforeSleep(_)) || self.section().is_some()
     }
 }
 
 impl<'t> Parser<'t> {
-    pub(super) fn open(&mut self, block: Block) -> Result<(), ParseError> {
-        let statement = self.statement;
-        self.blocks.push(Open { block, statement })?;
+    /// Opens a block, whose brace was read behind the head of its statement.
+    pub(super) fn open(&mut self, block: Block) -> Result<(), Wrong> {
+        self.end_statement()?;
+        self.blocks.push(Open {
+            block,
+            statement: self.draft.statement,
+        })?;
         Ok(())
     }
 
     /// Closes the last block, whose brace was read.
-    pub(super) fn close(&mut self) -> Result<(), ParseError> {
+    pub(super) fn close(&mut self) -> Result<(), Wrong> {
         let Some(open) = self.blocks.pop() else {
             return Ok(());
         };
-        self.statement = open.statement;
+        self.draft.statement = open.statement;
         match open.block {
-            Block::Thread { end } => self.close_thread(end),
-            Block::Macro(expansion) => self.close_macro(expansion),
-            Block::If { otherwise, end } => self.close_if(otherwise, end),
-            Block::Else { end } => {
+            Block::Thread { end } | Block::Else { end } => {
                 self.draft.place(end);
                 Ok(())
             }
+            Block::Macro(expansion) => self.close_macro(expansion),
+            Block::If { otherwise, end } => self.close_if(otherwise, end),
             Block::Loop(rounds) => self.close_loop(rounds),
             Block::Validate(park, valid) => self.close_validate(park, valid),
             Block::BeforeSleep(park) => self.sleep(park),
-            Block::TimedOut(park) => self.close_timed_out(park),
+            Block::TimedOut(park) => self.give_up(park),
             Block::Filter(filter) => self.close_filter(filter),
-            Block::Moves(requeue) => self.close_moves(requeue),
+            Block::Moves(requeue) => self.token_or_callback(Waking::Requeue(requeue)),
             Block::Callback(waking, token) => self.close_callback(waking, token),
         }
     }
 
-    fn close_if(&mut self, otherwise: Label, end: Label) -> Result<(), ParseError> {
-        if !self.is_keyword(Keyword::Else) {
+    fn close_if(&mut self, otherwise: Label, end: Label) -> Result<(), Wrong> {
+        if !self.cursor.is("else") {
             self.draft.place(otherwise);
             self.draft.place(end);
             return Ok(());
         }
-        self.jump(end)?;
+        self.draft.jump(end)?;
         self.draft.place(otherwise);
         self.begin_statement()?;
-        self.next();
-        if self.take(Keyword::If) {
+        self.cursor.next();
+        if self.cursor.take("if") {
             return self.open_if(end);
         }
-        self.open_brace()?;
-        self.end_statement()?;
+        self.cursor.open_brace()?;
         self.open(Block::Else { end })
     }
 
     /// What stands behind the word `if`.
-    pub(super) fn open_if(&mut self, end: Label) -> Result<(), ParseError> {
-        let otherwise = self.label()?;
+    pub(super) fn open_if(&mut self, end: Label) -> Result<(), Wrong> {
+        let otherwise = self.draft.label()?;
         let condition = self.expression()?;
-        self.jump_unless(condition, otherwise)?;
-        self.open_brace()?;
-        self.end_statement()?;
+        self.draft.jump_unless(condition, otherwise)?;
+        self.cursor.open_brace()?;
         self.open(Block::If { otherwise, end })
     }
 
-    fn close_loop(&mut self, rounds: Loop) -> Result<(), ParseError> {
+    fn close_loop(&mut self, rounds: Loop) -> Result<(), Wrong> {
         self.draft.place(rounds.next);
         if !self.draft.has_step_from(rounds.place) {
-            self.emit(Instruction::Pass)?;
+            self.draft.emit(Instruction::Pass)?;
         }
-        self.jump(rounds.again)?;
+        self.draft.jump(rounds.again)?;
         self.draft.place(rounds.end);
         Ok(())
     }
 
-    fn close_macro(&mut self, expansion: Expansion) -> Result<(), ParseError> {
-        self.draft.place(expansion.end);
-        for index in self.scope.bindings..self.bindings.len() {
-            self.drop_local(index)?;
-        }
-        self.bindings.truncate(self.scope.bindings);
-        self.scope = expansion.outer;
-        self.at = expansion.back;
-        Ok(())
-    }
-
     // A local that a macro declared is 0 when the macro is called again.
-    fn drop_local(&mut self, index: usize) -> Result<(), ParseError> {
-        let Some(binding) = self.bindings.get(index).copied() else {
-            return Ok(());
-        };
-        if let Meaning::Local(local) = binding.meaning
-            && binding.origin == Origin::Declared
-        {
-            self.set(local, Operand::Constant(0))?;
-            self.locals.release(local);
+    fn close_macro(&mut self, expansion: Expansion) -> Result<(), Wrong> {
+        self.draft.place(expansion.end);
+        for index in self.names.scope.own..self.names.bindings.len() {
+            if let Some(Meaning::Local(local)) = self.names.meaning_at(index) {
+                self.draft.set(local, Operand::Constant(0))?;
+                self.draft.locals.release(local);
+            }
         }
+        let first = self.names.scope.first;
+        self.names.bindings.truncate(first);
+        self.names.scope = expansion.outer;
+        self.cursor.at = expansion.back;
         Ok(())
     }
 }

@@ -1,484 +1,352 @@
 //! The code of a thread while it is written.
 
-use super::flow::LocalSet;
-use crate::code::{Code, Instruction, LOCALS, Local, Operand, Operation};
-use std::alloc::{AllocError, AllocFailed, Global};
+use super::effect::Effect;
+use super::error::{Fault, Wrong, too_many};
+use super::flow::{Flow, Place};
+use super::locals::{LocalSet, Locals};
+use crate::code::{Code, Instruction, Key, LOCALS, Local, Operand, Operation};
+use std::alloc::Global;
 
 // How many jumps in a row are made one.
 const JUMPS: usize = 16;
 
-/// How many instructions a thread can have.
-pub(super) const INSTRUCTIONS: usize = 65535;
+// How many instructions a thread can have.
+const INSTRUCTIONS: usize = 65535;
+
+const ZERO: Operand = Operand::Constant(0);
+
+pub(super) fn too_long() -> Wrong {
+    too_many(INSTRUCTIONS, "instructions in a thread")
+}
 
 /// A place in code, which may be found only later.
 #[derive(Clone, Copy)]
 pub(super) struct Label {
-    pub(super) number: u16,
+    number: usize,
 }
 
-impl Label {
-    /// Where no instruction ever goes.
-    pub(super) const NOWHERE: Label = Label { number: u16::MAX };
-}
-
-/// Code that is being written. The target of an instruction is the number of a label.
-#[derive(Drop)]
-pub(super) struct Draft {
-    instructions: Vec<Instruction>,
-
-    /// The statement that each instruction comes from.
-    statements: Vec<usize>,
-
-    /// Where each label is.
-    labels: Vec<usize>,
-}
-
-/// Code that is done.
-#[derive(Drop)]
-pub(super) struct Finished {
-    pub(super) code: Code,
-
-    /// The statement that each instruction comes from.
-    pub(super) statements: Vec<usize>,
-}
-
-/// Why a draft cannot be finished.
+// An instruction, its target, and the statement that it comes from.
 #[derive(Clone, Copy)]
-pub(super) enum FinishError {
-    TooLong,
-    NoMemory,
+struct Line {
+    instruction: Instruction,
+    target: Option<Label>,
+    statement: usize,
 }
 
-impl From<AllocError> for FinishError {
-    fn from(_error: AllocError) -> FinishError {
-        FinishError::NoMemory
-    }
+/// Code that is being written.
+#[derive(Drop)]
+pub(super) struct Draft<'t> {
+    lines: Vec<Line>,
+
+    // Where each label is.
+    labels: Vec<usize>,
+    pub(super) locals: Locals<'t>,
+
+    /// The statement from which instructions come now.
+    pub(super) statement: usize,
 }
 
-impl<T: Drop> From<AllocFailed<T>> for FinishError {
-    fn from(_error: AllocFailed<T>) -> FinishError {
-        FinishError::NoMemory
-    }
-}
-
-impl Draft {
-    pub(super) fn new(alloc: Global) -> Draft {
+impl<'t> Draft<'t> {
+    pub(super) fn new(alloc: Global) -> Draft<'t> {
         Draft {
-            instructions: Vec::new(alloc),
-            statements: Vec::new(alloc),
+            lines: Vec::new(alloc),
             labels: Vec::new(alloc),
+            locals: Locals::new(),
+            statement: 0,
         }
     }
 
     pub(super) fn len(&self) -> usize {
-        self.instructions.len()
+        self.lines.len()
     }
 
-    pub(super) fn push(
+    pub(super) fn emit(&mut self, instruction: Instruction) -> Result<(), Wrong> {
+        self.emit_to(None, instruction)
+    }
+
+    /// Emits an instruction that may go on at the label.
+    pub(super) fn emit_to(
         &mut self,
+        target: Option<Label>,
         instruction: Instruction,
-        statement: usize,
-    ) -> Result<(), AllocError> {
-        self.instructions.push(instruction)?;
-        self.statements.push(statement)?;
+    ) -> Result<(), Wrong> {
+        if self.lines.len() >= INSTRUCTIONS {
+            return Err(too_long());
+        }
+        self.lines.push(Line {
+            instruction,
+            target,
+            statement: self.statement,
+        })?;
         Ok(())
     }
 
-    /// A new label, if there are numbers left.
-    pub(super) fn label(&mut self) -> Result<Option<Label>, AllocError> {
-        let Ok(number) = u16::try_from(self.labels.len()) else {
-            return Ok(None);
-        };
-        if number == Label::NOWHERE.number {
-            return Ok(None);
+    pub(super) fn label(&mut self) -> Result<Label, Wrong> {
+        let number = self.labels.len();
+        if number >= INSTRUCTIONS {
+            return Err(too_long());
         }
         self.labels.push(usize::MAX)?;
-        Ok(Some(Label { number }))
+        Ok(Label { number })
     }
 
     /// The label stands for what comes next.
     pub(super) fn place(&mut self, label: Label) {
-        let here = self.instructions.len();
-        if let Some(place) = self.labels.get_mut(label.number as usize) {
+        let here = self.lines.len();
+        if let Some(place) = self.labels.get_mut(label.number) {
             *place = here;
         }
     }
 
     /// Whether there is a step from this place on.
     pub(super) fn has_step_from(&self, place: usize) -> bool {
-        self.instructions
+        self.lines
             .iter()
             .skip(place)
-            .any(|instruction| instruction.is_step())
+            .any(|line| line.instruction.is_step())
     }
 
     /// Without what comes from this place on. No label is there.
     pub(super) fn truncate(&mut self, place: usize) {
-        self.instructions.truncate(place);
-        self.statements.truncate(place);
+        self.lines.truncate(place);
     }
 
     /// Without the instruction at this place. No label is behind it.
     pub(super) fn remove(&mut self, place: usize) {
-        if place < self.instructions.len() {
-            self.instructions.remove(place);
+        if place < self.lines.len() {
+            self.lines.remove(place);
         }
-        if place < self.statements.len() {
-            self.statements.remove(place);
+    }
+}
+
+impl<'t> Draft<'t> {
+    /// Takes a local for this name. A temporary has the name "".
+    pub(super) fn local(&mut self, name: &'t str) -> Result<Local, Wrong> {
+        match self.locals.take(name) {
+            Some(local) => Ok(local),
+            None => Err(too_many(LOCALS, "locals in a thread")),
         }
     }
 
-    /// Lets the last instruction set another local, if it sets this one. Says whether it does.
-    pub(super) fn set_instead(&mut self, from: Local, to: Local) -> bool {
-        let Some(last) = self.instructions.pop() else {
+    pub(super) fn temporary(&mut self) -> Result<Local, Wrong> {
+        self.local("")
+    }
+
+    /// A temporary that begins with this number.
+    pub(super) fn counter(&mut self, number: u8) -> Result<Local, Wrong> {
+        let local = self.temporary()?;
+        self.set(local, Operand::Constant(number))?;
+        Ok(local)
+    }
+
+    /// A temporary is not needed any more.
+    pub(super) fn release(&mut self, operand: Operand) {
+        if let Operand::Local(local) = operand
+            && self.locals.is_temporary(local)
+        {
+            self.locals.release(local);
+        }
+    }
+
+    pub(super) fn jump(&mut self, label: Label) -> Result<(), Wrong> {
+        self.emit_to(Some(label), Instruction::Jump { target: 0 })
+    }
+
+    /// Goes on at the label if the number is 0.
+    pub(super) fn jump_unless(&mut self, operand: Operand, label: Label) -> Result<(), Wrong> {
+        self.release(operand);
+        let target = 0;
+        match operand {
+            Operand::Constant(0) => self.jump(label),
+            Operand::Constant(_) => Ok(()),
+            Operand::Local(_) => {
+                self.emit_to(Some(label), Instruction::JumpUnless { operand, target })
+            }
+        }
+    }
+
+    /// The local becomes the number.
+    pub(super) fn set(&mut self, to: Local, operand: Operand) -> Result<(), Wrong> {
+        self.release(operand);
+        if let Operand::Local(from) = operand
+            && self.locals.is_temporary(from)
+            && self.set_instead(from, to)
+        {
+            return Ok(());
+        }
+        self.emit(set(to, operand))
+    }
+
+    // Lets the last instruction set another local, if it sets this one. Says whether it does.
+    fn set_instead(&mut self, from: Local, to: Local) -> bool {
+        let Some(last) = self.lines.last_mut() else {
             return false;
         };
-        let does = last.sets_ahead() == Some(from);
-        let next = if does { last.setting(to) } else { last };
-        // There is room, since one was taken.
-        let _ = self.instructions.push(next);
+        let does = last.instruction.sets_ahead() == Some(from);
+        if does {
+            last.instruction.set_instead(to);
+        }
         does
     }
-}
 
-// What is known of each place of a draft, and of its end.
-#[derive(Drop)]
-struct Flow<'d> {
-    draft: &'d Draft,
-
-    // The locals whose numbers are read later.
-    live: Vec<LocalSet>,
-
-    // Those that may be other than 0 then, if the place can be reached.
-    set: Vec<Option<LocalSet>>,
-
-    // How many instructions come from there on, once the code is done.
-    behind: Vec<usize>,
-}
-
-impl Draft {
-    /// The code, in which each local that is not read any more is 0 at the next step, and without
-    /// instructions that do nothing.
-    pub(super) fn finish(&self, alloc: Global) -> Result<Finished, FinishError> {
-        let places = self.instructions.len() + 1;
-        let mut flow = Flow {
-            draft: self,
-            live: vec![in alloc; LocalSet::EMPTY; places]?,
-            set: vec![in alloc; None; places]?,
-            behind: vec![in alloc; 0; places]?,
-        };
-        flow.find_live();
-        flow.find_set();
-        flow.count();
-        flow.finished(alloc)
-    }
-
-    // The place of the label with this number.
-    fn place_of(&self, label: u16) -> usize {
-        let place = self
-            .labels
-            .get(label as usize)
-            .copied()
-            .unwrap_or(usize::MAX);
-        place.min(self.instructions.len())
-    }
-
-    // Where an instruction goes that goes to its target, jumps from jump to jump included.
-    fn target_of(&self, instruction: Instruction) -> Option<usize> {
-        let label = instruction.target()?;
-        if label == Label::NOWHERE.number {
-            return None;
-        }
-        let mut place = self.place_of(label);
-        for _ in 0..JUMPS {
-            let Some(Instruction::Jump { target }) = self.instructions.get(place) else {
-                break;
+    /// What the operation makes of two numbers: a number, or a temporary.
+    pub(super) fn compute(
+        &mut self,
+        operation: Operation,
+        first: Operand,
+        second: Operand,
+    ) -> Result<Operand, Wrong> {
+        if let (Operand::Constant(a), Operand::Constant(b)) = (first, second) {
+            return match operation.make(a, b) {
+                Some(number) => Ok(Operand::Constant(number)),
+                None => Err(Fault::NotAByte.here()),
             };
-            place = self.place_of(*target);
         }
-        Some(place)
+        self.release(first);
+        self.release(second);
+        let to = self.temporary()?;
+        self.emit(Instruction::Compute {
+            to,
+            operation,
+            first,
+            second,
+        })?;
+        Ok(Operand::Local(to))
+    }
+
+    /// The local becomes what the operation makes of it and a number.
+    pub(super) fn change(
+        &mut self,
+        to: Local,
+        operation: Operation,
+        second: Operand,
+    ) -> Result<(), Wrong> {
+        self.emit(Instruction::Compute {
+            to,
+            operation,
+            first: Operand::Local(to),
+            second,
+        })
+    }
+
+    pub(super) fn lock(&mut self, key: Key, other: Key) -> Result<(), Wrong> {
+        self.emit(Instruction::Lock { key, other })
+    }
+
+    /// How many wait on the key, whose bucket is locked.
+    pub(super) fn waiting(&mut self, key: Key) -> Result<Operand, Wrong> {
+        let to = self.temporary()?;
+        self.emit(Instruction::Count { to, key })?;
+        Ok(Operand::Local(to))
+    }
+
+    /// Whether more than this number wait on the key.
+    pub(super) fn more_than(&mut self, number: Operand, key: Key) -> Result<Operand, Wrong> {
+        let waiting = self.waiting(key)?;
+        self.compute(Operation::Below, number, waiting)
     }
 }
 
-impl Flow<'_> {
-    fn find_live(&mut self) {
-        for _ in 0..self.live.len() {
-            if !self.sweep_live() {
-                break;
-            }
-        }
-    }
-
-    // Goes over all places, from the last. Says whether something changed.
-    fn sweep_live(&mut self) -> bool {
-        let mut changed = false;
-        for place in (0..self.draft.instructions.len()).rev() {
-            let now = self.live_before(place);
-            if now != self.live_at(place) {
-                changed = true;
-            }
-            if let Some(live) = self.live.get_mut(place) {
-                *live = now;
-            }
-        }
-        changed
-    }
-
-    fn live_at(&self, place: usize) -> LocalSet {
-        self.live.get(place).copied().unwrap_or(LocalSet::EMPTY)
-    }
-
-    fn live_before(&self, place: usize) -> LocalSet {
-        let Some(instruction) = self.draft.instructions.get(place).copied() else {
-            return LocalSet::EMPTY;
-        };
-        let ahead = self.live_at(place.saturating_add(1));
-        if self.is_idle(place) {
-            return ahead;
-        }
-        let mut live = LocalSet::EMPTY;
-        if instruction.goes_ahead() {
-            live = ahead.without(instruction.sets_ahead());
-        }
-        if let Some(target) = self.draft.target_of(instruction) {
-            let there = self.live_at(target);
-            live = live.joined(there.without(instruction.sets_at_target()));
-        }
-        let [first, second] = instruction.operands();
-        live.reading(first).reading(second)
-    }
-
-    // Whether the instruction there only sets what nobody reads.
-    fn is_idle(&self, place: usize) -> bool {
-        let Some(instruction) = self.draft.instructions.get(place) else {
-            return false;
-        };
-        let Some(to) = instruction.sets_ahead() else {
-            return false;
-        };
-        instruction.only_sets() && !self.live_at(place.saturating_add(1)).contains(to)
+// The local becomes the number.
+fn set(to: Local, second: Operand) -> Instruction {
+    Instruction::Compute {
+        to,
+        operation: Operation::Second,
+        first: ZERO,
+        second,
     }
 }
 
-impl Flow<'_> {
-    fn find_set(&mut self) {
-        if let Some(first) = self.set.get_mut(0) {
-            *first = Some(LocalSet::EMPTY);
-        }
-        for _ in 0..self.set.len() {
-            if !self.sweep_set() {
-                break;
-            }
-        }
-    }
-
-    // Goes over all places, from the first. Says whether something changed.
-    fn sweep_set(&mut self) -> bool {
-        let mut changed = false;
-        for place in 0..self.draft.instructions.len() {
-            if self.go_on(place) {
-                changed = true;
-            }
-        }
-        changed
-    }
-
-    // Hands on what is set behind the instruction there. Says whether something changed.
-    fn go_on(&mut self, place: usize) -> bool {
-        let Some(instruction) = self.draft.instructions.get(place).copied() else {
-            return false;
-        };
-        let Some(before) = self.set_at(place) else {
-            return false;
-        };
-        let kept = before.except(self.cleared_before(place));
-        let mut changed = false;
-        if instruction.goes_ahead() {
-            let ahead = self.set_ahead(place).except(self.cleared_behind(place));
-            changed = self.reach(place.saturating_add(1), ahead);
-        }
-        if let Some(target) = self.draft.target_of(instruction) {
-            let there = kept
-                .without(instruction.zero_at_target())
-                .with(instruction.sets_at_target());
-            changed = self.reach(target, there) || changed;
-        }
-        changed
-    }
-
-    // Those that may be other than 0 where the instruction there goes on at the next one.
-    fn set_ahead(&self, place: usize) -> LocalSet {
-        let before = self.set_at(place).unwrap_or(LocalSet::EMPTY);
-        let kept = before.except(self.cleared_before(place));
-        let Some(instruction) = self.draft.instructions.get(place) else {
-            return kept;
-        };
-        if self.is_idle(place) {
-            return kept;
-        }
-        if instruction.clears() {
-            return kept.without(instruction.sets_ahead());
-        }
-        kept.with(instruction.sets_ahead())
-    }
-
-    fn set_at(&self, place: usize) -> Option<LocalSet> {
-        self.set.get(place).copied().flatten()
-    }
-
-    // The place can be reached with these set. Says whether that is new.
-    fn reach(&mut self, place: usize, set: LocalSet) -> bool {
-        let next = match self.set_at(place) {
-            Some(known) => known.joined(set),
-            None => set,
-        };
-        let changed = self.set_at(place) != Some(next);
-        if let Some(known) = self.set.get_mut(place) {
-            *known = Some(next);
-        }
-        changed
-    }
-
-    // The locals that are to become 0 before the instruction there, since nobody reads them any
-    // more. A jump leaves that to its target.
-    fn cleared_before(&self, place: usize) -> LocalSet {
-        if let Some(Instruction::Jump { .. }) = self.draft.instructions.get(place) {
-            return LocalSet::EMPTY;
-        }
-        if self.is_idle(place) {
-            return LocalSet::EMPTY;
-        }
-        match self.set_at(place) {
-            Some(set) => set.except(self.live_at(place)),
-            None => LocalSet::EMPTY,
-        }
-    }
-
-    // Those that are to become 0 between the instruction there and the next one.
-    fn cleared_behind(&self, place: usize) -> LocalSet {
-        let goes_ahead = self
-            .draft
-            .instructions
-            .get(place)
-            .is_some_and(Instruction::goes_ahead);
-        if !goes_ahead || self.is_idle(place) {
-            return LocalSet::EMPTY;
-        }
-        self.set_ahead(place)
-            .except(self.live_at(place.saturating_add(1)))
-    }
-}
-
-impl Flow<'_> {
-    fn count(&mut self) {
-        let end = self.draft.instructions.len();
-        let last = self.cleared_before(end).len();
-        self.note(end, last);
-        for place in (0..end).rev() {
-            let ahead = self.behind_at(place.saturating_add(1));
-            let count = ahead.saturating_add(self.width(place));
-            self.note(place, count);
-        }
-    }
-
-    fn note(&mut self, place: usize, count: usize) {
-        if let Some(behind) = self.behind.get_mut(place) {
-            *behind = count;
-        }
-    }
-
-    fn behind_at(&self, place: usize) -> usize {
-        self.behind.get(place).copied().unwrap_or(0)
-    }
-
-    // How many instructions there will be for the one there.
-    fn width(&self, place: usize) -> usize {
-        if self.is_needless(place) {
-            return 0;
-        }
-        let before = self.cleared_before(place).len();
-        let behind = self.cleared_behind(place).len();
-        before.saturating_add(behind).saturating_add(1)
-    }
-
-    // Whether the instruction there is left out: what comes from there on is counted already.
-    fn is_needless(&self, place: usize) -> bool {
-        if self.set_at(place).is_none() || self.is_idle(place) {
-            return true;
-        }
-        let Some(jump) = self.draft.instructions.get(place).copied() else {
-            return false;
-        };
-        let next = place.saturating_add(1);
-        match self.draft.target_of(jump) {
-            Some(target) if !jump.goes_ahead() => {
-                place < target && self.behind_at(target) == self.behind_at(next)
-            }
-            _ => false,
-        }
-    }
-
-    fn finished(&self, alloc: Global) -> Result<Finished, FinishError> {
-        let mut instructions = Vec::new(alloc);
-        let mut statements = Vec::new(alloc);
-        let mut statement = 0;
-        for (place, instruction) in self.draft.instructions.iter().enumerate() {
-            if self.is_needless(place) {
-                continue;
-            }
-            statement = self.draft.statements.get(place).copied().unwrap_or(0);
-            clear(&mut instructions, self.cleared_before(place))?;
-            instructions.push(self.targeted(place, *instruction)?)?;
-            clear(&mut instructions, self.cleared_behind(place))?;
-            fill(&mut statements, instructions.len(), statement)?;
-        }
-        let end = self.draft.instructions.len();
-        clear(&mut instructions, self.cleared_before(end))?;
-        fill(&mut statements, instructions.len(), statement)?;
-        if instructions.len() > INSTRUCTIONS {
-            return Err(FinishError::TooLong);
-        }
-        let code = Code { instructions };
-        Ok(Finished { code, statements })
-    }
-
-    // With its target among the instructions that are left. One that goes nowhere has the next.
-    fn targeted(&self, place: usize, instruction: Instruction) -> Result<Instruction, FinishError> {
-        let next = place.saturating_add(1);
-        let target = self.draft.target_of(instruction).unwrap_or(next);
-        let behind = self.behind_at(target);
-        match u16::try_from(self.behind_at(0).saturating_sub(behind)) {
-            Ok(target) => Ok(instruction.going_to(target)),
-            Err(_) => Err(FinishError::TooLong),
-        }
-    }
+/// Code that is done, and the statement that each instruction comes from.
+#[derive(Drop)]
+pub(super) struct Finished {
+    pub(super) code: Code,
+    pub(super) statements: Vec<usize>,
 }
 
 // Adds that these locals become 0.
-fn clear(instructions: &mut Vec<Instruction>, locals: LocalSet) -> Result<(), AllocError> {
+fn clear(instructions: &mut Vec<Instruction>, locals: LocalSet) -> Result<(), Wrong> {
     for number in 0..LOCALS {
         let to = Local { number };
         if locals.contains(to) {
-            instructions.push(cleared(to))?;
+            instructions.push(set(to, ZERO))?;
         }
     }
     Ok(())
 }
 
-/// The local becomes 0.
-pub(super) fn cleared(to: Local) -> Instruction {
-    Instruction::Compute {
-        to,
-        operation: Operation::Second,
-        first: Operand::Constant(0),
-        second: Operand::Constant(0),
-    }
-}
-
 // Adds the statement until there are so many.
-fn fill(statements: &mut Vec<usize>, len: usize, statement: usize) -> Result<(), AllocError> {
+fn fill(statements: &mut Vec<usize>, len: usize, statement: usize) -> Result<(), Wrong> {
     for _ in statements.len()..len {
         statements.push(statement)?;
     }
     Ok(())
+}
+
+impl Draft<'_> {
+    /// The code, in which each local that is not read any more is 0 at the next step, and without
+    /// instructions that do nothing.
+    pub(super) fn finish(&self, alloc: Global) -> Result<Finished, Wrong> {
+        let flow = Flow::of(self.places(alloc)?);
+        let mut instructions = Vec::new(alloc);
+        let mut statements = Vec::new(alloc);
+        let mut statement = 0;
+        for (place, line) in self.lines.iter().enumerate() {
+            if flow.is_needless(place) {
+                continue;
+            }
+            statement = line.statement;
+            clear(&mut instructions, flow.at(place).cleared_before)?;
+            instructions.push(self.targeted(&flow, place, *line)?)?;
+            clear(&mut instructions, flow.at(place).cleared_behind)?;
+            fill(&mut statements, instructions.len(), statement)?;
+        }
+        clear(&mut instructions, flow.at(self.lines.len()).cleared_before)?;
+        fill(&mut statements, instructions.len(), statement)?;
+        match Code::new(instructions) {
+            Some(code) => Ok(Finished { code, statements }),
+            None => Err(too_long()),
+        }
+    }
+
+    // What the instructions do, and the end.
+    fn places(&self, alloc: Global) -> Result<Vec<Place>, Wrong> {
+        let mut places = Vec::new(alloc);
+        for line in &self.lines {
+            places.push(Place::of(line.instruction, self.target_of(*line)))?;
+        }
+        places.push(Place::END)?;
+        Ok(places)
+    }
+
+    // The place of its target, jumps from jump to jump included.
+    fn target_of(&self, line: Line) -> Option<usize> {
+        let mut place = self.place_of(line.target?);
+        for _ in 0..JUMPS {
+            match self.lines.get(place) {
+                Some(next) if next.instruction.effect() == Effect::Jumps => {
+                    place = self.place_of(next.target?);
+                }
+                _ => break,
+            }
+        }
+        Some(place)
+    }
+
+    fn place_of(&self, label: Label) -> usize {
+        let place = self.labels.get(label.number).copied();
+        place.unwrap_or(usize::MAX).min(self.lines.len())
+    }
+
+    // With its target among the instructions that are left. One that goes nowhere has the next.
+    fn targeted(&self, flow: &Flow, place: usize, line: Line) -> Result<Instruction, Wrong> {
+        let next = place.saturating_add(1);
+        let target = self.target_of(line).unwrap_or(next);
+        let Ok(index) = u16::try_from(flow.index(target)) else {
+            return Err(too_long());
+        };
+        let mut instruction = line.instruction;
+        instruction.go_to(index);
+        Ok(instruction)
+    }
 }

@@ -93,3 +93,76 @@ impl<T: Drop> From<AllocFailed<T>> for ParseError {
         ParseError::NoMemory
     }
 }
+
+/// What is wrong while a text is read: a problem that does not quote its token yet.
+#[derive(Clone, Copy)]
+pub(super) enum Fault {
+    Expected(&'static str),
+    Unknown,
+    Taken,
+    Character,
+    NotAByte,
+    TooMany(usize, &'static str),
+    Unclosed,
+    Arguments { wanted: usize, given: usize },
+    Misplaced(&'static str),
+    NoMemory,
+}
+
+/// A fault, and the index of its token. It is the next token if none is named.
+#[derive(Clone, Copy)]
+pub(super) struct Wrong {
+    pub(super) fault: Fault,
+    pub(super) token: Option<usize>,
+}
+
+impl Wrong {
+    pub(super) fn at(self, token: usize) -> Wrong {
+        Wrong {
+            fault: self.fault,
+            token: Some(token),
+        }
+    }
+}
+
+impl Fault {
+    /// The fault at the next token.
+    pub(super) fn here(self) -> Wrong {
+        Wrong {
+            fault: self,
+            token: None,
+        }
+    }
+}
+
+pub(super) fn expected(what: &'static str) -> Wrong {
+    Fault::Expected(what).here()
+}
+
+pub(super) fn misplaced(rule: &'static str) -> Wrong {
+    Fault::Misplaced(rule).here()
+}
+
+pub(super) fn too_many(most: usize, what: &'static str) -> Wrong {
+    Fault::TooMany(most, what).here()
+}
+
+impl From<AllocError> for Wrong {
+    fn from(_error: AllocError) -> Wrong {
+        Fault::NoMemory.here()
+    }
+}
+
+impl<T: Drop> From<AllocFailed<T>> for Wrong {
+    fn from(_error: AllocFailed<T>) -> Wrong {
+        Fault::NoMemory.here()
+    }
+}
+
+/// The same, but what is wrong is wrong at this token.
+pub(super) fn blamed_on<T: Drop>(found: Result<T, Wrong>, token: usize) -> Result<T, Wrong> {
+    match found {
+        Err(wrong) => Err(wrong.at(token)),
+        found => found,
+    }
+}

@@ -1,9 +1,8 @@
 //! Expressions.
 
-use super::error::{ParseError, Problem};
+use super::error::{Wrong, blamed_on, expected, misplaced};
 use super::names::Meaning;
 use super::parser::Parser;
-use super::token::{Kind, Sign, Token};
 use crate::code::{Instruction, Operand, Operation};
 
 // What a number says.
@@ -23,87 +22,100 @@ struct Value {
     sense: Sense,
 }
 
-/// What stands between two values.
+// What an operator makes.
 #[derive(Clone, Copy, PartialEq, Eq)]
-pub(super) enum Operator {
-    Either,
-    Both,
-    Equal,
-    Unequal,
-    Below,
-    AtMost,
-    Above,
-    AtLeast,
-    Or,
-    Xor,
-    And,
-    Plus,
-    Minus,
+enum Form {
+    // Nothing: it is a parenthesis, which waits for the other one.
+    Nothing,
+
+    // What is so if the value is not.
+    Not,
+
+    // A truth of two truths.
+    Truth,
+
+    // A truth of two numbers, or of the second and the first.
+    Comparison,
+    Turned,
+
+    // A number of two numbers.
+    Number,
 }
 
-impl Operator {
-    /// The operator that the token is.
-    pub(super) fn of(token: Token<'_>) -> Option<Operator> {
-        let Kind::Sign(sign) = token.kind else {
-            return None;
-        };
-        match sign {
-            Sign::Either => Some(Operator::Either),
-            Sign::Both => Some(Operator::Both),
-            Sign::Equal => Some(Operator::Equal),
-            Sign::Unequal => Some(Operator::Unequal),
-            Sign::Below => Some(Operator::Below),
-            Sign::AtMost => Some(Operator::AtMost),
-            Sign::Above => Some(Operator::Above),
-            Sign::AtLeast => Some(Operator::AtLeast),
-            Sign::Or => Some(Operator::Or),
-            Sign::Xor => Some(Operator::Xor),
-            Sign::And => Some(Operator::And),
-            Sign::Plus => Some(Operator::Plus),
-            Sign::Minus => Some(Operator::Minus),
-            _ => None,
-        }
-    }
+/// What stands before a value, or between two.
+#[derive(Clone, Copy)]
+pub(super) struct Operator {
+    pub(super) sign: &'static str,
 
     /// How strongly it binds, as in Rust.
-    pub(super) fn strength(self) -> Strength {
-        match self {
-            Operator::Either => Strength::Either,
-            Operator::Both => Strength::Both,
-            Operator::Or => Strength::Or,
-            Operator::Xor => Strength::Xor,
-            Operator::And => Strength::And,
-            Operator::Plus | Operator::Minus => Strength::Sum,
-            _ => Strength::Comparison,
+    pub(super) strength: u8,
+    operation: Operation,
+    form: Form,
+}
+
+// Those that stand between two values.
+const OPERATORS: [(&str, u8, Operation, Form); 13] = [
+    ("||", 1, Operation::Or, Form::Truth),
+    ("&&", 2, Operation::And, Form::Truth),
+    ("==", 3, Operation::Equal, Form::Comparison),
+    ("!=", 3, Operation::Unequal, Form::Comparison),
+    ("<", 3, Operation::Below, Form::Comparison),
+    ("<=", 3, Operation::AtMost, Form::Comparison),
+    (">", 3, Operation::Below, Form::Turned),
+    (">=", 3, Operation::AtMost, Form::Turned),
+    ("|", 4, Operation::Or, Form::Number),
+    ("^", 5, Operation::Xor, Form::Number),
+    ("&", 6, Operation::And, Form::Number),
+    ("+", 7, Operation::Add, Form::Number),
+    ("-", 7, Operation::Subtract, Form::Number),
+];
+
+const WEAKEST: u8 = 1;
+
+const STRONGEST: u8 = 8;
+
+impl Operator {
+    // One that stands before a value.
+    fn before(sign: &'static str, strength: u8, form: Form) -> Operator {
+        Operator {
+            sign,
+            strength,
+            operation: Operation::Equal,
+            form,
         }
+    }
+
+    /// The operator between two values that has this sign.
+    pub(super) fn of(text: &str) -> Option<Operator> {
+        for (sign, strength, operation, form) in OPERATORS {
+            if sign == text {
+                return Some(Operator {
+                    sign,
+                    strength,
+                    operation,
+                    form,
+                });
+            }
+        }
+        None
     }
 }
 
-/// How strongly an operator binds.
-#[derive(Clone, Copy, PartialEq, Eq, PartialOrd, Ord)]
-pub(super) enum Strength {
-    Either,
-    Both,
-    Comparison,
-    Or,
-    Xor,
-    And,
-    Sum,
-}
-
-// What waits for a value behind it, and where it stands.
+// An operator that waits for a value behind it, and the index of its token.
 #[derive(Clone, Copy)]
-enum Waiting<'t> {
-    Parenthesis,
-    Not(Token<'t>),
-    Operator(Operator, Token<'t>),
+struct Waiting {
+    operator: Operator,
+    token: usize,
 }
 
 // An expression of which a part was read.
 #[derive(Drop)]
-struct Reading<'t> {
+struct Reading {
     values: Vec<Value>,
-    waiting: Vec<Waiting<'t>>,
+    waiting: Vec<Waiting>,
+
+    // How many parentheses are open.
+    open: usize,
 }
 
 // What comes next in an expression.
@@ -116,249 +128,166 @@ enum Next {
 
 impl<'t> Parser<'t> {
     /// Reads an expression: the number that it comes to.
-    pub(super) fn expression(&mut self) -> Result<Operand, ParseError> {
-        self.expression_above(None)
+    pub(super) fn expression(&mut self) -> Result<Operand, Wrong> {
+        self.expression_above(0)
     }
 
     /// Reads an expression up to an operator that binds no more strongly than this.
-    pub(super) fn expression_above(
-        &mut self,
-        bound: Option<Strength>,
-    ) -> Result<Operand, ParseError> {
+    pub(super) fn expression_above(&mut self, strength: u8) -> Result<Operand, Wrong> {
         let mut reading = Reading {
             values: Vec::new(self.alloc),
             waiting: Vec::new(self.alloc),
+            open: 0,
         };
         let mut next = Next::Value;
-        for _ in 0..u32::MAX {
+        for _ in 0..self.cursor.tokens.len() {
             next = match next {
                 Next::Value => self.read_value(&mut reading)?,
-                Next::Operator => self.read_operator(&mut reading, bound)?,
+                Next::Operator => self.read_operator(&mut reading, strength)?,
                 Next::Nothing => break,
             };
         }
-        self.apply_from(&mut reading, Strength::Either)?;
+        self.apply(&mut reading, WEAKEST)?;
         match reading.values.pop() {
             Some(value) if reading.waiting.is_empty() => Ok(value.operand),
-            _ => Err(self.expected("`)` or an operator")),
+            _ => Err(expected("`)` or an operator")),
         }
     }
 
-    fn read_value(&mut self, reading: &mut Reading<'t>) -> Result<Next, ParseError> {
-        let token = self.peek();
-        if self.take_sign(Sign::Not) {
-            reading.waiting.push(Waiting::Not(token))?;
-            return Ok(Next::Value);
-        }
-        if self.take_sign(Sign::OpenParenthesis) {
-            reading.waiting.push(Waiting::Parenthesis)?;
-            return Ok(Next::Value);
-        }
-        let operand = self.number()?;
-        reading.values.push(Value {
-            operand,
-            sense: Sense::Number,
-        })?;
-        self.apply_not(reading)?;
-        Ok(Next::Operator)
-    }
-
-    fn read_operator(
-        &mut self,
-        reading: &mut Reading<'t>,
-        bound: Option<Strength>,
-    ) -> Result<Next, ParseError> {
-        let is_open = reading
-            .waiting
-            .iter()
-            .any(|waiting| matches!(waiting, Waiting::Parenthesis));
-        if is_open && self.take_sign(Sign::CloseParenthesis) {
-            self.apply_from(reading, Strength::Either)?;
-            reading.waiting.pop();
-            self.apply_not(reading)?;
+    fn read_value(&mut self, reading: &mut Reading) -> Result<Next, Wrong> {
+        let token = self.cursor.at;
+        let operator = if self.cursor.take("!") {
+            Operator::before("!", STRONGEST, Form::Not)
+        } else if self.cursor.take("(") {
+            reading.open = reading.open.saturating_add(1);
+            Operator::before("(", 0, Form::Nothing)
+        } else {
+            let operand = self.number()?;
+            reading.values.push(Value {
+                operand,
+                sense: Sense::Number,
+            })?;
+            self.apply(reading, STRONGEST)?;
             return Ok(Next::Operator);
-        }
-        let token = self.peek();
-        let Some(operator) = Operator::of(token) else {
-            return Ok(Next::Nothing);
         };
-        let strength = operator.strength();
-        if !is_open && bound.is_some_and(|bound| strength <= bound) {
-            return Ok(Next::Nothing);
-        }
-        self.next();
-        self.apply_from(reading, strength)?;
-        reading.waiting.push(Waiting::Operator(operator, token))?;
+        reading.waiting.push(Waiting { operator, token })?;
         Ok(Next::Value)
     }
 
+    fn read_operator(&mut self, reading: &mut Reading, bound: u8) -> Result<Next, Wrong> {
+        if reading.open > 0 && self.cursor.take(")") {
+            self.apply(reading, WEAKEST)?;
+            reading.waiting.pop();
+            reading.open = reading.open.saturating_sub(1);
+            self.apply(reading, STRONGEST)?;
+            return Ok(Next::Operator);
+        }
+        let token = self.cursor.at;
+        match Operator::of(self.cursor.peek().text) {
+            Some(operator) if reading.open > 0 || operator.strength > bound => {
+                self.cursor.next();
+                self.apply(reading, operator.strength)?;
+                reading.waiting.push(Waiting { operator, token })?;
+                Ok(Next::Value)
+            }
+            _ => Ok(Next::Nothing),
+        }
+    }
+
     // Applies what waits, as far as it binds as strongly as this or more.
-    fn apply_from(&mut self, reading: &mut Reading, least: Strength) -> Result<(), ParseError> {
+    fn apply(&mut self, reading: &mut Reading, strength: u8) -> Result<(), Wrong> {
         for _ in 0..reading.waiting.len() {
-            let Some(Waiting::Operator(operator, token)) = reading.waiting.last().copied() else {
-                break;
-            };
-            if operator.strength() < least {
-                break;
-            }
-            reading.waiting.pop();
-            let second = reading.values.pop();
-            let first = reading.values.pop();
-            if let (Some(first), Some(second)) = (first, second) {
-                let value = self.combine(operator, first, second);
-                reading.values.push(token.blamed_for(value)?)?;
+            match reading.waiting.last().copied() {
+                Some(last) if last.operator.strength >= strength => {
+                    reading.waiting.pop();
+                    self.apply_one(reading, last)?;
+                }
+                _ => break,
             }
         }
         Ok(())
     }
 
-    // Applies each `!` before the last value.
-    fn apply_not(&mut self, reading: &mut Reading<'t>) -> Result<(), ParseError> {
-        for _ in 0..reading.waiting.len() {
-            let Some(Waiting::Not(token)) = reading.waiting.last().copied() else {
-                break;
-            };
-            reading.waiting.pop();
-            if let Some(value) = reading.values.pop() {
-                let turned = self.turned(value);
-                reading.values.push(token.blamed_for(turned)?)?;
-            }
-        }
-        Ok(())
-    }
-
-    fn turned(&mut self, value: Value) -> Result<Value, ParseError> {
-        if value.sense == Sense::Number && matches!(value.operand, Operand::Constant(_)) {
-            return Err(self.misplaced("`!` is for what is true or not: write 255 - N for bits"));
-        }
-        self.truth(Operation::Equal, value.operand, Operand::Constant(0))
-    }
-
-    fn combine(
-        &mut self,
-        operator: Operator,
-        first: Value,
-        second: Value,
-    ) -> Result<Value, ParseError> {
-        let (a, b) = (first.operand, second.operand);
-        match operator {
-            Operator::Either | Operator::Both => self.combine_truths(operator, first, second),
-            Operator::Equal => self.truth(Operation::Equal, a, b),
-            Operator::Unequal => self.truth(Operation::Unequal, a, b),
-            Operator::Below => self.truth(Operation::Below, a, b),
-            Operator::AtMost => self.truth(Operation::AtMost, a, b),
-            Operator::Above => self.truth(Operation::Below, b, a),
-            Operator::AtLeast => self.truth(Operation::AtMost, b, a),
-            Operator::Or => self.any_number(Operation::Or, a, b),
-            Operator::Xor => self.any_number(Operation::Xor, a, b),
-            Operator::And => self.any_number(Operation::And, a, b),
-            Operator::Plus => self.any_number(Operation::Add, a, b),
-            Operator::Minus => self.any_number(Operation::Subtract, a, b),
-        }
-    }
-
-    fn combine_truths(
-        &mut self,
-        operator: Operator,
-        first: Value,
-        second: Value,
-    ) -> Result<Value, ParseError> {
-        let operation = match operator {
-            Operator::Either => Operation::Or,
-            _ => Operation::And,
+    fn apply_one(&mut self, reading: &mut Reading, last: Waiting) -> Result<(), Wrong> {
+        let Some(second) = reading.values.pop() else {
+            return Ok(());
         };
-        let a = self.as_truth(first)?;
-        let b = self.as_truth(second)?;
-        self.truth(operation, a, b)
+        let made = if last.operator.form == Form::Not {
+            self.turned(second)
+        } else if let Some(first) = reading.values.pop() {
+            self.combined(last.operator, first, second)
+        } else {
+            return Ok(());
+        };
+        reading.values.push(blamed_on(made, last.token)?)?;
+        Ok(())
     }
 
-    // 1 if the number is not 0.
-    fn as_truth(&mut self, value: Value) -> Result<Operand, ParseError> {
-        match value.sense {
-            Sense::Truth => Ok(value.operand),
-            Sense::Number => self.compute(Operation::Unequal, value.operand, Operand::Constant(0)),
+    fn turned(&mut self, value: Value) -> Result<Value, Wrong> {
+        if value.sense == Sense::Number && matches!(value.operand, Operand::Constant(_)) {
+            return Err(misplaced("`!` is for what is true or not: write 255 - N for bits"));
         }
-    }
-
-    fn truth(&mut self, operation: Operation, a: Operand, b: Operand) -> Result<Value, ParseError> {
-        let operand = self.compute(operation, a, b)?;
+        let zero = Operand::Constant(0);
+        let operand = self.draft.compute(Operation::Equal, value.operand, zero)?;
         Ok(Value {
             operand,
             sense: Sense::Truth,
         })
     }
 
-    fn any_number(
+    fn combined(
         &mut self,
-        operation: Operation,
-        a: Operand,
-        b: Operand,
-    ) -> Result<Value, ParseError> {
-        let operand = self.compute(operation, a, b)?;
-        Ok(Value {
-            operand,
-            sense: Sense::Number,
-        })
+        operator: Operator,
+        first: Value,
+        second: Value,
+    ) -> Result<Value, Wrong> {
+        let (a, b) = match operator.form {
+            Form::Truth => (self.truth(first)?, self.truth(second)?),
+            Form::Turned => (second.operand, first.operand),
+            _ => (first.operand, second.operand),
+        };
+        let sense = match operator.form {
+            Form::Number => Sense::Number,
+            _ => Sense::Truth,
+        };
+        let operand = self.draft.compute(operator.operation, a, b)?;
+        Ok(Value { operand, sense })
     }
 
-    /// What the operation makes of two numbers: a number, or a temporary.
-    pub(super) fn compute(
-        &mut self,
-        operation: Operation,
-        first: Operand,
-        second: Operand,
-    ) -> Result<Operand, ParseError> {
-        if let (Operand::Constant(a), Operand::Constant(b)) = (first, second) {
-            return match operation.make(a, b) {
-                Some(number) => Ok(Operand::Constant(number)),
-                None => Err(self.wrong(Problem::NotAByte)),
-            };
+    // 1 if the number is not 0.
+    fn truth(&mut self, value: Value) -> Result<Operand, Wrong> {
+        let zero = Operand::Constant(0);
+        match value.sense {
+            Sense::Truth => Ok(value.operand),
+            Sense::Number => self.draft.compute(Operation::Unequal, value.operand, zero),
         }
-        self.release(first);
-        self.release(second);
-        let to = self.temporary()?;
-        self.emit(Instruction::Compute {
-            to,
-            operation,
-            first,
-            second,
-        })?;
-        Ok(Operand::Local(to))
     }
 
     // A number, what is in a local, or what is read of a word.
-    fn number(&mut self) -> Result<Operand, ParseError> {
-        let token = self.peek();
-        if let Some(number) = token.byte()? {
-            self.next();
-            return Ok(Operand::Constant(number));
-        }
-        match self.meaning(token, "a number, a word or a local")? {
-            Meaning::Number(number) => {
-                self.next();
-                Ok(Operand::Constant(number))
-            }
-            Meaning::Local(local) => {
-                self.next();
-                Ok(Operand::Local(local))
-            }
+    fn number(&mut self) -> Result<Operand, Wrong> {
+        const EXPECTED: &str = "a number, a word or a local";
+        let token = self.cursor.at;
+        let meaning = self.number_or_meaning(EXPECTED)?;
+        self.cursor.next();
+        match meaning {
+            Meaning::Number(number) => Ok(Operand::Constant(number)),
+            Meaning::Local(local) => Ok(Operand::Local(local)),
             Meaning::Word(word) => {
-                self.next();
-                let to = self.temporary()?;
-                self.emit(Instruction::Read { to, word })?;
+                let to = self.draft.temporary()?;
+                self.draft.emit(Instruction::Read { to, word })?;
                 Ok(Operand::Local(to))
             }
-            _ => Err(self.expected("a number, a word or a local")),
+            _ => Err(expected(EXPECTED).at(token)),
         }
     }
 
     /// Reads a number that is known before the test begins.
-    pub(super) fn constant(&mut self) -> Result<u8, ParseError> {
-        let token = self.peek();
+    pub(super) fn constant(&mut self) -> Result<u8, Wrong> {
+        let token = self.cursor.at;
         let place = self.draft.len();
         match self.expression()? {
             Operand::Constant(number) if self.draft.len() == place => Ok(number),
-            _ => Err(token.expected(self.alloc, "a number that is known at first")),
+            _ => Err(expected("a number that is known at first").at(token)),
         }
     }
 }

@@ -1,6 +1,19 @@
 //! What the names of a text mean.
 
-use crate::code::{Key, LOCALS, Local, Word};
+use super::cursor::Span;
+use super::error::{Fault, Wrong, expected};
+use super::token::{Kind, Token};
+use crate::code::{Key, Local, Word};
+use std::alloc::Global;
+
+/// A procedure that stands where it is called.
+#[derive(Clone, Copy)]
+pub(super) struct Macro {
+    /// The index of its first parameter's token, and how many there are. Commas are between them.
+    pub(super) first: usize,
+    pub(super) parameters: usize,
+    pub(super) body: Span,
+}
 
 /// What a name means.
 #[derive(Clone, Copy)]
@@ -9,31 +22,125 @@ pub(super) enum Meaning {
     Word(Word),
     Key(Key),
     Local(Local),
-
-    /// The macro at this index.
-    Macro(usize),
-}
-
-/// Where a meaning comes from.
-#[derive(Clone, Copy, PartialEq, Eq)]
-pub(super) enum Origin {
-    /// It was handed in.
-    Given,
-
-    /// It was declared here.
-    Declared,
+    Macro(Macro),
 }
 
 /// A name and its meaning.
 #[derive(Clone, Copy)]
 pub(super) struct Binding<'t> {
-    pub(super) name: &'t [u8],
+    pub(super) name: &'t str,
     pub(super) meaning: Meaning,
-    pub(super) origin: Origin,
 }
 
-/// What the last of the bindings with this name means.
-pub(super) fn meaning_in(bindings: &[Binding<'_>], name: &[u8]) -> Option<Meaning> {
+/// The text of a thread or a macro.
+#[derive(Clone, Copy)]
+pub(super) struct Scope {
+    pub(super) text: Span,
+
+    /// The index of its first binding, and of the first that it has not been given.
+    pub(super) first: usize,
+    pub(super) own: usize,
+}
+
+/// The names that are known.
+#[derive(Drop)]
+pub(super) struct Names<'t> {
+    pub(super) bindings: Vec<Binding<'t>>,
+
+    /// How many of them are from outside of threads.
+    outside: usize,
+    pub(super) scope: Scope,
+
+    /// The number of the thread.
+    me: Option<u8>,
+}
+
+impl<'t> Names<'t> {
+    pub(super) fn new(alloc: Global) -> Names<'t> {
+        Names {
+            bindings: Vec::new(alloc),
+            outside: 0,
+            scope: Scope {
+                text: Span { from: 0, to: 0 },
+                first: 0,
+                own: 0,
+            },
+            me: None,
+        }
+    }
+
+    /// A thread with this number begins.
+    pub(super) fn begin_thread(&mut self, text: Span, number: u8) {
+        self.outside = self.bindings.len();
+        self.me = Some(number);
+        self.scope = Scope {
+            text,
+            first: self.outside,
+            own: self.outside,
+        };
+    }
+
+    /// The thread ends, and what it has declared.
+    pub(super) fn end_thread(&mut self) {
+        self.bindings.truncate(self.outside);
+        self.me = None;
+    }
+
+    pub(super) fn bind(&mut self, name: &'t str, meaning: Meaning) -> Result<(), Wrong> {
+        self.bindings.push(Binding { name, meaning })?;
+        Ok(())
+    }
+
+    /// What the name means, if it means something.
+    pub(super) fn lookup(&self, name: &str) -> Option<Meaning> {
+        let here = self.bindings.get(self.scope.first..).unwrap_or_default();
+        let outside = self.bindings.get(..self.outside).unwrap_or_default();
+        meaning_in(here, name)
+            .or(meaning_in(outside, name))
+            .or(self.number(name).map(Meaning::Number))
+    }
+
+    // The number that has this name without being declared.
+    fn number(&self, name: &str) -> Option<u8> {
+        if name == "me" {
+            return self.me;
+        }
+        known_number(name)
+    }
+
+    /// What the token means. Something was expected that has a name.
+    pub(super) fn meaning(&self, token: Token<'t>, what: &'static str) -> Result<Meaning, Wrong> {
+        if token.kind != Kind::Name {
+            return Err(expected(what));
+        }
+        match self.lookup(token.text) {
+            Some(meaning) => Ok(meaning),
+            None => Err(Fault::Unknown.here()),
+        }
+    }
+
+    /// What the binding at this index means, if there is one.
+    pub(super) fn meaning_at(&self, index: usize) -> Option<Meaning> {
+        Some(self.bindings.get(index)?.meaning)
+    }
+
+    /// The name means no local any more. Returns the local.
+    pub(super) fn forget(&mut self, name: &str) -> Option<Local> {
+        for index in (self.scope.own..self.bindings.len()).rev() {
+            let binding = *self.bindings.get(index)?;
+            if binding.name == name
+                && let Meaning::Local(local) = binding.meaning
+            {
+                self.bindings.remove(index);
+                return Some(local);
+            }
+        }
+        None
+    }
+}
+
+// What the last of the bindings with this name means.
+fn meaning_in(bindings: &[Binding<'_>], name: &str) -> Option<Meaning> {
     for binding in bindings.iter().rev() {
         if binding.name == name {
             return Some(binding.meaning);
@@ -43,115 +150,29 @@ pub(super) fn meaning_in(bindings: &[Binding<'_>], name: &[u8]) -> Option<Meanin
 }
 
 /// Whether the name is that of a number in every text.
-pub(super) fn is_known(name: &[u8]) -> bool {
-    name == b"me".as_slice() || known_number(name).is_some()
+pub(super) fn is_known(name: &str) -> bool {
+    name == "me" || known_number(name).is_some()
 }
 
-/// A number that has a name in every text.
-pub(super) fn known_number(name: &[u8]) -> Option<u8> {
+// A number that has a name in every text.
+fn known_number(name: &str) -> Option<u8> {
     match name {
-        b"unparked" => Some(0),
-        b"invalid" => Some(1),
-        b"timed_out" => Some(2),
+        "unparked" => Some(0),
+        "invalid" => Some(1),
+        "timed_out" => Some(2),
         _ => moves_number(name),
     }
 }
 
 /// The number of a way to requeue: 1 for a waiter that is unparked, 2 for one that is moved, and 4
 /// for all the rest that are moved.
-pub(super) fn moves_number(name: &[u8]) -> Option<u8> {
+pub(super) fn moves_number(name: &str) -> Option<u8> {
     match name {
-        b"nobody" => Some(0),
-        b"one" => Some(1),
-        b"move_one" => Some(2),
-        b"all" => Some(4),
-        b"one_rest" => Some(5),
+        "nobody" => Some(0),
+        "one" => Some(1),
+        "move_one" => Some(2),
+        "all" => Some(4),
+        "one_rest" => Some(5),
         _ => None,
-    }
-}
-
-// Whether a local is in use.
-#[derive(Clone, Copy, PartialEq, Eq)]
-enum Use {
-    Never,
-    Now,
-    Before,
-}
-
-// A local, and the last name that it had. A temporary has none.
-#[derive(Clone, Copy)]
-struct Slot<'t> {
-    usage: Use,
-    name: &'t [u8],
-}
-
-/// The locals of a thread.
-#[derive(Clone, Copy)]
-pub(super) struct Locals<'t> {
-    slots: [Slot<'t>; LOCALS],
-}
-
-impl<'t> Locals<'t> {
-    pub(super) fn new() -> Locals<'t> {
-        let unused = Slot {
-            usage: Use::Never,
-            name: b"",
-        };
-        Locals {
-            slots: [unused; LOCALS],
-        }
-    }
-
-    /// Takes a local that is not in use: one that had this name before, or none, or another one.
-    /// A temporary has the name "".
-    pub(super) fn take(&mut self, name: &'t [u8]) -> Option<Local> {
-        let local = self
-            .find_named(name)
-            .or(self.find(Use::Never))
-            .or(self.find(Use::Before))?;
-        self.slots[local.number] = Slot {
-            usage: Use::Now,
-            name,
-        };
-        Some(local)
-    }
-
-    fn find_named(&self, name: &[u8]) -> Option<Local> {
-        for number in 0..LOCALS {
-            let slot = self.slots[number];
-            if slot.usage == Use::Before && slot.name == name {
-                return Some(Local { number });
-            }
-        }
-        None
-    }
-
-    fn find(&self, usage: Use) -> Option<Local> {
-        for number in 0..LOCALS {
-            if self.slots[number].usage == usage {
-                return Some(Local { number });
-            }
-        }
-        None
-    }
-
-    pub(super) fn release(&mut self, local: Local) {
-        let name = self.slots[local.number].name;
-        self.slots[local.number] = Slot {
-            usage: Use::Before,
-            name,
-        };
-    }
-
-    pub(super) fn is_temporary(&self, local: Local) -> bool {
-        self.slots[local.number].name.is_empty()
-    }
-
-    /// The last name of the local with this number.
-    pub(super) fn name(&self, number: usize) -> &'t [u8] {
-        match self.slots.get(number) {
-            Some(slot) => slot.name,
-            None => b"",
-        }
     }
 }

@@ -1,76 +1,104 @@
 //! Requeues, and what their callbacks are told.
 
 use super::block::Block;
-use super::error::ParseError;
-use super::keyword::Keyword;
-use super::lot::{Requeue, Waking};
+use super::draft::{Draft, Label};
+use super::error::{Wrong, expected};
 use super::names::moves_number;
 use super::parser::Parser;
-use crate::code::{Instruction, Local, Moves, Operand, Operation};
+use super::wake::Waking;
+use crate::code::{Instruction, Key, Local, Moves, Operand, Operation};
+
+/// A requeue.
+#[derive(Clone, Copy)]
+pub(super) struct Requeue {
+    pub(super) key: Key,
+    pub(super) other: Key,
+
+    // The number of the way.
+    moves: Operand,
+
+    // Where nobody is unparked or moved, and behind all that.
+    nobody: Label,
+    end: Label,
+}
 
 impl<'t> Parser<'t> {
-    pub(super) fn requeue(&mut self) -> Result<(), ParseError> {
-        self.begin_section()?;
-        let key = self.key()?;
+    pub(super) fn requeue(&mut self) -> Result<(), Wrong> {
+        let key = self.begin_section()?;
         let other = self.key()?;
         let mut requeue = Requeue {
             key,
             other,
             moves: Operand::Constant(0),
-            nobody: self.label()?,
-            end: self.label()?,
+            nobody: self.draft.label()?,
+            end: self.draft.label()?,
         };
-        if self.opens(Keyword::Validate)? {
-            self.end_statement()?;
-            self.lock(key, other)?;
-            requeue.moves = Operand::Local(self.counter(b"moves", 0)?);
+        if self.cursor.opens("validate")? {
+            self.draft.lock(key, other)?;
+            requeue.moves = Operand::Local(self.declare_as("moves", 0)?);
             return self.open(Block::Moves(requeue));
         }
-        let Some(number) = moves_number(self.peek().text) else {
-            return Err(self.expected(
-                "`nobody`, `one`, `move_one`, `all`, `one_rest` or `validate {`",
-            ));
+        let Some(number) = moves_number(self.cursor.peek().text) else {
+            return Err(expected("`nobody`, `one`, `move_one`, `all`, `one_rest` or `validate {`"));
         };
-        self.next();
+        self.cursor.next();
         requeue.moves = Operand::Constant(number);
-        if self.is_keyword(Keyword::Callback) {
-            self.lock(key, other)?;
+        if self.cursor.is("callback") {
+            self.draft.lock(key, other)?;
         }
-        self.token_or_callback(Waking::Requeue(requeue))
-    }
-
-    pub(super) fn close_moves(&mut self, requeue: Requeue) -> Result<(), ParseError> {
         self.token_or_callback(Waking::Requeue(requeue))
     }
 
     // Where nobody is unparked or moved, no callback is run.
-    pub(super) fn tell_requeue(&mut self, requeue: Requeue) -> Result<(), ParseError> {
-        self.jump_unless(requeue.moves, requeue.nobody)?;
-        if let Some(local) = self.declare_if_named(b"unparked_threads")? {
-            let unparked = self.unparked_by(requeue)?;
-            self.set(local, unparked)?;
+    pub(super) fn tell_requeue(&mut self, requeue: Requeue) -> Result<(), Wrong> {
+        self.draft.jump_unless(requeue.moves, requeue.nobody)?;
+        if let Some(local) = self.declare_if_named("unparked_threads")? {
+            let unparked = self.draft.unparked_by(requeue)?;
+            self.draft.set(local, unparked)?;
         }
-        if let Some(local) = self.declare_if_named(b"requeued_threads")? {
-            self.set_requeued(requeue, local)?;
+        if let Some(local) = self.declare_if_named("requeued_threads")? {
+            self.draft.set_requeued(requeue, local)?;
         }
-        if let Some(local) = self.declare_if_named(b"have_more")? {
-            let more = self.more_than(Operand::Constant(1), requeue.key)?;
-            let leaves = self.compute(Operation::Below, requeue.moves, Operand::Constant(4))?;
-            let left = self.compute(Operation::And, more, leaves)?;
-            self.set(local, left)?;
+        if let Some(local) = self.declare_if_named("have_more")? {
+            let left = self.draft.left_by(requeue)?;
+            self.draft.set(local, left)?;
         }
         Ok(())
     }
 
+    pub(super) fn end_requeue(&mut self, requeue: Requeue, token: Operand) -> Result<(), Wrong> {
+        match requeue.moves {
+            Operand::Constant(number) => {
+                self.draft.requeue_by(requeue, moves_of(number), token)?;
+            }
+            Operand::Local(_) => self.draft.choose_moves(requeue, token)?,
+        }
+        self.draft.place(requeue.nobody);
+        self.draft
+            .requeue_by(requeue, Moves::Nobody, Operand::Constant(0))?;
+        self.draft.place(requeue.end);
+        self.forget("moves");
+        Ok(())
+    }
+}
+
+impl Draft<'_> {
     // How many a requeue unparks.
-    fn unparked_by(&mut self, requeue: Requeue) -> Result<Operand, ParseError> {
+    fn unparked_by(&mut self, requeue: Requeue) -> Result<Operand, Wrong> {
         let some = self.more_than(Operand::Constant(0), requeue.key)?;
         let wakes = self.compute(Operation::And, requeue.moves, Operand::Constant(1))?;
         self.compute(Operation::And, some, wakes)
     }
 
+    // Whether it leaves somebody where it was.
+    fn left_by(&mut self, requeue: Requeue) -> Result<Operand, Wrong> {
+        let more = self.more_than(Operand::Constant(1), requeue.key)?;
+        let leaves = self.compute(Operation::Below, requeue.moves, Operand::Constant(4))?;
+        self.compute(Operation::And, more, leaves)
+    }
+
     // How many it moves: all that it does not unpark, or at most one.
-    fn set_requeued(&mut self, requeue: Requeue, to: Local) -> Result<(), ParseError> {
+    fn set_requeued(&mut self, requeue: Requeue, to: Local) -> Result<(), Wrong> {
         let done = self.label()?;
         let some = self.more_than(Operand::Constant(0), requeue.key)?;
         let one = self.compute(Operation::And, requeue.moves, Operand::Constant(2))?;
@@ -83,32 +111,11 @@ impl<'t> Parser<'t> {
         let waiting = self.waiting(requeue.key)?;
         let rest = self.compute(Operation::Subtract, waiting, unparked)?;
         self.set(to, rest)?;
-        self.draft.place(done);
+        self.place(done);
         Ok(())
     }
 
-    pub(super) fn end_requeue(
-        &mut self,
-        requeue: Requeue,
-        token: Operand,
-    ) -> Result<(), ParseError> {
-        match requeue.moves {
-            Operand::Constant(number) => self.requeue_by(requeue, moves_of(number), token)?,
-            Operand::Local(_) => self.choose_moves(requeue, token)?,
-        }
-        self.draft.place(requeue.nobody);
-        self.requeue_by(requeue, Moves::Nobody, Operand::Constant(0))?;
-        self.draft.place(requeue.end);
-        self.forget(b"moves");
-        Ok(())
-    }
-
-    fn requeue_by(
-        &mut self,
-        requeue: Requeue,
-        moves: Moves,
-        token: Operand,
-    ) -> Result<(), ParseError> {
+    fn requeue_by(&mut self, requeue: Requeue, moves: Moves, token: Operand) -> Result<(), Wrong> {
         self.emit(Instruction::Requeue {
             key: requeue.key,
             other: requeue.other,
@@ -118,13 +125,13 @@ impl<'t> Parser<'t> {
         self.jump(requeue.end)
     }
 
-    fn choose_moves(&mut self, requeue: Requeue, token: Operand) -> Result<(), ParseError> {
+    fn choose_moves(&mut self, requeue: Requeue, token: Operand) -> Result<(), Wrong> {
         for number in [1, 2, 4, 5] {
             let others = self.label()?;
-            let is_this = self.compute(Operation::Equal, requeue.moves, Operand::Constant(number))?;
-            self.jump_unless(is_this, others)?;
+            let this = self.compute(Operation::Equal, requeue.moves, Operand::Constant(number))?;
+            self.jump_unless(this, others)?;
             self.requeue_by(requeue, moves_of(number), token)?;
-            self.draft.place(others);
+            self.place(others);
         }
         Ok(())
     }

@@ -1,197 +1,130 @@
 //! Statements of threads.
 
-use super::block::{Block, Expansion, Loop};
-use super::error::{ParseError, Problem};
-use super::keyword::Keyword;
-use super::names::{Binding, Meaning, Origin};
+use super::block::{Block, Expansion, Loop, Open};
+use super::error::{Fault, Wrong, blamed_on, expected, misplaced};
+use super::names::{Macro, Meaning, Scope};
 use super::parsed::Statement;
-use super::parser::{Parser, Scope};
-use super::token::{Kind, Sign, Token};
-use crate::code::{Access, Instruction, Key, Local, Operand, Operation, Validation, Word};
+use super::parser::Parser;
+use super::token::Kind;
+use crate::code::{Access, Instruction, Key, Operand, Operation, Validation};
 
-// Where a number goes.
-#[derive(Clone, Copy)]
-enum Place<'t> {
-    Word(Word),
-    Local(Local),
-    New(Token<'t>),
-}
+// The words that change a word of the test.
+const UPDATES: [(&str, Operation); 6] = [
+    ("swap", Operation::Second),
+    ("add", Operation::Add),
+    ("sub", Operation::Subtract),
+    ("and", Operation::And),
+    ("or", Operation::Or),
+    ("xor", Operation::Xor),
+];
 
 impl<'t> Parser<'t> {
     /// From here on instructions come from the statement that begins with the next token.
-    pub(super) fn begin_statement(&mut self) -> Result<(), ParseError> {
-        let token = self.peek();
-        let same = |statement: &Statement| {
-            statement.line == token.line && statement.column == token.column
-        };
-        if let Some(known) = self.statements.iter().position(same) {
-            self.statement = known;
+    pub(super) fn begin_statement(&mut self) -> Result<(), Wrong> {
+        let token = self.cursor.peek();
+        let (line, column) = (token.line, token.column);
+        let is_this = |known: &Statement| known.line == line && known.column == column;
+        if let Some(known) = self.statements.iter().position(is_this) {
+            self.draft.statement = known;
             return Ok(());
         }
-        self.statement = self.statements.len();
-        self.statements.push(Statement {
-            line: token.line,
-            column: token.column,
-            text: String::new(self.alloc),
-        })?;
+        self.draft.statement = self.statements.len();
+        let text = String::new(self.alloc);
+        self.statements.push(Statement { line, column, text })?;
         Ok(())
     }
 
     /// The statement has been read, or its head. What stands on its first line is kept.
-    pub(super) fn end_statement(&mut self) -> Result<(), ParseError> {
-        let alloc = self.alloc;
-        let last = self.last_of_line();
-        let index = self.statement;
-        if let Some(statement) = self.statements.get_mut(index)
+    pub(super) fn end_statement(&mut self) -> Result<(), Wrong> {
+        if let Some(statement) = self.statements.get_mut(self.draft.statement)
             && statement.text.is_empty()
         {
-            statement.text = String::from_str(alloc, last.since(statement.column))?;
+            let last = self.cursor.last_on(statement.line);
+            statement.text = String::from_str(self.alloc, last.since(statement.column))?;
         }
         Ok(())
-    }
-
-    // The last token that was read on the line of the statement, but for a brace.
-    fn last_of_line(&self) -> Token<'t> {
-        let line = self
-            .statements
-            .get(self.statement)
-            .map_or(0, |statement| statement.line);
-        for index in (0..self.at).rev() {
-            let token = self.token(index);
-            if token.line == line && token.kind != Kind::Sign(Sign::OpenBrace) {
-                return token;
-            }
-        }
-        self.peek()
     }
 
     /// Reads a statement, or the end of a block.
-    pub(super) fn statement(&mut self) -> Result<(), ParseError> {
-        if self.take_sign(Sign::CloseBrace) {
+    pub(super) fn statement(&mut self) -> Result<(), Wrong> {
+        if self.cursor.take("}") {
             return self.close();
         }
-        self.expect_break()?;
+        self.cursor.expect_break()?;
         self.begin_statement()?;
-        match self.peek().kind {
+        let token = self.cursor.peek();
+        match token.kind {
             Kind::Name => self.assign_or_call(),
-            Kind::Keyword(keyword) => self.keyword_statement(keyword),
-            _ => Err(self.expected("a statement")),
+            Kind::Keyword if self.update_statement()? => Ok(()),
+            Kind::Keyword => {
+                self.cursor.next();
+                self.keyword_statement(token.text)
+            }
+            _ => Err(expected("a statement")),
         }
     }
 
-    fn keyword_statement(&mut self, keyword: Keyword) -> Result<(), ParseError> {
-        if self.control(keyword)? || self.lot_statement(keyword)? || self.update_statement()? {
-            return Ok(());
-        }
-        Err(self.expected("a statement"))
-    }
-
-    // A statement begins on a new line, after a semicolon or two blanks, or at a brace.
-    pub(super) fn expect_break(&self) -> Result<(), ParseError> {
-        let last = self.previous().kind;
-        let at_brace = last == Kind::Sign(Sign::OpenBrace) || last == Kind::Sign(Sign::CloseBrace);
-        if self.is_near() && !at_brace {
-            return Err(self.expected("the end of the statement (a new line, `;` or two blanks)"));
-        }
-        Ok(())
-    }
-}
-
-impl<'t> Parser<'t> {
-    // A statement that says where to go on. Says whether it was one.
-    fn control(&mut self, keyword: Keyword) -> Result<bool, ParseError> {
-        match keyword {
-            Keyword::If => self.if_statement()?,
-            Keyword::While => self.while_statement()?,
-            Keyword::Loop => self.loop_statement()?,
-            Keyword::Break | Keyword::Continue => self.leave_loop()?,
-            Keyword::Return => self.return_statement()?,
-            Keyword::Await => self.await_statement()?,
-            Keyword::Assert => self.assert_statement()?,
-            Keyword::Enter => self.enter_statement()?,
-            Keyword::Leave => self.leave_statement()?,
-            _ => return Ok(false),
-        }
+    // `cas` and the like, whose old value nobody wants. Says whether it was one.
+    fn update_statement(&mut self) -> Result<bool, Wrong> {
+        let Some(old) = self.update()? else {
+            return Ok(false);
+        };
+        self.draft.release(old);
+        self.end_statement()?;
         Ok(true)
     }
 
-    fn if_statement(&mut self) -> Result<(), ParseError> {
-        self.next();
-        let end = self.label()?;
-        self.open_if(end)
-    }
-
-    fn while_statement(&mut self) -> Result<(), ParseError> {
-        self.next();
-        let rounds = self.begin_loop()?;
-        let condition = self.expression()?;
-        self.jump_unless(condition, rounds.end)?;
-        self.open_loop(rounds)
-    }
-
-    fn loop_statement(&mut self) -> Result<(), ParseError> {
-        self.next();
-        let rounds = self.begin_loop()?;
-        self.open_loop(rounds)
-    }
-
-    fn begin_loop(&mut self) -> Result<Loop, ParseError> {
-        let rounds = Loop {
-            again: self.label()?,
-            place: self.draft.len(),
-            next: self.label()?,
-            end: self.label()?,
-        };
-        self.draft.place(rounds.again);
-        Ok(rounds)
-    }
-
-    fn open_loop(&mut self, rounds: Loop) -> Result<(), ParseError> {
-        self.open_brace()?;
-        self.end_statement()?;
-        self.open(Block::Loop(rounds))
-    }
-
-    // `break` or `continue`.
-    fn leave_loop(&mut self) -> Result<(), ParseError> {
-        let Some(rounds) = self.nearest_loop() else {
-            return Err(self.misplaced("this stands in no loop that it could leave"));
-        };
-        let leaves = self.is_keyword(Keyword::Break);
-        self.next();
-        self.end_statement()?;
-        self.jump(if leaves { rounds.end } else { rounds.next })
-    }
-
-    // The loop around, if nothing is between that is left at its end alone.
-    fn nearest_loop(&self) -> Option<Loop> {
-        for open in self.blocks.iter().rev() {
-            match open.block {
-                Block::Loop(rounds) => return Some(rounds),
-                Block::If { .. } | Block::Else { .. } => {}
-                _ => return None,
+    // The statement that begins with this word, which was read.
+    fn keyword_statement(&mut self, word: &str) -> Result<(), Wrong> {
+        match word {
+            "if" => {
+                let end = self.draft.label()?;
+                self.open_if(end)
             }
+            "while" | "loop" => self.open_loop(word),
+            "break" | "continue" => self.leave_loop(word),
+            "return" => self.return_statement(),
+            "await" | "assert" | "enter" | "leave" => {
+                let instruction = self.simple_statement(word)?;
+                self.emit_last(instruction)
+            }
+            "park" => self.park(),
+            "unpark_one" | "unpark_all" => self.unpark(word),
+            "filter" => self.filter(),
+            "requeue" => self.requeue(),
+            "unpark" | "skip" | "stop" => self.decide(word),
+            _ => Err(expected("a statement").at(self.cursor.last())),
         }
-        None
     }
 
-    fn return_statement(&mut self) -> Result<(), ParseError> {
-        for open in self.blocks.iter().rev() {
-            let end = match open.block {
-                Block::Thread { end } => end,
-                Block::Macro(expansion) => expansion.end,
-                block if block.is_run_by_lot() => break,
-                _ => continue,
-            };
-            self.next();
-            self.end_statement()?;
-            return self.jump(end);
-        }
-        Err(self.misplaced("a block that the lot runs cannot be left by `return`"))
+    /// Ends the statement with this instruction.
+    pub(super) fn emit_last(&mut self, instruction: Instruction) -> Result<(), Wrong> {
+        self.draft.emit(instruction)?;
+        self.end_statement()
     }
 
-    fn await_statement(&mut self) -> Result<(), ParseError> {
-        self.next();
+    fn simple_statement(&mut self, word: &str) -> Result<Instruction, Wrong> {
+        match word {
+            "await" => self.await_statement(),
+            "assert" => {
+                let operand = self.expression()?;
+                self.draft.release(operand);
+                Ok(Instruction::Assert { operand })
+            }
+            "enter" => {
+                let is_shared = self.cursor.take("shared");
+                let access = if is_shared {
+                    Access::Shared
+                } else {
+                    Access::Alone
+                };
+                Ok(Instruction::Enter { access })
+            }
+            _ => Ok(Instruction::Leave),
+        }
+    }
+
+    fn await_statement(&mut self) -> Result<Instruction, Wrong> {
         let Some(
             Validation::Seen {
                 word,
@@ -200,79 +133,98 @@ impl<'t> Parser<'t> {
             },
         ) = self.look_at_word()?
         else {
-            return Err(self.expected("one word, compared with a number or a local"));
+            return Err(expected("one word, compared with a number or a local"));
         };
-        self.release(operand);
-        self.emit(Instruction::Await {
+        self.draft.release(operand);
+        Ok(Instruction::Await {
             word,
             operation,
             operand,
-        })?;
-        self.end_statement()
+        })
     }
 
-    fn assert_statement(&mut self) -> Result<(), ParseError> {
-        self.next();
-        let operand = self.expression()?;
-        self.release(operand);
-        self.emit(Instruction::Assert { operand })?;
-        self.end_statement()
-    }
-
-    fn enter_statement(&mut self) -> Result<(), ParseError> {
-        self.next();
-        let access = if self.take(Keyword::Shared) {
-            Access::Shared
-        } else {
-            Access::Alone
+    // `while` or `loop`.
+    fn open_loop(&mut self, word: &str) -> Result<(), Wrong> {
+        let rounds = Loop {
+            again: self.draft.label()?,
+            place: self.draft.len(),
+            next: self.draft.label()?,
+            end: self.draft.label()?,
         };
-        self.emit(Instruction::Enter { access })?;
-        self.end_statement()
+        self.draft.place(rounds.again);
+        if word == "while" {
+            let condition = self.expression()?;
+            self.draft.jump_unless(condition, rounds.end)?;
+        }
+        self.cursor.open_brace()?;
+        self.open(Block::Loop(rounds))
     }
 
-    fn leave_statement(&mut self) -> Result<(), ParseError> {
-        self.next();
-        self.emit(Instruction::Leave)?;
-        self.end_statement()
+    // `break` or `continue`, in a loop with nothing between that is left at its end alone.
+    fn leave_loop(&mut self, word: &str) -> Result<(), Wrong> {
+        for open in self.blocks.iter().rev() {
+            match open.block {
+                Block::If { .. } | Block::Else { .. } => {}
+                Block::Loop(rounds) => {
+                    self.end_statement()?;
+                    return self.draft.jump(if word == "break" {
+                        rounds.end
+                    } else {
+                        rounds.next
+                    });
+                }
+                _ => break,
+            }
+        }
+        Err(
+            self.cursor
+                .misplaced("this stands in no loop that it could leave"),
+        )
+    }
+
+    fn return_statement(&mut self) -> Result<(), Wrong> {
+        for open in self.blocks.iter().rev() {
+            let end = match open.block {
+                Block::Thread { end } => end,
+                Block::Macro(expansion) => expansion.end,
+                block if block.is_run_by_lot() => break,
+                _ => continue,
+            };
+            self.end_statement()?;
+            return self.draft.jump(end);
+        }
+        Err(
+            self.cursor
+                .misplaced("a block that the lot runs cannot be left by `return`"),
+        )
     }
 }
 
 impl<'t> Parser<'t> {
-    // `cas` and the like, whose old value nobody wants. Says whether it was one.
-    fn update_statement(&mut self) -> Result<bool, ParseError> {
-        let Some(old) = self.update()? else {
-            return Ok(false);
-        };
-        self.release(old);
-        self.end_statement()?;
-        Ok(true)
-    }
-
-    // `cas` and the like: the old value, in a temporary.
-    fn update(&mut self) -> Result<Option<Operand>, ParseError> {
-        let Kind::Keyword(keyword) = self.peek().kind else {
-            return Ok(None);
-        };
-        match keyword {
-            Keyword::Cas => Ok(Some(self.compare_exchange()?)),
-            Keyword::Count => Ok(Some(self.count()?)),
-            Keyword::Swap => Ok(Some(self.update_by(Operation::Second)?)),
-            Keyword::Add => Ok(Some(self.update_by(Operation::Add)?)),
-            Keyword::Sub => Ok(Some(self.update_by(Operation::Subtract)?)),
-            Keyword::And => Ok(Some(self.update_by(Operation::And)?)),
-            Keyword::Or => Ok(Some(self.update_by(Operation::Or)?)),
-            Keyword::Xor => Ok(Some(self.update_by(Operation::Xor)?)),
-            _ => Ok(None),
+    // `cas` and the like, if one comes next: the old value, in a temporary.
+    fn update(&mut self) -> Result<Option<Operand>, Wrong> {
+        let text = self.cursor.peek().text;
+        if text == "cas" {
+            return Ok(Some(self.compare_exchange()?));
         }
+        if text == "count" {
+            return Ok(Some(self.count()?));
+        }
+        for (name, operation) in UPDATES {
+            if name == text {
+                return Ok(Some(self.update_by(operation)?));
+            }
+        }
+        Ok(None)
     }
 
-    fn update_by(&mut self, operation: Operation) -> Result<Operand, ParseError> {
-        self.next();
+    fn update_by(&mut self, operation: Operation) -> Result<Operand, Wrong> {
+        self.cursor.next();
         let word = self.word()?;
         let operand = self.expression()?;
-        self.release(operand);
-        let to = self.temporary()?;
-        self.emit(Instruction::Update {
+        self.draft.release(operand);
+        let to = self.draft.temporary()?;
+        self.draft.emit(Instruction::Update {
             to,
             word,
             operation,
@@ -281,15 +233,15 @@ impl<'t> Parser<'t> {
         Ok(Operand::Local(to))
     }
 
-    fn compare_exchange(&mut self) -> Result<Operand, ParseError> {
-        self.next();
+    fn compare_exchange(&mut self) -> Result<Operand, Wrong> {
+        self.cursor.next();
         let word = self.word()?;
         let expected = self.expression()?;
         let new = self.expression()?;
-        self.release(expected);
-        self.release(new);
-        let to = self.temporary()?;
-        self.emit(Instruction::CompareExchange {
+        self.draft.release(expected);
+        self.draft.release(new);
+        let to = self.draft.temporary()?;
+        self.draft.emit(Instruction::CompareExchange {
             to,
             word,
             expected,
@@ -299,178 +251,129 @@ impl<'t> Parser<'t> {
     }
 
     // How many wait on a key. It is counted in the section, or in one of its own.
-    fn count(&mut self) -> Result<Operand, ParseError> {
-        self.next();
-        let token = self.peek();
+    fn count(&mut self) -> Result<Operand, Wrong> {
+        self.cursor.next();
         let key = self.key()?;
-        let is_locked = match self
-            .blocks
-            .iter()
-            .rev()
-            .find(|open| open.block.is_in_section())
-        {
-            None => false,
-            Some(open) if self.is_locked_in(open.block, key) => true,
-            Some(_) => return Err(token.error(Problem::Misplaced {
-                rule: "the bucket of this key is not known to be locked here",
-            })),
+        let Some(locked) = self.section() else {
+            self.draft.lock(key, key)?;
+            let waiting = self.draft.waiting(key)?;
+            self.draft.emit(Instruction::Unlock)?;
+            return Ok(waiting);
         };
-        let to = self.temporary()?;
-        if is_locked {
-            self.emit(Instruction::Count { to, key })?;
-        } else {
-            self.lock(key, key)?;
-            self.emit(Instruction::Count { to, key })?;
-            self.emit(Instruction::Unlock)?;
-        }
-        Ok(Operand::Local(to))
-    }
-
-    // Whether the bucket of the key is locked in the block.
-    fn is_locked_in(&self, block: Block, key: Key) -> bool {
-        block.locked_keys().iter().any(|locked| match locked {
+        let is_locked = locked.iter().any(|locked| match locked {
             Some(locked) => self.bucket(*locked) == self.bucket(key),
             None => false,
-        })
-    }
-
-    pub(super) fn bucket(&self, key: Key) -> Key {
-        self.buckets[key.number]
-    }
-
-    fn assign_or_call(&mut self) -> Result<(), ParseError> {
-        let token = self.next();
-        if self.is_sign(Sign::OpenParenthesis) {
-            return self.call(token);
+        });
+        if !is_locked {
+            let rule = "the bucket of this key is not known to be locked here";
+            return Err(self.cursor.misplaced(rule));
         }
-        if !self.take_sign(Sign::Becomes) {
-            return Err(self.expected("`=` or `(`"));
-        }
-        let place = match self.lookup(token.text) {
-            Some(Meaning::Word(word)) => Place::Word(word),
-            Some(Meaning::Local(local)) => Place::Local(local),
-            None => Place::New(token),
-            Some(_) => return Err(token.expected(self.alloc, "a word or a local")),
-        };
-        let operand = match self.update()? {
-            Some(old) => old,
-            None => self.expression()?,
-        };
-        self.store(place, operand)?;
-        self.end_statement()
+        self.draft.waiting(key)
     }
 
-    fn store(&mut self, place: Place<'t>, operand: Operand) -> Result<(), ParseError> {
-        match place {
-            Place::Word(word) => {
-                self.release(operand);
-                self.emit(Instruction::Write { word, operand })
-            }
-            Place::Local(local) => self.set(local, operand),
-            Place::New(token) => {
-                let local = self.declare_here(token)?;
-                self.set(local, operand)
+    /// The keys whose buckets are known to be locked here, if buckets are locked.
+    pub(super) fn section(&self) -> Option<[Option<Key>; 2]> {
+        for open in self.blocks.iter() {
+            if let Some(locked) = open.block.section() {
+                return Some(locked);
             }
         }
+        None
     }
 }
 
 impl<'t> Parser<'t> {
-    // A macro, of which the name was read.
-    fn call(&mut self, name: Token<'t>) -> Result<(), ParseError> {
-        let Some(Meaning::Macro(index)) = self.lookup(name.text) else {
-            return Err(name.expected(self.alloc, "a macro"));
-        };
-        if self.is_expanding(index) {
-            return Err(name.error(Problem::Misplaced {
-                rule: "a macro cannot call itself",
-            }));
+    fn assign_or_call(&mut self) -> Result<(), Wrong> {
+        let token = self.cursor.at;
+        let name = self.cursor.next().text;
+        let meaning = self.names.lookup(name);
+        if self.cursor.is("(") {
+            return match meaning {
+                Some(Meaning::Macro(called)) => self.call(called, token),
+                _ => Err(expected("a macro").at(token)),
+            };
         }
-        let bindings = self.bindings.len();
-        self.arguments(index)?;
-        self.end_statement()?;
-        let end = self.label()?;
-        self.open(Block::Macro(Expansion {
-            index,
-            end,
-            back: self.at,
-            outer: self.scope,
-        }))?;
-        let Some(text) = self.macros.get(index).map(|procedure| procedure.body) else {
-            return Ok(());
+        self.cursor.expect("=", "`=` or `(`")?;
+        if let Some(Meaning::Number(_) | Meaning::Key(_) | Meaning::Macro(_)) = meaning {
+            return Err(expected("a word or a local").at(token));
+        }
+        let operand = match self.update()? {
+            Some(old) => old,
+            None => self.expression()?,
         };
-        self.scope = Scope { text, bindings };
-        self.at = text.from;
-        Ok(())
+        match meaning {
+            Some(Meaning::Word(word)) => {
+                self.draft.release(operand);
+                self.draft.emit(Instruction::Write { word, operand })?;
+            }
+            Some(Meaning::Local(local)) => self.draft.set(local, operand)?,
+            _ => {
+                let local = blamed_on(self.declare(name), token)?;
+                self.draft.set(local, operand)?;
+            }
+        }
+        self.end_statement()
     }
 
-    fn is_expanding(&self, index: usize) -> bool {
-        self.blocks.iter().any(|open| match open.block {
-            Block::Macro(expansion) => expansion.index == index,
+    // Goes on in the text of a macro, of which the name was read.
+    fn call(&mut self, called: Macro, token: usize) -> Result<(), Wrong> {
+        let is_called = |open: &Open| match open.block {
+            Block::Macro(expansion) => expansion.body == called.body.from,
             _ => false,
-        })
+        };
+        if self.blocks.iter().any(is_called) {
+            return Err(misplaced("a macro cannot call itself").at(token));
+        }
+        let first = self.names.bindings.len();
+        self.arguments(called)?;
+        let expansion = Expansion {
+            body: called.body.from,
+            end: self.draft.label()?,
+            back: self.cursor.at,
+            outer: self.names.scope,
+        };
+        self.open(Block::Macro(expansion))?;
+        self.names.scope = Scope {
+            text: called.body,
+            first,
+            own: self.names.bindings.len(),
+        };
+        self.cursor.at = called.body.from;
+        Ok(())
     }
 
     // Binds the parameters of a macro to the arguments, of which the parenthesis is next.
-    fn arguments(&mut self, index: usize) -> Result<(), ParseError> {
-        self.next();
-        let meanings = self.argument_meanings()?;
-        let wanted = self
-            .macros
-            .get(index)
-            .map_or(0, |procedure| procedure.parameters.len());
-        let given = meanings.len();
-        if given != wanted {
-            return Err(self.wrong(Problem::Arguments { wanted, given }));
-        }
-        for (place, meaning) in meanings.iter().enumerate() {
-            self.bind(index, place, *meaning)?;
-        }
-        Ok(())
-    }
-
-    fn argument_meanings(&mut self) -> Result<Vec<Meaning>, ParseError> {
+    fn arguments(&mut self, called: Macro) -> Result<(), Wrong> {
+        self.cursor.next();
         let mut meanings = Vec::new(self.alloc);
-        for _ in 0..self.tokens.len() {
-            if self.take_sign(Sign::CloseParenthesis) {
+        for count in 0..self.cursor.tokens.len() {
+            if !self.cursor.has_element(count)? {
                 break;
-            }
-            if !meanings.is_empty() {
-                self.sign(Sign::Comma, "`,` or `)`")?;
             }
             meanings.push(self.argument()?)?;
         }
-        Ok(meanings)
-    }
-
-    fn argument(&mut self) -> Result<Meaning, ParseError> {
-        const EXPECTED: &str = "a word, a key, a local or a number";
-        let token = self.peek();
-        let meaning = match token.byte()? {
-            Some(number) => Meaning::Number(number),
-            None => self.meaning(token, EXPECTED)?,
-        };
-        if let Meaning::Macro(_) = meaning {
-            return Err(self.expected(EXPECTED));
+        let (wanted, given) = (called.parameters, meanings.len());
+        if given != wanted {
+            return Err(Fault::Arguments { wanted, given }.here());
         }
-        self.next();
-        Ok(meaning)
+        let mut parameter = called.first;
+        for meaning in &meanings {
+            let name = self.cursor.token(parameter).text;
+            self.names.bind(name, *meaning)?;
+            // A comma is between two of them.
+            parameter = parameter.saturating_add(2);
+        }
+        Ok(())
     }
 
-    // Binds one parameter of a macro.
-    fn bind(&mut self, index: usize, place: usize, meaning: Meaning) -> Result<(), ParseError> {
-        let parameters = self
-            .macros
-            .get(index)
-            .map(|procedure| procedure.parameters.as_slice());
-        let Some(name) = parameters.and_then(|names| names.get(place)).copied() else {
-            return Ok(());
-        };
-        self.bindings.push(Binding {
-            name,
-            meaning,
-            origin: Origin::Given,
-        })?;
-        Ok(())
+    fn argument(&mut self) -> Result<Meaning, Wrong> {
+        const EXPECTED: &str = "a word, a key, a local or a number";
+        match self.number_or_meaning(EXPECTED)? {
+            Meaning::Macro(_) => Err(expected(EXPECTED)),
+            meaning => {
+                self.cursor.next();
+                Ok(meaning)
+            }
+        }
     }
 }

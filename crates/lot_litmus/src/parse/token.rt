@@ -1,42 +1,15 @@
 //! The words, numbers and signs of a text.
 
-use super::error::{ParseError, Problem};
-use super::keyword::Keyword;
+use super::error::{Fault, ParseError, Problem};
 use std::alloc::{AllocError, Global};
-
-/// A sign.
-#[derive(Clone, Copy, PartialEq, Eq)]
-pub(super) enum Sign {
-    OpenBrace,
-    CloseBrace,
-    OpenParenthesis,
-    CloseParenthesis,
-    Comma,
-    Times,
-    Becomes,
-    Plus,
-    Minus,
-    And,
-    Or,
-    Xor,
-    Equal,
-    Unequal,
-    Below,
-    AtMost,
-    Above,
-    AtLeast,
-    Not,
-    Both,
-    Either,
-}
 
 /// What a token is.
 #[derive(Clone, Copy, PartialEq, Eq)]
 pub(super) enum Kind {
     Name,
-    Keyword(Keyword),
+    Keyword,
     Number(usize),
-    Sign(Sign),
+    Sign,
     End,
 }
 
@@ -50,17 +23,29 @@ pub(super) enum Before {
     Break,
 }
 
+// The words that cannot be names.
+const KEYWORDS: &str = "test let word key beside macro thread forall never exists expect for in on \
+    if else while loop break continue return await assert enter shared leave count cas swap add sub \
+    and or xor park validate timeout before_sleep unpark_one unpark_all filter unpark skip stop \
+    requeue callback";
+
+// The signs. One that begins with another stands before it.
+const SIGNS: [&str; 21] = [
+    "==", "!=", "<=", ">=", "&&", "||", "{", "}", "(", ")", ",", "*", "=", "+", "-", "&", "|", "^",
+    "<", ">", "!",
+];
+
 /// A word, number or sign of the text, or its end.
 #[derive(Clone, Copy)]
 pub(super) struct Token<'t> {
     pub(super) kind: Kind,
+    pub(super) text: &'t str,
     pub(super) before: Before,
-    pub(super) text: &'t [u8],
     pub(super) line: usize,
     pub(super) column: usize,
 
-    /// Its whole line.
-    pub(super) whole: &'t [u8],
+    // Its whole line.
+    whole: &'t str,
 }
 
 impl<'t> Token<'t> {
@@ -68,80 +53,60 @@ impl<'t> Token<'t> {
     pub(super) fn end(line: usize) -> Token<'t> {
         Token {
             kind: Kind::End,
+            text: "",
             before: Before::Break,
-            text: b"",
             line,
             column: 1,
-            whole: b"",
+            whole: "",
         }
-    }
-
-    /// The byte that the token is, if it is a number.
-    pub(super) fn byte(&self) -> Result<Option<u8>, ParseError> {
-        let Kind::Number(number) = self.kind else {
-            return Ok(None);
-        };
-        match u8::try_from(number) {
-            Ok(byte) => Ok(Some(byte)),
-            Err(_) => Err(self.error(Problem::NotAByte)),
-        }
-    }
-
-    /// The error that something is wrong here.
-    pub(super) fn error(&self, problem: Problem) -> ParseError {
-        ParseError::At {
-            line: self.line,
-            column: self.column,
-            problem,
-        }
-    }
-
-    /// The same, but what is wrong is wrong here.
-    pub(super) fn blamed_for<T: Drop>(
-        &self,
-        found: Result<T, ParseError>,
-    ) -> Result<T, ParseError> {
-        match found {
-            Err(ParseError::At { problem, .. }) => Err(self.error(problem)),
-            other => other,
-        }
-    }
-
-    /// The error that something else was expected here.
-    pub(super) fn expected(&self, alloc: Global, expected: &'static str) -> ParseError {
-        match self.quoted(alloc) {
-            Ok(found) => self.error(Problem::Expected { expected, found }),
-            Err(_) => ParseError::NoMemory,
-        }
-    }
-
-    pub(super) fn name(&self, alloc: Global) -> Result<String, AllocError> {
-        String::from_str(alloc, text_of(self.text))
-    }
-
-    // As a message shows it.
-    fn quoted(&self, alloc: Global) -> Result<String, AllocError> {
-        if self.kind == Kind::End {
-            return String::from_str(alloc, "the end of the text");
-        }
-        let text = text_of(self.text);
-        format!(in alloc; "\"{text}\"")
     }
 
     /// What its line says from this column to its own end.
     pub(super) fn since(&self, column: usize) -> &'t str {
         let from = column.saturating_sub(1);
-        let to = self
-            .column
-            .saturating_sub(1)
-            .saturating_add(self.text.len());
-        text_of(self.whole.get(from..to).unwrap_or(self.text))
+        let to = self.column.saturating_add(self.text.len());
+        self.whole
+            .get(from..to.saturating_sub(1))
+            .unwrap_or(self.text)
     }
-}
 
-/// The bytes as text. Words, numbers and signs always are.
-pub(super) fn text_of(bytes: &[u8]) -> &str {
-    str::from_utf8(bytes).unwrap_or("?")
+    /// The error that this is wrong here.
+    pub(super) fn error(&self, alloc: Global, fault: Fault) -> ParseError {
+        match self.problem(alloc, fault) {
+            Ok(problem) => ParseError::At {
+                line: self.line,
+                column: self.column,
+                problem,
+            },
+            Err(_) => ParseError::NoMemory,
+        }
+    }
+
+    fn problem(&self, alloc: Global, fault: Fault) -> Result<Problem, AllocError> {
+        let name = String::from_str(alloc, self.text)?;
+        let found = self.quoted(alloc)?;
+        Ok(match fault {
+            Fault::Expected(expected) => Problem::Expected { expected, found },
+            Fault::Unknown => Problem::Unknown { name },
+            Fault::Taken => Problem::Taken { name },
+            Fault::Character => Problem::Character { character: found },
+            Fault::NotAByte => Problem::NotAByte,
+            Fault::TooMany(most, what) => Problem::TooMany { most, what },
+            Fault::Unclosed => Problem::Unclosed,
+            Fault::Arguments { wanted, given } => Problem::Arguments { wanted, given },
+            Fault::Misplaced(rule) => Problem::Misplaced { rule },
+            Fault::NoMemory => return Err(AllocError),
+        })
+    }
+
+    // As a message shows it.
+    fn quoted(&self, alloc: Global) -> Result<String, AllocError> {
+        let text = self.text;
+        match self.kind {
+            Kind::End => String::from_str(alloc, "the end of the text"),
+            _ => format!(in alloc; "\"{text}\""),
+        }
+    }
 }
 
 /// All tokens of the text, and its end.
@@ -149,18 +114,13 @@ pub(super) fn tokens_of(alloc: Global, text: &str) -> Result<Vec<Token<'_>>, Par
     let mut tokens = Vec::new(alloc);
     let mut last = 1;
     for (line, whole) in (1..usize::MAX).zip(text.lines()) {
-        add_line(alloc, &mut tokens, line, without_comment(whole.as_bytes()))?;
+        let comment = whole.bytes().position(|byte| byte == b'#');
+        let end = comment.unwrap_or(whole.len());
+        add_line(alloc, &mut tokens, line, whole.get(..end).unwrap_or(whole))?;
         last = line;
     }
     tokens.push(Token::end(last))?;
     Ok(tokens)
-}
-
-fn without_comment(line: &[u8]) -> &[u8] {
-    match line.iter().position(|byte| *byte == b'#') {
-        Some(end) => line.get(..end).unwrap_or(line),
-        None => line,
-    }
 }
 
 // Adds the tokens of a line.
@@ -168,138 +128,87 @@ fn add_line<'t>(
     alloc: Global,
     tokens: &mut Vec<Token<'t>>,
     line: usize,
-    whole: &'t [u8],
+    whole: &'t str,
 ) -> Result<(), ParseError> {
+    let mut token = Token {
+        kind: Kind::Sign,
+        whole,
+        ..Token::end(line)
+    };
     let mut rest = whole;
-    let mut before = Before::Break;
     for _ in 0..whole.len() {
-        let blanks = blanks_of(rest);
-        if is_break(rest.get(..blanks).unwrap_or_default()) {
-            before = Before::Break;
+        let blanks = blanks_of(rest.as_bytes());
+        if blanks.len() > 1 || blanks.contains(&b';') {
+            token.before = Before::Break;
         }
-        rest = rest.get(blanks..).unwrap_or_default();
+        rest = rest.get(blanks.len()..).unwrap_or_default();
         if rest.is_empty() {
             break;
         }
-        let column = whole.len().saturating_sub(rest.len()) + 1;
-        let mut token = Token {
-            before,
-            column,
-            line,
-            whole,
-            ..Token::end(line)
+        token.column = whole.len().saturating_sub(rest.len()).saturating_add(1);
+        let (found, length) = first_of(rest);
+        token.text = rest.get(..length).unwrap_or(rest);
+        token.kind = match found {
+            Ok(kind) => kind,
+            Err(fault) => return Err(token.error(alloc, fault)),
         };
-        let length = token.read(alloc, rest)?;
         rest = rest.get(length..).unwrap_or_default();
         tokens.push(token)?;
-        before = Before::Near;
+        token.before = Before::Near;
     }
     Ok(())
 }
 
-// How many blanks and semicolons the line begins with.
-fn blanks_of(line: &[u8]) -> usize {
-    line.iter()
-        .position(|byte| !matches!(byte, b' ' | b'\t' | b'\r' | b';'))
-        .unwrap_or(line.len())
+// The blanks and semicolons that the line begins with.
+fn blanks_of(line: &[u8]) -> &[u8] {
+    let is_other = |byte: &u8| !matches!(byte, b' ' | b'\t' | b'\r' | b';');
+    let length = line.iter().position(is_other);
+    line.get(..length.unwrap_or(line.len())).unwrap_or(line)
 }
 
-fn is_break(blanks: &[u8]) -> bool {
-    blanks.len() > 1 || blanks.contains(&b';')
-}
-
-impl<'t> Token<'t> {
-    // Becomes what the line begins with, and says how long that is.
-    fn read(&mut self, alloc: Global, line: &'t [u8]) -> Result<usize, ParseError> {
-        let (kind, length) = match line.first() {
-            Some(b'0'..=b'9') => self.read_number(line)?,
-            Some(b'a'..=b'z' | b'A'..=b'Z' | b'_') => read_name(line),
-            _ => self.read_sign(alloc, line)?,
-        };
-        self.kind = kind;
-        self.text = line.get(..length).unwrap_or(line);
-        Ok(length)
+// What the text begins with, and how long that is.
+fn first_of(text: &str) -> (Result<Kind, Fault>, usize) {
+    let line = text.as_bytes();
+    if let Some(b'0'..=b'9') = line.first() {
+        let length = line.iter().position(|byte| !byte.is_ascii_digit());
+        let length = length.unwrap_or(line.len());
+        return (number_of(text.get(..length).unwrap_or(text)), length);
     }
+    let length = line.iter().position(|byte| !is_of_name(*byte));
+    match length.unwrap_or(line.len()) {
+        0 => sign_of(text),
+        length => (Ok(word_of(text.get(..length).unwrap_or(text))), length),
+    }
+}
 
-    fn read_number(&self, line: &[u8]) -> Result<(Kind, usize), ParseError> {
-        let length = digits_length(line);
-        let digits = line.get(..length).unwrap_or(line);
-        match text_of(digits).parse::<usize>() {
-            Ok(number) => Ok((Kind::Number(number), length)),
-            Err(_) => Err(self.error(Problem::NotAByte)),
+fn is_of_name(byte: u8) -> bool {
+    byte.is_ascii_alphanumeric() || byte == b'_'
+}
+
+fn number_of(digits: &str) -> Result<Kind, Fault> {
+    match digits.parse::<usize>() {
+        Ok(number) => Ok(Kind::Number(number)),
+        Err(_) => Err(Fault::NotAByte),
+    }
+}
+
+fn word_of(word: &str) -> Kind {
+    if KEYWORDS.split(' ').any(|keyword| keyword == word) {
+        Kind::Keyword
+    } else {
+        Kind::Name
+    }
+}
+
+fn sign_of(text: &str) -> (Result<Kind, Fault>, usize) {
+    for sign in SIGNS {
+        if text.as_bytes().starts_with(sign.as_bytes()) {
+            return (Ok(Kind::Sign), sign.len());
         }
     }
-
-    fn read_sign(&self, alloc: Global, line: &[u8]) -> Result<(Kind, usize), ParseError> {
-        if let Some(sign) = double_sign(line) {
-            return Ok((Kind::Sign(sign), 2));
-        }
-        if let Some(sign) = single_sign(line) {
-            return Ok((Kind::Sign(sign), 1));
-        }
-        let character = first_character(alloc, line)?;
-        Err(self.error(Problem::Character { character }))
-    }
-}
-
-fn read_name(line: &[u8]) -> (Kind, usize) {
-    let length = name_length(line);
-    match Keyword::of(line.get(..length).unwrap_or(line)) {
-        Some(keyword) => (Kind::Keyword(keyword), length),
-        None => (Kind::Name, length),
-    }
-}
-
-// How many letters, digits and low lines the line begins with.
-fn name_length(line: &[u8]) -> usize {
-    line.iter()
-        .position(|byte| !matches!(byte, b'a'..=b'z' | b'A'..=b'Z' | b'0'..=b'9' | b'_'))
-        .unwrap_or(line.len())
-}
-
-fn digits_length(line: &[u8]) -> usize {
-    line.iter()
-        .position(|byte| !matches!(byte, b'0'..=b'9'))
-        .unwrap_or(line.len())
-}
-
-// The first character of the line, quoted.
-fn first_character(alloc: Global, line: &[u8]) -> Result<String, AllocError> {
-    match text_of(line).chars().next() {
-        Some(character) => format!(in alloc; "\"{character}\""),
-        None => String::from_str(alloc, "nothing"),
-    }
-}
-
-fn double_sign(line: &[u8]) -> Option<Sign> {
-    match line {
-        [b'=', b'=', ..] => Some(Sign::Equal),
-        [b'!', b'=', ..] => Some(Sign::Unequal),
-        [b'<', b'=', ..] => Some(Sign::AtMost),
-        [b'>', b'=', ..] => Some(Sign::AtLeast),
-        [b'&', b'&', ..] => Some(Sign::Both),
-        [b'|', b'|', ..] => Some(Sign::Either),
-        _ => None,
-    }
-}
-
-fn single_sign(line: &[u8]) -> Option<Sign> {
-    match line.first()? {
-        b'{' => Some(Sign::OpenBrace),
-        b'}' => Some(Sign::CloseBrace),
-        b'(' => Some(Sign::OpenParenthesis),
-        b')' => Some(Sign::CloseParenthesis),
-        b',' => Some(Sign::Comma),
-        b'*' => Some(Sign::Times),
-        b'=' => Some(Sign::Becomes),
-        b'+' => Some(Sign::Plus),
-        b'-' => Some(Sign::Minus),
-        b'&' => Some(Sign::And),
-        b'|' => Some(Sign::Or),
-        b'^' => Some(Sign::Xor),
-        b'<' => Some(Sign::Below),
-        b'>' => Some(Sign::Above),
-        b'!' => Some(Sign::Not),
-        _ => None,
-    }
+    let length = text
+        .char_indices()
+        .nth(1)
+        .map_or(text.len(), |(length, _)| length);
+    (Err(Fault::Character), length)
 }

@@ -1,32 +1,23 @@
 //! What stands outside of threads.
 
-ghost use Rattle.std.specs.Prelude.{◌<◌};
-
-use super::block::Block;
-use super::draft::{Draft, FinishError, Finished};
-use super::error::{ParseError, Problem};
-use super::keyword::Keyword;
-use super::names::{Binding, Locals, Meaning, Origin, is_known};
-use super::parsed::{Expectation, Looker, NamedNumber, Sizes, Sleeper, ThreadText, Verdict};
-use super::parser::{Macro, Parser, Scope, Text, Thread};
-use super::token::{Kind, Sign, Token, text_of};
-use crate::code::{Instruction, KEYS, Key, LOCALS, Operand, Operation, THREADS, WORDS, Word};
+use super::cursor::Span;
+use super::draft::{Draft, Finished, too_long};
+use super::error::{Fault, Wrong, expected, too_many};
+use super::locals::Locals;
+use super::names::{Macro, Meaning, is_known};
+use super::parsed::{
+    Expectation, Looker, NamedNumber, Parsed, Sizes, Sleeper, ThreadText, Verdict,
+};
+use super::parser::Parser;
+use super::token::Kind;
+use crate::code::{Instruction, KEYS, Key, Operand, Operation, THREADS, WORDS, Word};
 use std::mem;
 
 // How many threads a test can have, beside the one that looks at the ends.
 const WORKERS: usize = THREADS - 1;
 
-// With the bucket of the key with this number.
-fn with_bucket(buckets: [Key; KEYS], number: usize, bucket: Key) -> [Key; KEYS]
-    requires { number < 4 }
-{
-    let mut next = buckets;
-    next[number] = bucket;
-    next
-}
-
 // What is said of the ends.
-#[derive(Clone, Copy)]
+#[derive(Clone, Copy, PartialEq, Eq)]
 enum Claim {
     // At each of them this holds.
     Forall,
@@ -35,340 +26,250 @@ enum Claim {
     Never,
 }
 
-impl<'t> Parser<'t> {
+/// A text that is read, and what it says.
+#[derive(Drop)]
+pub(super) struct Reader<'t> {
+    pub(super) parser: Parser<'t>,
+
+    /// The numbers that stand for others.
+    pub(super) numbers: &'t [(&'t str, u8)],
+
+    /// The code of the thread that looks at the ends.
+    pub(super) ends: Draft<'t>,
+    pub(super) parsed: Parsed,
+}
+
+impl<'t> Reader<'t> {
     /// Reads the text up to its end.
-    pub(super) fn text(&mut self) -> Result<(), ParseError> {
-        if !self.take(Keyword::Test) {
-            return Err(self.expected("`test NAME`"));
+    pub(super) fn read(&mut self) -> Result<(), Wrong> {
+        self.parser.cursor.expect("test", "`test NAME`")?;
+        let name = self.parser.cursor.peek();
+        if !matches!(name.kind, Kind::Name | Kind::Keyword) {
+            return Err(expected("a name of the test"));
         }
-        let name = self.next();
-        if !matches!(name.kind, Kind::Name | Kind::Keyword(_)) {
-            return Err(name.expected(self.alloc, "a name of the test"));
-        }
-        self.name = name.name(self.alloc)?;
-        for _ in 0..u32::MAX {
-            if !self.blocks.is_empty() {
-                self.statement()?;
-            } else if self.peek().kind == Kind::End {
-                return Ok(());
-            } else {
-                self.declaration()?;
+        self.parser.cursor.next();
+        self.parsed.name = self.string(name.text)?;
+        for _ in 0..self.parser.cursor.tokens.len() {
+            if self.parser.cursor.peek().kind == Kind::End {
+                break;
             }
+            self.declaration()?;
         }
-        Err(self.too_long())
+        self.add_last_threads()
     }
 
-    fn declaration(&mut self) -> Result<(), ParseError> {
-        self.expect_break()?;
-        match self.peek().kind {
-            Kind::Keyword(Keyword::Let) => self.let_number(),
-            Kind::Keyword(Keyword::Word) => self.declare_word(),
-            Kind::Keyword(Keyword::Key) => self.declare_key(),
-            Kind::Keyword(Keyword::Macro) => self.declare_macro(),
-            Kind::Keyword(Keyword::Thread) => self.declare_thread(),
-            Kind::Keyword(Keyword::Forall) => self.claim(Claim::Forall),
-            Kind::Keyword(Keyword::Never) => self.claim(Claim::Never),
-            Kind::Keyword(Keyword::Exists) => self.look_for(),
-            Kind::Keyword(Keyword::Expect) => self.expect(),
-            _ => Err(self.expected(
+    fn string(&self, text: &str) -> Result<String, Wrong> {
+        Ok(String::from_str(self.parser.alloc, text)?)
+    }
+
+    fn declaration(&mut self) -> Result<(), Wrong> {
+        self.parser.cursor.expect_break()?;
+        match self.parser.cursor.peek().text {
+            "let" => self.let_number(),
+            "word" => self.declare_word(),
+            "key" => self.declare_key(),
+            "macro" => self.parser.declare_macro(),
+            "thread" => self.declare_thread(),
+            "forall" => self.claim(Claim::Forall),
+            "never" => self.claim(Claim::Never),
+            "exists" => self.look_for(),
+            "expect" => self.expect(),
+            _ => Err(expected(
                 "`let`, `word`, `key`, `macro`, `thread`, `forall`, `never`, `exists` or `expect`",
             )),
         }
     }
+}
 
-    fn any_name(&mut self, expected: &'static str) -> Result<Token<'t>, ParseError> {
-        let token = self.peek();
+impl<'t> Parser<'t> {
+    fn any_name(&mut self, what: &'static str) -> Result<&'t str, Wrong> {
+        let token = self.cursor.peek();
         match token.kind {
-            Kind::Name if !is_known(token.text) => Ok(self.next()),
-            Kind::Name | Kind::Keyword(_) => Err(self.taken(token)),
-            _ => Err(self.expected(expected)),
+            Kind::Name if !is_known(token.text) => Ok(self.cursor.next().text),
+            Kind::Name | Kind::Keyword => Err(Fault::Taken.here()),
+            _ => Err(expected(what)),
         }
     }
 
-    // A name that is declared here.
-    fn new_name(&mut self, expected: &'static str) -> Result<Token<'t>, ParseError> {
-        let token = self.any_name(expected)?;
-        if self.lookup(token.text).is_some() {
-            return Err(self.taken(token));
+    // The name that is declared behind the next token.
+    fn new_name(&mut self, what: &'static str) -> Result<&'t str, Wrong> {
+        self.cursor.next();
+        let name = self.any_name(what)?;
+        if self.names.lookup(name).is_some() {
+            return Err(Fault::Taken.here().at(self.cursor.last()));
         }
-        Ok(token)
+        Ok(name)
     }
 
-    fn taken(&self, token: Token<'t>) -> ParseError {
-        match token.name(self.alloc) {
-            Ok(name) => token.error(Problem::Taken { name }),
-            Err(_) => ParseError::NoMemory,
+    fn declare_macro(&mut self) -> Result<(), Wrong> {
+        let name = self.new_name("a name of the macro")?;
+        self.cursor.expect("(", "`(`")?;
+        let first = self.cursor.at;
+        let parameters = self.parameters()?;
+        let body = self.cursor.skip_block()?;
+        let meaning = Meaning::Macro(Macro {
+            first,
+            parameters,
+            body,
+        });
+        self.names.bind(name, meaning)
+    }
+
+    // Reads the parameters of a macro. Returns how many they are.
+    fn parameters(&mut self) -> Result<usize, Wrong> {
+        let from = self.cursor.at;
+        for count in 0..self.cursor.tokens.len() {
+            if !self.cursor.has_element(count)? {
+                return Ok(count);
+            }
+            let to = self.cursor.at;
+            let name = self.any_name("a name of a parameter")?;
+            if self.cursor.has(Span { from, to }, name) {
+                return Err(Fault::Taken.here().at(to));
+            }
         }
+        Ok(0)
     }
+}
 
-    fn declare_name(&mut self, name: Token<'t>, meaning: Meaning) -> Result<(), ParseError> {
-        self.declared.push(Binding {
-            name: name.text,
-            meaning,
-            origin: Origin::Declared,
-        })?;
-        Ok(())
-    }
-
-    fn let_number(&mut self) -> Result<(), ParseError> {
-        self.next();
-        let name = self.new_name("a name of the number")?;
-        self.sign(Sign::Becomes, "`=`")?;
-        let number = self.constant()?;
-        let replaced = self.replaced(name.text).unwrap_or(number);
-        let text = name.name(self.alloc)?;
-        self.named_numbers.push(NamedNumber {
-            name: text,
-            number: replaced,
-        })?;
-        self.declare_name(name, Meaning::Number(replaced))
+impl<'t> Reader<'t> {
+    fn let_number(&mut self) -> Result<(), Wrong> {
+        let name = self.parser.new_name("a name of the number")?;
+        self.parser.cursor.expect("=", "`=`")?;
+        let number = self.parser.constant()?;
+        let number = self.replaced(name).unwrap_or(number);
+        let text = self.string(name)?;
+        self.parsed
+            .numbers
+            .push(NamedNumber { name: text, number })?;
+        self.parser.names.bind(name, Meaning::Number(number))
     }
 
     // The number that the caller has in the place of the one with this name.
-    fn replaced(&self, name: &[u8]) -> Option<u8> {
+    fn replaced(&self, name: &str) -> Option<u8> {
         for (known, number) in self.numbers.iter() {
-            if known.as_bytes() == name {
+            if *known == name {
                 return Some(*number);
             }
         }
         None
     }
 
-    fn declare_word(&mut self) -> Result<(), ParseError> {
-        self.next();
-        let name = self.new_name("a name of the word")?;
-        let number = self.words.len();
+    fn declare_word(&mut self) -> Result<(), Wrong> {
+        let name = self.parser.new_name("a name of the word")?;
+        let number = self.parsed.words.len();
         if number >= WORDS {
-            return Err(name.error(Problem::TooMany {
-                most: WORDS,
-                what: "words",
-            }));
+            return Err(too_many(WORDS, "words").at(self.parser.cursor.last()));
         }
-        self.sign(Sign::Becomes, "`=`")?;
-        self.first[number] = self.constant()?;
-        let text = name.name(self.alloc)?;
-        self.words.push(text)?;
-        self.declare_name(name, Meaning::Word(Word { number }))
+        self.parser.cursor.expect("=", "`=`")?;
+        self.parsed.test.words[number] = self.parser.constant()?;
+        let text = self.string(name)?;
+        self.parsed.words.push(text)?;
+        self.parser.names.bind(name, Meaning::Word(Word { number }))
     }
 
-    fn declare_key(&mut self) -> Result<(), ParseError> {
-        self.next();
-        let name = self.new_name("a name of the key")?;
-        let number = self.keys.len();
+    fn declare_key(&mut self) -> Result<(), Wrong> {
+        let name = self.parser.new_name("a name of the key")?;
+        let number = self.parsed.keys.len();
         if number >= KEYS {
-            return Err(name.error(Problem::TooMany {
-                most: KEYS,
-                what: "keys",
-            }));
+            return Err(too_many(KEYS, "keys").at(self.parser.cursor.last()));
         }
-        let bucket = self.bucket_of_new(Key { number })?;
-        self.buckets = with_bucket(self.buckets, number, bucket);
-        let text = name.name(self.alloc)?;
-        self.keys.push(text)?;
-        self.declare_name(name, Meaning::Key(Key { number }))
-    }
-
-    // The bucket of a key that is declared: that of the key beside which it is, or its own.
-    fn bucket_of_new(&mut self, key: Key) -> Result<Key, ParseError> {
-        if !self.take(Keyword::Beside) {
-            return Ok(key);
+        if self.parser.cursor.take("beside") {
+            let other = self.parser.key()?;
+            let bucket = self.parser.bucket(other);
+            if let Some(own) = self.parser.buckets.get_mut(number) {
+                *own = bucket;
+            }
         }
-        let other = self.key()?;
-        Ok(self.bucket(other))
+        let text = self.string(name)?;
+        self.parsed.keys.push(text)?;
+        self.parser.names.bind(name, Meaning::Key(Key { number }))
     }
 
-    fn declare_macro(&mut self) -> Result<(), ParseError> {
-        self.next();
-        let name = self.new_name("a name of the macro")?;
-        self.sign(Sign::OpenParenthesis, "`(`")?;
-        let parameters = self.parameters()?;
-        let body = self.braced()?;
-        self.at = body.to.saturating_add(1);
-        let index = self.macros.len();
-        self.macros.push(Macro { parameters, body })?;
-        self.declare_name(name, Meaning::Macro(index))
-    }
-
-    fn parameters(&mut self) -> Result<Vec<&'t [u8]>, ParseError> {
-        let mut parameters: Vec<&'t [u8]> = Vec::new(self.alloc);
-        for _ in 0..self.tokens.len() {
-            if self.take_sign(Sign::CloseParenthesis) {
-                break;
-            }
-            if !parameters.is_empty() {
-                self.sign(Sign::Comma, "`,` or `)`")?;
-            }
-            let name = self.any_name("a name of a parameter")?;
-            if parameters.contains(&name.text) {
-                return Err(self.taken(name));
-            }
-            parameters.push(name.text)?;
-        }
-        Ok(parameters)
-    }
-
-    // The text between braces, of which the first is next.
-    fn braced(&mut self) -> Result<Text, ParseError> {
-        self.open_brace()?;
-        let to = self.closing_brace()?;
-        Ok(Text { from: self.at, to })
-    }
-}
-
-impl<'t> Parser<'t> {
-    fn declare_thread(&mut self) -> Result<(), ParseError> {
-        self.next();
-        let name = self.new_name("a name of the thread")?;
-        let copies = if self.take_sign(Sign::Times) {
-            self.constant()?
+    fn declare_thread(&mut self) -> Result<(), Wrong> {
+        let name = self.parser.new_name("a name of the thread")?;
+        let token = self.parser.cursor.last();
+        let copies = if self.parser.cursor.take("*") {
+            self.parser.constant()?
         } else {
             1
         };
-        let text = self.braced()?;
-        if self.threads.len().saturating_add(copies as usize) > WORKERS {
-            return Err(name.error(Problem::TooMany {
-                most: WORKERS,
-                what: "threads",
-            }));
+        let text = self.parser.cursor.skip_block()?;
+        if self.parsed.threads.len().saturating_add(copies as usize) > WORKERS {
+            return Err(too_many(WORKERS, "threads").at(token));
         }
-        if copies == 0 {
-            self.at = text.to.saturating_add(1);
-            return Ok(());
+        for copy in 0..copies {
+            self.parser.begin_thread(text, copy)?;
+            self.parser.read_thread()?;
+            self.add_thread(name, copy, copies)?;
+            self.parser.names.end_thread();
         }
-        self.begin_thread(Thread {
-            name: name.text,
-            text,
-            copy: 0,
-            copies,
-        })
-    }
-
-    fn begin_thread(&mut self, thread: Thread<'t>) -> Result<(), ParseError> {
-        self.thread = Some(thread);
-        self.draft = Draft::new(self.alloc);
-        self.locals = Locals::new();
-        self.bindings.clear();
-        self.scope = Scope {
-            text: thread.text,
-            bindings: 0,
-        };
-        self.at = thread.text.from;
-        let end = self.label()?;
-        self.open(Block::Thread { end })
-    }
-
-    pub(super) fn close_thread(&mut self, end: super::draft::Label) -> Result<(), ParseError> {
-        self.draft.place(end);
-        let Some(thread) = self.thread else {
-            return Ok(());
-        };
-        let draft = mem::replace(&mut self.draft, Draft::new(self.alloc));
-        let finished = self.finished(&draft)?;
-        let name = String::from_str(self.alloc, text_of(thread.name))?;
-        self.add_thread(finished, name, thread.copy, thread.copies)?;
-        let copy = thread.copy.saturating_add(1);
-        self.bindings.clear();
-        if copy < thread.copies {
-            return self.begin_thread(Thread { copy, ..thread });
-        }
-        self.thread = None;
         Ok(())
     }
 
-    pub(super) fn finished(&self, draft: &Draft) -> Result<Finished, ParseError> {
-        match draft.finish(self.alloc) {
-            Ok(finished) => Ok(finished),
-            Err(FinishError::TooLong) => Err(self.too_long()),
-            Err(FinishError::NoMemory) => Err(ParseError::NoMemory),
+    // Adds a thread that does what was written.
+    fn add_thread(&mut self, name: &str, copy: u8, copies: u8) -> Result<(), Wrong> {
+        let Finished { code, statements } = self.parser.draft.finish(self.parser.alloc)?;
+        if let Some(place) = self.parsed.test.codes.get_mut(self.parsed.threads.len()) {
+            *place = code;
         }
-    }
-
-    pub(super) fn add_thread(
-        &mut self,
-        finished: Finished,
-        name: String,
-        copy: u8,
-        copies: u8,
-    ) -> Result<(), ParseError> {
-        let Finished { code, statements } = finished;
-        let locals = self.local_names()?;
-        self.codes.push(code)?;
-        self.threads.push(ThreadText {
-            name,
+        let thread = ThreadText {
+            name: self.string(name)?,
             copy,
             copies,
             statements,
-            locals,
-        })?;
+            locals: self.local_names()?,
+        };
+        self.parsed.threads.push(thread)?;
         Ok(())
     }
 
-    fn local_names(&self) -> Result<Vec<String>, ParseError> {
-        let mut names = Vec::new(self.alloc);
-        for number in 0..LOCALS {
-            names.push(String::from_str(self.alloc, text_of(self.locals.name(number)))?)?;
+    fn local_names(&self) -> Result<Vec<String>, Wrong> {
+        let mut names = Vec::new(self.parser.alloc);
+        for name in self.parser.draft.locals.names() {
+            names.push(self.string(name)?)?;
         }
         Ok(names)
     }
+
+    // The threads that do nothing, and the one that looks at the ends.
+    fn add_last_threads(&mut self) -> Result<(), Wrong> {
+        self.parser.draft = Draft::new(self.parser.alloc);
+        for _ in self.parsed.threads.len()..WORKERS {
+            self.add_thread("", 0, 1)?;
+        }
+        mem::swap(&mut self.parser.draft, &mut self.ends);
+        self.parser.draft.locals = Locals::new();
+        self.add_thread("the end", 0, 1)
+    }
 }
 
-impl<'t> Parser<'t> {
-    // Instructions outside of threads have no locals but temporaries.
-    fn begin_claim(&mut self) -> Result<(), ParseError> {
-        self.locals = Locals::new();
-        self.begin_statement()?;
-        self.next();
-        if self.draft.len() == 0 {
-            self.emit(Instruction::AwaitOthers)?;
-        }
+impl<'t> Reader<'t> {
+    fn claim(&mut self, claim: Claim) -> Result<(), Wrong> {
+        mem::swap(&mut self.parser.draft, &mut self.ends);
+        self.parser.assert_at_ends(claim)?;
+        mem::swap(&mut self.parser.draft, &mut self.ends);
         Ok(())
     }
 
-    fn claim(&mut self, claim: Claim) -> Result<(), ParseError> {
-        mem::swap(&mut self.draft, &mut self.ends);
-        self.begin_claim()?;
-        let operand = self.expression()?;
-        match claim {
-            Claim::Forall => self.assert_that(operand)?,
-            Claim::Never => self.assert_not(operand)?,
-        }
-        self.end_statement()?;
-        mem::swap(&mut self.draft, &mut self.ends);
+    fn look_for(&mut self) -> Result<(), Wrong> {
+        self.parser.draft = Draft::new(self.parser.alloc);
+        self.parser.assert_at_ends(Claim::Never)?;
+        let code = self.parser.draft.finish(self.parser.alloc)?.code;
+        let statement = self.parser.draft.statement;
+        self.parsed.lookers.push(Looker { code, statement })?;
         Ok(())
     }
 
-    fn assert_that(&mut self, operand: Operand) -> Result<(), ParseError> {
-        self.release(operand);
-        self.emit(Instruction::Assert { operand })
-    }
-
-    fn assert_not(&mut self, operand: Operand) -> Result<(), ParseError> {
-        let not = self.compute(Operation::Equal, operand, Operand::Constant(0))?;
-        self.assert_that(not)
-    }
-
-    fn look_for(&mut self) -> Result<(), ParseError> {
-        self.draft = Draft::new(self.alloc);
-        self.begin_claim()?;
-        let operand = self.expression()?;
-        self.assert_not(operand)?;
-        self.end_statement()?;
-        let draft = mem::replace(&mut self.draft, Draft::new(self.alloc));
-        let Finished { code, .. } = self.finished(&draft)?;
-        let statement = self.statement;
-        self.lookers.push(Looker { code, statement })?;
-        Ok(())
-    }
-
-    fn expect(&mut self) -> Result<(), ParseError> {
-        let line = self.next().line;
+    fn expect(&mut self) -> Result<(), Wrong> {
+        let line = self.parser.cursor.next().line;
         let verdict = self.verdict()?;
-        let sizes = if self.take(Keyword::For) {
+        let sizes = if self.parser.cursor.take("for") {
             Some(self.sizes()?)
         } else {
             None
         };
-        self.expectations.push(Expectation {
+        self.parsed.expectations.push(Expectation {
             line,
             verdict,
             sizes,
@@ -376,70 +277,93 @@ impl<'t> Parser<'t> {
         Ok(())
     }
 
-    fn verdict(&mut self) -> Result<Verdict, ParseError> {
-        if self.take_word(b"safe") {
+    fn verdict(&mut self) -> Result<Verdict, Wrong> {
+        if self.parser.cursor.take("safe") {
             return Ok(Verdict::Safe);
         }
-        if self.take_word(b"fails") {
-            return Ok(Verdict::Fails(self.line_number()?));
+        if self.parser.cursor.take("fails") {
+            return Ok(Verdict::Fails(self.parser.cursor.take_number()));
         }
-        if self.take_word(b"stuck") {
+        if self.parser.cursor.take("stuck") {
             return Ok(Verdict::Stuck(self.sleeper()?));
         }
-        Err(self.expected("`safe`, `stuck` or `fails`"))
+        Err(expected("`safe`, `stuck` or `fails`"))
     }
 
-    fn line_number(&mut self) -> Result<Option<usize>, ParseError> {
-        match self.peek().kind {
-            Kind::Number(line) => {
-                self.next();
-                Ok(Some(line))
-            }
-            _ => Ok(None),
-        }
-    }
-
-    fn sleeper(&mut self) -> Result<Option<Sleeper>, ParseError> {
-        let token = self.peek();
-        if token.kind != Kind::Name || !self.is_near() || self.is_keyword(Keyword::For) {
+    fn sleeper(&mut self) -> Result<Option<Sleeper>, Wrong> {
+        let name = self.parser.cursor.peek();
+        if name.kind != Kind::Name || !self.parser.cursor.is_near() {
             return Ok(None);
         }
-        let thread = token.name(self.alloc)?;
-        if !self
-            .threads
-            .iter()
-            .any(|known| known.name.as_str() == thread.as_str())
-        {
-            return Err(self.unknown(token));
+        let is_named = |thread: &ThreadText| thread.name.as_str() == name.text;
+        if !self.parsed.threads.iter().any(is_named) {
+            return Err(Fault::Unknown.here());
         }
-        self.next();
-        if !self.take(Keyword::On) {
-            return Err(self.expected("`on`"));
-        }
-        let key = self.key()?;
+        self.parser.cursor.next();
+        self.parser.cursor.expect("on", "`on`")?;
+        let key = self.parser.key()?;
+        let thread = self.string(name.text)?;
         Ok(Some(Sleeper { thread, key }))
     }
 
-    fn sizes(&mut self) -> Result<Sizes, ParseError> {
-        let token = self.any_name("a number by name")?;
-        let Meaning::Number(_) = self.meaning(token, "a number by name")? else {
-            return Err(token.expected(self.alloc, "a number by name"));
-        };
-        let name = token.name(self.alloc)?;
-        if !self.take(Keyword::In) {
-            return Err(self.expected("`in`"));
-        }
-        let mut values = Vec::new(self.alloc);
-        for _ in 0..self.tokens.len() {
-            let Some(value) = self.peek().byte()? else {
+    fn sizes(&mut self) -> Result<Sizes, Wrong> {
+        let name = self.parser.number_name()?;
+        self.parser.cursor.expect("in", "`in`")?;
+        let mut values = Vec::new(self.parser.alloc);
+        for _ in 0..self.parser.cursor.tokens.len() {
+            let Some(value) = self.parser.cursor.byte()? else {
                 break;
             };
-            self.next();
+            self.parser.cursor.next();
             values.push(value)?;
         }
         if values.is_empty() {
-            return Err(self.expected("a number"));
+            return Err(expected("a number"));
         }
+        let name = self.string(name)?;
         Ok(Sizes { name, values })
+    }
+}
+
+impl<'t> Parser<'t> {
+    // Reads the statements of a thread.
+    fn read_thread(&mut self) -> Result<(), Wrong> {
+        for _ in 0..u32::MAX {
+            if self.blocks.is_empty() {
+                return Ok(());
+            }
+            self.statement()?;
+        }
+        Err(too_long())
+    }
+
+    // Reads the name of a number.
+    fn number_name(&mut self) -> Result<&'t str, Wrong> {
+        const EXPECTED: &str = "a number by name";
+        let token = self.cursor.at;
+        let name = self.any_name(EXPECTED)?;
+        match self.names.lookup(name) {
+            Some(Meaning::Number(_)) => Ok(name),
+            Some(_) => Err(expected(EXPECTED).at(token)),
+            None => Err(Fault::Unknown.here().at(token)),
+        }
+    }
+
+    // Reads what is said of the ends. Instructions outside of threads have no locals but
+    // temporaries.
+    fn assert_at_ends(&mut self, claim: Claim) -> Result<(), Wrong> {
+        self.draft.locals = Locals::new();
+        self.begin_statement()?;
+        self.cursor.next();
+        if self.draft.len() == 0 {
+            self.draft.emit(Instruction::AwaitOthers)?;
+        }
+        let mut operand = self.expression()?;
+        if claim == Claim::Never {
+            let zero = Operand::Constant(0);
+            operand = self.draft.compute(Operation::Equal, operand, zero)?;
+        }
+        self.draft.release(operand);
+        self.emit_last(Instruction::Assert { operand })
     }
 }
