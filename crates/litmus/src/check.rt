@@ -8,14 +8,16 @@ use crate::scene::Scene;
 use crate::style::{Style, Times};
 use crate::summary::{push_case, push_expected, push_summary};
 use crate::text::text_of;
+use crate::ticker::Ticker;
 use crate::trial::{Outcome, Trial, try_text};
 use lot_litmus::parse::{ParseError, parse};
+use lot_litmus::watch::Watcher;
 use std::alloc::{AllocError, Global};
 use std::rt::Files;
 use std::time::{Clock, Instant};
 
 /// Checks the files, and tells a line for each search.
-pub fn check<R: Files + Print + Clock + AllocGlobal>(
+pub fn check<R: Files + Print + Eprint + Clock + AllocGlobal>(
     rt: &R,
     request: &Request,
     style: Style,
@@ -27,7 +29,7 @@ pub fn check<R: Files + Print + Clock + AllocGlobal>(
     Ok(grade)
 }
 
-fn check_file<R: Files + Print + Clock + AllocGlobal>(
+fn check_file<R: Files + Print + Eprint + Clock + AllocGlobal>(
     rt: &R,
     request: &Request,
     style: Style,
@@ -79,9 +81,12 @@ struct Search<'a> {
     case: &'a Case,
 }
 
-fn check_case<R: Print + Clock + AllocGlobal>(rt: &R, search: Search<'_>) -> anyhow::Result<Grade> {
+fn check_case<R: Print + Eprint + Clock + AllocGlobal>(
+    rt: &R,
+    search: Search<'_>,
+) -> anyhow::Result<Grade> {
     let start = Instant::now(rt)?;
-    let (grade, mut report) = search.report(rt.alloc())?;
+    let (grade, mut report) = search.report(rt.alloc(), &mut Ticker::new(rt))?;
     if search.request.times == Times::Told {
         let millis = start.elapsed(rt)?.as_millis();
         write!(report.line, ", {millis} ms")?;
@@ -99,14 +104,19 @@ struct Report {
 }
 
 impl Search<'_> {
-    fn report(&self, alloc: Global) -> Result<(Grade, Report), AllocError> {
+    fn report<W: Watcher>(
+        &self,
+        alloc: Global,
+        watcher: &mut W,
+    ) -> Result<(Grade, Report), AllocError> {
         let pairs = self.case.pairs(alloc)?;
         let mut report = Report {
             line: String::new(alloc),
             picture: String::new(alloc),
         };
         push_case(&mut report.line, self.file, pairs.as_slice())?;
-        match try_text(alloc, self.text, pairs.as_slice(), self.request.most) {
+        let effort = self.request.effort;
+        match try_text(alloc, self.text, pairs.as_slice(), effort, watcher) {
             Ok(trial) => Ok((self.judge(alloc, &trial, &mut report)?, report)),
             Err(error) => {
                 write!(report.line, "{error}")?;
@@ -122,7 +132,7 @@ impl Search<'_> {
         trial: &Trial,
         report: &mut Report,
     ) -> Result<Grade, AllocError> {
-        push_summary(&mut report.line, trial, self.request.most)?;
+        push_summary(&mut report.line, trial, self.request.effort.most)?;
         let expectation = match self.case.expectation {
             Some(index) => trial.parsed.expectations.get(index),
             None => None,

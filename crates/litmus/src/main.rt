@@ -26,6 +26,7 @@ mod sizes;
 mod style;
 mod summary;
 mod text;
+mod ticker;
 mod trial;
 mod walk;
 

@@ -4,7 +4,7 @@ use crate::check::check;
 use crate::files::files_of;
 use crate::grade::Grade;
 use crate::real;
-use crate::request::{Command, Request};
+use crate::request::{Command, Misuse, Request};
 use crate::show::show;
 use crate::sizes::sizes;
 use crate::style::Style;
@@ -20,25 +20,28 @@ usage: litmus check FILE.. [NAME=NUMBER ..]
        litmus show | script | answers FILE [NAME=NUMBER ..]
        litmus sizes FILE.. [NAME=NUMBER ..]
        litmus run FILE ROUNDS [NAME=NUMBER ..]
-options: --plain, --times, --states NUMBER";
+options: --plain, --times, --reduced, --states NUMBER";
 
 const UNUSABLE: u8 = 2;
 
 // How wide a picture is where the terminal does not say.
 const WIDTH: usize = 100;
 
-/// Does what the arguments ask for. Any other words are answered by how the program is called, on
-/// the error output, and the status 2.
+/// Does what the arguments ask for. Where they ask for nothing, the error output says why, and how
+/// the program is called, and the status is 2.
 pub fn run<R>(rt: &R) -> ExitCode
 where
     R: Env + Files + Print + Eprint + Threads + Wait + Clock + AllocGlobal + Copy + Send + 'static,
 {
-    match run_request(rt) {
-        Ok(Some(grade)) => ExitCode::from(grade.status()),
-        Ok(None) => {
-            let _ = eprintln!(rt; "{USAGE}");
-            ExitCode::from(UNUSABLE)
+    let request = match requested(rt) {
+        Ok(request) => request,
+        Err(misuse) => {
+            let _ = eprintln!(rt; "litmus: {misuse}\n{USAGE}");
+            return ExitCode::from(UNUSABLE);
         }
+    };
+    match run_request(rt, request) {
+        Ok(grade) => ExitCode::from(grade.status()),
         Err(error) => {
             let _ = eprintln!(rt; "litmus: {error}");
             ExitCode::from(UNUSABLE)
@@ -46,17 +49,21 @@ where
     }
 }
 
-fn run_request<R>(rt: &R) -> anyhow::Result<Option<Grade>>
-where
-    R: Env + Files + Print + Threads + Wait + Clock + AllocGlobal + Copy + Send + 'static,
-{
+fn requested<R: Env + AllocGlobal>(rt: &R) -> Result<Request, Misuse> {
+    let Ok(arguments) = env::args(rt) else {
+        return Err(Misuse::NoMemory);
+    };
     let mut words = Vec::new(rt.alloc());
-    for word in env::args(rt)?.skip(1) {
+    for word in arguments.skip(1) {
         words.push(word)?;
     }
-    let Some(mut request) = Request::of(rt.alloc(), words)? else {
-        return Ok(None);
-    };
+    Request::of(rt.alloc(), words)
+}
+
+fn run_request<R>(rt: &R, mut request: Request) -> anyhow::Result<Grade>
+where
+    R: Env + Files + Print + Eprint + Threads + Wait + Clock + AllocGlobal + Copy + Send + 'static,
+{
     if request.command.takes_several() {
         request.files = files_of(rt, request.files.as_slice())?;
     }
@@ -64,13 +71,12 @@ where
         look: request.look,
         width: width(rt),
     };
-    let grade = match request.command {
-        Command::Check => check(rt, &request, style)?,
-        Command::Show | Command::Script | Command::Answers => show(rt, &request, style)?,
-        Command::Sizes => sizes(rt, &request)?,
-        Command::Run => real::run(rt, &request)?,
-    };
-    Ok(Some(grade))
+    match request.command {
+        Command::Check => check(rt, &request, style),
+        Command::Show | Command::Script | Command::Answers => show(rt, &request, style),
+        Command::Sizes => sizes(rt, &request),
+        Command::Run => real::run(rt, &request),
+    }
 }
 
 fn width<R: Env + AllocGlobal>(rt: &R) -> usize {

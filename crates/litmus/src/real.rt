@@ -45,7 +45,7 @@ where
             return Ok(Grade::Unusable);
         }
     };
-    match run_test(rt, rt.alloc(), parsed, rounds, request.most) {
+    match run_test(rt, rt.alloc(), parsed, rounds, request.effort.most) {
         Ok(grade) => Ok(grade),
         Err(error) => {
             println!(rt; "{file}: {error}")?;

@@ -1,8 +1,10 @@
 //! What the words of the command line ask for.
 
 use crate::style::{Look, Times};
+use crate::trial::{Effort, Mode};
 use lot_litmus::parse::NamedNumber;
-use std::alloc::{AllocError, Global};
+use std::alloc::{AllocError, AllocFailed, Global};
+use std::fmt;
 
 // A search looks at no more states than so many, unless it is told another number.
 const MOST_STATES: usize = 2_000_000;
@@ -51,6 +53,56 @@ impl Command {
     }
 }
 
+/// Why the words ask for nothing.
+#[derive(Debug, Drop)]
+pub enum Misuse {
+    NoCommand,
+    NoFile,
+
+    /// The command takes one file alone.
+    Files,
+    NoRounds,
+
+    /// `--states` is the last word.
+    NoStates,
+
+    /// This word is no command, or no option.
+    Command(String),
+    Option(String),
+
+    /// This word has no number where one is to be.
+    Number(String),
+    NoMemory,
+}
+
+impl fmt::Display for Misuse {
+    fn fmt<W: fmt::Write>(&self, f: &mut fmt::Formatter<W>) -> fmt::Result {
+        match self {
+            Misuse::NoCommand => write!(f, "the first word is to be a command"),
+            Misuse::NoFile => write!(f, "no file is named"),
+            Misuse::Files => write!(f, "this command takes one file"),
+            Misuse::NoRounds => write!(f, "how many rounds are to be run?"),
+            Misuse::NoStates => write!(f, "a number is to stand behind --states"),
+            Misuse::Command(word) => write!(f, "\"{word}\" is no command"),
+            Misuse::Option(word) => write!(f, "\"{word}\" is no option"),
+            Misuse::Number(word) => write!(f, "there is no such number: \"{word}\""),
+            Misuse::NoMemory => write!(f, "no memory"),
+        }
+    }
+}
+
+impl From<AllocError> for Misuse {
+    fn from(_error: AllocError) -> Misuse {
+        Misuse::NoMemory
+    }
+}
+
+impl<T: Drop> From<AllocFailed<T>> for Misuse {
+    fn from(_error: AllocFailed<T>) -> Misuse {
+        Misuse::NoMemory
+    }
+}
+
 /// What the words ask for.
 #[derive(Drop)]
 pub struct Request {
@@ -65,8 +117,8 @@ pub struct Request {
     /// How often a file is run.
     pub rounds: Option<u64>,
 
-    /// How many states a search looks at, at most.
-    pub most: usize,
+    /// How the files are searched.
+    pub effort: Effort,
     pub look: Look,
     pub times: Times,
 }
@@ -79,24 +131,28 @@ enum Next {
 }
 
 impl Request {
-    /// What the words ask for, if they ask for something.
-    pub fn of(alloc: Global, words: Vec<String>) -> Result<Option<Request>, AllocError> {
+    /// What the words ask for.
+    ///
+    /// # Errors
+    ///
+    /// Why they ask for nothing, or that there is no memory.
+    pub fn of(alloc: Global, words: Vec<String>) -> Result<Request, Misuse> {
         let mut words = words.into_iter();
         let Some(word) = words.next() else {
-            return Ok(None);
+            return Err(Misuse::NoCommand);
         };
         let Some(command) = Command::of(word.as_str()) else {
-            return Ok(None);
+            return Err(Misuse::Command(word));
         };
         let mut request = Request::new(alloc, command);
         let mut next = Next::Any;
         for word in words {
-            next = match request.take(alloc, word, next)? {
-                Some(next) => next,
-                None => return Ok(None),
-            };
+            next = request.take(word, next)?;
         }
-        Ok(request.if_whole(next))
+        match request.want(next) {
+            Some(misuse) => Err(misuse),
+            None => Ok(request),
+        }
     }
 
     fn new(alloc: Global, command: Command) -> Request {
@@ -105,40 +161,52 @@ impl Request {
             files: Vec::new(alloc),
             numbers: Vec::new(alloc),
             rounds: None,
-            most: MOST_STATES,
+            effort: Effort {
+                mode: Mode::Proved,
+                most: MOST_STATES,
+            },
             look: Look::Terminal,
             times: Times::Untold,
         }
     }
 
-    // Takes a word, and says what the next one is to be. `None` says that the word does not fit.
-    fn take(
-        &mut self,
-        alloc: Global,
-        word: String,
-        next: Next,
-    ) -> Result<Option<Next>, AllocError> {
+    // Takes a word, and says what the next one is to be.
+    fn take(&mut self, word: String, next: Next) -> Result<Next, Misuse> {
         if next == Next::States {
-            return Ok(self.take_states(word.as_str()));
+            return self.take_states(word);
         }
         match word.as_str() {
             "--plain" => self.look = Look::Plain,
             "--times" => self.times = Times::Told,
-            "--states" => return Ok(Some(Next::States)),
-            text if text.starts_with('-') => return Ok(None),
-            text => match number_of(alloc, text)? {
-                Argument::File if self.lacks_rounds() => return Ok(self.take_rounds(text)),
-                Argument::File => self.files.push(word)?,
-                Argument::Number(number) => self.numbers.push(number)?,
-                Argument::Unfit => return Ok(None),
-            },
+            "--reduced" => self.effort.mode = Mode::Reduced,
+            "--states" => return Ok(Next::States),
+            text if text.starts_with('-') => return Err(Misuse::Option(word)),
+            text if text.contains('=') => self.take_number(word)?,
+            _ if self.lacks_rounds() => self.take_rounds(word)?,
+            _ => self.files.push(word)?,
         }
-        Ok(Some(Next::Any))
+        Ok(Next::Any)
     }
 
-    fn take_states(&mut self, word: &str) -> Option<Next> {
-        self.most = word.parse::<usize>().ok()?;
-        Some(Next::Any)
+    fn take_states(&mut self, word: String) -> Result<Next, Misuse> {
+        let Ok(most) = word.as_str().parse::<usize>() else {
+            return Err(Misuse::Number(word));
+        };
+        self.effort.most = most;
+        Ok(Next::Any)
+    }
+
+    // A number by name has a sign of equality.
+    fn take_number(&mut self, word: String) -> Result<(), Misuse> {
+        let Some((name, number)) = word.as_str().split_once('=') else {
+            return Err(Misuse::Number(word));
+        };
+        let Ok(number) = number.parse::<u8>() else {
+            return Err(Misuse::Number(word));
+        };
+        let name = String::from_str(*word.allocator(), name)?;
+        self.numbers.push(NamedNumber { name, number })?;
+        Ok(())
     }
 
     // Whether the next word that is no number by name is to be how often the file is run.
@@ -146,44 +214,26 @@ impl Request {
         self.command == Command::Run && self.rounds.is_none() && !self.files.is_empty()
     }
 
-    fn take_rounds(&mut self, word: &str) -> Option<Next> {
-        self.rounds = Some(word.parse::<u64>().ok()?);
-        Some(Next::Any)
+    fn take_rounds(&mut self, word: String) -> Result<(), Misuse> {
+        let Ok(rounds) = word.as_str().parse::<u64>() else {
+            return Err(Misuse::Number(word));
+        };
+        self.rounds = Some(rounds);
+        Ok(())
     }
 
-    // The request, if it is whole.
-    fn if_whole(self, next: Next) -> Option<Request> {
-        let has_files = if self.command.takes_several() {
-            !self.files.is_empty()
-        } else {
-            self.files.len() == 1
-        };
-        if has_files && !self.lacks_rounds() && next == Next::Any {
-            Some(self)
+    // What is still wanted once the words are read, if anything is.
+    fn want(&self, next: Next) -> Option<Misuse> {
+        if next == Next::States {
+            Some(Misuse::NoStates)
+        } else if self.files.is_empty() {
+            Some(Misuse::NoFile)
+        } else if self.files.len() > 1 && !self.command.takes_several() {
+            Some(Misuse::Files)
+        } else if self.lacks_rounds() {
+            Some(Misuse::NoRounds)
         } else {
             None
         }
-    }
-}
-
-// What a word without a dash in front is.
-#[derive(Drop)]
-enum Argument {
-    File,
-    Number(NamedNumber),
-    Unfit,
-}
-
-// A number by name has a sign of equality.
-fn number_of(alloc: Global, word: &str) -> Result<Argument, AllocError> {
-    let Some((name, number)) = word.split_once('=') else {
-        return Ok(Argument::File);
-    };
-    match number.parse::<u8>() {
-        Ok(number) => Ok(Argument::Number(NamedNumber {
-            name: String::from_str(alloc, name)?,
-            number,
-        })),
-        Err(_) => Ok(Argument::Unfit),
     }
 }

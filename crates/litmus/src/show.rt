@@ -11,13 +11,16 @@ use crate::script::Script;
 use crate::style::Style;
 use crate::summary::{push_case, push_summary};
 use crate::text::text_of;
+use crate::ticker::Ticker;
 use crate::trial::{Outcome, Trial, try_text};
 use lot_litmus::parse::ParseError;
+use lot_litmus::watch::Watcher;
 use std::alloc::{AllocError, Global};
 use std::rt::Files;
+use std::time::Clock;
 
 /// Searches the file, and shows what came in the way that is asked for.
-pub fn show<R: Files + Print + AllocGlobal>(
+pub fn show<R: Files + Print + Eprint + Clock + AllocGlobal>(
     rt: &R,
     request: &Request,
     style: Style,
@@ -28,7 +31,7 @@ pub fn show<R: Files + Print + AllocGlobal>(
     let Some(text) = text_of(rt, file.as_str())? else {
         return Ok(Grade::Unusable);
     };
-    match tried_first(rt.alloc(), request, text.as_str()) {
+    match tried_first(rt.alloc(), request, text.as_str(), &mut Ticker::new(rt)) {
         Ok(tried) => {
             let page = page_of(rt.alloc(), (request, file.as_str()), &tried, style)?;
             rt.print(page.as_str())?;
@@ -49,10 +52,15 @@ struct Attempt {
 }
 
 // The first search for an expectation of the text that finds something wrong, or else the last one.
-fn tried_first(alloc: Global, request: &Request, text: &str) -> Result<Attempt, ParseError> {
+fn tried_first<W: Watcher>(
+    alloc: Global,
+    request: &Request,
+    text: &str,
+    watcher: &mut W,
+) -> Result<Attempt, ParseError> {
     let mut last = None;
     for case in cases(alloc, request, text)? {
-        let tried = try_case(alloc, request, text, case)?;
+        let tried = try_case(alloc, request, text, case, watcher)?;
         if let Outcome::Wrong(_) = &tried.trial.outcome {
             return Ok(tried);
         }
@@ -60,18 +68,19 @@ fn tried_first(alloc: Global, request: &Request, text: &str) -> Result<Attempt, 
     }
     match last {
         Some(tried) => Ok(tried),
-        None => try_case(alloc, request, text, plain_case(alloc, request)?),
+        None => try_case(alloc, request, text, plain_case(alloc, request)?, watcher),
     }
 }
 
-fn try_case(
+fn try_case<W: Watcher>(
     alloc: Global,
     request: &Request,
     text: &str,
     case: Case,
+    watcher: &mut W,
 ) -> Result<Attempt, ParseError> {
     let pairs = case.pairs(alloc)?;
-    let trial = try_text(alloc, text, pairs.as_slice(), request.most)?;
+    let trial = try_text(alloc, text, pairs.as_slice(), request.effort, watcher)?;
     drop(pairs);
     Ok(Attempt { case, trial })
 }
@@ -108,7 +117,7 @@ fn page_of(
     let mut line = String::new(alloc);
     let pairs = tried.case.pairs(alloc)?;
     push_case(&mut line, file, pairs.as_slice())?;
-    push_summary(&mut line, trial, request.most)?;
+    push_summary(&mut line, trial, request.effort.most)?;
     writeln!(line, "")?;
     line.push_str(page.as_str())?;
     Ok(line)

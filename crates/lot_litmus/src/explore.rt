@@ -10,7 +10,11 @@ use crate::code::Thread;
 use crate::ends::first_unmarked;
 use crate::search::{Search, is_at};
 use crate::test::{Fault, Test};
+use crate::watch::{Nobody, Watcher};
 use std::alloc::{AllocError, Global};
+
+// A watcher is told each time that so many states have been looked at.
+const WATCHED: usize = 16_384;
 
 /// What a search found.
 #[derive(Drop)]
@@ -40,10 +44,29 @@ pub enum Found {
 pub fn explore(alloc: Global, test: &Test, most: usize) -> Result<Found, AllocError>
     ensures { IfOk result (λ found. Holds test.now found) }
 {
+    explore_watched(alloc, test, most, &mut Nobody)
+}
+
+/// Looks at the same states, and tells the watcher now and then how far it has come.
+///
+/// # Errors
+///
+/// `AllocError` if memory cannot be had.
+pub fn explore_watched<W: Watcher>(
+    alloc: Global,
+    test: &Test,
+    most: usize,
+    watcher: &mut W,
+) -> Result<Found, AllocError>
+    ensures { IfOk result (λ found. Holds test.now found) }
+{
     let mut search = Search::new(alloc, test)?;
     for index in 0..most {
         if search.leads().len() >= search.states().len() {
             return judge(alloc, test, &search);
+        }
+        if index % WATCHED == WATCHED - 1 {
+            watcher.watch(search.states().len(), search.depth(index));
         }
         if let Some(thread) = search.look(test)? {
             let mut schedule = search.schedule(alloc, index)?;

@@ -28,3 +28,4 @@ pub mod seen;
 pub mod state;
 pub mod step;
 pub mod test;
+pub mod watch;

@@ -233,6 +233,22 @@ impl Search {
     }
 }
 
+impl Search {
+    /// How many steps lead to the state with this index from the first.
+    pub fn depth(&self, index: usize) -> usize {
+        let mut depth = 0usize;
+        let mut at = index;
+        for _ in 0..self.origins.len() {
+            match self.origins.get(at) {
+                Some(origin) if at != 0 => at = origin.from,
+                _ => break,
+            }
+            depth = depth.saturating_add(1);
+        }
+        depth
+    }
+}
+
 /// Whether the state is at this index of the list.
 pub fn is_at(states: &[Reached], index: usize, state: &State) -> bool
     ensures { IsTrue result → IsAt states.now index state.now }

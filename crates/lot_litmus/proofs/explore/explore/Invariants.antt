@@ -1,5 +1,0 @@
-use Rattle.lot_litmus.specs.Search.{IsSearch}
-use Rattle.lot_litmus.proofs.explore.explore.Given as goal
-
-abbrev pub invariant-loop-index : goal.invariant-loop-index
-invariant-loop-index l = IsSearch l.test l.search
