@@ -1,5 +1,5 @@
-//! Searches of a mutex of one byte, as instructions and as a text: 0 is free, 1 locked, and 3
-//! locked while others may wait. Whoever lets it go writes 0, and unparks if it was 3.
+//! Searches of a mutex of one byte, as instructions: 0 is free, 1 locked, and 3 locked while others
+//! may wait. Whoever lets it go writes 0, and unparks if it was 3.
 
 mod text;
 
@@ -8,7 +8,6 @@ use lot_litmus::code::{
     Access, Code, Instruction, Key, Local, Operand, Operation, Timing, Validation, Word,
 };
 use lot_litmus::explore::{Found, explore};
-use lot_litmus::parse::parse;
 use lot_litmus::test::Test;
 use std::alloc::{AllocError, Global};
 
@@ -160,45 +159,4 @@ fn who_unparks_all_waiters_forgets_nobody(rt: HostRuntime) {
     let two = found(rt.alloc(), 2, ALL).unwrap_or((0, 0));
     let three = found(rt.alloc(), 3, ALL).unwrap_or((0, 0));
     expect(&rt, two.0 > 0 && three.0 > two.0, "both are safe");
-}
-
-// The same mutex as a text. Its unlock wakes one, and whoever is woken does not mark the mutex.
-const TEXT: &str = "test mutex
-let N = 3
-word state = 0
-key lock
-thread locker * N {
-    loop {
-        was = cas state 0 1
-        if was == 0 { break }
-        if was == 1 { cas state 1 3 }
-        park lock if state == 3
-    }
-    enter
-    leave
-    was = cas state 1 0
-    if was != 1 { state = 0  unpark_one lock }
-}
-forall state == 0
-";
-
-// Whether the text with so many lockers is safe, or somebody sleeps for ever.
-fn text_found(alloc: Global, lockers: u8) -> Option<(bool, bool)> {
-    let parsed = parse(alloc, TEXT, &[("N", lockers)]).ok()?;
-    let found = explore(alloc, &parsed.test, MOST).ok()?;
-    Some((
-        matches!(found, Found::Safe { .. }),
-        matches!(found, Found::Stuck { .. }),
-    ))
-}
-
-#[test]
-fn a_text_is_searched_as_it_says(rt: HostRuntime) {
-    let (two, three) = (text_found(rt.alloc(), 2), text_found(rt.alloc(), 3));
-    expect(&rt, two == Some((true, false)), "two lockers are safe");
-    expect(
-        &rt,
-        three == Some((false, true)),
-        "of three one sleeps for ever",
-    );
 }

@@ -1,10 +1,11 @@
-//! What texts of protocols say, and what is wrong with others.
+//! What texts of protocols come to, as instructions. What they say of a search, and what is wrong
+//! with others, is shown by the stored run of the program `litmus`.
 
 use lot_litmus::code::{
     Access, Instruction, Key, Local, Moves, Operand, Operation, Timing, Validation, Word,
 };
-use lot_litmus::parse::{ParseError, Parsed, Verdict, parse};
-use std::alloc::{AllocError, Global};
+use lot_litmus::parse::{ParseError, Parsed, parse};
+use std::alloc::Global;
 use std::test::Fail;
 
 const MUTEX: &str = "test mutex
@@ -24,8 +25,6 @@ thread locker * N {
     if was != 1 { state = 0  unpark_one lock }
 }
 forall state == 0
-expect safe for N in 2
-expect stuck locker on lock for N in 3 4
 ";
 
 const STATE: Word = Word { number: 0 };
@@ -184,55 +183,6 @@ fn looks_at_the_ends(rt: HostRuntime) -> Result<(), Fail> {
 }
 
 #[test]
-fn keeps_lines(rt: HostRuntime) -> Result<(), Fail> {
-    let parsed = parsed(rt.alloc(), MUTEX)?;
-    let thread = parsed.threads.first().ok_or("no thread")?;
-    let park = thread.statements.get(12).copied().ok_or("no park")?;
-    let statement = parsed.statements.get(park).ok_or("no statement")?;
-    assert_eq!(rt; statement.line, 10);
-    assert_eq!(rt; statement.text.as_str(), "park lock if state == 3");
-    assert_eq!(rt; thread.locals.get(1).ok_or("no local")?.as_str(), "was");
-    assert_eq!(rt; thread.name.as_str(), "locker");
-    Ok(())
-}
-
-#[test]
-fn replaces_numbers(rt: HostRuntime) -> Result<(), Fail> {
-    let parsed = parse(rt.alloc(), MUTEX, &[("N", 5)])?;
-    let fifth = parsed.threads.get(4).ok_or("no thread")?;
-    assert_eq!(rt; fifth.copy, 4);
-    assert_eq!(rt; fifth.copies, 5);
-    let many = parse(rt.alloc(), MUTEX, &[("N", 6)]).err().ok_or("six")?;
-    assert_eq!(rt;
-        many.to_string(rt.alloc())?.as_str(),
-        "line 5, column 8: more than 5 threads"
-    );
-    let unknown = parse(rt.alloc(), MUTEX, &[("M", 1)])
-        .err()
-        .ok_or("unknown")?;
-    assert_eq!(rt;
-        unknown.to_string(rt.alloc())?.as_str(),
-        "no `let` names \"M\""
-    );
-    Ok(())
-}
-
-#[test]
-fn keeps_expectations(rt: HostRuntime) -> Result<(), Fail> {
-    let parsed = parsed(rt.alloc(), MUTEX)?;
-    assert_eq!(rt; parsed.expectations.len(), 2);
-    let expectation = parsed.expectations.get(1).ok_or("none")?;
-    let sizes = expectation.sizes.as_ref().ok_or("no sizes")?;
-    assert!(rt; sizes.values.as_slice() == [3, 4].as_slice());
-    let Verdict::Stuck(Some(sleeper)) = &expectation.verdict else {
-        return Err(Fail::from("not stuck"));
-    };
-    assert_eq!(rt; sleeper.thread.as_str(), "locker");
-    assert!(rt; sleeper.key == LOCK);
-    Ok(())
-}
-
-#[test]
 fn expands_macros(rt: HostRuntime) -> Result<(), Fail> {
     let text = "test t\nword w = 0\nkey k\nmacro TAKE(word_of, new, got) {
     got = cas word_of 0 new
@@ -356,219 +306,14 @@ fn looks_for_ends(rt: HostRuntime) -> Result<(), Fail> {
     Ok(())
 }
 
-// What is said of the text of a thread.
-fn complaint(alloc: Global, body: &str) -> Result<String, AllocError> {
-    match does(alloc, body) {
-        Ok(_) => String::from_str(alloc, "nothing"),
-        Err(error) => error.to_string(alloc),
-    }
-}
-
 #[test]
-fn says_what_is_wrong_in_an_expression(rt: HostRuntime) -> Result<(), Fail> {
-    let cases = [
-        (
-            "x = cas k 0 1",
-            "line 5, column 9: expected a word, found \"k\"",
-        ),
-        ("park w", "line 5, column 6: expected a key, found \"w\""),
-        ("x = y", "line 5, column 5: nothing here has the name \"y\""),
-        ("x = 256", "line 5, column 5: a number is from 0 to 255"),
-        (
-            "x = 200 + 100",
-            "line 5, column 9: a number is from 0 to 255",
-        ),
-        (
-            "x = (1 + 2",
-            "line 6, column 1: expected `)` or an operator, found \"}\"",
-        ),
-        (
-            "x = 1 y = 2",
-            "line 5, column 7: expected the end of the statement (a new line, `;` or two \
-             blanks), found \"y\"",
-        ),
-        (
-            "x = w ?",
-            "line 5, column 7: no word, number or sign begins with \"?\"",
-        ),
-    ];
-    for (body, wanted) in cases {
-        let said = complaint(rt.alloc(), body)?;
-        assert_eq!(rt; said.as_str(), wanted);
-    }
-    Ok(())
-}
-
-#[test]
-fn says_what_is_wrong_in_a_statement(rt: HostRuntime) -> Result<(), Fail> {
-    let cases = [
-        (
-            "break",
-            "line 5, column 1: this stands in no loop that it could leave",
-        ),
-        (
-            "k = 1",
-            "line 5, column 1: expected a word or a local, found \"k\"",
-        ),
-        ("F(w)", "line 5, column 1: expected a macro, found \"F\""),
-        (
-            "await w == w",
-            "line 5, column 7: expected one word, compared with a number or a local, found \"w\"",
-        ),
-        (
-            "unpark",
-            "line 5, column 1: only the block of a filter decides on waiters",
-        ),
-        ("if w { ", "line 4, column 10: no `}` closes this"),
-        (
-            "x = !2",
-            "line 5, column 5: `!` is for what is true or not: write 255 - N for bits",
-        ),
-        (
-            "timeout",
-            "line 5, column 1: expected a statement, found \"timeout\"",
-        ),
-        (
-            "requeue k k 5",
-            "line 5, column 13: expected `nobody`, `one`, `move_one`, `all`, `one_rest` \
-             or `validate {`, found \"5\"",
-        ),
-    ];
-    for (body, wanted) in cases {
-        let said = complaint(rt.alloc(), body)?;
-        assert_eq!(rt; said.as_str(), wanted);
-    }
-    Ok(())
-}
-
-#[test]
-fn keeps_sections_whole(rt: HostRuntime) -> Result<(), Fail> {
-    let cases = [
-        (
-            "park k before_sleep { park k }",
-            "line 5, column 23: a thread that is about to sleep cannot park",
-        ),
-        (
-            "unpark_one k { park k }",
-            "line 5, column 16: a bucket is locked here, so nobody can park or unpark",
-        ),
-        (
-            "park k timeout timed_out { x = count k }",
-            "line 5, column 38: the bucket of this key is not known to be locked here",
-        ),
-        (
-            "loop { park k validate { break } }",
-            "line 5, column 26: this stands in no loop that it could leave",
-        ),
-        (
-            "park k validate { return }",
-            "line 5, column 19: a block that the lot runs cannot be left by `return`",
-        ),
-    ];
-    for (body, wanted) in cases {
-        let said = complaint(rt.alloc(), body)?;
-        assert_eq!(rt; said.as_str(), wanted);
-    }
-    Ok(())
-}
-
-#[test]
-fn says_what_is_wrong_with_names(rt: HostRuntime) -> Result<(), Fail> {
-    let cases = [
-        (
-            "",
-            "line 1, column 1: expected `test NAME`, found the end of the text",
-        ),
-        (
-            "test t\nword if = 0",
-            "line 2, column 6: \"if\" means something already",
-        ),
-        (
-            "test t\nkey a\nword a = 0",
-            "line 3, column 6: \"a\" means something already",
-        ),
-        (
-            "test t\nlock",
-            "line 2, column 1: expected `let`, `word`, `key`, `macro`, `thread`, `forall`, \
-             `never`, `exists` or `expect`, found \"lock\"",
-        ),
-    ];
-    for (text, wanted) in cases {
-        let error = parsed(rt.alloc(), text).err().ok_or("accepted")?;
-        assert_eq!(rt; error.to_string(rt.alloc())?.as_str(), wanted);
-    }
-    Ok(())
-}
-
-#[test]
-fn says_what_is_wrong_outside(rt: HostRuntime) -> Result<(), Fail> {
-    let cases = [
-        (
-            "test t\nword a = 0\nlet b = a",
-            "line 3, column 9: expected a number that is known at first, found \"a\"",
-        ),
-        (
-            "test t\nexpect fine",
-            "line 2, column 8: expected `safe`, `stuck` or `fails`, found \"fine\"",
-        ),
-        (
-            "test t\nkey a\nkey b\nkey c\nkey d\nkey e",
-            "line 6, column 5: more than 4 keys",
-        ),
-        (
-            "test t\nmacro M(a) { }\nthread t { M() }",
-            "line 3, column 16: the macro takes 1 arguments and is given 0",
-        ),
-        (
-            "test t\nmacro M() { M() }\nthread t { M() }",
-            "line 2, column 13: a macro cannot call itself",
-        ),
-    ];
-    for (text, wanted) in cases {
-        let error = parsed(rt.alloc(), text).err().ok_or("accepted")?;
-        assert_eq!(rt; error.to_string(rt.alloc())?.as_str(), wanted);
-    }
-    Ok(())
-}
-
-#[test]
-fn has_twelve_locals(rt: HostRuntime) -> Result<(), Fail> {
-    let twelve = "a=1;b=1;c=1;d=1;e=1;f=1;g=1;h=1;i=1;j=1;l=1;m=1";
-    assert!(rt; does(rt.alloc(), twelve).is_ok());
-    let body = format!(in rt.alloc(); "{twelve};n=1")?;
-    let said = complaint(rt.alloc(), body.as_str())?;
-    assert_eq!(rt;
-        said.as_str(),
-        "line 5, column 49: more than 12 locals in a thread"
-    );
-    Ok(())
-}
-
-// A text whose thread comes to 100,000 instructions by macros that call macros.
-const LONG: &str = "test long
-word w = 0
-macro A() { w = 1; w = 1; w = 1; w = 1; w = 1; w = 1; w = 1; w = 1; w = 1; w = 1 }
-macro B() { A(); A(); A(); A(); A(); A(); A(); A(); A(); A() }
-macro C() { B(); B(); B(); B(); B(); B(); B(); B(); B(); B() }
-macro D() { C(); C(); C(); C(); C(); C(); C(); C(); C(); C() }
-thread t { D(); D(); D(); D(); D(); D(); D(); D(); D(); D() }";
-
-#[test]
-fn has_limits(rt: HostRuntime) -> Result<(), Fail> {
-    let long = parsed(rt.alloc(), LONG).err().ok_or("too long")?;
-    let said = long.to_string(rt.alloc())?;
-    assert!(rt;
-        said.as_str()
-            .ends_with("more than 65535 instructions in a thread"),
-        "{said}"
-    );
-    let words = "test t\nword a=0;word b=0;word c=0;word d=0;word e=0;word f=0;word g=0;word h=0";
-    assert!(rt; parsed(rt.alloc(), words).is_ok());
-    let nine = format!(in rt.alloc(); "{words};word i=0")?;
-    let error = parsed(rt.alloc(), nine.as_str()).err().ok_or("nine words")?;
+fn a_number_stands_for_one_of_the_text(rt: HostRuntime) -> Result<(), Fail> {
+    let parsed = parse(rt.alloc(), MUTEX, &[("N", 5)])?;
+    assert!(rt; code_of(&parsed, 4) == code_of(&parsed, 0));
+    let error = parse(rt.alloc(), MUTEX, &[("M", 1)]).err().ok_or("M")?;
     assert_eq!(rt;
         error.to_string(rt.alloc())?.as_str(),
-        "line 2, column 78: more than 8 words"
+        "no `let` names \"M\""
     );
     Ok(())
 }
