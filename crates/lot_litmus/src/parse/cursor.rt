@@ -160,7 +160,12 @@ impl<'t> Cursor<'t> {
 
     /// Whether this part of the text has the word.
     pub(super) fn has(&self, span: Span, word: &str) -> bool {
-        (span.from..span.to).any(|index| self.token(index).text == word)
+        for index in span.from..span.to {
+            if self.token(index).text == word {
+                return true;
+            }
+        }
+        false
     }
 
     /// The last token that was read on this line, but for a brace.

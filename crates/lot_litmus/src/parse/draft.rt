@@ -100,10 +100,12 @@ impl<'t> Draft<'t> {
 
     /// Whether there is a step from this place on.
     pub(super) fn has_step_from(&self, place: usize) -> bool {
-        self.lines
-            .iter()
-            .skip(place)
-            .any(|line| line.instruction.is_step())
+        for line in self.lines.get(place..).unwrap_or_default() {
+            if line.instruction.is_step() {
+                return true;
+            }
+        }
+        false
     }
 
     /// Without what comes from this place on. No label is there.

@@ -118,14 +118,6 @@ struct Reading {
     open: usize,
 }
 
-// What comes next in an expression.
-#[derive(Clone, Copy)]
-enum Next {
-    Value,
-    Operator,
-    Nothing,
-}
-
 impl<'t> Parser<'t> {
     /// Reads an expression: the number that it comes to.
     pub(super) fn expression(&mut self) -> Result<Operand, Wrong> {
@@ -139,13 +131,11 @@ impl<'t> Parser<'t> {
             waiting: Vec::new(self.alloc),
             open: 0,
         };
-        let mut next = Next::Value;
         for _ in 0..self.cursor.tokens.len() {
-            next = match next {
-                Next::Value => self.read_value(&mut reading)?,
-                Next::Operator => self.read_operator(&mut reading, strength)?,
-                Next::Nothing => break,
-            };
+            self.read_value(&mut reading)?;
+            if !self.read_operator(&mut reading, strength)? {
+                break;
+            }
         }
         self.apply(&mut reading, WEAKEST)?;
         match reading.values.pop() {
@@ -154,33 +144,37 @@ impl<'t> Parser<'t> {
         }
     }
 
-    fn read_value(&mut self, reading: &mut Reading) -> Result<Next, Wrong> {
-        let token = self.cursor.at;
-        let operator = if self.cursor.take("!") {
-            Operator::before("!", STRONGEST, Form::Not)
-        } else if self.cursor.take("(") {
-            reading.open = reading.open.saturating_add(1);
-            Operator::before("(", 0, Form::Nothing)
-        } else {
-            let operand = self.number()?;
-            reading.values.push(Value {
-                operand,
-                sense: Sense::Number,
-            })?;
-            self.apply(reading, STRONGEST)?;
-            return Ok(Next::Operator);
-        };
-        reading.waiting.push(Waiting { operator, token })?;
-        Ok(Next::Value)
+    // Reads a value, and what stands before it.
+    fn read_value(&mut self, reading: &mut Reading) -> Result<(), Wrong> {
+        for _ in 0..self.cursor.tokens.len() {
+            let token = self.cursor.at;
+            let operator = if self.cursor.take("!") {
+                Operator::before("!", STRONGEST, Form::Not)
+            } else if self.cursor.take("(") {
+                reading.open = reading.open.saturating_add(1);
+                Operator::before("(", 0, Form::Nothing)
+            } else {
+                break;
+            };
+            reading.waiting.push(Waiting { operator, token })?;
+        }
+        let operand = self.number()?;
+        let sense = Sense::Number;
+        reading.values.push(Value { operand, sense })?;
+        self.apply(reading, STRONGEST)
     }
 
-    fn read_operator(&mut self, reading: &mut Reading, bound: u8) -> Result<Next, Wrong> {
-        if reading.open > 0 && self.cursor.take(")") {
+    // Reads what stands behind a value. Says whether that is an operator, behind which there is
+    // another value.
+    fn read_operator(&mut self, reading: &mut Reading, bound: u8) -> Result<bool, Wrong> {
+        for _ in 0..reading.open {
+            if !self.cursor.take(")") {
+                break;
+            }
             self.apply(reading, WEAKEST)?;
             reading.waiting.pop();
             reading.open = reading.open.saturating_sub(1);
             self.apply(reading, STRONGEST)?;
-            return Ok(Next::Operator);
         }
         let token = self.cursor.at;
         match Operator::of(self.cursor.peek().text) {
@@ -188,9 +182,9 @@ impl<'t> Parser<'t> {
                 self.cursor.next();
                 self.apply(reading, operator.strength)?;
                 reading.waiting.push(Waiting { operator, token })?;
-                Ok(Next::Value)
+                Ok(true)
             }
-            _ => Ok(Next::Nothing),
+            _ => Ok(false),
         }
     }
 
@@ -229,10 +223,8 @@ impl<'t> Parser<'t> {
         }
         let zero = Operand::Constant(0);
         let operand = self.draft.compute(Operation::Equal, value.operand, zero)?;
-        Ok(Value {
-            operand,
-            sense: Sense::Truth,
-        })
+        let sense = Sense::Truth;
+        Ok(Value { operand, sense })
     }
 
     fn combined(

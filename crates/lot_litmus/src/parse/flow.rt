@@ -169,7 +169,10 @@ impl Flow {
         }
         let there = kept.except(here.zero_at_target).joined(here.sets_at_target);
         let changed = here.effect != Effect::Jumps && self.reach(next, ahead);
-        here.target.is_some_and(|target| self.reach(target, there)) || changed
+        match here.target {
+            Some(target) => self.reach(target, there) || changed,
+            None => changed,
+        }
     }
 
     // The place can be reached with these set. Says whether that is new.

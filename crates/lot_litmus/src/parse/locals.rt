@@ -112,8 +112,11 @@ impl<'t> Locals<'t> {
         self.slots[local.number].name.is_empty()
     }
 
-    /// The last name of each.
-    pub(super) fn names(&self) -> [&'t str; LOCALS] {
-        self.slots.map(|slot| slot.name)
+    /// The last name of the local with this number.
+    pub(super) fn name(&self, number: usize) -> &'t str {
+        match self.slots.get(number) {
+            Some(slot) => slot.name,
+            None => "",
+        }
     }
 }

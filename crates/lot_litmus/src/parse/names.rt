@@ -95,9 +95,11 @@ impl<'t> Names<'t> {
     pub(super) fn lookup(&self, name: &str) -> Option<Meaning> {
         let here = self.bindings.get(self.scope.first..).unwrap_or_default();
         let outside = self.bindings.get(..self.outside).unwrap_or_default();
-        meaning_in(here, name)
-            .or(meaning_in(outside, name))
-            .or(self.number(name).map(Meaning::Number))
+        let declared = meaning_in(here, name).or(meaning_in(outside, name));
+        match declared {
+            Some(meaning) => Some(meaning),
+            None => Some(Meaning::Number(self.number(name)?)),
+        }
     }
 
     // The number that has this name without being declared.

@@ -1,6 +1,6 @@
 //! Parks.
 
-use super::block::{Block, Open};
+use super::block::Block;
 use super::draft::Label;
 use super::error::Wrong;
 use super::expression::Operator;
@@ -43,8 +43,7 @@ impl<'t> Parser<'t> {
     }
 
     pub(super) fn park(&mut self) -> Result<(), Wrong> {
-        let is_before_sleep = |open: &Open| matches!(open.block, Block::BeforeSleep(_));
-        if self.blocks.iter().any(is_before_sleep) {
+        if self.is_before_sleep() {
             let rule = "a thread that is about to sleep cannot park";
             return Err(self.cursor.misplaced(rule));
         }
@@ -64,6 +63,15 @@ impl<'t> Parser<'t> {
         }
         let validation = self.condition(key)?;
         self.enter_queue(park, validation)
+    }
+
+    fn is_before_sleep(&self) -> bool {
+        for open in &self.blocks {
+            if let Block::BeforeSleep(_) = open.block {
+                return true;
+            }
+        }
+        false
     }
 
     fn last_local(&mut self) -> Result<Local, Wrong> {

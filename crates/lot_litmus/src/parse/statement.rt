@@ -1,6 +1,6 @@
 //! Statements of threads.
 
-use super::block::{Block, Expansion, Loop, Open};
+use super::block::{Block, Expansion, Loop};
 use super::error::{Fault, Wrong, blamed_on, expected, misplaced};
 use super::names::{Macro, Meaning, Scope};
 use super::parsed::Statement;
@@ -23,10 +23,11 @@ impl<'t> Parser<'t> {
     pub(super) fn begin_statement(&mut self) -> Result<(), Wrong> {
         let token = self.cursor.peek();
         let (line, column) = (token.line, token.column);
-        let is_this = |known: &Statement| known.line == line && known.column == column;
-        if let Some(known) = self.statements.iter().position(is_this) {
-            self.draft.statement = known;
-            return Ok(());
+        for (index, known) in self.statements.iter().enumerate() {
+            if known.line == line && known.column == column {
+                self.draft.statement = index;
+                return Ok(());
+            }
         }
         self.draft.statement = self.statements.len();
         let text = String::new(self.alloc);
@@ -260,15 +261,15 @@ impl<'t> Parser<'t> {
             self.draft.emit(Instruction::Unlock)?;
             return Ok(waiting);
         };
-        let is_locked = locked.iter().any(|locked| match locked {
-            Some(locked) => self.bucket(*locked) == self.bucket(key),
-            None => false,
-        });
-        if !is_locked {
-            let rule = "the bucket of this key is not known to be locked here";
-            return Err(self.cursor.misplaced(rule));
+        for other in locked {
+            if let Some(other) = other
+                && self.bucket(other) == self.bucket(key)
+            {
+                return self.draft.waiting(key);
+            }
         }
-        self.draft.waiting(key)
+        let rule = "the bucket of this key is not known to be locked here";
+        Err(self.cursor.misplaced(rule))
     }
 
     /// The keys whose buckets are known to be locked here, if buckets are locked.
@@ -317,11 +318,7 @@ impl<'t> Parser<'t> {
 
     // Goes on in the text of a macro, of which the name was read.
     fn call(&mut self, called: Macro, token: usize) -> Result<(), Wrong> {
-        let is_called = |open: &Open| match open.block {
-            Block::Macro(expansion) => expansion.body == called.body.from,
-            _ => false,
-        };
-        if self.blocks.iter().any(is_called) {
+        if self.is_expanding(called.body.from) {
             return Err(misplaced("a macro cannot call itself").at(token));
         }
         let first = self.names.bindings.len();
@@ -340,6 +337,18 @@ impl<'t> Parser<'t> {
         };
         self.cursor.at = called.body.from;
         Ok(())
+    }
+
+    // Whether the macro whose text begins at this token is expanded.
+    fn is_expanding(&self, body: usize) -> bool {
+        for open in &self.blocks {
+            if let Block::Macro(expansion) = open.block
+                && expansion.body == body
+            {
+                return true;
+            }
+        }
+        false
     }
 
     // Binds the parameters of a macro to the arguments, of which the parenthesis is next.

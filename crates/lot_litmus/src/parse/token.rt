@@ -114,9 +114,11 @@ pub(super) fn tokens_of(alloc: Global, text: &str) -> Result<Vec<Token<'_>>, Par
     let mut tokens = Vec::new(alloc);
     let mut last = 1;
     for (line, whole) in (1..usize::MAX).zip(text.lines()) {
-        let comment = whole.bytes().position(|byte| byte == b'#');
-        let end = comment.unwrap_or(whole.len());
-        add_line(alloc, &mut tokens, line, whole.get(..end).unwrap_or(whole))?;
+        let code = match whole.split_once('#') {
+            Some((code, _)) => code,
+            None => whole,
+        };
+        add_line(alloc, &mut tokens, line, code)?;
         last = line;
     }
     tokens.push(Token::end(last))?;
@@ -137,11 +139,11 @@ fn add_line<'t>(
     };
     let mut rest = whole;
     for _ in 0..whole.len() {
-        let blanks = blanks_of(rest.as_bytes());
-        if blanks.len() > 1 || blanks.contains(&b';') {
+        let blanks = Class::Blank.length(rest.as_bytes());
+        if blanks > 1 || rest.starts_with(';') {
             token.before = Before::Break;
         }
-        rest = rest.get(blanks.len()..).unwrap_or_default();
+        rest = rest.get(blanks..).unwrap_or_default();
         if rest.is_empty() {
             break;
         }
@@ -159,30 +161,57 @@ fn add_line<'t>(
     Ok(())
 }
 
-// The blanks and semicolons that the line begins with.
-fn blanks_of(line: &[u8]) -> &[u8] {
-    let is_other = |byte: &u8| !matches!(byte, b' ' | b'\t' | b'\r' | b';');
-    let length = line.iter().position(is_other);
-    line.get(..length.unwrap_or(line.len())).unwrap_or(line)
+// What a character belongs to.
+#[derive(Clone, Copy, PartialEq, Eq)]
+enum Class {
+    Blank,
+    Number,
+    Word,
+    Other,
+}
+
+impl Class {
+    fn of(byte: u8) -> Class {
+        match byte {
+            b' ' | b'\t' | b'\r' | b';' => Class::Blank,
+            b'0'..=b'9' => Class::Number,
+            b'a'..=b'z' | b'A'..=b'Z' | b'_' => Class::Word,
+            _ => Class::Other,
+        }
+    }
+
+    // How long the line goes on with this. A word goes on with digits too.
+    fn length(self, line: &[u8]) -> usize {
+        let mut length = 0usize;
+        for byte in line {
+            let goes_on = match (self, Class::of(*byte)) {
+                (Class::Word, Class::Number) => true,
+                (class, found) => class == found,
+            };
+            if !goes_on {
+                break;
+            }
+            length = length.saturating_add(1);
+        }
+        length
+    }
 }
 
 // What the text begins with, and how long that is.
 fn first_of(text: &str) -> (Result<Kind, Fault>, usize) {
     let line = text.as_bytes();
-    if let Some(b'0'..=b'9') = line.first() {
-        let length = line.iter().position(|byte| !byte.is_ascii_digit());
-        let length = length.unwrap_or(line.len());
-        return (number_of(text.get(..length).unwrap_or(text)), length);
+    let number = Class::Number.length(line);
+    if number > 0 {
+        return (number_of(text.get(..number).unwrap_or(text)), number);
     }
-    let length = line.iter().position(|byte| !is_of_name(*byte));
-    match length.unwrap_or(line.len()) {
-        0 => sign_of(text),
-        length => (Ok(word_of(text.get(..length).unwrap_or(text))), length),
+    let word = Class::Word.length(line);
+    if word > 0 {
+        return (Ok(word_of(text.get(..word).unwrap_or(text))), word);
     }
-}
-
-fn is_of_name(byte: u8) -> bool {
-    byte.is_ascii_alphanumeric() || byte == b'_'
+    match sign_length(line) {
+        Some(length) => (Ok(Kind::Sign), length),
+        None => (Err(Fault::Character), character_length(text)),
+    }
 }
 
 fn number_of(digits: &str) -> Result<Kind, Fault> {
@@ -193,22 +222,26 @@ fn number_of(digits: &str) -> Result<Kind, Fault> {
 }
 
 fn word_of(word: &str) -> Kind {
-    if KEYWORDS.split(' ').any(|keyword| keyword == word) {
-        Kind::Keyword
-    } else {
-        Kind::Name
-    }
-}
-
-fn sign_of(text: &str) -> (Result<Kind, Fault>, usize) {
-    for sign in SIGNS {
-        if text.as_bytes().starts_with(sign.as_bytes()) {
-            return (Ok(Kind::Sign), sign.len());
+    for keyword in KEYWORDS.split(' ') {
+        if keyword == word {
+            return Kind::Keyword;
         }
     }
-    let length = text
-        .char_indices()
-        .nth(1)
-        .map_or(text.len(), |(length, _)| length);
-    (Err(Fault::Character), length)
+    Kind::Name
+}
+
+fn sign_length(line: &[u8]) -> Option<usize> {
+    for sign in SIGNS {
+        if line.starts_with(sign.as_bytes()) {
+            return Some(sign.len());
+        }
+    }
+    None
+}
+
+fn character_length(text: &str) -> usize {
+    match text.char_indices().nth(1) {
+        Some((length, _)) => length,
+        None => text.len(),
+    }
 }

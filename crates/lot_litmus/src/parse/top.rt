@@ -10,7 +10,7 @@ use super::parsed::{
 };
 use super::parser::Parser;
 use super::token::Kind;
-use crate::code::{Instruction, KEYS, Key, Operand, Operation, THREADS, WORDS, Word};
+use crate::code::{Instruction, KEYS, Key, LOCALS, Operand, Operation, THREADS, WORDS, Word};
 use std::mem;
 
 // How many threads a test can have, beside the one that looks at the ends.
@@ -226,8 +226,8 @@ impl<'t> Reader<'t> {
 
     fn local_names(&self) -> Result<Vec<String>, Wrong> {
         let mut names = Vec::new(self.parser.alloc);
-        for name in self.parser.draft.locals.names() {
-            names.push(self.string(name)?)?;
+        for number in 0..LOCALS {
+            names.push(self.string(self.parser.draft.locals.name(number))?)?;
         }
         Ok(names)
     }
@@ -295,8 +295,7 @@ impl<'t> Reader<'t> {
         if name.kind != Kind::Name || !self.parser.cursor.is_near() {
             return Ok(None);
         }
-        let is_named = |thread: &ThreadText| thread.name.as_str() == name.text;
-        if !self.parsed.threads.iter().any(is_named) {
+        if !self.has_thread(name.text) {
             return Err(Fault::Unknown.here());
         }
         self.parser.cursor.next();
@@ -304,6 +303,15 @@ impl<'t> Reader<'t> {
         let key = self.parser.key()?;
         let thread = self.string(name.text)?;
         Ok(Some(Sleeper { thread, key }))
+    }
+
+    fn has_thread(&self, name: &str) -> bool {
+        for thread in &self.parsed.threads {
+            if thread.name.as_str() == name {
+                return true;
+            }
+        }
+        false
     }
 
     fn sizes(&mut self) -> Result<Sizes, Wrong> {
