@@ -110,7 +110,8 @@ module _ (max_threads size place other from to : ℕ) (standing after target tar
         arith,
         lists_cover size place standing after name free,
         lists_cover size other target target_after name free,
-      )) (λ number. omega (arith, fewer number)) (omega (arith, own_list from size place standing from_here))
+      )) (λ number. omega (arith, fewer number)) (λ key. refl)
+      (omega (arith, own_list from size place standing from_here))
       (omega (arith, own_list to size other target to_there)) (λ m so. so.0 from from_here) both_so
 
 -- the step of a requeue

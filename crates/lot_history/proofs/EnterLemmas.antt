@@ -17,7 +17,7 @@ use Rattle.lot_history.specs.declared.view.Standing.{Standing}
 use Rattle.lot_history.specs.declared.view.Piece.{Piece}
 use Rattle.lot_history.specs.declared.view.Piece.TheVariants.{Lists, Thread}
 use Rattle.lot_history.specs.Moves.{Finds, Moves}
-use Rattle.lot_history.specs.Pieces.{Name, list, thread, records, numbers, times_standing, cover, Alike, at_key}
+use Rattle.lot_history.specs.Pieces.{Name, list, title, dealing, thread, records, numbers, times_standing, cover, Alike, at_key}
 use Rattle.lot_history.specs.Pieces.{waiter_of, AllStand, IsList, AllSo}
 use Rattle.lot_history.proofs.PieceLemmas.{own_thread, own_list, AllSo-alike, stands-alike, times-at_key, times-append}
 use Rattle.lot_history.proofs.PieceLemmas.{AllStand-append}
@@ -37,6 +37,8 @@ module _ (max_threads size place : ℕ) (standing : List Standing) (number key :
 
   same_cover : (name : Name) → cover name after ≡ cover name before
   same_cover (list k) = omega arith
+  same_cover (title k) = omega arith
+  same_cover (dealing k) = omega arith
   same_cover (thread other) = omega (arith, times-append other standing (entered ∷ []))
   same_cover (records other) = omega arith
   same_cover numbers = omega arith
@@ -55,14 +57,20 @@ module _ (max_threads size place : ℕ) (standing : List Standing) (number key :
         let one = own_thread number number status.Running refl in
         omega arith
 
-    alike : (name : Name) → cover name (Lists size place standing ∷ Thread number status.Running ∷ []) ≡ 0
-        → Alike m next name
-    alike (list k) none =
+    other_list : (k : ℕ) → cover (list k) (Lists size place standing ∷ Thread number status.Running ∷ []) ≡ 0
+        → m.lists k ≡ next.lists k
+    other_list k none =
         ⊎_elim
         (λ (same : k ≡ key). let one = own_list k size place standing (ap (λ q. place_of q size) same ∙ here) in
         absurd (omega arith))
         (λ (other : k ≢ key). sym (with_value-other m.lists key _ k other))
         (cases_eq k key)
+
+    alike : (name : Name) → cover name (Lists size place standing ∷ Thread number status.Running ∷ []) ≡ 0
+        → Alike m next name
+    alike (list k) none = other_list k none
+    alike (title k) none = other_list k none
+    alike (dealing k) none = tt
     alike (thread other) none =
         turned_alike m number status.Running (status.Waiting timed) running refl refl [] (thread other) (omega arith)
     alike (records other) none = refl

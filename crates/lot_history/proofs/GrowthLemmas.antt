@@ -12,7 +12,8 @@ use Rattle.lot_history.specs.declared.view.Standing.{Standing}
 use Rattle.lot_history.specs.declared.view.Piece.{Piece}
 use Rattle.lot_history.specs.declared.view.Piece.TheVariants.{Lists}
 use Rattle.lot_history.specs.Moves.{Regroups}
-use Rattle.lot_history.specs.Pieces.{Name, list, thread, records, numbers, times_standing, cover, at_key, IsList}
+use Rattle.lot_history.specs.Pieces.{Name, list, title, dealing, thread, records, numbers}
+use Rattle.lot_history.specs.Pieces.{times_standing, cover, at_key, IsList}
 use Rattle.lot_history.proofs.NodeLemmas.{at_key-nodes}
 use Rattle.lot_history.proofs.PieceLemmas.{times-append}
 use Rattle.lot_history.proofs.PlaceLemmas.{place_of-half}
@@ -175,6 +176,8 @@ module _ (size place : ℕ) where
 
       same_cover : (name : Name) → cover name both ≡ cover name whole
       same_cover (list k) = omega (arith, places k)
+      same_cover (title k) = omega (arith, places k)
+      same_cover (dealing k) = omega (arith, places k)
       same_cover (thread number) = omega (arith, times number)
       same_cover (records number) = refl
       same_cover numbers = refl

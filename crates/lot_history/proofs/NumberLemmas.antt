@@ -15,7 +15,7 @@ use Rattle.lot_machine.specs.Steps.{Gives, IsStep}
 use Rattle.lot_history.specs.declared.view.Piece.{Piece}
 use Rattle.lot_history.specs.declared.view.Piece.TheVariants.{Thread, Records, Numbers}
 use Rattle.lot_history.specs.Moves.{Finds, Moves}
-use Rattle.lot_history.specs.Pieces.{Name, list, thread, records, numbers, has_number, IsOneMore, covers, cover, Alike}
+use Rattle.lot_history.specs.Pieces.{Name, list, title, dealing, thread, records, numbers, has_number, IsOneMore, covers, cover, Alike}
 use Rattle.lot_history.specs.Pieces.{AllSo}
 use Rattle.lot_history.proofs.PieceLemmas.{AllSo-alike}
 use Rattle.lot_history.proofs.ThreadLemmas.{Is, stays_moves}
@@ -97,6 +97,8 @@ module _ (max_threads : ℕ) (uses : List Bool) (rest : List Piece) where
 
     same_cover : (name : Name) → cover name new_pieces ≡ cover name old_pieces
     same_cover (list k) = omega arith
+    same_cover (title k) = omega arith
+    same_cover (dealing k) = omega arith
     same_cover (thread k) = omega (arith, counted k)
     same_cover (records k) = omega (arith, counted k)
     same_cover numbers = omega arith
@@ -122,6 +124,8 @@ module _ (max_threads : ℕ) (uses : List Bool) (rest : List Piece) where
 
       alike : (name : Name) → cover name (Numbers uses ∷ []) ≡ 0 → Alike m next name
       alike (list k) none = refl
+      alike (title k) none = refl
+      alike (dealing k) none = tt
       alike (records k) none = refl
       alike numbers none = absurd (omega arith)
       alike (thread k) none =
@@ -171,6 +175,8 @@ module _ (max_threads number : ℕ) (keys : List ℕ) (uses after : List Bool) (
 
   retired_cover : (name : Name) → cover name (Numbers after ∷ []) ≡ cover name registered_pieces
   retired_cover (list k) = refl
+  retired_cover (title k) = refl
+  retired_cover (dealing k) = refl
   retired_cover (thread k) = omega (arith, one_more_covered after number uses one k)
   retired_cover (records k) = omega (arith, one_more_covered after number uses one k)
   retired_cover numbers = refl
@@ -202,6 +208,8 @@ module _ (max_threads number : ℕ) (keys : List ℕ) (uses after : List Bool) (
 
     alike_retired : (name : Name) → cover name (Numbers after ∷ []) ≡ 0 → Alike m retired name
     alike_retired (list k) none = refl
+    alike_retired (title k) none = refl
+    alike_retired (dealing k) none = tt
     alike_retired (thread k) none = sym (with_value-other m.status number status.Free k (other_number k none))
     alike_retired (records k) none = sym (with_value-other m.records number (times_recorded []) k (other_number k none))
     alike_retired numbers none = absurd (omega arith)

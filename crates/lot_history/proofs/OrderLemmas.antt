@@ -24,7 +24,8 @@ use Rattle.lot_history.specs.History.{LeadsTo}
 use Rattle.lot_history.specs.Laws.{Hands}
 use Rattle.lot_history.specs.Takings.{taken_by}
 use Rattle.lot_history.specs.Turns.{enters, takes_from_front, may_lose_turn, WasTaken, StandsInFront}
-use Rattle.lot_history.specs.Turns.{FirstComeFirstOut, numbers_of}
+use Rattle.lot_history.specs.Pieces.{numbers_of}
+use Rattle.lot_history.specs.Turns.{FirstComeFirstOut}
 use Rattle.lot_history.proofs.EventLemmas.{LeadsTo-push}
 use Rattle.lot_history.proofs.RunLemmas.{Runs, parts, joined, IsConsistent-run}
 use Rattle.lot_history.proofs.TakenLemmas.{among}

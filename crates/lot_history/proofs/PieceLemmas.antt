@@ -1,7 +1,8 @@
 -- What pieces cover, and that they stay so where a machine is alike in that.
 use Rattle.std.proofs.Common.{◌≡◌, ◌≢◌, ℕ, ◌+◌, ◌<◌, ◌≤◌, ◌==◌, Bool, true, false, cond, map, List, [], ◌∷◌, ◌++◌}
+use Rattle.std.specs.Prelude.{nat_lt}
 use Rattle.std.proofs.Common.{All, length, refl, sym, ap, ◌∙◌, ⊎_elim, arith}
-use Rattle.std.proofs.lemmas.Bool.{cases_eq, eq-eqb, ne_eqb, cond-true}
+use Rattle.std.proofs.lemmas.Bool.{cases_eq, eq-eqb, ne_eqb, lt-ltb, le-ltb, cond-true, cond-false}
 use Rattle.std.proofs.lemmas.List.Elements.{All-nil, All-cons, All-head, All-tail}
 use Rattle.lot_base.specs.Place.{place_of}
 use Rattle.lot_machine.specs.declared.status.Status.{Status}
@@ -10,9 +11,9 @@ use Rattle.lot_machine.specs.Machine.{Machine, times_in, entries_of}
 use Rattle.lot_machine.specs.Status.{is_registered}
 use Rattle.lot_history.specs.declared.view.Standing.{Standing}
 use Rattle.lot_history.specs.declared.view.Piece.{Piece}
-use Rattle.lot_history.specs.declared.view.Piece.TheVariants.{Lists, Thread, Records, Numbers}
-use Rattle.lot_history.specs.Pieces.{Name, list, thread, records, numbers, covers, cover, times_standing, Alike}
-use Rattle.lot_history.specs.Pieces.{waiter_of, status_of, AllStand, IsList, at_key, IsSo, AllSo}
+use Rattle.lot_history.specs.declared.view.Piece.TheVariants.{Lists, Thread, Records, Numbers, TitledLists, Title, Undealt}
+use Rattle.lot_history.specs.Pieces.{Name, list, title, thread, records, numbers, covers, cover, times_standing, Alike}
+use Rattle.lot_history.specs.Pieces.{waiter_of, status_of, AllStand, IsList, AreLists, at_key, numbers_of, IsSo, AllSo}
 
 pub cover-append : (name : Name) (ps qs : List Piece) → cover name (ps ++ qs) ≡ cover name ps + cover name qs
 cover-append name [] qs = omega arith
@@ -83,15 +84,30 @@ times-at_key number key (each ∷ standing) = either (each.key == key) (times-at
     either true less = omega arith
     either false less = omega arith
 
+-- the lists of a place stay so
+lists-alike : (m next : Machine) (size place : ℕ) (standing : List Standing)
+    → ((key : ℕ) → place_of key size ≡ place → m.lists key ≡ next.lists key)
+    → ((number : ℕ) → 0 < times_standing number standing → m.status number ≡ next.status number)
+    → AreLists m size place standing → AreLists next size place standing
+lists-alike m next size place standing lists threads are key here =
+    let was : IsList m key (at_key key standing) = are key here in record {
+      waiters = sym (lists key here) ∙ was.waiters;
+      wait = stands-alike m next (at_key key standing)
+          (λ number more. let less = times-at_key number key standing in threads number (omega arith)) was.wait;
+    }
+
+pub own_undealt : (key from below : ℕ) → from ≤ key → key < below → covers (title key) (Undealt from below) ≡ 1
+own_undealt key from below first last =
+    cond-false (nat_lt key from) 0 (cond (nat_lt key below) 1 0) (le-ltb key from first)
+    ∙ cond-true (nat_lt key below) 1 0 (lt-ltb key below last)
+
 -- a piece stays so
 pub IsSo-alike : (m next : Machine) (piece : Piece) → AlikeWhere m next (λ name. covers name piece) → IsSo m piece
     → IsSo next piece
-IsSo-alike m next (Lists size place standing) alike is = λ key here.
-    let was : IsList m key (at_key key standing) = is key here in record {
-      waiters = sym (alike (list key) (rw (eq-eqb (place_of key size) place here) (omega arith))) ∙ was.waiters;
-      wait = stands-alike m next (at_key key standing)
-          (λ number more. let less = times-at_key number key standing in alike (thread number) (omega arith)) was.wait;
-    }
+IsSo-alike m next (Lists size place standing) alike is =
+    lists-alike m next size place standing
+    (λ key here. alike (list key) (rw (eq-eqb (place_of key size) place here) (omega arith)))
+    (λ number more. alike (thread number) more) is
 IsSo-alike m next (Thread number status) alike is =
     sym (alike (thread number) (rw (eq-eqb number number refl) (omega arith))) ∙ is
 IsSo-alike m next (Records number keys) alike is =
@@ -100,6 +116,14 @@ IsSo-alike m next (Numbers uses) alike (registered, free) = (
   λ number. sym (alike numbers (omega arith) number) ∙ registered number,
   λ number none. sym (alike (records number) (rw none (omega arith))) ∙ free number none,
 )
+IsSo-alike m next (TitledLists limit size place standing) alike is =
+    lists-alike m next size place standing
+    (λ key here. alike (list key) (rw (eq-eqb (place_of key size) place here) (omega arith)))
+    (λ number more. alike (thread number) more) is
+IsSo-alike m next (Title key who) alike is =
+    ap numbers_of (sym (alike (title key) (rw (eq-eqb key key refl) (omega arith)))) ∙ is
+IsSo-alike m next (Undealt from below) alike is = λ key first last.
+    sym (alike (title key) (rw (own_undealt key from below first last) (omega arith))) ∙ is key first last
 
 pub AllSo-alike : (m next : Machine) (pieces : List Piece) → AlikeWhere m next (λ name. cover name pieces)
     → AllSo m pieces → AllSo next pieces

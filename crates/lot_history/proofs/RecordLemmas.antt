@@ -13,7 +13,7 @@ use Rattle.lot_machine.specs.Steps.{Gives, IsStep, IsAcquire}
 use Rattle.lot_history.specs.declared.view.Piece.{Piece}
 use Rattle.lot_history.specs.declared.view.Piece.TheVariants.{Thread, Records}
 use Rattle.lot_history.specs.Moves.{Moves}
-use Rattle.lot_history.specs.Pieces.{Name, list, thread, records, numbers, cover, Alike}
+use Rattle.lot_history.specs.Pieces.{Name, list, title, dealing, thread, records, numbers, cover, Alike}
 use Rattle.lot_history.proofs.PieceLemmas.{own_records}
 use Rattle.lot_history.proofs.ThreadLemmas.{Is, stays_moves}
 
@@ -26,6 +26,8 @@ module _ (max_threads number key : ℕ) (keys after : List ℕ) where
 
   same_cover : (name : Name) → cover name new ≡ cover name old
   same_cover (list k) = refl
+  same_cover (title k) = refl
+  same_cover (dealing k) = refl
   same_cover (thread other) = refl
   same_cover (records other) = refl
   same_cover numbers = refl
@@ -50,6 +52,8 @@ module _ (max_threads number key : ℕ) (keys after : List ℕ) where
       alike : (m : Machine) (name : Name) → cover name new ≡ 0
           → Alike m (with_records m number (times_recorded after)) name
       alike m (list k) none = refl
+      alike m (title k) none = refl
+      alike m (dealing k) none = tt
       alike m (thread other) none = refl
       alike m (records other) none = sym (with_value-other m.records number (times_recorded after) other
           (λ same. let own = own_records other number after same in absurd (omega arith)))

@@ -118,5 +118,6 @@ module _ (max_threads size place from to : ℕ) (standing after : List Standing)
   passes_within =
       passes max_threads from to (Lists size place standing ∷ []) (Lists size place after ∷ []) (at_key from standing)
       split token parts (λ name other. omega (arith, lists_cover size place standing after name other))
-      (λ number. omega (arith, fewer number)) (omega (arith, own_list from size place standing from_here))
+      (λ number. omega (arith, fewer number)) (λ key. refl)
+      (omega (arith, own_list from size place standing from_here))
       (omega (arith, own_list to size place standing to_here)) (λ m so. so.0 from from_here) place_so

@@ -1,23 +1,29 @@
 -- What keeps the rule of a history.
 use Rattle.std.proofs.Common.{◌≡◌, ◌≢◌, ◌⊎◌, ℕ, zero, suc, ◌+◌, ◌<◌, ◌≤◌, ◌==◌, List, [], ◌∷◌, ◌++◌, length, set, cond}
-use Rattle.std.proofs.Common.{refl, sym, ap, ◌∙◌, subst, inl, inr, ⊎_elim, arith, length-append, append-nil}
+use Rattle.std.proofs.Common.{refl, sym, ap, ◌∙◌, subst, inl, inr, ⊎_elim, arith, length-append, append-nil, All}
+use Rattle.std.proofs.Common.{Option}
 use Rattle.std.proofs.lemmas.Bool.{cases_eq, eq-eqb, ne_eqb, cond-true, cond-false}
+use Rattle.std.proofs.lemmas.List.Elements.{All-nil, All-append, All-contains}
+use Rattle.std.proofs.lemmas.Option.{same_Some}
 use Rattle.std.proofs.Math.ListN.{length-set}
 use mathlib.Core.List.{IsPrefix}
 use mathlib.Core.Option.{some, some-injective, some-ne-none}
 use lib.ListN.{get_elem?}
+use Rattle.atomic_table.specs.Seated.{TableId}
 use Rattle.atomic_table.proofs.Lists.{at_set}
 use Rattle.lot_machine.specs.declared.step.Answer.{Answer}
 use Rattle.lot_machine.specs.declared.step.Step.{Step}
 use Rattle.lot_machine.proofs.StepLemmas.{IsConsistent-step}
 use Rattle.lot_history.proofs.MachineLemmas.{max_threads-step}
+use Rattle.lot_history.specs.declared.deal.Deal.{Deal}
 use Rattle.lot_history.specs.declared.event.Event.{Event}
 use Rattle.lot_history.specs.declared.view.Piece.{Piece}
 use Rattle.lot_history.specs.declared.view.View.{View}
 use Rattle.lot_history.specs.History.{events_by}
-use Rattle.lot_history.specs.Pieces.{Name, cover, AllSo}
+use Rattle.lot_history.specs.Pieces.{Name, dealing, cover, AllSo}
 use Rattle.lot_history.specs.Moves.{Finds, Reaches, Moves, Regroups}
-use Rattle.lot_history.specs.Rule.{Knows, Kept}
+use Rattle.lot_history.specs.Rule.{IsDealt, Knows, Kept}
+use Rattle.lot_history.specs.Titles.{Agree}
 use Rattle.lot_history.specs.Views.{spent_view, told_view}
 use Rattle.lot_history.specs.Tells.{Found, event, Adds, Looks}
 use Rattle.lot_history.proofs.EventLemmas.{prefix_self, prefix_nil, prefix_longer, events_by-own, events_by-other}
@@ -38,24 +44,31 @@ at_end [] a b (suc j) at = absurd (some-ne-none b (sym at))
 at_end (x ∷ xs) a b zero at = inl at
 at_end (x ∷ xs) a b (suc j) at = ⊎_elim inl (λ t. inr (ap suc t.0, t.1)) (at_end xs a b j at)
 
+-- deals that are so agree
+pub agree : (homes : ℕ → Option TableId) (deals : List Deal) → All (IsDealt homes) deals → Agree deals
+agree homes deals so one other among too same = same_Some one.home other.home
+    (sym (All-contains (IsDealt homes) deals one so among)
+    ∙ (ap homes same ∙ All-contains (IsDealt homes) deals other so too))
+
 -- a new seat, which knows of nothing
 pub arrives : (max_threads : ℕ) (views : List View) → Kept max_threads views → Kept max_threads (views ++ told_view [] ∷ [])
 arrives max_threads views kept = record {
   events = kept.events;
   machine = kept.machine;
   owner = kept.owner;
+  homes = kept.homes;
   run = kept.run;
   few = kept.few;
   threads = kept.threads;
   consistent = kept.consistent;
   each = λ j u there. ⊎_elim (kept.each j u)
-      (λ t. subst (λ i. Knows kept.events kept.machine kept.owner i u) (sym t.0)
-      (subst (Knows kept.events kept.machine kept.owner (length views)) t.1 knows))
+      (λ t. subst (λ i. Knows kept.events kept.machine kept.owner kept.homes i u) (sym t.0)
+      (subst (Knows kept.events kept.machine kept.owner kept.homes (length views)) t.1 knows))
       (at_end views (told_view []) u j there);
   others = λ j high. kept.others j (let a = length-append views (told_view [] ∷ []) in omega arith);
 }
   where
-    knows : Knows kept.events kept.machine kept.owner (length views) (told_view [])
+    knows : Knows kept.events kept.machine kept.owner kept.homes (length views) (told_view [])
     knows = record {
       seen = prefix_nil kept.events;
       heard = prefix_nil kept.events;
@@ -63,11 +76,13 @@ arrives max_threads views kept = record {
       owns = λ name covered. absurd (omega (arith, covered));
       once = λ name. omega arith;
       pieces = tt;
+      deals = All-nil (IsDealt kept.homes);
+      undealt = λ key covered. absurd (omega (arith, covered));
     }
 
 module _ (max_threads : ℕ) (views : List View) (kept : Kept max_threads views) (id : ℕ) (v : View)
     (at : get_elem? views id ≡ some v) where
-  abbrev own : Knows kept.events kept.machine kept.owner id v
+  abbrev own : Knows kept.events kept.machine kept.owner kept.homes id v
   own = kept.each id v at
 
   found : Finds max_threads v.pieces kept.machine
@@ -78,26 +93,28 @@ module _ (max_threads : ℕ) (views : List View) (kept : Kept max_threads views)
   below = in_range views id v at
 
   -- a seat knows otherwise of the same history
-  pub with_view : (w : View) → Knows kept.events kept.machine kept.owner id w → Kept max_threads (set views id w)
+  pub with_view : (w : View) → Knows kept.events kept.machine kept.owner kept.homes id w → Kept max_threads (set views id w)
   with_view w knows = record {
     events = kept.events;
     machine = kept.machine;
     owner = kept.owner;
+    homes = kept.homes;
     run = kept.run;
     few = kept.few;
     threads = kept.threads;
     consistent = kept.consistent;
     each = λ j u there. ⊎_elim
-        (λ t. subst (λ i. Knows kept.events kept.machine kept.owner i u) (sym t.0)
-        (subst (Knows kept.events kept.machine kept.owner id) t.1 knows))
+        (λ t. subst (λ i. Knows kept.events kept.machine kept.owner kept.homes i u) (sym t.0)
+        (subst (Knows kept.events kept.machine kept.owner kept.homes id) t.1 knows))
         (λ t. kept.each j u t.1) (at_set views id j w u there);
     others = λ j high. kept.others j (subst (λ n. n ≤ j) (length-set views id w) high);
   }
 
   -- a look
   pub looks : (w : View) × Kept max_threads (set views id w) × Looks max_threads id v w × IsPrefix v.heard w.seen
+      × (w.deals ≡ v.deals) × Agree v.deals
   looks =
-      let w : View = record { seen = kept.events; heard = []; mine = v.mine; pieces = v.pieces } in (
+      let w : View = record { seen = kept.events; heard = []; mine = v.mine; pieces = v.pieces; deals = v.deals } in (
         w,
         with_view w (record {
           seen = prefix_self kept.events;
@@ -106,6 +123,8 @@ module _ (max_threads : ℕ) (views : List View) (kept : Kept max_threads views)
           owns = own.owns;
           once = own.once;
           pieces = own.pieces;
+          deals = own.deals;
+          undealt = own.undealt;
         }),
         record {
           machine = kept.machine;
@@ -117,6 +136,8 @@ module _ (max_threads : ℕ) (views : List View) (kept : Kept max_threads views)
           pieces = refl;
         },
         own.heard,
+        refl,
+        agree kept.homes v.deals own.deals,
       )
 
   -- the same parts in other pieces
@@ -128,6 +149,8 @@ module _ (max_threads : ℕ) (views : List View) (kept : Kept max_threads views)
     owns = λ name covered. own.owns name (subst (λ n. 0 < n) (same.cover name) covered);
     once = λ name. subst (λ n. n ≤ 1) (sym (same.cover name)) (own.once name);
     pieces = same.so kept.machine found;
+    deals = own.deals;
+    undealt = λ key covered. own.undealt key (subst (λ n. 0 < n) (same.cover (dealing key)) covered);
   })
 
   -- a step
@@ -140,9 +163,9 @@ module _ (max_threads : ℕ) (views : List View) (kept : Kept max_threads views)
 
     abbrev new_view : View
     new_view =
-        record { seen = kept.events ++ added ∷ []; heard = []; mine = v.mine ++ added ∷ []; pieces = after }
+        record { seen = kept.events ++ added ∷ []; heard = []; mine = v.mine ++ added ∷ []; pieces = after; deals = v.deals }
 
-    own_knows : Knows (kept.events ++ added ∷ []) from.next kept.owner id new_view
+    own_knows : Knows (kept.events ++ added ∷ []) from.next kept.owner kept.homes id new_view
     own_knows = record {
       seen = prefix_self (kept.events ++ added ∷ []);
       heard = prefix_nil (kept.events ++ added ∷ []);
@@ -150,9 +173,11 @@ module _ (max_threads : ℕ) (views : List View) (kept : Kept max_threads views)
       owns = λ name covered. own.owns name (subst (λ n. 0 < n) (moves.cover name) covered);
       once = λ name. subst (λ n. n ≤ 1) (sym (moves.cover name)) (own.once name);
       pieces = from.so;
+      deals = own.deals;
+      undealt = λ key covered. own.undealt key (subst (λ n. 0 < n) (moves.cover (dealing key)) covered);
     }
 
-    alike : (j : ℕ) (u : View) → j ≢ id → Knows kept.events kept.machine kept.owner j u
+    alike : (j : ℕ) (u : View) → j ≢ id → Knows kept.events kept.machine kept.owner kept.homes j u
         → AlikeWhere kept.machine from.next (λ name. cover name u.pieces)
     alike j u other knows name covered =
         ⊎_elim (from.others name)
@@ -161,8 +186,8 @@ module _ (max_threads : ℕ) (views : List View) (kept : Kept max_threads views)
         absurd (other (sym (knows.owns name covered) ∙ own.owns name more)))
         (cases_eq (cover name after) 0)
 
-    other_knows : (j : ℕ) (u : View) → j ≢ id → Knows kept.events kept.machine kept.owner j u
-        → Knows (kept.events ++ added ∷ []) from.next kept.owner j u
+    other_knows : (j : ℕ) (u : View) → j ≢ id → Knows kept.events kept.machine kept.owner kept.homes j u
+        → Knows (kept.events ++ added ∷ []) from.next kept.owner kept.homes j u
     other_knows j u other knows = record {
       seen = prefix_longer u.seen kept.events (added ∷ []) knows.seen;
       heard = prefix_longer u.heard kept.events (added ∷ []) knows.heard;
@@ -170,6 +195,8 @@ module _ (max_threads : ℕ) (views : List View) (kept : Kept max_threads views)
       owns = knows.owns;
       once = knows.once;
       pieces = AllSo-alike kept.machine from.next u.pieces (alike j u other knows) knows.pieces;
+      deals = knows.deals;
+      undealt = knows.undealt;
     }
 
     stepped : Kept max_threads (set views id new_view)
@@ -177,20 +204,21 @@ module _ (max_threads : ℕ) (views : List View) (kept : Kept max_threads views)
       events = kept.events ++ added ∷ [];
       machine = from.next;
       owner = kept.owner;
+      homes = kept.homes;
       run = LeadsTo-push max_threads kept.events added kept.machine from.next kept.run from.does;
       few = kept.few;
       threads = max_threads-step kept.machine from.step from.answer from.next from.does ∙ kept.threads;
       consistent = IsConsistent-step kept.machine from.step from.answer from.next kept.consistent from.does;
       each = λ j u there. ⊎_elim
-          (λ t. subst (λ i. Knows (kept.events ++ added ∷ []) from.next kept.owner i u) (sym t.0)
-          (subst (Knows (kept.events ++ added ∷ []) from.next kept.owner id) t.1 own_knows))
+          (λ t. subst (λ i. Knows (kept.events ++ added ∷ []) from.next kept.owner kept.homes i u) (sym t.0)
+          (subst (Knows (kept.events ++ added ∷ []) from.next kept.owner kept.homes id) t.1 own_knows))
           (λ t. other_knows j u t.0 (kept.each j u t.1)) (at_set views id j new_view u there);
       others = λ j high. let far : length views ≤ j = subst (λ n. n ≤ j) (length-set views id new_view) high in
           events_by-other j kept.events added (λ e. absurd (let b = below in omega arith)) ∙ kept.others j far;
     }
 
     pub adds : (w : View) × Kept max_threads (set views id w) × Adds max_threads id said v w
-        × (w.pieces ≡ after) × Found max_threads id v w
+        × (w.pieces ≡ after) × Found max_threads id v w × (w.deals ≡ v.deals)
     adds = (
       new_view,
       stepped,
@@ -216,93 +244,108 @@ module _ (max_threads : ℕ) (views : List View) (kept : Kept max_threads views)
         leads = kept.run;
         so = own.pieces;
       },
+      refl,
     )
 
-  -- a new seat is given some pieces of this one, and has seen this much
-  module _ (seen : List Event) (begins : IsPrefix seen kept.events) (ps qs : List Piece)
+  -- a new seat is given some pieces of this one, has seen this much, and knows of these deals
+  module _ (seen : List Event) (begins : IsPrefix seen kept.events) (ps qs : List Piece) (deals : List Deal)
       (parts : (name : Name) → cover name ps + cover name qs ≡ cover name v.pieces)
-      (left_so : AllSo kept.machine ps) (right_so : AllSo kept.machine qs) where
-    abbrev left : View
-    left = record v { pieces = ps }
+      (left_so : AllSo kept.machine ps) (right_so : AllSo kept.machine qs) (dealt : All (IsDealt kept.homes) deals)
+    where
+      abbrev left : View
+      left = record v { pieces = ps }
 
-    abbrev right : View
-    right = record { seen = seen; heard = []; mine = []; pieces = qs }
+      abbrev right : View
+      right = record { seen = seen; heard = []; mine = []; pieces = qs; deals = deals }
 
-    abbrev new : ℕ
-    new = length views
+      abbrev new : ℕ
+      new = length views
 
-    abbrev owner : Name → ℕ
-    owner name = cond (cover name qs == 0) (kept.owner name) new
+      abbrev owner : Name → ℕ
+      owner name = cond (cover name qs == 0) (kept.owner name) new
 
-    owner-kept : (name : Name) → cover name qs ≡ 0 → owner name ≡ kept.owner name
-    owner-kept name none = cond-true (cover name qs == 0) (kept.owner name) new (eq-eqb (cover name qs) 0 none)
+      owner-kept : (name : Name) → cover name qs ≡ 0 → owner name ≡ kept.owner name
+      owner-kept name none = cond-true (cover name qs == 0) (kept.owner name) new (eq-eqb (cover name qs) 0 none)
 
-    owner-new : (name : Name) → cover name qs ≢ 0 → owner name ≡ new
-    owner-new name any = cond-false (cover name qs == 0) (kept.owner name) new (ne_eqb (cover name qs) 0 any)
+      owner-new : (name : Name) → cover name qs ≢ 0 → owner name ≡ new
+      owner-new name any = cond-false (cover name qs == 0) (kept.owner name) new (ne_eqb (cover name qs) 0 any)
 
-    left_knows : Knows kept.events kept.machine owner id left
-    left_knows = record {
-      seen = own.seen;
-      heard = own.heard;
-      mine = own.mine;
-      owns = λ name covered. let p = parts name in let o = own.once name in
-          owner-kept name (omega arith) ∙ own.owns name (omega arith);
-      once = λ name. let p = parts name in let o = own.once name in omega arith;
-      pieces = left_so;
-    }
+      left_knows : Knows kept.events kept.machine owner kept.homes id left
+      left_knows = record {
+        seen = own.seen;
+        heard = own.heard;
+        mine = own.mine;
+        owns = λ name covered. let p = parts name in let o = own.once name in
+            owner-kept name (omega arith) ∙ own.owns name (omega arith);
+        once = λ name. let p = parts name in let o = own.once name in omega arith;
+        pieces = left_so;
+        deals = own.deals;
+        undealt = λ key covered. own.undealt key (let p = parts (dealing key) in omega arith);
+      }
 
-    right_knows : Knows kept.events kept.machine owner new right
-    right_knows = record {
-      seen = begins;
-      heard = prefix_nil kept.events;
-      mine = kept.others new (omega arith);
-      owns = λ name covered. owner-new name (λ none. absurd (omega arith));
-      once = λ name. let p = parts name in let o = own.once name in omega arith;
-      pieces = right_so;
-    }
+      right_knows : Knows kept.events kept.machine owner kept.homes new right
+      right_knows = record {
+        seen = begins;
+        heard = prefix_nil kept.events;
+        mine = kept.others new (omega arith);
+        owns = λ name covered. owner-new name (λ none. absurd (omega arith));
+        once = λ name. let p = parts name in let o = own.once name in omega arith;
+        pieces = right_so;
+        deals = dealt;
+        undealt = λ key covered. own.undealt key (let p = parts (dealing key) in omega arith);
+      }
 
-    rest_knows : (j : ℕ) (u : View) → j ≢ id → Knows kept.events kept.machine kept.owner j u
-        → Knows kept.events kept.machine owner j u
-    rest_knows j u other knows = record {
-      seen = knows.seen;
-      heard = knows.heard;
-      mine = knows.mine;
-      owns = λ name covered. ⊎_elim
-          (λ (none : cover name qs ≡ 0). owner-kept name none ∙ knows.owns name covered)
-          (λ (any : cover name qs ≢ 0). let p = parts name in let more : 0 < cover name v.pieces = omega arith in
-          absurd (other (sym (knows.owns name covered) ∙ own.owns name more)))
-          (cases_eq (cover name qs) 0);
-      once = knows.once;
-      pieces = knows.pieces;
-    }
+      rest_knows : (j : ℕ) (u : View) → j ≢ id → Knows kept.events kept.machine kept.owner kept.homes j u
+          → Knows kept.events kept.machine owner kept.homes j u
+      rest_knows j u other knows = record {
+        seen = knows.seen;
+        heard = knows.heard;
+        mine = knows.mine;
+        owns = λ name covered. ⊎_elim
+            (λ (none : cover name qs ≡ 0). owner-kept name none ∙ knows.owns name covered)
+            (λ (any : cover name qs ≢ 0). let p = parts name in let more : 0 < cover name v.pieces = omega arith in
+            absurd (other (sym (knows.owns name covered) ∙ own.owns name more)))
+            (cases_eq (cover name qs) 0);
+        once = knows.once;
+        pieces = knows.pieces;
+        deals = knows.deals;
+        undealt = knows.undealt;
+      }
 
-    pub splits : Kept max_threads (set views id left ++ right ∷ [])
-    splits = record {
-      events = kept.events;
-      machine = kept.machine;
-      owner = owner;
-      run = kept.run;
-      few = kept.few;
-      threads = kept.threads;
-      consistent = kept.consistent;
-      each = λ j u there. ⊎_elim
-          (λ here. ⊎_elim
-          (λ t. subst (λ i. Knows kept.events kept.machine owner i u) (sym t.0)
-          (subst (Knows kept.events kept.machine owner id) t.1 left_knows))
-          (λ t. rest_knows j u t.0 (kept.each j u t.1)) (at_set views id j left u here))
-          (λ t. subst (λ i. Knows kept.events kept.machine owner i u) (sym (t.0 ∙ length-set views id left))
-          (subst (Knows kept.events kept.machine owner new) t.1 right_knows))
-          (at_end (set views id left) right u j there);
-      others = λ j high. kept.others j (let l = length-set views id left in let a = length-append (set views id left) (right ∷ []) in omega arith);
-    }
+      pub splits : Kept max_threads (set views id left ++ right ∷ [])
+      splits = record {
+        events = kept.events;
+        machine = kept.machine;
+        owner = owner;
+        homes = kept.homes;
+        run = kept.run;
+        few = kept.few;
+        threads = kept.threads;
+        consistent = kept.consistent;
+        each = λ j u there. ⊎_elim
+            (λ here. ⊎_elim
+            (λ t. subst (λ i. Knows kept.events kept.machine owner kept.homes i u) (sym t.0)
+            (subst (Knows kept.events kept.machine owner kept.homes id) t.1 left_knows))
+            (λ t. rest_knows j u t.0 (kept.each j u t.1)) (at_set views id j left u here))
+            (λ t. subst (λ i. Knows kept.events kept.machine owner kept.homes i u) (sym (t.0 ∙ length-set views id left))
+            (subst (Knows kept.events kept.machine owner kept.homes new) t.1 right_knows))
+            (at_end (set views id left) right u j there);
+        others = λ j high. kept.others j (let l = length-set views id left in let a = length-append (set views id left) (right ∷ []) in omega arith);
+      }
 
   -- another seat, which has added nothing, gives its pieces to this one, and tells what it has seen
   module _ (other : ℕ) (w : View) (apart : other ≢ id) (there : get_elem? views other ≡ some w) (quiet : w.mine ≡ []) where
-    abbrev their : Knows kept.events kept.machine kept.owner other w
+    abbrev their : Knows kept.events kept.machine kept.owner kept.homes other w
     their = kept.each other w there
 
     abbrev both : View
-    both = record { seen = v.seen; heard = w.seen; mine = v.mine; pieces = v.pieces ++ w.pieces }
+    both = record {
+      seen = v.seen;
+      heard = w.seen;
+      mine = v.mine;
+      pieces = v.pieces ++ w.pieces;
+      deals = v.deals ++ w.deals;
+    }
 
     abbrev new_owner : Name → ℕ
     new_owner name = cond (cover name w.pieces == 0) (kept.owner name) id
@@ -323,7 +366,7 @@ module _ (max_threads : ℕ) (views : List View) (kept : Kept max_threads views)
         absurd (apart (sym (their.owns name covered) ∙ own.owns name more)))
         (cases_eq (cover name v.pieces) 0)
 
-    both_knows : Knows kept.events kept.machine new_owner id both
+    both_knows : Knows kept.events kept.machine new_owner kept.homes id both
     both_knows = record {
       seen = own.seen;
       heard = their.seen;
@@ -338,9 +381,14 @@ module _ (max_threads : ℕ) (views : List View) (kept : Kept max_threads views)
           (λ (any : cover name w.pieces ≢ 0). let d = disjoint name (omega arith) in omega arith)
           (cases_eq (cover name w.pieces) 0);
       pieces = AllSo-append kept.machine v.pieces w.pieces own.pieces their.pieces;
+      deals = All-append (IsDealt kept.homes) v.deals w.deals own.deals their.deals;
+      undealt = λ key covered. let c = cover-append (dealing key) v.pieces w.pieces in
+          ⊎_elim (λ (none : cover (dealing key) w.pieces ≡ 0). own.undealt key (let z = none in omega arith))
+          (λ (any : cover (dealing key) w.pieces ≢ 0). their.undealt key (omega arith))
+          (cases_eq (cover (dealing key) w.pieces) 0);
     }
 
-    spent_knows : Knows kept.events kept.machine new_owner other spent_view
+    spent_knows : Knows kept.events kept.machine new_owner kept.homes other spent_view
     spent_knows = record {
       seen = prefix_nil kept.events;
       heard = prefix_nil kept.events;
@@ -348,10 +396,12 @@ module _ (max_threads : ℕ) (views : List View) (kept : Kept max_threads views)
       owns = λ name covered. absurd (omega arith);
       once = λ name. omega arith;
       pieces = tt;
+      deals = All-nil (IsDealt kept.homes);
+      undealt = λ key covered. absurd (omega arith);
     }
 
-    third_knows : (j : ℕ) (u : View) → j ≢ other → Knows kept.events kept.machine kept.owner j u
-        → Knows kept.events kept.machine new_owner j u
+    third_knows : (j : ℕ) (u : View) → j ≢ other → Knows kept.events kept.machine kept.owner kept.homes j u
+        → Knows kept.events kept.machine new_owner kept.homes j u
     third_knows j u else knows = record {
       seen = knows.seen;
       heard = knows.heard;
@@ -363,6 +413,8 @@ module _ (max_threads : ℕ) (views : List View) (kept : Kept max_threads views)
           (cases_eq (cover name w.pieces) 0);
       once = knows.once;
       pieces = knows.pieces;
+      deals = knows.deals;
+      undealt = knows.undealt;
     }
 
     pub joins : Kept max_threads (set (set views id both) other spent_view)
@@ -370,16 +422,17 @@ module _ (max_threads : ℕ) (views : List View) (kept : Kept max_threads views)
       events = kept.events;
       machine = kept.machine;
       owner = new_owner;
+      homes = kept.homes;
       run = kept.run;
       few = kept.few;
       threads = kept.threads;
       consistent = kept.consistent;
       each = λ j u now. ⊎_elim
-          (λ t. subst (λ i. Knows kept.events kept.machine new_owner i u) (sym t.0)
-          (subst (Knows kept.events kept.machine new_owner other) t.1 spent_knows))
+          (λ t. subst (λ i. Knows kept.events kept.machine new_owner kept.homes i u) (sym t.0)
+          (subst (Knows kept.events kept.machine new_owner kept.homes other) t.1 spent_knows))
           (λ t. ⊎_elim
-          (λ s. subst (λ i. Knows kept.events kept.machine new_owner i u) (sym s.0)
-          (subst (Knows kept.events kept.machine new_owner id) s.1 both_knows))
+          (λ s. subst (λ i. Knows kept.events kept.machine new_owner kept.homes i u) (sym s.0)
+          (subst (Knows kept.events kept.machine new_owner kept.homes id) s.1 both_knows))
           (λ s. third_knows j u t.0 (kept.each j u s.1)) (at_set views id j both u t.1))
           (at_set (set views id both) other j spent_view u now);
       others = λ j high. kept.others j (let a = length-set views id both in let b = length-set (set views id both) other spent_view in omega arith);
@@ -387,9 +440,9 @@ module _ (max_threads : ℕ) (views : List View) (kept : Kept max_threads views)
 
 -- what a seat learns by a look, once another without pieces was joined to it
 pub looks-joined : (max_threads number same_number : ℕ) (old joined new : View) (heard : List Event)
-    (pieces : List Piece) → same_number ≡ number → joined ≡ record old { heard = heard; pieces = old.pieces ++ pieces }
-    → pieces ≡ [] → Looks max_threads same_number joined new → Looks max_threads number old new
-looks-joined max_threads number same_number old joined new heard pieces same is none looks = record {
+    (pieces : List Piece) (deals : List Deal) → same_number ≡ number
+    → joined ≡ record old { heard = heard; pieces = old.pieces ++ pieces; deals = old.deals ++ deals } → pieces ≡ [] → Looks max_threads same_number joined new → Looks max_threads number old new
+looks-joined max_threads number same_number old joined new heard pieces deals same is none looks = record {
   machine = looks.machine;
   seen = subst (λ es. IsPrefix es new.seen) (ap (λ (v : View). v.seen) is) looks.seen;
   mine = looks.mine ∙ ap (λ (v : View). v.mine) is;

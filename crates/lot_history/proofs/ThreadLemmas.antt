@@ -15,7 +15,7 @@ use Rattle.lot_machine.specs.Steps.{IsStep, IsReturn, IsResolve}
 use Rattle.lot_history.specs.declared.view.Piece.{Piece}
 use Rattle.lot_history.specs.declared.view.Piece.TheVariants.{Thread}
 use Rattle.lot_history.specs.Moves.{Finds, Reaches, Moves}
-use Rattle.lot_history.specs.Pieces.{Name, list, thread, records, numbers, covers, cover, Alike, AllSo}
+use Rattle.lot_history.specs.Pieces.{Name, list, title, dealing, thread, records, numbers, covers, cover, Alike, AllSo}
 use Rattle.lot_history.proofs.PieceLemmas.{own_thread, AllSo-alike}
 
 -- this step, with this answer
@@ -84,6 +84,8 @@ stays_moves max_threads s a pieces does = record {
   where
     alike : (m : Machine) (name : Name) → Alike m m name
     alike m (list key) = refl
+    alike m (title key) = refl
+    alike m (dealing key) = tt
     alike m (thread number) = refl
     alike m (records number) = refl
     alike m numbers = λ number. refl
@@ -102,6 +104,8 @@ module _ (m : Machine) (number : ℕ) (before after : Status) (is : m.status num
   pub turned_alike : (rest : List Piece) (name : Name) → cover name (Thread number after ∷ rest) ≡ 0
       → Alike m (with_status m number after) name
   turned_alike rest (list key) none = refl
+  turned_alike rest (title key) none = refl
+  turned_alike rest (dealing key) none = tt
   turned_alike rest (records other) none = refl
   turned_alike rest (thread other) none =
       ⊎_elim (λ (same : other ≡ number). let one = own_thread other number after same in
@@ -146,6 +150,8 @@ turns max_threads number s a before after rest was still does = record {
   where
     same : (name : Name) → cover name (Thread number after ∷ rest) ≡ cover name (Thread number before ∷ rest)
     same (list key) = refl
+    same (title key) = refl
+    same (dealing key) = refl
     same (thread other) = refl
     same (records other) = refl
     same numbers = refl

@@ -19,7 +19,7 @@ use Rattle.lot_history.specs.declared.view.Standing.{Standing}
 use Rattle.lot_history.specs.declared.view.Piece.{Piece}
 use Rattle.lot_history.specs.declared.view.Piece.TheVariants.{Lists, Thread}
 use Rattle.lot_history.specs.Moves.{Finds, Moves}
-use Rattle.lot_history.specs.Pieces.{Name, list, thread, records, numbers, times_standing, cover, Alike, at_key}
+use Rattle.lot_history.specs.Pieces.{Name, list, title, dealing, thread, records, numbers, times_standing, cover, Alike, at_key}
 use Rattle.lot_history.specs.Pieces.{waiter_of, status_of, AllStand, IsList, IsSo}
 use Rattle.lot_history.proofs.ListsLemmas.{changes_so}
 use Rattle.lot_history.proofs.PieceLemmas.{StandsIn, stand_all, all_stand, own_list, times-at_key, times_in-waiters}
@@ -192,6 +192,8 @@ module _ (max_threads size place key number : ℕ) (standing : List Standing) (f
 
     same_cover : (name : Name) → cover name new ≡ cover name old
     same_cover (list k) = refl
+    same_cover (title k) = refl
+    same_cover (dealing k) = refl
     same_cover (thread other) = omega (arith, late_times number other standing)
     same_cover (records other) = refl
     same_cover numbers = refl
@@ -213,6 +215,8 @@ module _ (max_threads size place key number : ℕ) (standing : List Standing) (f
 
       alike : (name : Name) → cover name new ≡ 0 → Alike m next name
       alike (list k) none = refl
+      alike (title k) none = refl
+      alike (dealing k) none = tt
       alike (thread other) none = sym (with_value-other m.status number status.Late other
           (λ same. let own = ap (λ n. times_standing n standing) same in
           absurd (omega (arith, own, stands, late_times number other standing, none))))
@@ -259,6 +263,8 @@ module _ (max_threads size place key number : ℕ) (standing : List Standing) (f
 
     back_cover : (name : Name) → cover name back ≡ cover name late
     back_cover (list k) = omega arith
+    back_cover (title k) = omega arith
+    back_cover (dealing k) = omega arith
     back_cover (thread other) = omega (arith, fewer other, late_times number other standing)
     back_cover (records other) = omega arith
     back_cover numbers = omega arith
@@ -353,11 +359,16 @@ module _ (max_threads size place key number : ℕ) (standing : List Standing) (f
           (λ other more. sym (with_value-other m.status number status.Running other
           (λ same. let own = ap (λ n. times_standing n after) same in absurd (omega (arith, own, gone, more)))))
 
-      alike_back : (name : Name) → cover name back ≡ 0 → Alike m next_back name
-      alike_back (list k) none = sym (with_value-other m.lists key
+      other_list : (k : ℕ) → cover (list k) back ≡ 0 → m.lists k ≡ next_back.lists k
+      other_list k none = sym (with_value-other m.lists key
           (without_first (λ (w : Waiter). w.number == number) (m.lists key)) k
           (λ same. let own = own_list k size place after (ap (λ q. place_of q size) same ∙ here) in
           absurd (omega (arith, own, none))))
+
+      alike_back : (name : Name) → cover name back ≡ 0 → Alike m next_back name
+      alike_back (list k) none = other_list k none
+      alike_back (title k) none = other_list k none
+      alike_back (dealing k) none = tt
       alike_back (thread other) none =
           turned_alike m number status.Late status.Running was_late refl refl [] (thread other) (omega (arith, none))
       alike_back (records other) none = refl

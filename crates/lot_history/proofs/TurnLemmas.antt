@@ -27,7 +27,7 @@ use Rattle.lot_machine.proofs.WaiterLemmas.{has_any-some, times_in-append, times
 use Rattle.lot_history.specs.declared.event.Event.{Event}
 use Rattle.lot_history.specs.Laws.{Hands}
 use Rattle.lot_history.specs.Turns.{takes_from_front, may_lose_turn, KeepsTurn}
-use Rattle.lot_history.specs.Turns.{numbers_of}
+use Rattle.lot_history.specs.Pieces.{numbers_of}
 use Rattle.lot_history.proofs.RunLemmas.{Runs}
 
 -- lists of waiters

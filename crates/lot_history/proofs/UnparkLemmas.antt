@@ -16,7 +16,7 @@ use Rattle.lot_machine.proofs.WaiterLemmas.{statuses_with_taken-among, statuses_
 use Rattle.lot_history.specs.declared.view.Standing.{Standing}
 use Rattle.lot_history.specs.declared.view.Piece.{Piece}
 use Rattle.lot_history.specs.Moves.{Finds, Moves}
-use Rattle.lot_history.specs.Pieces.{Name, list, thread, records, numbers, times_standing, cover, Alike, waiter_of}
+use Rattle.lot_history.specs.Pieces.{Name, list, title, dealing, thread, records, numbers, times_standing, cover, Alike, waiter_of}
 use Rattle.lot_history.specs.Pieces.{IsList, AllSo, threads_taken}
 use Rattle.lot_history.proofs.ListsLemmas.{is_thread}
 use Rattle.lot_history.proofs.PieceLemmas.{own_thread, AllSo-append, cover-append, stands-registered, times_in-waiters}
@@ -32,6 +32,9 @@ cover-taken_other : (token : UnparkToken) (taken : List Standing) (name : Name) 
     → cover name (threads_taken token taken) ≡ 0
 cover-taken_other token [] name other = refl
 cover-taken_other token (each ∷ taken) (list key) other = omega (arith, cover-taken_other token taken (list key) other)
+cover-taken_other token (each ∷ taken) (title key) other = omega (arith, cover-taken_other token taken (title key) other)
+cover-taken_other token (each ∷ taken) (dealing key) other =
+    omega (arith, cover-taken_other token taken (dealing key) other)
 cover-taken_other token (each ∷ taken) (records number) other =
     omega (arith, cover-taken_other token taken (records number) other)
 cover-taken_other token (each ∷ taken) numbers other = omega (arith, cover-taken_other token taken numbers other)
@@ -47,6 +50,7 @@ module _ (max_threads from to : ℕ) (old new : List Piece) (waiting : List Stan
     (lists_same : (name : Name) → is_thread name ≡ false → cover name new ≡ cover name old)
     (threads_less : (number : ℕ)
     → cover (thread number) new + times_standing number split.taken ≡ cover (thread number) old)
+    (untitled : (key : ℕ) → cover (title key) old ≡ cover (list key) old)
     (owns_from : 0 < cover (list from) old) (owns_to : 0 < cover (list to) old)
     (is_list : (m : Machine) → AllSo m old → IsList m from waiting)
     (becomes : (m : Machine) → AllSo m old → ((number : ℕ) → 0 < cover (thread number) new
@@ -65,6 +69,8 @@ module _ (max_threads from to : ℕ) (old new : List Piece) (waiting : List Stan
 
   same_cover : (name : Name) → cover name new_pieces ≡ cover name old
   same_cover (list key) = apart (list key) refl
+  same_cover (title key) = apart (title key) refl
+  same_cover (dealing key) = apart (dealing key) refl
   same_cover (records number) = apart (records number) refl
   same_cover numbers = apart numbers refl
   same_cover (thread number) = omega (
@@ -116,6 +122,8 @@ module _ (max_threads from to : ℕ) (old new : List Piece) (waiting : List Stan
 
     alike : (name : Name) → cover name old ≡ 0 → Alike m next name
     alike (list key) none = other_list key none
+    alike (title key) none = other_list key (sym (untitled key) ∙ none)
+    alike (dealing key) none = tt
     alike (thread number) none = other_status number (omega (arith, threads_less number, none))
     alike (records number) none = refl
     alike numbers none = λ number.

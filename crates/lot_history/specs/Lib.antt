@@ -3,9 +3,10 @@ pub mod History
 -- Then the pieces of the machine, which one seat alone may change, and what a step of a seat with pieces is.
 pub mod Pieces
 pub mod Moves
--- Then what a call tells of what its caller knew before and knows then, and histories, witnesses and parts as contracts
--- see them.
+-- Then what a seat knows where keys have titles, what a call tells of what its caller knew before and knows then, and
+-- histories, witnesses and parts as contracts see them.
 pub mod Views
+pub mod Titles
 pub mod Tells
 pub mod Witness
 -- Then the rule of a history's table, which each step keeps.

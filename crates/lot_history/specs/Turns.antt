@@ -1,5 +1,5 @@
 -- First come, first out.
-use Rattle.std.specs.Prelude.{◌≡◌, ℕ, ◌==◌, Bool, true, false, ◌&&◌, ◌⊎◌, List, [], ◌∷◌, ◌++◌, map, All}
+use Rattle.std.specs.Prelude.{◌≡◌, ℕ, ◌==◌, Bool, true, false, ◌&&◌, ◌⊎◌, List, [], ◌∷◌, ◌++◌, All}
 use Rattle.lot_base.specs.declared.token.UnparkToken.{UnparkToken}
 use Rattle.lot_machine.specs.declared.step.Answer.{Answer}
 use Rattle.lot_machine.specs.declared.step.Answer.TheVariants.{Entered, TimedOut}
@@ -12,6 +12,7 @@ use Rattle.lot_machine.specs.Operation.{token_of}
 use Rattle.lot_history.specs.declared.event.Event.{Event}
 use Rattle.lot_history.specs.History.{LeadsTo}
 use Rattle.lot_history.specs.Laws.{Hands}
+use Rattle.lot_history.specs.Pieces.{numbers_of}
 use Rattle.lot_history.specs.Takings.{taken_by}
 
 -- whether the thread entered the list of this key in a step
@@ -48,9 +49,6 @@ pub record WasTaken (max_threads : ℕ) (before since : List Event) (number key 
   pub machine : Machine
   pub found : LeadsTo max_threads (before ++ earlier) machine
   pub hands : Hands machine op number (token_of op)
-
-abbrev pub numbers_of : List Waiter → List ℕ
-numbers_of waiters = map (λ waiter. waiter.number) waiters
 
 -- the first of two threads stands in front of the second
 pub record StandsInFront (first second : ℕ) (waiters : List Waiter) : Type 0 where

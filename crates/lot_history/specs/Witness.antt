@@ -3,13 +3,14 @@ use Rattle.std.specs.Prelude.{◌≡◌, ℕ, List, [], ◌∷◌}
 use Rattle.atomic_table.specs.Seated.{TableId}
 use Rattle.lot_machine.specs.declared.step.Answer.{Answer}
 use Rattle.lot_machine.specs.declared.step.Step.{Step}
+use Rattle.lot_history.specs.declared.deal.Deal.{Deal}
 use Rattle.lot_history.specs.declared.event.Event.{Event}
 use Rattle.lot_history.specs.declared.history.History.{History}
 use Rattle.lot_history.specs.declared.history.Part.{Part}
 use Rattle.lot_history.specs.declared.history.Witness.{Witness}
 use Rattle.lot_history.specs.declared.view.Piece.{Piece}
 use Rattle.lot_history.specs.declared.view.View.{View}
-use Rattle.lot_history.specs.Views.{part_view, pieces_seen}
+use Rattle.lot_history.specs.Views.{part_view, pieces_seen, deals_seen}
 use Rattle.lot_history.specs.Tells as tells
 
 -- which history it is, and for how many threads
@@ -39,6 +40,10 @@ events_of witness = (view_of witness).mine
 abbrev pub pieces_of : Witness → List Piece
 pieces_of witness = (view_of witness).pieces
 
+-- the titles that it knows were dealt
+abbrev pub deals_of : Witness → List Deal
+deals_of witness = (view_of witness).deals
+
 -- it is a witness of this history
 pub record IsWitnessOf (history : History) (witness : Witness) : Type 0 where
   pub table : witness.seat.table_id ≡ id_of history
@@ -49,14 +54,17 @@ pub record IsStill (history : History) (old new : Witness) : Type 0 where
   pub witness : IsWitnessOf history new
   pub number : number_of new ≡ number_of old
 
--- the pieces of a part
+-- the pieces of a part, and the titles that it knows were dealt
 abbrev pub pieces_in : Part → List Piece
 pieces_in part = pieces_seen part.badge.views
 
--- it is a part of this history: a seat that knows of its pieces alone
+abbrev pub deals_in : Part → List Deal
+deals_in part = deals_seen part.badge.views
+
+-- it is a part of this history: a seat that knows of its pieces and of titles alone
 pub record IsPartOf (history : TableId) (part : Part) : Type 0 where
   pub table : part.badge.table_id ≡ history
-  pub view : part.badge.views ≡ part_view (pieces_in part) ∷ []
+  pub view : part.badge.views ≡ part_view (pieces_in part) (deals_in part) ∷ []
 
 -- what a call told its witness: that it made this step, or one of which this is said, or none
 abbrev pub Extends : History → Witness → Step → Answer → Witness → Type 0

@@ -6,6 +6,7 @@
 ghost use Rattle.std.specs.Prelude.{◌≡◌, ◌∷◌, ◌++◌, [], List, IfOk};
 ghost use mathlib.Core.List.{IsPrefix};
 ghost use Rattle.lot_history.specs.Moves.{Moves, Regroups};
+ghost use Rattle.lot_history.specs.Titles.{Agree};
 ghost use Rattle.lot_history.specs.Views.{all_pieces, first_of, rest_of};
 ghost use Rattle.lot_history.specs.declared.view.Piece.{Piece};
 
@@ -54,7 +55,7 @@ impl Part {
 }
 
 impl History {
-    ghost use Rattle.lot_history.specs.Witness.{Adds, Found, IsPartOf, IsStill, IsWitnessOf, Looks, events_of, id_of, max_threads_of, number_of, pieces_in, pieces_of, seen_by, view_of};
+    ghost use Rattle.lot_history.specs.Witness.{Adds, Found, IsPartOf, IsStill, IsWitnessOf, Looks, deals_in, deals_of, events_of, id_of, max_threads_of, number_of, pieces_in, pieces_of, seen_by, view_of};
 
     /// Creates a history for a lot with at most `max_threads` threads, in which nothing was done,
     /// and its first witness, which has all pieces of the machine.
@@ -70,6 +71,7 @@ impl History {
         ensures nothing_seen { IfOk result (λ made. seen_by made.1 ≡ []) }
         ensures nothing_added { IfOk result (λ made. events_of made.1 ≡ []) }
         ensures pieces { IfOk result (λ made. pieces_of made.1 ≡ all_pieces) }
+        ensures nothing_dealt { IfOk result (λ made. deals_of made.1 ≡ []) }
     {
         let (table, seat) = Table::of_words(alloc, &[0], &max_threads)?;
         Ok((History { table }, Witness { seat }))
@@ -84,6 +86,7 @@ impl History {
         ensures nothing_seen { seen_by result ≡ [] }
         ensures nothing_added { events_of result ≡ [] }
         ensures no_pieces { pieces_of result ≡ [] }
+        ensures no_deals { deals_of result ≡ [] }
     {
         Witness {
             seat: self.table.shared.load_new_seat::<Arrive>(0).1,
@@ -101,6 +104,7 @@ impl History {
         ensures seen { seen_by result ≡ seen_by me.old }
         ensures nothing_added { events_of result ≡ [] }
         ensures no_pieces { pieces_of result ≡ [] }
+        ensures no_deals { deals_of result ≡ [] }
     {
         Witness {
             seat: self.table.shared.split_seat::<Telling>(&mut me.seat),
@@ -117,6 +121,7 @@ impl History {
         ensures still { IsStill self.now me.old me.new }
         ensures looks { Looks self.now me.old me.new }
         ensures heard { IsPrefix (seen_by other.old) (seen_by me.new) }
+        ensures deals { deals_of me.new ≡ deals_of me.old }
         ensures other_still { IsStill self.now other.old other.new }
         ensures other_unchanged { view_of other.new ≡ view_of other.old }
     {
@@ -126,13 +131,15 @@ impl History {
     }
 
     /// Lets this witness see the history as it is, and know that the machine to which it leads is
-    /// as the pieces of the witness say.
+    /// as the pieces of the witness say, and that no title was dealt twice.
     ///
     /// It costs one load.
     pub fn look(&self, me: &mut Witness)
         requires { IsWitnessOf self.now me.old }
         ensures still { IsStill self.now me.old me.new }
         ensures looks { Looks self.now me.old me.new }
+        ensures deals { deals_of me.new ≡ deals_of me.old }
+        ensures agree { Agree (deals_of me.old) }
     {
         self.look_as::<Brand>(me);
     }
@@ -156,6 +163,7 @@ impl History {
         ensures adds { Adds self.now me.old E.said me.new }
         ensures found { Found self.now me.old me.new }
         ensures pieces { pieces_of me.new ≡ after }
+        ensures deals { deals_of me.new ≡ deals_of me.old }
     {
         self.add_as::<E, Brand>(me);
     }
@@ -172,11 +180,13 @@ impl History {
         ensures seen { seen_by me.new ≡ seen_by me.old }
         ensures nothing_added { events_of me.new ≡ events_of me.old }
         ensures pieces { pieces_of me.new ≡ after }
+        ensures deals { deals_of me.new ≡ deals_of me.old }
     {
         self.regroup_as::<Brand>(me);
     }
 
-    /// Gives the pieces of the part to the witness, behind its own.
+    /// Gives the pieces of the part to the witness, behind its own, and what the part knows of
+    /// deals.
     ///
     /// It costs one load.
     #[inline]
@@ -187,6 +197,7 @@ impl History {
         ensures seen { seen_by me.new ≡ seen_by me.old }
         ensures nothing_added { events_of me.new ≡ events_of me.old }
         ensures pieces { pieces_of me.new ≡ pieces_of me.old ++ pieces_in part }
+        ensures deals { deals_of me.new ≡ deals_of me.old ++ deals_in part }
     {
         let Part { badge } = part;
         self.join(
@@ -197,7 +208,8 @@ impl History {
         );
     }
 
-    /// Takes the first piece from the witness, and returns it as a part.
+    /// Takes the first piece from the witness, and returns it as a part, which knows as much of
+    /// deals as the witness.
     ///
     /// It costs one load.
     #[inline]
@@ -209,6 +221,8 @@ impl History {
         ensures rest { pieces_of me.new ≡ rest_of (pieces_of me.old) }
         ensures part { IsPartOf (id_of self.now) result }
         ensures first { pieces_in result ≡ first_of (pieces_of me.old) }
+        ensures deals { deals_of me.new ≡ deals_of me.old }
+        ensures dealt { deals_in result ≡ deals_of me.old }
     {
         Part {
             badge: self
@@ -229,6 +243,7 @@ impl History {
         ensures view { view_of me.new ≡ record (view_of me.old) {
           heard = seen_by other;
           pieces = pieces_of me.old ++ pieces_of other;
+          deals = deals_of me.old ++ deals_of other;
         } }
     {
         let Witness { seat } = other;
@@ -242,6 +257,8 @@ impl History {
         ensures still { IsStill self.now me.old me.new }
         ensures looks { Looks self.now me.old me.new }
         ensures heard { IsPrefix (view_of me.old).heard (seen_by me.new) }
+        ensures deals { deals_of me.new ≡ deals_of me.old }
+        ensures agree { Agree (deals_of me.old) }
     {
         self.table.shared.load::<Look<C>>(&mut me.seat, 0);
     }
@@ -256,6 +273,7 @@ impl History {
         ensures adds { Adds self.now me.old E.said me.new }
         ensures found { Found self.now me.old me.new }
         ensures pieces { pieces_of me.new ≡ C.after }
+        ensures deals { deals_of me.new ≡ deals_of me.old }
     {
         self.table.shared.load::<Add<E, C>>(&mut me.seat, 0);
     }

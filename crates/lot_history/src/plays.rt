@@ -71,7 +71,7 @@ impl<E: Told, C: Seated> Play<(), View> for Add<E, C> {
 
     ghost then = { λ _ m _ n.
         Adds C.max_threads C.number E.said m.0 n.0 × (n.0.pieces ≡ C.after) × (n.1 ≡ m.1)
-        × Found C.max_threads C.number m.0 n.0 };
+        × Found C.max_threads C.number m.0 n.0 × (n.0.deals ≡ m.0.deals) };
 }
 
 /// The seat sees the history as it is, which begins with what it heard.
@@ -83,9 +83,11 @@ impl<C: Seated> Play<(), View> for Look<C> {
     ghost use Rattle.std.specs.Prelude.{◌≡◌};
     ghost use mathlib.Core.List.{IsPrefix};
     ghost use Rattle.lot_history.specs.Tells.{Looks};
+    ghost use Rattle.lot_history.specs.Titles.{Agree};
 
     ghost then = { λ _ m _ n.
-        Looks C.max_threads C.number m.0 n.0 × IsPrefix m.0.heard n.0.seen × (n.1 ≡ m.1) };
+        Looks C.max_threads C.number m.0 n.0 × IsPrefix m.0.heard n.0.seen × (n.1 ≡ m.1)
+        × (n.0.deals ≡ m.0.deals) × Agree m.0.deals };
 }
 
 /// The pieces of a seat are put together in another way.
@@ -128,17 +130,21 @@ impl Split<View> for Giving {
 
     ghost left = { λ v. record v { pieces = rest_of v.pieces } };
 
-    ghost right = { λ v. part_view (first_of v.pieces) };
+    ghost right = { λ v. part_view (first_of v.pieces) v.deals };
 }
 
-/// A seat takes what another has seen, and its pieces.
+/// A seat takes what another has seen, its pieces, and the deals that it knows of.
 pub(crate) struct Taking;
 
 impl Join<View> for Taking {
     ghost use Rattle.std.specs.Prelude.{◌++◌};
     ghost use Rattle.lot_history.specs.Views.{spent_view};
 
-    ghost both = { λ v w. record v { heard = w.seen; pieces = v.pieces ++ w.pieces } };
+    ghost both = { λ v w. record v {
+      heard = w.seen;
+      pieces = v.pieces ++ w.pieces;
+      deals = v.deals ++ w.deals;
+    } };
 
     ghost spent = { spent_view };
 }

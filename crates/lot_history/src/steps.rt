@@ -8,7 +8,7 @@ ghost use Rattle.lot_history.specs.Pieces.{IsOneMore, has_number};
 ghost use Rattle.lot_history.specs.Views.{rest_of};
 ghost use Rattle.lot_history.specs.declared.view.Piece.{Piece};
 ghost use Rattle.lot_history.specs.declared.view.Piece.TheVariants.{Numbers, Records, Thread};
-ghost use Rattle.lot_history.specs.Witness.{Adds, Extends, IsStill, IsWitnessOf, max_threads_of, pieces_of};
+ghost use Rattle.lot_history.specs.Witness.{Adds, Extends, IsStill, IsWitnessOf, deals_of, max_threads_of, pieces_of};
 
 use crate::history::{History, Witness};
 use crate::plays::Told;
@@ -26,6 +26,7 @@ impl History {
         ensures still { IsStill self.now me.old me.new }
         ensures extends { Extends self.now me.old Step.Trim Answer.Trimmed me.new }
         ensures pieces { pieces_of me.new ≡ pieces_of me.old }
+        ensures deals { deals_of me.new ≡ deals_of me.old }
     {
         self.add::<Brand>(me);
     }
@@ -43,6 +44,7 @@ impl History {
             (Step.Return number) (Answer.Unparked token) me.new }
         ensures pieces { pieces_of me.new
             ≡ Thread number Status.Running ∷ rest_of (pieces_of me.old) }
+        ensures deals { deals_of me.new ≡ deals_of me.old }
     {
         self.give_back_as::<Brand>(me, number, token);
     }
@@ -59,6 +61,7 @@ impl History {
         ensures still { IsStill self.now me.old me.new }
         ensures adds { Adds self.now me.old E.said me.new }
         ensures pieces { pieces_of me.new ≡ after }
+        ensures deals { deals_of me.new ≡ deals_of me.old }
     {
         self.add::<E>(me);
     }
@@ -84,6 +87,7 @@ impl History {
         ensures pieces { pieces_of me.new
             ≡ Numbers after ∷ Thread number Status.Running ∷ Records number []
             ∷ rest_of (pieces_of me.old) }
+        ensures deals { deals_of me.new ≡ deals_of me.old }
     {
         self.register_as::<Brand>(me, number);
     }
@@ -106,6 +110,7 @@ impl History {
         ensures still { IsStill self.now me.old me.new }
         ensures adds { Adds self.now me.old E.said me.new }
         ensures pieces { pieces_of me.new ≡ after.1 }
+        ensures deals { deals_of me.new ≡ deals_of me.old }
     {
         self.add::<E>(me);
     }
@@ -130,6 +135,7 @@ impl History {
             (Step.Retire number) Answer.Retired me.new }
         ensures pieces { pieces_of me.new
             ≡ Numbers after ∷ rest_of (rest_of (rest_of (pieces_of me.old))) }
+        ensures deals { deals_of me.new ≡ deals_of me.old }
     {
         self.retire_as::<Brand>(me, number);
     }
@@ -151,6 +157,7 @@ impl History {
         ensures still { IsStill self.now me.old me.new }
         ensures adds { Adds self.now me.old E.said me.new }
         ensures pieces { pieces_of me.new ≡ after.1 }
+        ensures deals { deals_of me.new ≡ deals_of me.old }
     {
         self.add::<E>(me);
     }
@@ -174,6 +181,7 @@ impl History {
         ensures pieces { pieces_of me.new
             ≡ Thread number Status.Running ∷ Records number after
             ∷ rest_of (rest_of (pieces_of me.old)) }
+        ensures deals { deals_of me.new ≡ deals_of me.old }
     {
         self.acquire_as::<Brand>(me, number, key);
     }
@@ -195,6 +203,7 @@ impl History {
         ensures still { IsStill self.now me.old me.new }
         ensures adds { Adds self.now me.old E.said me.new }
         ensures pieces { pieces_of me.new ≡ after.1 }
+        ensures deals { deals_of me.new ≡ deals_of me.old }
     {
         self.add::<E>(me);
     }
@@ -218,6 +227,7 @@ impl History {
         ensures pieces { pieces_of me.new
             ≡ Thread number Status.Running ∷ Records number after
             ∷ rest_of (rest_of (pieces_of me.old)) }
+        ensures deals { deals_of me.new ≡ deals_of me.old }
     {
         self.release_as::<Brand>(me, number, key);
     }
@@ -239,6 +249,7 @@ impl History {
         ensures still { IsStill self.now me.old me.new }
         ensures adds { Adds self.now me.old E.said me.new }
         ensures pieces { pieces_of me.new ≡ after.1 }
+        ensures deals { deals_of me.new ≡ deals_of me.old }
     {
         self.add::<E>(me);
     }

@@ -2,6 +2,7 @@
 //!
 //! No value of these types is ever created. Only proofs speak of them.
 
+use crate::deal::Deal;
 use crate::event::Event;
 use lot_base::token::ParkToken;
 use lot_machine::status::Status;
@@ -39,6 +40,18 @@ pub enum Piece {
 
     /// Which numbers are registered, and the status and records of all numbers that are not.
     Numbers(LinkedList<bool>),
+
+    /// As `Lists`, where each key below a limit, which comes first, has a title. The list of such a
+    /// key is changed by nobody without its title.
+    TitledLists(u64, u64, u64, LinkedList<Standing>),
+
+    /// The title of a key, which was dealt, and the numbers of all threads that stand in the key's
+    /// list, in order.
+    Title(u64, LinkedList<u64>),
+
+    /// The titles of all keys from the first up to but not the second, which were not dealt. Nobody
+    /// stands in their lists.
+    Undealt(u64, u64),
 }
 
 /// A `View` is what a witness knows.
@@ -54,4 +67,7 @@ pub struct View {
 
     /// The pieces of the machine that the witness alone may change.
     pub pieces: LinkedList<Piece>,
+
+    /// Titles that were dealt, as far as it knows.
+    pub deals: LinkedList<Deal>,
 }

@@ -7,7 +7,8 @@ use Rattle.lot_base.specs.Place.{IsTableSize, place_of}
 use Rattle.lot_base.proofs.PlaceLemmas.{place_of-below}
 use Rattle.lot_machine.specs.Machine.{Machine}
 use Rattle.lot_history.specs.Moves.{Finds, Regroups}
-use Rattle.lot_history.specs.Pieces.{Name, list, thread, records, numbers, has_number, cover, AllSo}
+use Rattle.lot_history.specs.Pieces.{Name, list, title, dealing, thread, records, numbers, has_number}
+use Rattle.lot_history.specs.Pieces.{cover, AllSo}
 use Rattle.lot_history.specs.Views.{all_pieces}
 use Rattle.lot_history.specs.declared.view.Piece.{Piece}
 use Rattle.lot_history.specs.declared.view.Piece.TheVariants.{Lists}
@@ -73,6 +74,19 @@ module _ (size : ℕ) (others : List Piece) where
       rw (ne_eqb (place_of key size) place other) (omega arith))
       (cases_eq (place_of key size) place)
 
+  -- no key has a title
+  title_covered : (key place count : ℕ) → cover (title key) others ≡ cover (list key) others
+      → cover (title key) (empty_lists size place count others)
+      ≡ cover (list key) (empty_lists size place count others)
+  title_covered key place zero same = same
+  title_covered key place (suc count) same = omega (arith, title_covered key (place + 1) count same)
+
+  dealing_covered : (key place count : ℕ) → cover (dealing key) others ≡ cover (list key) others
+      → cover (dealing key) (empty_lists size place count others)
+      ≡ cover (list key) (empty_lists size place count others)
+  dealing_covered key place zero same = same
+  dealing_covered key place (suc count) same = omega (arith, dealing_covered key (place + 1) count same)
+
   thread_covered : (number place count : ℕ)
       → cover (thread number) (empty_lists size place count others) ≡ cover (thread number) others
   thread_covered number place zero = refl
@@ -100,11 +114,16 @@ module _ (max_threads size : ℕ) (table : IsTableSize size) where
   abbrev cut : List Piece
   cut = empty_lists size 0 size (free_numbers max_threads ∷ [])
 
-  same_cover : (name : Name) → cover name cut ≡ cover name all_pieces
-  same_cover (list key) =
+  list_cover : (key : ℕ) → cover (list key) cut ≡ cover (list key) all_pieces
+  list_cover key =
       let below = place_of-below key size table in
       let one = list_among size (free_numbers max_threads ∷ []) key 0 size (omega arith) (omega arith) in
       rw (eq-eqb (place_of key 1) 0 (place_of-one key)) (omega arith)
+
+  same_cover : (name : Name) → cover name cut ≡ cover name all_pieces
+  same_cover (list key) = list_cover key
+  same_cover (title key) = title_covered size (free_numbers max_threads ∷ []) key 0 size refl ∙ list_cover key
+  same_cover (dealing key) = dealing_covered size (free_numbers max_threads ∷ []) key 0 size refl ∙ list_cover key
   same_cover (thread number) = thread_covered size (free_numbers max_threads ∷ []) number 0 size
       ∙ ap (λ is. cond is 0 1 + 0) (unused max_threads number)
   same_cover (records number) = records_covered size (free_numbers max_threads ∷ []) number 0 size
