@@ -5,6 +5,7 @@ pub mod FrameLemmas
 pub mod SplitLemmas
 pub mod ListsLemmas
 pub mod RuleLemmas
+pub mod DealLemmas
 pub mod StepLemmas
 pub mod ThreadLemmas
 pub mod EnterLemmas

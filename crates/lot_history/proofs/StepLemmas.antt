@@ -1,15 +1,17 @@
 -- The rule allows what a seat does at the history's word.
-use Rattle.std.proofs.Common.{◌≡◌, ℕ, zero, suc, ◌-◌, ◌≤◌, ◌^◌, ◌==◌, Bool, true, false, cond, List, [], ◌∷◌, ◌++◌, ◌+◌}
+use Rattle.std.proofs.Common.{◌≡◌, ℕ, zero, suc, ◌-◌, ◌<◌, ◌≤◌, ◌^◌, ◌==◌, Bool, true, false, cond, List, [], ◌∷◌, ◌++◌, ◌+◌}
 use Rattle.std.proofs.Common.{◌∙◌, refl, sym, subst, arith, None}
 use Rattle.std.proofs.lemmas.List.Elements.{All-nil}
 use mathlib.Core.List.{IsPrefix}
 use mathlib.Core.Option.{some, some-injective, some-ne-none}
 use lib.ListN.{get_elem?}
+use Rattle.atomic_table.specs.Seated.{TableId}
 use Rattle.atomic_table.specs.Table.{State, Me, keeps, Allows, Enters, Splits, Joins}
 use Rattle.atomic_table.proofs.Lists.{set_else}
 use Rattle.lot_machine.specs.declared.step.Answer.{Answer}
 use Rattle.lot_machine.specs.declared.step.Step.{Step}
 use Rattle.lot_history.specs.declared.view.Piece.{Piece}
+use Rattle.lot_history.specs.declared.view.Piece.TheVariants.{Undealt}
 use Rattle.lot_history.specs.declared.view.View.{View}
 use Rattle.lot_history.specs.Moves.{Moves, Regroups}
 use Rattle.lot_base.specs.Place.{place_of}
@@ -20,7 +22,8 @@ use Rattle.lot_history.specs.Rule.{IsDealt, Knows, Kept}
 use Rattle.lot_history.specs.Views.{all_pieces, first_view, told_view, spent_view, first_of, rest_of, part_view}
 use Rattle.lot_history.proofs.EventLemmas.{prefix_nil}
 use Rattle.lot_history.specs.Tells.{Adds, Found, Looks}
-use Rattle.lot_history.specs.Titles.{Agree}
+use Rattle.lot_history.specs.Titles.{Agree, with_deal}
+use Rattle.lot_history.proofs.DealLemmas.{dealt}
 use Rattle.lot_history.proofs.RuleLemmas.{arrives, adds, looks, regroups, splits, joins}
 
 -- the rule, as the table of a history has it
@@ -50,6 +53,11 @@ module _ (max_threads slots id : ℕ) (me : Me (Unit {0}) View) where
       → Allows (Holds max_threads) slots id me 0 (λ n. n) (λ r n. n ≡ (record me.0 { pieces = after }, me.1))
   regroups_allowed after same s kept sized at wide =
       (record me.0 { pieces = after }, keeps, tt, regroups max_threads s.views kept id me.0 at after same, refl)
+
+  pub deals_allowed : (key limit : ℕ) (home : TableId) → me.0.pieces ≡ Undealt key limit ∷ rest_of me.0.pieces → key < limit
+      → Allows (Holds max_threads) slots id me 0 (λ n. n) (λ r n. n ≡ (with_deal key limit home me.0, me.1))
+  deals_allowed key limit home undealt more s kept sized at wide =
+      (with_deal key limit home me.0, keeps, tt, dealt max_threads s.views kept id me.0 at key limit home undealt more, refl)
 
 module _ (max_threads id : ℕ) (v : View) where
   pub tells_allowed : Splits (Holds max_threads) id v v (told_view v.seen)

@@ -3,14 +3,18 @@
 //! A history is one word that never changes, so each call here is a few loads of it, or none. What
 //! was done is known in proofs alone.
 
-ghost use Rattle.std.specs.Prelude.{◌≡◌, ◌∷◌, ◌++◌, [], List, IfOk};
+ghost use Rattle.std.specs.Prelude.{◌≡◌, ◌<◌, ◌∷◌, ◌++◌, [], List, IfOk};
 ghost use mathlib.Core.List.{IsPrefix};
 ghost use Rattle.lot_history.specs.Moves.{Moves, Regroups};
-ghost use Rattle.lot_history.specs.Titles.{Agree};
+ghost use Rattle.lot_history.specs.Titles.{Agree, with_deal};
 ghost use Rattle.lot_history.specs.Views.{all_pieces, first_of, rest_of};
 ghost use Rattle.lot_history.specs.declared.view.Piece.{Piece};
+ghost use Rattle.lot_history.specs.declared.view.Piece.TheVariants.{Undealt};
 
-use crate::plays::{Add, Arrive, Giving, Look, OneHistory, Regroup, Seated, Taking, Telling, Told};
+use crate::plays::{
+    Add, Arrive, DealTitle, Dealing, Giving, Look, OneHistory, Regroup, Seated, Taking, Telling,
+    Told,
+};
 use crate::view::View;
 use atomic_table::{Badge, Seat, Table};
 use lot_base::token::NoMemory;
@@ -286,5 +290,17 @@ impl History {
         ensures view { view_of me.new ≡ record (view_of me.old) { pieces = C.after } }
     {
         self.table.shared.load::<Regroup<C>>(&mut me.seat, 0);
+    }
+
+    pub(crate) fn deal_as<D: Dealing>(&self, me: &mut Witness, key: usize, limit: usize)
+        requires witness { IsWitnessOf self.now me.old }
+        requires key { D.key ≡ key }
+        requires limit { D.limit ≡ limit }
+        requires undealt { pieces_of me.old ≡ Undealt key limit ∷ rest_of (pieces_of me.old) }
+        requires below { key < limit }
+        ensures still { IsStill self.now me.old me.new }
+        ensures view { view_of me.new ≡ with_deal key limit D.home (view_of me.old) }
+    {
+        self.table.shared.load::<DealTitle<D>>(&mut me.seat, 0);
     }
 }

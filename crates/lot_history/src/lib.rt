@@ -14,4 +14,5 @@ pub mod history;
 pub mod laws;
 pub mod plays;
 pub mod steps;
+pub mod titles;
 pub mod view;

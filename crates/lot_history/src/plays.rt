@@ -101,6 +101,49 @@ impl<C: Seated> Play<(), View> for Regroup<C> {
     ghost then = { λ _ m _ n. n ≡ (record m.0 { pieces = C.after }, m.1) };
 }
 
+/// Of which key the title is dealt, for which table, and below which key others are not dealt yet.
+/// Each call in this crate picks it.
+pub(crate) trait Dealing {
+    ghost use Rattle.std.specs.Prelude.{ℕ};
+    ghost use Rattle.atomic_table.specs.Seated.{TableId};
+
+    ghost key: { ℕ };
+
+    ghost limit: { ℕ };
+
+    ghost home: { TableId };
+}
+
+impl Dealing for Brand {
+    ghost use Rattle.std.specs.Prelude.{[]};
+
+    ghost key = { 0 };
+
+    ghost limit = { 0 };
+
+    ghost home = { record {
+      words = 0;
+      slots = 0;
+      views_name = 0;
+      atom = 0;
+      block = 0;
+      offset = 0;
+      slot_names = [];
+    } };
+}
+
+/// The title of the first key that has an undealt one is dealt.
+pub(crate) struct DealTitle<D> {
+    of: PhantomData<D>,
+}
+
+impl<D: Dealing> Play<(), View> for DealTitle<D> {
+    ghost use Rattle.std.specs.Prelude.{◌≡◌};
+    ghost use Rattle.lot_history.specs.Titles.{with_deal};
+
+    ghost then = { λ _ m _ n. n ≡ (with_deal D.key D.limit D.home m.0, m.1) };
+}
+
 /// A new seat knows nothing.
 pub(crate) struct Arrive;
 

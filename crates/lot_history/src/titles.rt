@@ -1,0 +1,61 @@
+//! Titles. In a lot whose keys below a limit have titles, the title of a key tells who stands in
+//! the key's list, and nobody changes the list without it.
+
+ghost use Rattle.std.specs.Prelude.{◌≡◌, ◌+◌, ◌<◌, ◌∷◌, [], List};
+ghost use Rattle.atomic_table.specs.Seated.{TableId};
+ghost use Rattle.lot_history.specs.Titles.{deal, titled_pieces};
+ghost use Rattle.lot_history.specs.Views.{all_pieces, rest_of};
+ghost use Rattle.lot_history.specs.Witness.{IsStill, IsWitnessOf, deals_of, events_of, pieces_of, seen_by};
+ghost use Rattle.lot_history.specs.declared.view.Piece.{Piece};
+ghost use Rattle.lot_history.specs.declared.view.Piece.TheVariants.{Title, Undealt};
+
+use crate::history::{History, Witness};
+use std::marker::Brand;
+
+impl History {
+    /// The keys below the limit have titles from now on. The witness has all pieces of a new
+    /// machine. It costs a load.
+    pub fn entitle(&self, me: &mut Witness, limit: usize)
+        requires witness { IsWitnessOf self.now me.old }
+        requires all { pieces_of me.old ≡ all_pieces }
+        ensures still { IsStill self.now me.old me.new }
+        ensures seen { seen_by me.new ≡ seen_by me.old }
+        ensures nothing_added { events_of me.new ≡ events_of me.old }
+        ensures deals { deals_of me.new ≡ deals_of me.old }
+        ensures pieces { pieces_of me.new ≡ titled_pieces limit }
+    {
+        self.entitle_as(me, limit);
+    }
+
+    // The same, where the pieces that it leaves have a name. The call above picks them.
+    fn entitle_as(&self, me: &mut Witness, limit: usize)
+        ghost after: { List Piece }
+        requires witness { IsWitnessOf self.now me.old }
+        requires all { pieces_of me.old ≡ all_pieces }
+        requires after { after ≡ titled_pieces limit }
+        ensures still { IsStill self.now me.old me.new }
+        ensures seen { seen_by me.new ≡ seen_by me.old }
+        ensures nothing_added { events_of me.new ≡ events_of me.old }
+        ensures deals { deals_of me.new ≡ deals_of me.old }
+        ensures pieces { pieces_of me.new ≡ after }
+    {
+        self.regroup(me);
+    }
+
+    /// Deals the title of a key, for the table of a lock, once and for good: the first of the titles
+    /// that were not dealt, which the witness has before its other pieces. It costs a load.
+    pub fn deal(&self, me: &mut Witness, key: usize, limit: usize)
+        ghost home: { TableId }
+        requires witness { IsWitnessOf self.now me.old }
+        requires undealt { pieces_of me.old ≡ Undealt key limit ∷ rest_of (pieces_of me.old) }
+        requires below { key < limit }
+        ensures still { IsStill self.now me.old me.new }
+        ensures seen { seen_by me.new ≡ seen_by me.old }
+        ensures nothing_added { events_of me.new ≡ events_of me.old }
+        ensures deals { deals_of me.new ≡ deal key home ∷ deals_of me.old }
+        ensures pieces { pieces_of me.new
+            ≡ Title key [] ∷ Undealt (key + 1) limit ∷ rest_of (pieces_of me.old) }
+    {
+        self.deal_as::<Brand>(me, key, limit);
+    }
+}
