@@ -1,7 +1,7 @@
 -- A place of a table is two places of one of twice the size.
-use Rattle.std.proofs.Common.{◌≡◌, ◌≢◌, ◌⊎◌, ℕ, ◌+◌, ◌*◌, ◌^◌, ◌<◌, ◌==◌, Bool, true, false, cond, List, [], ◌∷◌, ◌++◌}
+use Rattle.std.proofs.Common.{◌≡◌, ◌≢◌, ◌⊎◌, ℕ, ◌+◌, ◌*◌, ◌^◌, ◌<◌, ◌≤◌, ◌==◌, Bool, true, false, cond, List, [], ◌∷◌, ◌++◌}
 use Rattle.std.proofs.Common.{All, filter, inl, inr, refl, sym, ap, ◌∙◌, subst, ⊎_elim, arith, append-nil}
-use Rattle.std.proofs.lemmas.Bool.{cases_eq, eq-eqb, ne_eqb, cond-true, cond-false}
+use Rattle.std.proofs.lemmas.Bool.{cases_eq, cases_lt, eq-eqb, ne_eqb, lt-ltb, le-ltb, cond-true, cond-false}
 use Rattle.std.proofs.lemmas.List.{map-append}
 use Rattle.std.proofs.lemmas.List.Elements.{All-nil, All-cons, All-head, All-tail, All-map}
 use Rattle.lot_base.specs.NodeFields.{NodeFields}
@@ -10,14 +10,15 @@ use Rattle.lot_base.specs.Place.{place_of}
 use Rattle.lot_history.specs.Pieces.{standing_of, standing_in}
 use Rattle.lot_history.specs.declared.view.Standing.{Standing}
 use Rattle.lot_history.specs.declared.view.Piece.{Piece}
-use Rattle.lot_history.specs.declared.view.Piece.TheVariants.{Lists}
+use Rattle.lot_history.specs.declared.view.Piece.TheVariants.{Lists, TitledLists}
 use Rattle.lot_history.specs.Moves.{Regroups}
-use Rattle.lot_history.specs.Pieces.{Name, list, title, dealing, thread, records, numbers}
+use Rattle.lot_history.specs.Pieces.{Name, list, title, dealing, thread, records, numbers, at_or_above}
 use Rattle.lot_history.specs.Pieces.{times_standing, cover, at_key, IsList}
 use Rattle.lot_history.proofs.NodeLemmas.{at_key-nodes}
 use Rattle.lot_history.proofs.PieceLemmas.{times-append}
 use Rattle.lot_history.proofs.PlaceLemmas.{place_of-half}
 use Rattle.lot_history.proofs.TimesLemmas.{at_own, at_other, at_key-append, same_times}
+use Rattle.lot_history.proofs.TitleLemmas.{waiting_at, regroups_titled}
 
 -- a thread stands at a key of the place
 abbrev pub HasPlace : ℕ → ℕ → Standing → Type 0
@@ -182,6 +183,14 @@ module _ (size place : ℕ) where
       same_cover (records number) = refl
       same_cover numbers = refl
 
+      -- a key below a limit is covered by neither
+      places_above : (limit k : ℕ) → at_or_above limit k (place_of k (2 * size) == 2 * place)
+          + at_or_above limit k (place_of k (2 * size) == 2 * place + 1) ≡ at_or_above limit k (place_of k size == place)
+      places_above limit k =
+          ⊎_elim (λ (below : k < limit). rw (lt-ltb k limit below) refl)
+          (λ (above : limit ≤ k). rw (le-ltb k limit above) (places k))
+          (cases_lt k limit)
+
       -- a key of either place has those that it had
       low_list : (k : ℕ) → place_of k (2 * size) ≡ 2 * place → at_key k standing ≡ at_key k low
       low_list k there = halved.lists k
@@ -194,6 +203,37 @@ module _ (size place : ℕ) where
           ∙ ap (λ (l : List Standing). l ++ at_key k high)
           (at_key-elsewhere (2 * size) (2 * place) k low halved.low_place
           (λ same. absurd (omega (arith, same, there))))
+
+      -- and so has each key
+      both_lists : (k : ℕ) → waiting_at k (TitledLists 0 (2 * size) (2 * place) low
+          ∷ TitledLists 0 (2 * size) (2 * place + 1) high ∷ [])
+          ≡ waiting_at k (TitledLists 0 size place standing ∷ [])
+      both_lists k =
+          ⊎_elim
+          (λ (here : place_of k size ≡ place). ⊎_elim
+          (λ (there : place_of k (2 * size) ≡ 2 * place).
+          let other : place_of k (2 * size) ≢ 2 * place + 1 = λ same. absurd (omega (arith, same, there)) in
+          rw (
+            eq-eqb (place_of k size) place here,
+            eq-eqb (place_of k (2 * size)) (2 * place) there,
+            ne_eqb (place_of k (2 * size)) (2 * place + 1) other,
+            low_list k there,
+          ) refl)
+          (λ (there : place_of k (2 * size) ≡ 2 * place + 1).
+          let other : place_of k (2 * size) ≢ 2 * place = λ same. absurd (omega (arith, same, there)) in
+          rw (
+            eq-eqb (place_of k size) place here,
+            ne_eqb (place_of k (2 * size)) (2 * place) other,
+            eq-eqb (place_of k (2 * size)) (2 * place + 1) there,
+            high_list k there,
+          ) refl)
+          (place_below k here))
+          (λ (other : place_of k size ≢ place). rw (
+            ne_eqb (place_of k size) place other,
+            ne_eqb (place_of k (2 * size)) (2 * place) (λ there. other (place_low k there)),
+            ne_eqb (place_of k (2 * size)) (2 * place + 1) (λ there. other (place_high k there)),
+          ) refl)
+          (cases_eq (place_of k size) place)
 
       -- where a table grows
       pub grows : Regroups max_threads (Lists size place standing ∷ [])
@@ -222,6 +262,32 @@ module _ (size place : ℕ) where
           tt,
         );
       }
+
+      -- where keys have titles
+      pub grows_titled : (limit : ℕ) → Regroups max_threads (TitledLists limit size place standing ∷ [])
+          (TitledLists limit (2 * size) (2 * place) low ∷ TitledLists limit (2 * size) (2 * place + 1) high ∷ [])
+      grows_titled limit =
+          regroups_titled max_threads (TitledLists limit size place standing ∷ [])
+          (TitledLists limit (2 * size) (2 * place) low ∷ TitledLists limit (2 * size) (2 * place + 1) high ∷ [])
+          (record {
+            titles = λ k. omega (arith, places_above limit k);
+            dealings = λ k. omega (arith, places_above limit k);
+            others = λ k none. both_lists k;
+            tell = tt;
+          }) grows
+
+      pub shrinks_titled : (limit : ℕ) → Regroups max_threads
+          (TitledLists limit (2 * size) (2 * place) low ∷ TitledLists limit (2 * size) (2 * place + 1) high ∷ [])
+          (TitledLists limit size place standing ∷ [])
+      shrinks_titled limit =
+          regroups_titled max_threads
+          (TitledLists limit (2 * size) (2 * place) low ∷ TitledLists limit (2 * size) (2 * place + 1) high ∷ [])
+          (TitledLists limit size place standing ∷ []) (record {
+            titles = λ k. omega (arith, places_above limit k);
+            dealings = λ k. omega (arith, places_above limit k);
+            others = λ k none. sym (both_lists k);
+            tell = tt;
+          }) shrinks
 
 -- the nodes of a place are those of its two places
 pub halved_nodes : (size place : ℕ) (nodes low high : List NodeFields)

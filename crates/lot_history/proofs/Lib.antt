@@ -27,3 +27,5 @@ pub mod LawLemmas
 pub mod TakenLemmas
 pub mod TurnLemmas
 pub mod OrderLemmas
+pub mod TitleLemmas
+pub mod TitledLemmas

@@ -40,6 +40,9 @@ pub own_list : (key size place : ℕ) (standing : List Standing) → place_of ke
     → covers (list key) (Lists size place standing) ≡ 1
 own_list key size place standing here = cond-true (place_of key size == place) 1 0 (eq-eqb (place_of key size) place here)
 
+pub own_title : (key other : ℕ) (who : List ℕ) → key ≡ other → covers (title other) (Title key who) ≡ 1
+own_title key other who same = cond-true (key == other) 1 0 (eq-eqb key other same)
+
 -- two machines that are alike in each name which is covered
 abbrev pub AlikeWhere : Machine → Machine → (Name → ℕ) → Type 0
 AlikeWhere m next count = (name : Name) → 0 < count name → Alike m next name

@@ -65,11 +65,11 @@ module _ (number : ℕ) where
   late_times other [] = refl
   late_times other (each ∷ standing) = omega (arith, late_times other standing)
 
-  late_waiters : (standing : List Standing) → map waiter_of (with_late standing) ≡ map waiter_of standing
+  pub late_waiters : (standing : List Standing) → map waiter_of (with_late standing) ≡ map waiter_of standing
   late_waiters [] = refl
   late_waiters (each ∷ standing) = ap (λ (l : List Waiter). waiter_of each ∷ l) (late_waiters standing)
 
-  late_at_key : (k : ℕ) (standing : List Standing) → at_key k (with_late standing) ≡ with_late (at_key k standing)
+  pub late_at_key : (k : ℕ) (standing : List Standing) → at_key k (with_late standing) ≡ with_late (at_key k standing)
   late_at_key k [] = refl
   late_at_key k (each ∷ standing) = either (each.key == k) (late_at_key k standing)
     where

@@ -1,10 +1,13 @@
 -- Keys that have titles: a title tells who stands in the list of its key, and nobody changes the list without it.
-use Rattle.std.specs.Prelude.{◌≡◌, ℕ, ◌+◌, List, [], ◌∷◌, Contains}
+use Rattle.std.specs.Prelude.{◌≡◌, ℕ, ◌+◌, Bool, false, List, [], ◌∷◌, ◌++◌, map, Contains}
 use Rattle.atomic_table.specs.Seated.{TableId}
+use Rattle.lot_base.specs.declared.token.ParkToken.{ParkToken}
 use Rattle.lot_history.specs.declared.deal.Deal.{Deal}
 use Rattle.lot_history.specs.declared.view.Piece.{Piece}
 use Rattle.lot_history.specs.declared.view.Piece.TheVariants.{Numbers, TitledLists, Title, Undealt}
+use Rattle.lot_history.specs.declared.view.Standing.{Standing}
 use Rattle.lot_history.specs.declared.view.View.{View}
+use Rattle.lot_history.specs.Pieces.{at_key}
 use Rattle.lot_history.specs.Views.{rest_of}
 
 -- all pieces of a new machine, where the keys below the limit have titles
@@ -26,3 +29,18 @@ with_deal key limit home view = record view {
 abbrev pub Agree : List Deal → Type 0
 Agree deals = (one other : Deal) → Contains deals one → Contains deals other → one.key ≡ other.key
     → one.home ≡ other.home
+
+-- the title of a key, which tells who stands in the key's list where these are the lists of the key's place
+abbrev pub title_of : ℕ → List Standing → Piece
+title_of key standing = Title key (map (λ each. each.number) (at_key key standing))
+
+-- a thread as it enters the list of a key
+abbrev pub entering : ℕ → ℕ → ParkToken → Bool → Standing
+entering number key park_token timed =
+    record { key = key; number = number; park_token = park_token; timed = timed; late = false }
+
+-- pieces of which the first are the lists of a place, the title of a key and a thread, once the thread is in the list
+abbrev pub with_entry : Standing → List Piece → List Piece
+with_entry each (TitledLists limit size place standing ∷ Title key numbers ∷ thread ∷ pieces) =
+    let after = standing ++ each ∷ [] in TitledLists limit size place after ∷ title_of key after ∷ pieces
+with_entry each pieces = pieces
