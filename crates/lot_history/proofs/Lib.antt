@@ -29,3 +29,4 @@ pub mod TurnLemmas
 pub mod OrderLemmas
 pub mod TitleLemmas
 pub mod TitledLemmas
+pub mod HoldLemmas

@@ -1,13 +1,20 @@
 -- Keys that have titles: a title tells who stands in the list of its key, and nobody changes the list without it.
-use Rattle.std.specs.Prelude.{◌≡◌, ℕ, ◌+◌, Bool, false, List, [], ◌∷◌, ◌++◌, map, Contains}
+use Rattle.std.specs.Prelude.{◌≡◌, ℕ, ◌+◌, ◌≤◌, Bool, false, List, [], ◌∷◌, ◌++◌, map, Contains}
+use mathlib.Core.List.{IsPrefix}
+use mathlib.Core.Option.{some}
+use lib.ListN.{get_elem?}
 use Rattle.atomic_table.specs.Seated.{TableId}
+use Rattle.atomic_table.specs.Table.{State}
 use Rattle.lot_base.specs.declared.token.ParkToken.{ParkToken}
+use Rattle.lot_machine.specs.Machine.{Machine}
+use Rattle.lot_history.specs.History.{LeadsTo}
 use Rattle.lot_history.specs.declared.deal.Deal.{Deal}
+use Rattle.lot_history.specs.declared.event.Event.{Event}
 use Rattle.lot_history.specs.declared.view.Piece.{Piece}
 use Rattle.lot_history.specs.declared.view.Piece.TheVariants.{Numbers, TitledLists, Title, Undealt}
 use Rattle.lot_history.specs.declared.view.Standing.{Standing}
 use Rattle.lot_history.specs.declared.view.View.{View}
-use Rattle.lot_history.specs.Pieces.{at_key}
+use Rattle.lot_history.specs.Pieces.{title, cover, at_key, numbers_of}
 use Rattle.lot_history.specs.Views.{rest_of}
 
 -- all pieces of a new machine, where the keys below the limit have titles
@@ -44,3 +51,31 @@ abbrev pub with_entry : Standing → List Piece → List Piece
 with_entry each (TitledLists limit size place standing ∷ Title key numbers ∷ thread ∷ pieces) =
     let after = standing ++ each ∷ [] in TitledLists limit size place after ∷ title_of key after ∷ pieces
 with_entry each pieces = pieces
+
+-- the title of the key is among these pieces, and tells that these threads stand in the key's list
+pub record HasTitle (pieces : List Piece) (key : ℕ) (numbers : List ℕ) : Type 0 where
+  pub before : List Piece
+  pub behind : List Piece
+  pub stands : pieces ≡ before ++ Title key numbers ∷ behind
+
+-- between any two steps of all threads, of what the seats know: there is one history, which begins with all that each
+-- of them has seen, and leads to one machine. In it each title, with whichever seat it is, tells who stands in the list
+-- of its key; no key has two titles; and none was dealt for two tables
+pub record TitlesHold (max_threads : ℕ) (views : List View) : Type 0 where
+  pub events : List Event
+  pub machine : Machine
+  pub leads : LeadsTo max_threads events machine
+  pub seen : (id : ℕ) (view : View) → get_elem? views id ≡ some view → IsPrefix view.seen events
+  pub tell : (id : ℕ) (view : View) (key : ℕ) (numbers : List ℕ) → get_elem? views id ≡ some view
+      → HasTitle view.pieces key numbers → numbers_of (machine.lists key) ≡ numbers
+  pub once : (id : ℕ) (view : View) (key : ℕ) → get_elem? views id ≡ some view → cover (title key) view.pieces ≤ 1
+  pub one : (id other : ℕ) (view theirs : View) (key : ℕ) (own their : List ℕ) → get_elem? views id ≡ some view
+      → get_elem? views other ≡ some theirs → HasTitle view.pieces key own → HasTitle theirs.pieces key their
+      → id ≡ other
+  pub home : (id other : ℕ) (view theirs : View) → get_elem? views id ≡ some view
+      → get_elem? views other ≡ some theirs → Agree (view.deals ++ theirs.deals)
+
+-- titles hold in every state of a history's table, whatever it is called with
+abbrev pub TitlesHoldWhere : (ℕ → State (Unit {0}) View → Type 0) → Type 0
+TitlesHoldWhere holds = (max_threads : ℕ) (state : State (Unit {0}) View) → holds max_threads state
+    → TitlesHold max_threads state.views

@@ -5,7 +5,12 @@
 
 ghost use Rattle.lot_history.specs.Laws.{EachLeadsToOneMachine, BeginningsAreHistories, HistoriesCanBeReplayed, ParksAndOutcomesAlternate, UnparkedThreadsComeBack, TokensComeFromUnparks};
 ghost use Rattle.lot_history.specs.Takings.{TakenThreadsComeBack};
+ghost use Rattle.lot_history.specs.Titles.{TitlesHoldWhere};
 ghost use Rattle.lot_history.specs.Turns.{FirstComeFirstOut};
+
+use crate::plays::OneHistory;
+use crate::view::View;
+use atomic_table::TableRule;
 
 /// States that a history leads to one machine, and that each beginning of a history is a history.
 pub fn histories_lead_to_one_machine()
@@ -64,4 +69,12 @@ pub fn taken_threads_come_back()
 /// the second.
 pub fn first_come_first_out()
     ensures { FirstComeFirstOut }
+{}
+
+/// Titles hold between any two steps of all threads, since the rule that the table of every history
+/// keeps gives it. Whoever stands in the list of a key that has a title is told by the title,
+/// wherever it is; no key has two titles, and none was dealt for two tables.
+pub fn titles_hold()
+    ensures { TitlesHoldWhere
+        (λ max_threads state. ⟦<OneHistory as TableRule<(), View, usize>>⟧.holds max_threads state) }
 {}
