@@ -1,14 +1,10 @@
 -- Where keys have titles: what holds of a step without them holds of it with them, if each title among the pieces tells
 -- who stands in its key's list then.
 use Rattle.std.proofs.Common.{◌≡◌, ◌≢◌, ℕ, ◌+◌, ◌<◌, ◌≤◌, ◌==◌, Bool, true, false, cond, List, [], ◌∷◌, ◌++◌, map}
-use Rattle.std.proofs.Common.{refl, sym, ap, ◌∙◌, subst, ⊎_elim, arith, append-nil}
+use Rattle.std.proofs.Common.{refl, sym, ap, ◌∙◌, ⊎_elim, arith, append-nil}
 use Rattle.std.specs.Prelude.{⊤}
-use Rattle.std.proofs.lemmas.Bool.{cases_eq, eq-eqb, ne_eqb, le-ltb}
+use Rattle.std.proofs.lemmas.Bool.{cases_eq, eq-eqb, ne_eqb}
 use Rattle.lot_base.specs.Place.{place_of}
-use Rattle.lot_base.specs.declared.token.UnparkToken.{UnparkToken}
-use Rattle.lot_base.proofs.ValueLemmas.{with_value-other}
-use Rattle.lot_machine.specs.declared.status.Status.{Status}
-use Rattle.lot_machine.specs.declared.status.Status.TheVariants as status
 use Rattle.lot_machine.specs.declared.step.Answer.{Answer}
 use Rattle.lot_machine.specs.declared.step.Step.{Step}
 use Rattle.lot_machine.specs.Machine.{Machine, Waiter}
@@ -17,10 +13,7 @@ use Rattle.lot_history.specs.declared.view.Piece.TheVariants.{Lists, Thread, Rec
 use Rattle.lot_history.specs.declared.view.Standing.{Standing}
 use Rattle.lot_history.specs.Moves.{SameCover, Finds, Reaches, Moves, Regroups}
 use Rattle.lot_history.specs.Pieces.{Name, list, title, dealing, thread, records, numbers, covers, cover, Alike, at_key}
-use Rattle.lot_history.specs.Pieces.{at_or_above, waiter_of, numbers_of, AreLists, AllSo, threads_taken}
-use Rattle.lot_history.specs.Titles.{title_of}
-use Rattle.lot_history.proofs.PieceLemmas.{own_list, own_title}
-use Rattle.lot_history.proofs.TimesLemmas.{ChangesKey}
+use Rattle.lot_history.specs.Pieces.{waiter_of, numbers_of, AreLists, AllSo}
 
 -- who stands in the list of the key, as these pieces have it
 abbrev pub standing_at : ℕ → List Piece → List Standing
@@ -318,145 +311,3 @@ regroups_titled max_threads before after keeps same = record {
   so = λ m finds. after_so max_threads before after keeps same.cover m finds m
       (same.so m (plain_finds max_threads before m finds));
 }
-
--- a step at one key of a place
-
--- pieces that have neither a list nor a title
-pub record AreBeside (pieces : List Piece) : Type 1 where
-  pub lists : (key : ℕ) → cover (list key) pieces ≡ 0
-  pub titles : (key : ℕ) → cover (title key) pieces ≡ 0
-  pub dealings : (key : ℕ) → cover (dealing key) pieces ≡ 0
-  pub nobody : (key : ℕ) → standing_at key pieces ≡ []
-  pub tell : (all : List Piece) → AllTell all pieces
-  pub same : without_titles pieces ≡ pieces
-
-pub none_beside : AreBeside []
-none_beside = record {
-  lists = λ key. refl;
-  titles = λ key. refl;
-  dealings = λ key. refl;
-  nobody = λ key. refl;
-  tell = λ all. tt;
-  same = refl;
-}
-
-pub thread_beside : (number : ℕ) (status : Status) (pieces : List Piece) → AreBeside pieces
-    → AreBeside (Thread number status ∷ pieces)
-thread_beside number status pieces beside = record {
-  lists = λ key. omega (arith, beside.lists key);
-  titles = λ key. omega (arith, beside.titles key);
-  dealings = λ key. omega (arith, beside.dealings key);
-  nobody = beside.nobody;
-  tell = beside.tell;
-  same = ap (λ (ps : List Piece). Thread number status ∷ ps) beside.same;
-}
-
-pub taken_beside : (token : UnparkToken) (taken : List Standing) → AreBeside (threads_taken token taken)
-taken_beside token [] = none_beside
-taken_beside token (each ∷ taken) =
-    thread_beside each.number (status.Taken token) (threads_taken token taken) (taken_beside token taken)
-
--- the waiters of each key but this one are as they were
-abbrev pub SameElsewhere : List Standing → List Standing → ℕ → Type 0
-SameElsewhere standing after key =
-    (k : ℕ) → k ≢ key → map waiter_of (at_key k after) ≡ map waiter_of (at_key k standing)
-
-pub changes-elsewhere : (standing after waiting : List Standing) (key : ℕ) → ChangesKey standing after key waiting
-    → SameElsewhere standing after key
-changes-elsewhere standing after waiting key lists k other =
-    ap (map waiter_of) (lists k ∙ with_value-other (λ q. at_key q standing) key waiting k other)
-
-module _ (max_threads limit size place key : ℕ) (standing after : List Standing) (old new : List Piece)
-    (beside : AreBeside old) (further : AreBeside new) (elsewhere : SameElsewhere standing after key)
-    (said : Step → Answer → Type 0)
-    (moves : Moves max_threads said (Lists size place standing ∷ old) (Lists size place after ∷ new)) where
-  abbrev stands_at : ℕ → List Standing → List Standing
-  stands_at k all = cond (place_of k size == place) (at_key k all) []
-
-  -- the pieces have whom their lists have
-  same_where : (k : ℕ) → map waiter_of (at_key k after) ≡ map waiter_of (at_key k standing)
-      → map waiter_of (stands_at k after ++ standing_at k new)
-      ≡ map waiter_of (stands_at k standing ++ standing_at k old)
-  same_where k same =
-      ap (λ (l : List Standing). map waiter_of (stands_at k after ++ l)) (further.nobody k)
-      ∙ (ap (map waiter_of) (append-nil (stands_at k after)) ∙ (either (place_of k size == place)
-      ∙ sym (ap (λ (l : List Standing). map waiter_of (stands_at k standing ++ l)) (beside.nobody k)
-      ∙ ap (map waiter_of) (append-nil (stands_at k standing)))))
-    where
-      either : (b : Bool) → map waiter_of (cond b (at_key k after) []) ≡ map waiter_of (cond b (at_key k standing) [])
-      either true = same
-      either false = refl
-
-  same_at : (k : ℕ) → k ≢ key → map waiter_of (stands_at k after ++ standing_at k new)
-      ≡ map waiter_of (stands_at k standing ++ standing_at k old)
-  same_at k other = same_where k (elsewhere k other)
-
-  plain : Moves max_threads said (Lists size place standing ∷ without_titles old)
-      (Lists size place after ∷ without_titles new)
-  plain = subst (λ (ps : List Piece). Moves max_threads said (Lists size place standing ∷ ps)
-      (Lists size place after ∷ without_titles new)) (sym beside.same)
-      (subst (λ (ps : List Piece). Moves max_threads said (Lists size place standing ∷ old)
-      (Lists size place after ∷ ps)) (sym further.same) moves)
-
-  -- a key without a title
-  pub moves_untitled : limit ≤ key → place_of key size ≡ place
-      → Moves max_threads said (TitledLists limit size place standing ∷ old) (TitledLists limit size place after ∷ new)
-  moves_untitled above here =
-      under_titles max_threads said (TitledLists limit size place standing ∷ old)
-      (TitledLists limit size place after ∷ new) (record {
-        titles = λ k. omega (arith, beside.titles k, further.titles k);
-        dealings = λ k. omega (arith, beside.dealings k, further.dealings k);
-        others = λ k none. same_at k (other k none);
-        tell = further.tell (TitledLists limit size place after ∷ new);
-      }) plain
-    where
-      own : at_or_above limit key (place_of key size == place) ≡ 1
-      own = rw (le-ltb key limit above, eq-eqb (place_of key size) place here) refl
-
-      other : (k : ℕ) → at_or_above limit k (place_of k size == place) + cover (title k) new ≡ 0 → k ≢ key
-      other k none same =
-          let one : at_or_above limit k (place_of k size == place) ≡ at_or_above limit key (place_of key size == place) =
-          ap (λ q. at_or_above limit q (place_of q size == place)) same in absurd (omega (arith, none, one, own))
-
-  -- and one with its title
-  pub moves_titled : (stand : List ℕ) → place_of key size ≡ place
-      → Moves max_threads said (TitledLists limit size place standing ∷ Title key stand ∷ old)
-      (TitledLists limit size place after ∷ title_of key after ∷ new)
-  moves_titled stand here =
-      under_titles max_threads said (TitledLists limit size place standing ∷ Title key stand ∷ old)
-      (TitledLists limit size place after ∷ title_of key after ∷ new) (record {
-        titles = λ k. omega (arith, beside.titles k, further.titles k);
-        dealings = λ k. omega (arith, beside.dealings k, further.dealings k);
-        others = λ k none. same_at k (other k none);
-        tell = (
-          record {
-            owns = omega (arith, own_list key size place after here);
-            stand = ap (λ (l : List Standing). map (λ each. each.number) l) (sym all);
-          },
-          further.tell (TitledLists limit size place after ∷ title_of key after ∷ new),
-        );
-      }) plain
-    where
-      all : stands_at key after ++ standing_at key new ≡ at_key key after
-      all = ap (λ b. cond b (at_key key after) [] ++ standing_at key new) (eq-eqb (place_of key size) place here)
-          ∙ (ap (λ (l : List Standing). at_key key after ++ l) (further.nobody key) ∙ append-nil (at_key key after))
-
-      other : (k : ℕ)
-          → at_or_above limit k (place_of k size == place) + (cond (key == k) 1 0 + cover (title k) new) ≡ 0 → k ≢ key
-      other k none same = let one = own_title key k [] (sym same) in absurd (omega (arith, none, one))
-
-  -- a step that leaves the waiters of this key, too, needs no title
-  pub moves_unchanged : map waiter_of (at_key key after) ≡ map waiter_of (at_key key standing)
-      → Moves max_threads said (TitledLists limit size place standing ∷ old) (TitledLists limit size place after ∷ new)
-  moves_unchanged same =
-      under_titles max_threads said (TitledLists limit size place standing ∷ old)
-      (TitledLists limit size place after ∷ new) (record {
-        titles = λ k. omega (arith, beside.titles k, further.titles k);
-        dealings = λ k. omega (arith, beside.dealings k, further.dealings k);
-        others = λ k none. ⊎_elim
-            (λ (own : k ≡ key). same_where k
-            (subst (λ q. map waiter_of (at_key q after) ≡ map waiter_of (at_key q standing)) (sym own) same))
-            (same_at k)
-            (cases_eq k key);
-        tell = further.tell (TitledLists limit size place after ∷ new);
-      }) plain

@@ -1,28 +1,289 @@
--- Steps at a key that has a title, each with the title before it and after it.
-use Rattle.std.proofs.Common.{◌≡◌, ◌≢◌, ℕ, Bool, true, false, not, find, Some, List, [], ◌∷◌, ◌++◌, map}
-use Rattle.std.proofs.Common.{sym, ap, ◌∙◌, ⊎_elim, append-nil}
-use Rattle.std.proofs.lemmas.Bool.{cases_eq}
+-- Steps where keys have titles, each with the titles before it and after it.
+use Rattle.std.proofs.Common.{◌≡◌, ◌≢◌, ℕ, ◌+◌, ◌≤◌, ◌==◌, Bool, true, false, not, cond, find, Some, List, []}
+use Rattle.std.proofs.Common.{◌∷◌, ◌++◌, map, refl, sym, ap, ◌∙◌, subst, ⊎_elim, arith, append-nil}
+use Rattle.std.proofs.lemmas.Bool.{cases_eq, eq-eqb, ne_eqb, le-ltb, cond-true, cond-false}
+use Rattle.std.proofs.lemmas.List.{map-append}
 use Rattle.lot_base.specs.declared.token.ParkToken.{ParkToken}
+use Rattle.lot_base.specs.declared.token.RequeueOp.{RequeueOp}
 use Rattle.lot_base.specs.declared.token.UnparkToken.{UnparkToken}
 use Rattle.lot_base.specs.Place.{place_of}
-use Rattle.lot_base.specs.Waiting.{split_first, result_of, has_any, without_first}
+use Rattle.lot_base.specs.Waiting.{Split, split_first, result_of, requeue_result, has_any, without_first, with_value}
+use Rattle.lot_base.specs.Waiting.{lists_after_requeue}
 use Rattle.lot_base.proofs.ValueLemmas.{with_value-same, with_value-other}
+use Rattle.lot_machine.specs.declared.status.Status.{Status}
 use Rattle.lot_machine.specs.declared.status.Status.TheVariants as status
+use Rattle.lot_machine.specs.declared.step.Answer.{Answer}
 use Rattle.lot_machine.specs.declared.step.Answer.TheVariants as answer
 use Rattle.lot_machine.specs.declared.step.Op.TheVariants as op
+use Rattle.lot_machine.specs.declared.step.Step.{Step}
 use Rattle.lot_machine.specs.declared.step.Step.TheVariants as step
-use Rattle.lot_history.specs.declared.view.Piece.TheVariants.{Thread, TitledLists, Title}
+use Rattle.lot_machine.specs.Machine.{Waiter}
+use Rattle.lot_history.specs.declared.view.Piece.{Piece}
+use Rattle.lot_history.specs.declared.view.Piece.TheVariants.{Lists, Thread, TitledLists, Title}
 use Rattle.lot_history.specs.declared.view.Standing.{Standing}
 use Rattle.lot_history.specs.Moves.{Moves}
-use Rattle.lot_history.specs.Pieces.{at_key, waiter_of, threads_taken}
+use Rattle.lot_history.specs.Pieces.{list, title, dealing, covers, cover, at_or_above, at_key, waiter_of, threads_taken}
 use Rattle.lot_history.specs.Titles.{title_of, entering}
+use Rattle.lot_history.proofs.AcrossLemmas.{requeued, requeues_within, requeues_across}
 use Rattle.lot_history.proofs.EnterLemmas.{enters}
+use Rattle.lot_history.proofs.ListsLemmas.{with_key, moved_to}
+use Rattle.lot_history.proofs.PieceLemmas.{own_list, own_title}
 use Rattle.lot_history.proofs.TakeLemmas.{unparks_one}
 use Rattle.lot_history.proofs.ThreadLemmas.{Is}
 use Rattle.lot_history.proofs.TimeoutLemmas.{is_number, with_late, late_at_key, late_waiters, passes_deadline, times_out}
 use Rattle.lot_history.proofs.TimesLemmas.{ChangesKey, at_own, at_other, at_key-append}
-use Rattle.lot_history.proofs.TitleLemmas.{none_beside, thread_beside, taken_beside, changes-elsewhere}
-use Rattle.lot_history.proofs.TitleLemmas.{moves_titled, moves_unchanged}
+use Rattle.lot_history.proofs.TitleLemmas.{standing_at, without_titles, AllTell, under_titles}
+
+-- pieces that have neither a list nor a title
+pub record AreBeside (pieces : List Piece) : Type 1 where
+  pub lists : (key : ℕ) → cover (list key) pieces ≡ 0
+  pub titles : (key : ℕ) → cover (title key) pieces ≡ 0
+  pub dealings : (key : ℕ) → cover (dealing key) pieces ≡ 0
+  pub nobody : (key : ℕ) → standing_at key pieces ≡ []
+  pub tell : (all : List Piece) → AllTell all pieces
+  pub same : without_titles pieces ≡ pieces
+
+pub none_beside : AreBeside []
+none_beside = record {
+  lists = λ key. refl;
+  titles = λ key. refl;
+  dealings = λ key. refl;
+  nobody = λ key. refl;
+  tell = λ all. tt;
+  same = refl;
+}
+
+pub thread_beside : (number : ℕ) (status : Status) (pieces : List Piece) → AreBeside pieces
+    → AreBeside (Thread number status ∷ pieces)
+thread_beside number status pieces beside = record {
+  lists = λ key. omega (arith, beside.lists key);
+  titles = λ key. omega (arith, beside.titles key);
+  dealings = λ key. omega (arith, beside.dealings key);
+  nobody = beside.nobody;
+  tell = beside.tell;
+  same = ap (λ (ps : List Piece). Thread number status ∷ ps) beside.same;
+}
+
+pub taken_beside : (token : UnparkToken) (taken : List Standing) → AreBeside (threads_taken token taken)
+taken_beside token [] = none_beside
+taken_beside token (each ∷ taken) =
+    thread_beside each.number (status.Taken token) (threads_taken token taken) (taken_beside token taken)
+
+-- the waiters of each key but this one are as they were
+abbrev pub SameElsewhere : List Standing → List Standing → ℕ → Type 0
+SameElsewhere standing after key =
+    (k : ℕ) → k ≢ key → map waiter_of (at_key k after) ≡ map waiter_of (at_key k standing)
+
+pub changes-elsewhere : (standing after waiting : List Standing) (key : ℕ) → ChangesKey standing after key waiting
+    → SameElsewhere standing after key
+changes-elsewhere standing after waiting key lists k other =
+    ap (map waiter_of) (lists k ∙ with_value-other (λ q. at_key q standing) key waiting k other)
+
+-- whom the pieces have of a place
+
+same_joined : (first second other another : List Standing) → map waiter_of first ≡ map waiter_of second
+    → map waiter_of other ≡ map waiter_of another → map waiter_of (first ++ other) ≡ map waiter_of (second ++ another)
+same_joined first second other another same too =
+    map-append waiter_of first other ∙ (ap (λ (ws : List Waiter). ws ++ map waiter_of other) same
+    ∙ (ap (λ (ws : List Waiter). map waiter_of second ++ ws) too ∙ sym (map-append waiter_of second another)))
+
+abbrev stands_at : ℕ → ℕ → ℕ → List Standing → List Standing
+stands_at size place k all = cond (place_of k size == place) (at_key k all) []
+
+same_stand : (size place k : ℕ) (standing after : List Standing)
+    → map waiter_of (at_key k after) ≡ map waiter_of (at_key k standing)
+    → map waiter_of (stands_at size place k after) ≡ map waiter_of (stands_at size place k standing)
+same_stand size place k standing after same = either (place_of k size == place)
+  where
+    either : (b : Bool) → map waiter_of (cond b (at_key k after) []) ≡ map waiter_of (cond b (at_key k standing) [])
+    either true = same
+    either false = refl
+
+all_stand_here : (size place k : ℕ) (standing : List Standing) → place_of k size ≡ place
+    → stands_at size place k standing ≡ at_key k standing
+all_stand_here size place k standing here =
+    cond-true (place_of k size == place) (at_key k standing) [] (eq-eqb (place_of k size) place here)
+
+none_stand_elsewhere : (size place k : ℕ) (standing : List Standing) → place_of k size ≢ place
+    → stands_at size place k standing ≡ []
+none_stand_elsewhere size place k standing there =
+    cond-false (place_of k size == place) (at_key k standing) [] (ne_eqb (place_of k size) place there)
+
+-- the title of a key is another than that of this one
+other_key : (key k : ℕ) (stand : List ℕ) → covers (title k) (Title key stand) ≡ 0 → k ≢ key
+other_key key k stand none same = let one = own_title key k stand (sym same) in absurd (omega (arith, none, one))
+
+module _ (max_threads limit size place : ℕ) (standing after : List Standing) (old new : List Piece)
+    (beside : AreBeside old) (further : AreBeside new) (said : Step → Answer → Type 0)
+    (moves : Moves max_threads said (Lists size place standing ∷ old) (Lists size place after ∷ new)) where
+  same_where : (k : ℕ) → map waiter_of (at_key k after) ≡ map waiter_of (at_key k standing)
+      → map waiter_of (stands_at size place k after ++ standing_at k new)
+      ≡ map waiter_of (stands_at size place k standing ++ standing_at k old)
+  same_where k same =
+      same_joined (stands_at size place k after) (stands_at size place k standing) (standing_at k new)
+      (standing_at k old) (same_stand size place k standing after same)
+      (ap (map waiter_of) (further.nobody k ∙ sym (beside.nobody k)))
+
+  -- the list of a key of the place
+  all_here : (key : ℕ) → place_of key size ≡ place
+      → stands_at size place key after ++ standing_at key new ≡ at_key key after
+  all_here key here =
+      ap (λ (l : List Standing). stands_at size place key after ++ l) (further.nobody key)
+      ∙ (append-nil (stands_at size place key after) ∙ all_stand_here size place key after here)
+
+  plain : Moves max_threads said (Lists size place standing ∷ without_titles old)
+      (Lists size place after ∷ without_titles new)
+  plain = subst (λ (ps : List Piece). Moves max_threads said (Lists size place standing ∷ ps)
+      (Lists size place after ∷ without_titles new)) (sym beside.same)
+      (subst (λ (ps : List Piece). Moves max_threads said (Lists size place standing ∷ old)
+      (Lists size place after ∷ ps)) (sym further.same) moves)
+
+  -- a step that leaves the waiters of each key needs no title
+  pub moves_unchanged : ((k : ℕ) → map waiter_of (at_key k after) ≡ map waiter_of (at_key k standing))
+      → Moves max_threads said (TitledLists limit size place standing ∷ old) (TitledLists limit size place after ∷ new)
+  moves_unchanged same =
+      under_titles max_threads said (TitledLists limit size place standing ∷ old)
+      (TitledLists limit size place after ∷ new) (record {
+        titles = λ k. omega (arith, beside.titles k, further.titles k);
+        dealings = λ k. omega (arith, beside.dealings k, further.dealings k);
+        others = λ k none. same_where k (same k);
+        tell = further.tell (TitledLists limit size place after ∷ new);
+      }) plain
+
+  -- nor does one that changes the list of a key which has none
+  pub moves_untitled : (key : ℕ) → SameElsewhere standing after key → limit ≤ key → place_of key size ≡ place
+      → Moves max_threads said (TitledLists limit size place standing ∷ old) (TitledLists limit size place after ∷ new)
+  moves_untitled key elsewhere above here =
+      under_titles max_threads said (TitledLists limit size place standing ∷ old)
+      (TitledLists limit size place after ∷ new) (record {
+        titles = λ k. omega (arith, beside.titles k, further.titles k);
+        dealings = λ k. omega (arith, beside.dealings k, further.dealings k);
+        others = λ k none. same_where k (elsewhere k (other k none));
+        tell = further.tell (TitledLists limit size place after ∷ new);
+      }) plain
+    where
+      own : at_or_above limit key (place_of key size == place) ≡ 1
+      own = rw (le-ltb key limit above, eq-eqb (place_of key size) place here) refl
+
+      other : (k : ℕ) → at_or_above limit k (place_of k size == place) + cover (title k) new ≡ 0 → k ≢ key
+      other k none same =
+          let one : at_or_above limit k (place_of k size == place) ≡ at_or_above limit key (place_of key size == place) =
+          ap (λ q. at_or_above limit q (place_of q size == place)) same in absurd (omega (arith, none, one, own))
+
+  -- the list of a key changes, with its title
+  pub moves_titled : (key : ℕ) (stand : List ℕ) → SameElsewhere standing after key → place_of key size ≡ place
+      → Moves max_threads said (TitledLists limit size place standing ∷ Title key stand ∷ old)
+      (TitledLists limit size place after ∷ title_of key after ∷ new)
+  moves_titled key stand elsewhere here =
+      under_titles max_threads said (TitledLists limit size place standing ∷ Title key stand ∷ old)
+      (TitledLists limit size place after ∷ title_of key after ∷ new) (record {
+        titles = λ k. omega (arith, beside.titles k, further.titles k);
+        dealings = λ k. omega (arith, beside.dealings k, further.dealings k);
+        others = λ k none. same_where k (elsewhere k (other_key key k [] (omega (arith, none))));
+        tell = (
+          record {
+            owns = omega (arith, own_list key size place after here);
+            stand = ap (λ (l : List Standing). map (λ each. each.number) l) (sym (all_here key here));
+          },
+          further.tell (TitledLists limit size place after ∷ title_of key after ∷ new),
+        );
+      }) plain
+
+  -- the lists of two keys of the place change, with both titles
+  pub moves_titled_both : (from to : ℕ) (stand target : List ℕ)
+      → ((k : ℕ) → k ≢ from → k ≢ to → map waiter_of (at_key k after) ≡ map waiter_of (at_key k standing))
+      → place_of from size ≡ place → place_of to size ≡ place
+      → Moves max_threads said
+      (TitledLists limit size place standing ∷ Title from stand ∷ Title to target ∷ old)
+      (TitledLists limit size place after ∷ title_of from after ∷ title_of to after ∷ new)
+  moves_titled_both from to stand target elsewhere from_here to_here =
+      under_titles max_threads said
+      (TitledLists limit size place standing ∷ Title from stand ∷ Title to target ∷ old)
+      (TitledLists limit size place after ∷ title_of from after ∷ title_of to after ∷ new) (record {
+        titles = λ k. omega (arith, beside.titles k, further.titles k);
+        dealings = λ k. omega (arith, beside.dealings k, further.dealings k);
+        others = λ k none. same_where k (elsewhere k (other_key from k [] (omega (arith, none)))
+            (other_key to k [] (omega (arith, none))));
+        tell = (
+          record {
+            owns = omega (arith, own_list from size place after from_here);
+            stand = ap (λ (l : List Standing). map (λ each. each.number) l) (sym (all_here from from_here));
+          },
+          (
+            record {
+              owns = omega (arith, own_list to size place after to_here);
+              stand = ap (λ (l : List Standing). map (λ each. each.number) l) (sym (all_here to to_here));
+            },
+            further.tell (TitledLists limit size place after ∷ title_of from after ∷ title_of to after ∷ new),
+          ),
+        );
+      }) plain
+
+-- the lists of keys of two places change, with both titles
+module _ (max_threads limit size place other : ℕ) (standing after target target_after : List Standing)
+    (new : List Piece) (further : AreBeside new) (from to : ℕ) (said : Step → Answer → Type 0)
+    (moves : Moves max_threads said (Lists size place standing ∷ Lists size other target ∷ [])
+    (Lists size place after ∷ Lists size other target_after ∷ new)) (apart : other ≢ place)
+    (from_here : place_of from size ≡ place) (to_there : place_of to size ≡ other)
+    (elsewhere : SameElsewhere standing after from) (elsewhere_there : SameElsewhere target target_after to) where
+  abbrev both : List Piece
+  both = TitledLists limit size place after ∷ TitledLists limit size other target_after ∷ title_of from after
+      ∷ title_of to target_after ∷ new
+
+  same_both : (k : ℕ) → k ≢ from → k ≢ to
+      → map waiter_of (stands_at size place k after ++ (stands_at size other k target_after ++ standing_at k new))
+      ≡ map waiter_of (stands_at size place k standing ++ (stands_at size other k target ++ []))
+  same_both k not_from not_to =
+      same_joined (stands_at size place k after) (stands_at size place k standing)
+      (stands_at size other k target_after ++ standing_at k new) (stands_at size other k target ++ [])
+      (same_stand size place k standing after (elsewhere k not_from))
+      (same_joined (stands_at size other k target_after) (stands_at size other k target) (standing_at k new) []
+      (same_stand size other k target target_after (elsewhere_there k not_to))
+      (ap (map waiter_of) (further.nobody k)))
+
+  all_from : standing_at from both ≡ at_key from after
+  all_from =
+      ap (λ (l : List Standing). stands_at size place from after ++ (stands_at size other from target_after ++ l))
+      (further.nobody from)
+      ∙ (ap (λ (l : List Standing). stands_at size place from after ++ (l ++ []))
+      (none_stand_elsewhere size other from target_after (λ same. apart (sym same ∙ from_here)))
+      ∙ (append-nil (stands_at size place from after) ∙ all_stand_here size place from after from_here))
+
+  all_to : standing_at to both ≡ at_key to target_after
+  all_to =
+      ap (λ (l : List Standing). l ++ (stands_at size other to target_after ++ standing_at to new))
+      (none_stand_elsewhere size place to after (λ same. apart (sym to_there ∙ same)))
+      ∙ (ap (λ (l : List Standing). stands_at size other to target_after ++ l) (further.nobody to)
+      ∙ (append-nil (stands_at size other to target_after) ∙ all_stand_here size other to target_after to_there))
+
+  pub moves_titled_across : (stand numbers : List ℕ) → Moves max_threads said
+      (TitledLists limit size place standing ∷ TitledLists limit size other target ∷ Title from stand
+      ∷ Title to numbers ∷ [])
+      (TitledLists limit size place after ∷ TitledLists limit size other target_after ∷ title_of from after
+      ∷ title_of to target_after ∷ new)
+  moves_titled_across stand numbers =
+      under_titles max_threads said
+      (TitledLists limit size place standing ∷ TitledLists limit size other target ∷ Title from stand
+      ∷ Title to numbers ∷ []) both (record {
+        titles = λ k. omega (arith, further.titles k);
+        dealings = λ k. omega (arith, further.dealings k);
+        others = λ k none. same_both k (other_key from k [] (omega (arith, none)))
+            (other_key to k [] (omega (arith, none)));
+        tell = (
+          record {
+            owns = omega (arith, own_list from size place after from_here);
+            stand = ap (λ (l : List Standing). map (λ each. each.number) l) (sym all_from);
+          },
+          (
+            record {
+              owns = omega (arith, own_list to size other target_after to_there);
+              stand = ap (λ (l : List Standing). map (λ each. each.number) l) (sym all_to);
+            },
+            further.tell both,
+          ),
+        );
+      }) (subst (λ (ps : List Piece). Moves max_threads said (Lists size place standing ∷ Lists size other target ∷ [])
+      (Lists size place after ∷ Lists size other target_after ∷ ps)) (sym further.same) moves)
 
 -- a thread that enters stands behind the others of its key
 pub enters_key : (standing : List Standing) (each : Standing)
@@ -48,11 +309,12 @@ pub enters_titled : (max_threads limit size place : ℕ) (standing : List Standi
     ∷ title_of key (standing ++ entering number key park_token timed ∷ []) ∷ [])
 enters_titled max_threads limit size place standing stand number key park_token timed here =
     let each = entering number key park_token timed in
-    moves_titled max_threads limit size place key standing (standing ++ each ∷ []) (Thread number status.Running ∷ [])
-    [] (thread_beside number status.Running [] none_beside) none_beside
-    (changes-elsewhere standing (standing ++ each ∷ []) (at_key key standing ++ each ∷ []) key (enters_key standing each))
+    moves_titled max_threads limit size place standing (standing ++ each ∷ []) (Thread number status.Running ∷ []) []
+    (thread_beside number status.Running [] none_beside) none_beside
     (Is (step.Enter number key true park_token timed) answer.Entered)
-    (enters max_threads size place standing number key park_token timed [] here) stand here
+    (enters max_threads size place standing number key park_token timed [] here) key stand
+    (changes-elsewhere standing (standing ++ each ∷ []) (at_key key standing ++ each ∷ []) key (enters_key standing each))
+    here
 
 module _ (max_threads limit size place key : ℕ) (standing after : List Standing) (stand : List ℕ)
     (here : place_of key size ≡ place) where
@@ -65,10 +327,10 @@ module _ (max_threads limit size place key : ℕ) (standing after : List Standin
       ∷ threads_taken token (split_first (at_key key standing)).taken)
   unparks_one_titled token lists =
       let split = split_first (at_key key standing) in
-      moves_titled max_threads limit size place key standing after [] (threads_taken token split.taken) none_beside
-      (taken_beside token split.taken) (changes-elsewhere standing after split.left key lists)
-      (Is (step.Unpark (op.One key token)) (answer.Unpark (result_of split)))
-      (unparks_one max_threads size place key standing after token here lists) stand here
+      moves_titled max_threads limit size place standing after [] (threads_taken token split.taken) none_beside
+      (taken_beside token split.taken) (Is (step.Unpark (op.One key token)) (answer.Unpark (result_of split)))
+      (unparks_one max_threads size place key standing after token here lists) key stand
+      (changes-elsewhere standing after split.left key lists) here
 
   module _ (number : ℕ) (found : Standing) (finds_it : find (is_number number) (at_key key standing) ≡ Some found)
     where
@@ -81,9 +343,9 @@ module _ (max_threads limit size place key : ℕ) (standing after : List Standin
           → Moves max_threads (Is (step.Deadline number) answer.Late) (TitledLists limit size place standing ∷ [])
           (TitledLists limit size place (with_late number standing) ∷ [])
       passes_deadline_titled timed waits =
-          moves_unchanged max_threads limit size place key standing (with_late number standing) [] [] none_beside
-          none_beside (λ k other. same_late k) (Is (step.Deadline number) answer.Late)
-          (passes_deadline max_threads size place key number standing found here finds_it timed waits) (same_late key)
+          moves_unchanged max_threads limit size place standing (with_late number standing) [] [] none_beside
+          none_beside (Is (step.Deadline number) answer.Late)
+          (passes_deadline max_threads size place key number standing found here finds_it timed waits) same_late
 
       -- it leaves the list, and runs
       pub times_out_titled : ChangesKey standing after key (without_first (is_number number) (at_key key standing))
@@ -94,8 +356,50 @@ module _ (max_threads limit size place key : ℕ) (standing after : List Standin
           (TitledLists limit size place after ∷ title_of key after ∷ Thread number status.Running ∷ [])
       times_out_titled lists =
           let left = without_first (is_number number) (at_key key standing) in
-          moves_titled max_threads limit size place key (with_late number standing) after []
+          moves_titled max_threads limit size place (with_late number standing) after []
           (Thread number status.Running ∷ []) none_beside (thread_beside number status.Running [] none_beside)
-          (λ k other. changes-elsewhere standing after left key lists k other ∙ sym (same_late k))
           (Is (step.Resolve number) (answer.TimedOut key (not (has_any left))))
-          (times_out max_threads size place key number standing found here finds_it after lists) stand here
+          (times_out max_threads size place key number standing found here finds_it after lists) key stand
+          (λ k other. changes-elsewhere standing after left key lists k other ∙ sym (same_late k)) here
+
+-- requeues, with both titles
+module _ (max_threads limit size place from to : ℕ) (standing after : List Standing) (stand target : List ℕ)
+    (chosen : RequeueOp) (token : UnparkToken) (from_here : place_of from size ≡ place) where
+  abbrev split : Split Standing
+  split = requeued max_threads from to standing chosen token
+
+  abbrev IsRequeue : Step → Answer → Type 0
+  IsRequeue = Is (step.Unpark (op.Requeue from to chosen token)) (answer.Unpark (requeue_result chosen split))
+
+  pub requeues_within_titled : place_of to size ≡ place
+      → ((k : ℕ) → at_key k after ≡ lists_after_requeue (λ q. at_key q standing) from to (moved_to to split) k)
+      → Moves max_threads IsRequeue
+      (TitledLists limit size place standing ∷ Title from stand ∷ Title to target ∷ [])
+      (TitledLists limit size place after ∷ title_of from after ∷ title_of to after ∷ threads_taken token split.taken)
+  requeues_within_titled to_here lists =
+      moves_titled_both max_threads limit size place standing after [] (threads_taken token split.taken) none_beside
+      (taken_beside token split.taken) IsRequeue
+      (requeues_within max_threads from to standing chosen token size place after from_here to_here lists) from to
+      stand target
+      (λ k not_from not_to. ap (map waiter_of) (lists k ∙ (with_value-other kept to
+      (kept to ++ map (with_key to) split.moved) k not_to ∙ with_value-other (λ q. at_key q standing) from split.left k not_from)))
+      from_here to_here
+    where
+      kept : ℕ → List Standing
+      kept = with_value (λ q. at_key q standing) from split.left
+
+  pub requeues_across_titled : (other : ℕ) (there there_after : List Standing) → other ≢ place
+      → place_of to size ≡ other → ChangesKey standing after from split.left
+      → ChangesKey there there_after to (at_key to there ++ map (with_key to) split.moved)
+      → Moves max_threads IsRequeue
+      (TitledLists limit size place standing ∷ TitledLists limit size other there ∷ Title from stand
+      ∷ Title to target ∷ [])
+      (TitledLists limit size place after ∷ TitledLists limit size other there_after ∷ title_of from after
+      ∷ title_of to there_after ∷ threads_taken token split.taken)
+  requeues_across_titled other there there_after apart to_there lists targets =
+      moves_titled_across max_threads limit size place other standing after there there_after
+      (threads_taken token split.taken) (taken_beside token split.taken) from to IsRequeue
+      (requeues_across max_threads from to standing chosen token size place other after there there_after apart
+      from_here to_there lists targets) apart from_here to_there
+      (changes-elsewhere standing after split.left from lists)
+      (changes-elsewhere there there_after (at_key to there ++ map (with_key to) split.moved) to targets) stand target
