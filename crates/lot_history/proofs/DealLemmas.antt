@@ -39,16 +39,19 @@ other-above key k b other =
 
 -- a title that is dealt covers what it covered
 dealt_title : (key limit k : ℕ) → key < limit
-    → covers (title k) (Title key []) + covers (title k) (Undealt (key + 1) limit) ≡ covers (title k) (Undealt key limit)
+    → covers (title k) (Title key []) + covers (title k) (Undealt (key + 1) limit)
+    ≡ covers (title k) (Undealt key limit)
 dealt_title key limit k more =
     ⊎_elim
     (λ (same : k ≡ key). let own = eq-eqb key k (sym same) in
     let one = first-above key k (nat_lt k limit) (lt-ltb k limit (omega (arith, same, more))) same in
     let none = none-above key k (nat_lt k limit) same in rw own (omega (arith, one, none)))
-    (λ (other : k ≢ key). rw (ne_eqb key k (λ same. other (sym same))) (omega (arith, other-above key k (nat_lt k limit) other)))
+    (λ (other : k ≢ key). rw (ne_eqb key k (λ same. other (sym same)))
+    (omega (arith, other-above key k (nat_lt k limit) other)))
     (cases_eq k key)
 
-dealt_dealing : (key limit k : ℕ) → covers (dealing k) (Undealt (key + 1) limit) ≤ covers (dealing k) (Undealt key limit)
+dealt_dealing : (key limit k : ℕ)
+    → covers (dealing k) (Undealt (key + 1) limit) ≤ covers (dealing k) (Undealt key limit)
 dealt_dealing key limit k =
     ⊎_elim
     (λ (same : k ≡ key). omega (arith, none-above key k (nat_lt k limit) same))

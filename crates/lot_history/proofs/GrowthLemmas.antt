@@ -185,7 +185,8 @@ module _ (size place : ℕ) where
 
       -- a key below a limit is covered by neither
       places_above : (limit k : ℕ) → at_or_above limit k (place_of k (2 * size) == 2 * place)
-          + at_or_above limit k (place_of k (2 * size) == 2 * place + 1) ≡ at_or_above limit k (place_of k size == place)
+          + at_or_above limit k (place_of k (2 * size) == 2 * place + 1)
+          ≡ at_or_above limit k (place_of k size == place)
       places_above limit k =
           ⊎_elim (λ (below : k < limit). rw (lt-ltb k limit below) refl)
           (λ (above : limit ≤ k). rw (le-ltb k limit above) (places k))

@@ -93,7 +93,8 @@ module _ (max_threads : ℕ) (views : List View) (kept : Kept max_threads views)
   below = in_range views id v at
 
   -- a seat knows otherwise of the same history
-  pub with_view : (w : View) → Knows kept.events kept.machine kept.owner kept.homes id w → Kept max_threads (set views id w)
+  pub with_view : (w : View) → Knows kept.events kept.machine kept.owner kept.homes id w
+      → Kept max_threads (set views id w)
   with_view w knows = record {
     events = kept.events;
     machine = kept.machine;
@@ -163,7 +164,13 @@ module _ (max_threads : ℕ) (views : List View) (kept : Kept max_threads views)
 
     abbrev new_view : View
     new_view =
-        record { seen = kept.events ++ added ∷ []; heard = []; mine = v.mine ++ added ∷ []; pieces = after; deals = v.deals }
+        record {
+          seen = kept.events ++ added ∷ [];
+          heard = [];
+          mine = v.mine ++ added ∷ [];
+          pieces = after;
+          deals = v.deals;
+        }
 
     own_knows : Knows (kept.events ++ added ∷ []) from.next kept.owner kept.homes id new_view
     own_knows = record {
@@ -441,7 +448,8 @@ module _ (max_threads : ℕ) (views : List View) (kept : Kept max_threads views)
 -- what a seat learns by a look, once another without pieces was joined to it
 pub looks-joined : (max_threads number same_number : ℕ) (old joined new : View) (heard : List Event)
     (pieces : List Piece) (deals : List Deal) → same_number ≡ number
-    → joined ≡ record old { heard = heard; pieces = old.pieces ++ pieces; deals = old.deals ++ deals } → pieces ≡ [] → Looks max_threads same_number joined new → Looks max_threads number old new
+    → joined ≡ record old { heard = heard; pieces = old.pieces ++ pieces; deals = old.deals ++ deals } → pieces ≡ []
+    → Looks max_threads same_number joined new → Looks max_threads number old new
 looks-joined max_threads number same_number old joined new heard pieces deals same is none looks = record {
   machine = looks.machine;
   seen = subst (λ es. IsPrefix es new.seen) (ap (λ (v : View). v.seen) is) looks.seen;

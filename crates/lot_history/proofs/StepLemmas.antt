@@ -47,17 +47,20 @@ module _ (max_threads slots id : ℕ) (me : Me (Unit {0}) View) where
       (λ r n. Looks max_threads id me.0 n.0 × IsPrefix me.0.heard n.0.seen × (n.1 ≡ me.1)
       × (n.0.deals ≡ me.0.deals) × Agree me.0.deals)
   looks_allowed s kept sized at wide =
-      let next = looks max_threads s.views kept id me.0 at in (next.0, keeps, tt, next.1, (next.2, next.3, refl, next.4, next.5))
+      let next = looks max_threads s.views kept id me.0 at in
+      (next.0, keeps, tt, next.1, (next.2, next.3, refl, next.4, next.5))
 
   pub regroups_allowed : (after : List Piece) → Regroups max_threads me.0.pieces after
       → Allows (Holds max_threads) slots id me 0 (λ n. n) (λ r n. n ≡ (record me.0 { pieces = after }, me.1))
   regroups_allowed after same s kept sized at wide =
       (record me.0 { pieces = after }, keeps, tt, regroups max_threads s.views kept id me.0 at after same, refl)
 
-  pub deals_allowed : (key limit : ℕ) (home : TableId) → me.0.pieces ≡ Undealt key limit ∷ rest_of me.0.pieces → key < limit
+  pub deals_allowed : (key limit : ℕ) (home : TableId) → me.0.pieces ≡ Undealt key limit ∷ rest_of me.0.pieces
+      → key < limit
       → Allows (Holds max_threads) slots id me 0 (λ n. n) (λ r n. n ≡ (with_deal key limit home me.0, me.1))
   deals_allowed key limit home undealt more s kept sized at wide =
-      (with_deal key limit home me.0, keeps, tt, dealt max_threads s.views kept id me.0 at key limit home undealt more, refl)
+      let next = dealt max_threads s.views kept id me.0 at key limit home undealt more in
+      (with_deal key limit home me.0, keeps, tt, next, refl)
 
 module _ (max_threads id : ℕ) (v : View) where
   pub tells_allowed : Splits (Holds max_threads) id v v (told_view v.seen)

@@ -48,7 +48,8 @@ AllTell pieces (_ ∷ titles) = AllTell pieces titles
 abbrev pub waiting_at : ℕ → List Piece → List Waiter
 waiting_at key pieces = map waiter_of (standing_at key pieces)
 
--- from these pieces to those no list changes whose title is not among them, and the titles tell who stands in the others
+-- from these pieces to those no list changes whose title is not among them, and the titles tell who stands in the
+-- others
 pub record KeepsTitles (before after : List Piece) : Type 0 where
   pub titles : (key : ℕ) → cover (title key) after ≡ cover (title key) before
   pub dealings : (key : ℕ) → cover (dealing key) after ≡ cover (dealing key) before

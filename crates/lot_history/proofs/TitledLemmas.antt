@@ -167,7 +167,8 @@ module _ (max_threads limit size place : ℕ) (standing after : List Standing) (
 
       other : (k : ℕ) → at_or_above limit k (place_of k size == place) + cover (title k) new ≡ 0 → k ≢ key
       other k none same =
-          let one : at_or_above limit k (place_of k size == place) ≡ at_or_above limit key (place_of key size == place) =
+          let one : at_or_above limit k (place_of k size == place)
+          ≡ at_or_above limit key (place_of key size == place) =
           ap (λ q. at_or_above limit q (place_of q size == place)) same in absurd (omega (arith, none, one, own))
 
   -- the list of a key changes, with its title
@@ -313,13 +314,15 @@ enters_titled max_threads limit size place standing stand number key park_token 
     (thread_beside number status.Running [] none_beside) none_beside
     (Is (step.Enter number key true park_token timed) answer.Entered)
     (enters max_threads size place standing number key park_token timed [] here) key stand
-    (changes-elsewhere standing (standing ++ each ∷ []) (at_key key standing ++ each ∷ []) key (enters_key standing each))
+    (changes-elsewhere standing (standing ++ each ∷ []) (at_key key standing ++ each ∷ []) key
+    (enters_key standing each))
     here
 
 module _ (max_threads limit size place key : ℕ) (standing after : List Standing) (stand : List ℕ)
     (here : place_of key size ≡ place) where
   -- the first waiter of the key is taken, if there is one
-  pub unparks_one_titled : (token : UnparkToken) → ChangesKey standing after key (split_first (at_key key standing)).left
+  pub unparks_one_titled : (token : UnparkToken)
+      → ChangesKey standing after key (split_first (at_key key standing)).left
       → Moves max_threads
       (Is (step.Unpark (op.One key token)) (answer.Unpark (result_of (split_first (at_key key standing)))))
       (TitledLists limit size place standing ∷ Title key stand ∷ [])
@@ -382,7 +385,8 @@ module _ (max_threads limit size place from to : ℕ) (standing after : List Sta
       (requeues_within max_threads from to standing chosen token size place after from_here to_here lists) from to
       stand target
       (λ k not_from not_to. ap (map waiter_of) (lists k ∙ (with_value-other kept to
-      (kept to ++ map (with_key to) split.moved) k not_to ∙ with_value-other (λ q. at_key q standing) from split.left k not_from)))
+      (kept to ++ map (with_key to) split.moved) k not_to
+      ∙ with_value-other (λ q. at_key q standing) from split.left k not_from)))
       from_here to_here
     where
       kept : ℕ → List Standing

@@ -32,7 +32,8 @@ cover-taken_other : (token : UnparkToken) (taken : List Standing) (name : Name) 
     → cover name (threads_taken token taken) ≡ 0
 cover-taken_other token [] name other = refl
 cover-taken_other token (each ∷ taken) (list key) other = omega (arith, cover-taken_other token taken (list key) other)
-cover-taken_other token (each ∷ taken) (title key) other = omega (arith, cover-taken_other token taken (title key) other)
+cover-taken_other token (each ∷ taken) (title key) other =
+    omega (arith, cover-taken_other token taken (title key) other)
 cover-taken_other token (each ∷ taken) (dealing key) other =
     omega (arith, cover-taken_other token taken (dealing key) other)
 cover-taken_other token (each ∷ taken) (records number) other =

@@ -292,6 +292,7 @@ impl History {
         self.table.shared.load::<Regroup<C>>(&mut me.seat, 0);
     }
 
+    // The title of a key is dealt, for the table that `D` says.
     pub(crate) fn deal_as<D: Dealing>(&self, me: &mut Witness, key: usize, limit: usize)
         requires witness { IsWitnessOf self.now me.old }
         requires key { D.key ≡ key }

@@ -76,5 +76,5 @@ pub fn first_come_first_out()
 /// wherever it is; no key has two titles, and none was dealt for two tables.
 pub fn titles_hold()
     ensures { TitlesHoldWhere
-        (λ max_threads state. ⟦<OneHistory as TableRule<(), View, usize>>⟧.holds max_threads state) }
+        (λ max_threads s. ⟦<OneHistory as TableRule<(), View, usize>>⟧.holds max_threads s) }
 {}

@@ -48,8 +48,9 @@ impl History {
         self.regroup(me);
     }
 
-    /// Deals the title of a key, for the table of a lock, once and for good: the first of the titles
-    /// that were not dealt, which the witness has before its other pieces. It costs a load.
+    /// Deals the title of a key, for the table of a lock, once and for good. It is the first of the
+    /// titles that were not dealt, which the witness has before its other pieces. The caller picks
+    /// the table `home`. It costs a load.
     pub fn deal(&self, me: &mut Witness, key: usize, limit: usize)
         ghost home: { TableId }
         requires witness { IsWitnessOf self.now me.old }
