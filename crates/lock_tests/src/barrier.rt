@@ -33,7 +33,7 @@ fn push_next<'a, 'l, R: Host>(
     parties.push(party).expect(rt, "memory");
 }
 
-fn all_meet<R: Host>(rt: &R, barrier: &mut Barrier<'_>) -> usize {
+fn all_meet<R: Host>(rt: &R, barrier: &mut Barrier<'static>) -> usize {
     let (came, led) = (AtomicUsize::new(0), AtomicUsize::new(0));
     let mut left = barrier.parties();
     let mut parties = Vec::new(rt.alloc());
@@ -45,15 +45,15 @@ fn all_meet<R: Host>(rt: &R, barrier: &mut Barrier<'_>) -> usize {
     led.load(Ordering::SeqCst)
 }
 
-fn has_one_leader_a_round<R: Host>(rt: &R, lot: &Lot) -> bool {
+fn has_one_leader_a_round<R: Host>(rt: &R, lot: &'static Lot) -> bool {
     let mut barrier = Barrier::new(lot, PARTIES).expect(rt, "a barrier");
     all_meet(rt, &mut barrier) == ROUNDS
 }
 
 fn meet_in_each_room<R: Host>(rt: &R) {
     for room in ROOMS {
-        let lot = new_lot(rt, room);
-        expect(rt, has_one_leader_a_round(rt, &lot), "one leader each");
+        let is_well = has_one_leader_a_round(rt, new_lot(rt, room));
+        expect(rt, is_well, "one leader each");
     }
 }
 

@@ -23,14 +23,14 @@ fn is_dropped_once(value: Dropped<'_>, count: &AtomicUsize) -> bool {
     before == 0 && count.load(Ordering::SeqCst) == 1
 }
 
-pub fn leaves_a_mutex<R: Host>(rt: &R, lot: &Lot) -> bool {
+pub fn leaves_a_mutex<R: Host>(rt: &R, lot: &'static Lot) -> bool {
     let count = AtomicUsize::new(0);
     let value = Dropped { count: &count };
     let mutex = Mutex::new(lot, value).expect(rt, "a mutex");
     is_dropped_once(mutex.into_inner(), &count)
 }
 
-pub fn leaves_a_lock<R: Host>(rt: &R, lot: &Lot) -> bool {
+pub fn leaves_a_lock<R: Host>(rt: &R, lot: &'static Lot) -> bool {
     let count = AtomicUsize::new(0);
     let lock = RwLock::new(lot, Dropped { count: &count }).expect(rt, "a lock");
     is_dropped_once(lock.into_inner(), &count)

@@ -16,6 +16,8 @@ mod condvar;
 #[cfg(test)]
 mod drops;
 #[cfg(test)]
+mod held;
+#[cfg(test)]
 mod mutex;
 #[cfg(test)]
 mod once;

@@ -5,50 +5,101 @@
 //! - `cell`: `get` (0 is none), `set N`, `wait`, `get_or_init N` (its closure raises `came`),
 //!   `get_or_try_init N` (which fails where that is 0).
 
-use crate::player::play_each;
-use crate::stage::{Host, ROOMS, Stage, number_or_one};
-use parking_lot::OnceLock;
-use parking_lot::mutex::Fairness;
+use crate::player::{Hand, Kind, Row, Stage, play_each, play_lines, play_on};
+use crate::stage::{Actor, Counts, Host, ROOMS, new_lot, number_or_one};
+use parking_lot::{Once, OnceLock};
+use std::sync::Wait;
 use std::sync::atomic::{AtomicUsize, Ordering};
+use std::time::Clock;
 use test_support::waits::comes_to;
 use test_support::words::Words;
 
-pub fn use_once<F: Fairness, R: Host>(
+/// Plays a row on a new stage.
+pub fn play<R: Host>(rt: &R, row: &Row<'_>) {
+    let lot = new_lot(rt, row.room);
+    let stage = OnceStage {
+        once: Once::new(lot).expect(rt, "a once"),
+        cell: OnceLock::new(lot).expect(rt, "a cell"),
+        counts: Counts::new(),
+    };
+    play_on(rt, stage, row);
+}
+
+#[derive(Drop)]
+struct OnceStage {
+    once: Once<'static>,
+    cell: OnceLock<'static, usize>,
+    counts: Counts,
+}
+
+impl Stage for OnceStage {
+    fn begin(&mut self, _value: usize) {}
+
+    fn play_place<'x, R: Actor>(&'x self, rt: &'x R, row: &Row<'_>, place: usize) {
+        let mut hand = OnceHand { rt, stage: self };
+        play_lines(rt, &self.counts, &mut hand, row, place);
+    }
+
+    fn end(self) -> usize {
+        self.cell.into_inner().unwrap_or(0)
+    }
+}
+
+#[derive(Drop)]
+struct OnceHand<'x, R> {
+    rt: &'x R,
+    stage: &'x OnceStage,
+}
+
+impl<R: Wait + Clock> Hand for OnceHand<'_, R> {
+    fn call(&mut self, first: &str, words: &mut Words<'_>) -> Option<usize> {
+        let stage = self.stage;
+        match first {
+            "once" => use_once(self.rt, &stage.once, &stage.counts, words),
+            "cell" => use_cell(self.rt, &stage.cell, &stage.counts.came, words),
+            _ => None,
+        }
+    }
+}
+
+fn use_once<R: Wait + Clock>(
     rt: &R,
-    stage: &Stage<'_, F>,
+    once: &Once<'static>,
+    counts: &Counts,
     words: &mut Words<'_>,
 ) -> Option<usize> {
     match words.word()? {
-        "is_completed" => Some(usize::from(stage.once.is_completed())),
+        "is_completed" => Some(usize::from(once.is_completed())),
         "wait" => {
-            stage.once.wait(rt);
+            once.wait(rt);
             Some(1)
         }
         "call_once" => {
             let least = words.number()?;
-            stage.once.call_once(rt, |_begun| {
-                stage.came.fetch_add(1, Ordering::SeqCst);
-                comes_to(&stage.done, least);
+            once.call_once(rt, |_begun| {
+                counts.came.fetch_add(1, Ordering::SeqCst);
+                comes_to(&counts.done, least);
             });
-            Some(stage.came.load(Ordering::SeqCst))
+            Some(counts.came.load(Ordering::SeqCst))
         }
         _ => None,
     }
 }
 
-pub fn use_cell<F: Fairness, R: Host>(
+fn use_cell<R: Wait + Clock>(
     rt: &R,
-    stage: &Stage<'_, F>,
+    cell: &OnceLock<'static, usize>,
+    runs: &AtomicUsize,
     words: &mut Words<'_>,
 ) -> Option<usize> {
     let call = words.word()?;
     let number = number_or_one(words);
     match call {
-        "get" => Some(number_in(stage.cell.get())),
-        "wait" => Some(*stage.cell.wait(rt)),
-        "set" => Some(usize::from(stage.cell.set(rt, number).is_ok())),
-        "get_or_init" => Some(computed(rt, &stage.cell, &stage.came, number)),
-        "get_or_try_init" => Some(tried(rt, &stage.cell, number)),
+        "get" => Some(number_in(cell.get())),
+        "wait" => Some(*cell.wait(rt)),
+        "set" => Some(usize::from(cell.set(rt, number).is_ok())),
+        "get_or_init" => Some(*cell.get_or_init(rt, || compute(runs, number))),
+        "get_or_try_init" => Some(tried(rt, cell, number)),
         _ => None,
     }
 }
@@ -61,16 +112,7 @@ fn number_in(found: Option<&usize>) -> usize {
     }
 }
 
-fn computed<R: Host>(
-    rt: &R,
-    cell: &OnceLock<'_, usize>,
-    runs: &AtomicUsize,
-    number: usize,
-) -> usize {
-    *cell.get_or_init(rt, || compute(runs, number))
-}
-
-fn tried<R: Host>(rt: &R, cell: &OnceLock<'_, usize>, number: usize) -> usize {
+fn tried<R: Wait + Clock>(rt: &R, cell: &OnceLock<'static, usize>, number: usize) -> usize {
     let found = cell.get_or_try_init(rt, || if number == 0 { Err(()) } else { Ok(number) });
     number_in(found.ok())
 }
@@ -83,36 +125,35 @@ fn compute(runs: &AtomicUsize, number: usize) -> usize {
 
 #[test]
 fn one_closure_runs(rt: HostRuntime) {
-    let scripts = [
-        "# smoke_once, and the example of the documentation
+    let scripts = "# smoke_once, and the example of the documentation
 once is_completed -> 0 ; once call_once 0 -> 1 ; once is_completed
-once call_once 0 -> 1 ; once is_completed ; once wait",
-        "# stampede_once
+once call_once 0 -> 1 ; once is_completed ; once wait
+
+# stampede_once
 thread 11
 repeat 4 yield
-once call_once 0 -> 1",
-        "# The example of call_once: a cached value.
+once call_once 0 -> 1
+
+# The example of call_once: a cached value.
 thread 10
 cell get_or_init 2 -> 2
 thread
 cell wait -> 2
 after
-tell came -> 1",
-    ];
-    play_each(&rt, &ROOMS, 20, &scripts);
+tell came -> 1";
+    play_each(&rt, Kind::Onces, &ROOMS, 20, scripts);
 }
 
 #[test]
 fn others_wait_for_the_closure(rt: HostRuntime) {
-    let scripts = [
-        "# wait_for_force_to_finish, but for the poison with which that begins
+    let scripts = "# wait_for_force_to_finish, but for the poison with which that begins
 thread
 once call_once 1
 thread
-await came ; once is_completed -> 0 ; raise done ; once call_once 0 -> 1 ; once is_completed",
-        "# A cell is set once.
+await came ; once is_completed -> 0 ; raise done ; once call_once 0 -> 1 ; once is_completed
+
+# A cell is set once.
 cell get -> 0 ; cell get_or_try_init 0 -> 0 ; cell set 5 ; cell set 6 -> 0 ; cell get -> 5
-cell get_or_try_init 7 -> 5",
-    ];
-    play_each(&rt, &ROOMS, 1, &scripts);
+cell get_or_try_init 7 -> 5";
+    play_each(&rt, Kind::Onces, &ROOMS, 1, scripts);
 }

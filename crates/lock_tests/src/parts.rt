@@ -1,7 +1,7 @@
 //! Guards of a part of a value. Upstream has no test of them.
 
 use crate::stage::{Host, ROOM, expect, has, new_lot};
-use parking_lot::{Guard, Lens, Mutex, RwLock};
+use parking_lot::{Guard, Lens, Lot, Mutex, RwLock};
 use std::ops::{Deref, DerefMut};
 
 type Pair = (usize, usize);
@@ -43,7 +43,7 @@ fn sets_first<G: DerefMut<Target = Pair> + Drop>(found: Option<G>) -> bool {
     }
 }
 
-fn part_of_a_mutex<R: Host>(rt: &R, mutex: &Mutex<'_, Pair>) {
+fn part_of_a_mutex<R: Host>(rt: &R, mutex: &Mutex<'static, Pair>) {
     let mut part = Guard::map(mutex.lock(rt), Second);
     expect(rt, *part == 2 && mutex.is_locked(rt), "the part is held");
     *part = 3;
@@ -51,7 +51,7 @@ fn part_of_a_mutex<R: Host>(rt: &R, mutex: &Mutex<'_, Pair>) {
     expect(rt, second_of(mutex.lock(rt)) == 3, "it was written");
 }
 
-fn chosen_part_of_a_mutex<R: Host>(rt: &R, mutex: &Mutex<'_, Pair>) {
+fn chosen_part_of_a_mutex<R: Host>(rt: &R, mutex: &Mutex<'static, Pair>) {
     let refused = Guard::try_map(mutex.lock(rt), choose_second).err();
     expect(rt, sets_first(refused), "no part was chosen");
     let chosen = Guard::try_map(mutex.lock(rt), choose_second).ok();
@@ -60,7 +60,7 @@ fn chosen_part_of_a_mutex<R: Host>(rt: &R, mutex: &Mutex<'_, Pair>) {
     expect(rt, !mutex.is_locked(rt), "it was let go");
 }
 
-fn part_to_read<R: Host>(rt: &R, lock: &RwLock<'_, Pair>) {
+fn part_to_read<R: Host>(rt: &R, lock: &RwLock<'static, Pair>) {
     let part = Guard::map(lock.read(rt), Second);
     expect(rt, *part == 2, "it is read");
     expect(rt, has(lock.try_read(rt)), "others read");
@@ -68,7 +68,7 @@ fn part_to_read<R: Host>(rt: &R, lock: &RwLock<'_, Pair>) {
     drop(part);
 }
 
-fn part_to_write<R: Host>(rt: &R, lock: &RwLock<'_, Pair>) {
+fn part_to_write<R: Host>(rt: &R, lock: &RwLock<'static, Pair>) {
     let mut part = Guard::map(lock.write(rt), Second);
     *part = 3;
     expect(rt, !has(lock.try_read(rt)), "nobody reads");
@@ -76,14 +76,22 @@ fn part_to_write<R: Host>(rt: &R, lock: &RwLock<'_, Pair>) {
     expect(rt, second_of(lock.read(rt)) == 3, "it was written");
 }
 
-fn parts_of_each<R: Host>(rt: &R) {
-    let lot = new_lot(rt, ROOM);
-    let mutex = Mutex::new(&lot, (1, 2)).expect(rt, "a mutex");
+fn parts_of_a_mutex<R: Host>(rt: &R, lot: &'static Lot) {
+    let mutex = Mutex::new(lot, (1, 2)).expect(rt, "a mutex");
     part_of_a_mutex(rt, &mutex);
     chosen_part_of_a_mutex(rt, &mutex);
-    let lock = RwLock::new(&lot, (1, 2)).expect(rt, "a lock");
+}
+
+fn parts_of_a_lock<R: Host>(rt: &R, lot: &'static Lot) {
+    let lock = RwLock::new(lot, (1, 2)).expect(rt, "a lock");
     part_to_read(rt, &lock);
     part_to_write(rt, &lock);
+}
+
+fn parts_of_each<R: Host>(rt: &R) {
+    let lot = new_lot(rt, ROOM);
+    parts_of_a_mutex(rt, lot);
+    parts_of_a_lock(rt, lot);
 }
 
 #[test]

@@ -2,7 +2,7 @@
 //!
 //! ```text
 //! # Six threads count under a mutex.
-//! leaves mutex 6000
+//! leaves 6000
 //! thread 6
 //! repeat 1000 mutex lock ; guard add 1 ; guard unlock
 //! after
@@ -19,29 +19,25 @@
 //!
 //! The first word names what is called, and the second the call:
 //!
-//! - `begins N`: what the locks have as values, if not 0. `leaves LOCK N`: what the `mutex`, the
-//!   `rwlock` or the `reentrant` mutex gives back at last.
+//! - `begins N`: what the locks have as values, if not 0. `leaves N`: what the lock gives back at
+//!   last, of several the first.
 //! - `raise COUNT N`, `lower COUNT N`, `await COUNT N`, `tell COUNT`: adds so many, takes them
 //!   away, waits until there are so many, or tells it; N is 1 where it is not said. The counts are
 //!   `came`, `held` and `done`.
 //! - `yield`, `pause MS`: lets others run, or sleeps so many milliseconds.
-//! - `mutex`, `guard`, `condvar`, `other_condvar`, `rwlock`, `reader`, `upgradable`, `upgrade`,
-//!   `writer`, `written`, `semaphore`, `permit`, `once`, `cell`, `reentrant`: a call of a lock, or
-//!   of what the thread holds of it. The modules of the locks tell what comes out of each, and what
-//!   else there is.
+//! - `mutex`, `guard`, `condvar`, `other_condvar`, `rwlock`, `reader`, `upgradable`, `writer`,
+//!   `semaphore`, `permit`, `once`, `cell`, `reentrant`: a call of a lock, or of what the thread
+//!   holds of it. The modules of the locks tell what comes out of each, and what else there is.
+//!
+//! Several scripts stand in one text, with an empty line between them.
 
-use crate::condvar::use_condvar;
-use crate::mutex::{use_guard, use_mutex};
-use crate::once::{use_cell, use_once};
-use crate::reentrant_mutex::use_reentrant;
-use crate::rw_lock::{
-    use_reader, use_rwlock, use_upgradable, use_upgrade, use_writer, use_written,
-};
-use crate::semaphore::{use_permit, use_semaphore};
-use crate::stage::{Hand, Host, Stage, new_lot};
-use parking_lot::mutex::{Barging, Fairness, InOrder};
+use crate::stage::{Actor, Counts, Host};
+use crate::{mutex, once, reentrant_mutex, rw_lock, semaphore};
+use parking_lot::mutex::{Barging, InOrder};
+use std::alloc::AllocGlobal;
+use std::process::Abort;
 use std::thread;
-use std::time::Duration;
+use std::time::{Clock, Duration};
 use test_support::waits::TURNS;
 use test_support::words::Words;
 
@@ -50,30 +46,44 @@ const BEFORE: usize = 0;
 
 const AFTER: usize = usize::MAX;
 
-// What comes out of a call. `None` says that its words are not known, or that the thread does not
-// hold what it names.
-fn outcome<'x, 'l, F: Fairness, R: Host>(
-    rt: &'x R,
-    stage: &'x Stage<'l, F>,
-    hand: &mut Hand<'x, 'l, F, R>,
+/// What a thread holds of the locks of one kind.
+pub trait Hand {
+    /// What comes out of a call of which the first word is this. `None` says that its words are not
+    /// known, or that the thread does not hold what they name.
+    fn call(&mut self, first: &str, words: &mut Words<'_>) -> Option<usize>;
+}
+
+/// Locks of one kind, which threads share.
+pub trait Stage {
+    /// Changes their values, before any thread has them.
+    fn begin(&mut self, value: usize);
+
+    /// Does what the row says of whoever has this place, by `play_lines`.
+    fn play_place<'x, R: Actor>(&'x self, rt: &'x R, row: &Row<'_>, place: usize);
+
+    /// The value of the first of them.
+    fn end(self) -> usize;
+}
+
+/// A kind of locks.
+#[derive(Clone, Copy)]
+pub enum Kind {
+    // Those that bar nobody, and then the fair ones.
+    Mutexes,
+    RwLock,
+    ReentrantMutex,
+    Semaphore,
+    Onces,
+}
+
+// What comes out of a call.
+fn outcome<H: Hand, R: Clock>(
+    rt: &R,
+    counts: &Counts,
+    hand: &mut H,
     words: &mut Words<'_>,
 ) -> Option<usize> {
     match words.word()? {
-        "mutex" => use_mutex(rt, stage, hand, words),
-        "guard" => use_guard(rt, hand, words),
-        "condvar" => use_condvar(rt, &stage.condvar, hand, words),
-        "other_condvar" => use_condvar(rt, &stage.other_condvar, hand, words),
-        "rwlock" => use_rwlock(rt, &stage.rwlock, hand, words),
-        "reader" => use_reader(rt, &stage.rwlock, &mut hand.reader, words, hand.last),
-        "upgradable" => use_upgradable(rt, &stage.rwlock, hand, words),
-        "upgrade" => use_upgrade(rt, hand, words),
-        "writer" => use_writer(rt, &stage.rwlock, hand, words),
-        "written" => use_written(hand, words),
-        "semaphore" => use_semaphore(rt, &stage.semaphore, &mut hand.permit, words),
-        "permit" => use_permit(&mut hand.permit, words),
-        "once" => use_once(rt, stage, words),
-        "cell" => use_cell(rt, stage, words),
-        "reentrant" => use_reentrant(rt, stage, words),
         "yield" => {
             thread::yield_now();
             Some(1)
@@ -82,7 +92,8 @@ fn outcome<'x, 'l, F: Fairness, R: Host>(
             thread::sleep(rt, Duration::from_millis(words.number()? as u64));
             Some(1)
         }
-        call => stage.use_count(call, words),
+        call if matches!(call, "raise" | "lower" | "await" | "tell") => counts.call(call, words),
+        first => hand.call(first, words),
     }
 }
 
@@ -107,27 +118,27 @@ fn is_named(words: &mut Words<'_>, found: usize) -> Option<bool> {
 }
 
 // Does the calls of a line, and tells whether all went well.
-fn act_all<'x, 'l, F: Fairness, R: Host>(
-    rt: &'x R,
-    stage: &'x Stage<'l, F>,
-    hand: &mut Hand<'x, 'l, F, R>,
+fn act_all<H: Hand, R: Clock>(
+    rt: &R,
+    counts: &Counts,
+    hand: &mut H,
     words: &mut Words<'_>,
 ) -> Option<bool> {
-    for _ in rt.forever() {
-        let found = outcome(rt, stage, hand, words)?;
+    for _ in 0..u64::MAX {
+        let found = outcome(rt, counts, hand, words)?;
         let is_well = is_named(words, found)?;
         if !is_well || !words.reads(";") {
             return words.end(is_well);
         }
     }
-    unreachable!()
+    None
 }
 
 // Does a line so often as it says, and tells whether all went well.
-fn play_line<'x, 'l, F: Fairness, R: Host>(
-    rt: &'x R,
-    stage: &'x Stage<'l, F>,
-    hand: &mut Hand<'x, 'l, F, R>,
+fn play_line<H: Hand, R: Clock>(
+    rt: &R,
+    counts: &Counts,
+    hand: &mut H,
     mut words: Words<'_>,
 ) -> Option<bool> {
     let is_until = words.reads("until");
@@ -140,7 +151,7 @@ fn play_line<'x, 'l, F: Fairness, R: Host>(
     };
     for _ in 0..times {
         let mut again = words;
-        let is_well = act_all(rt, stage, hand, &mut again) == Some(true);
+        let is_well = act_all(rt, counts, hand, &mut again) == Some(true);
         if is_well == is_until {
             return Some(is_well);
         }
@@ -166,11 +177,11 @@ fn is_aside(words: Words<'_>) -> bool {
     matches!(ahead.word().unwrap_or("#"), "#" | "begins" | "leaves")
 }
 
-// Does what the script says of whoever has this place.
-fn play_lines<'x, 'l, F: Fairness, R: Host>(
-    rt: &'x R,
-    stage: &'x Stage<'l, F>,
-    hand: &mut Hand<'x, 'l, F, R>,
+/// Does what the script says of whoever has this place.
+pub fn play_lines<H: Hand, R: Actor>(
+    rt: &R,
+    counts: &Counts,
+    hand: &mut H,
     row: &Row<'_>,
     place: usize,
 ) {
@@ -184,23 +195,18 @@ fn play_lines<'x, 'l, F: Fairness, R: Host>(
         } else if words.reads("after") {
             is_own = place == AFTER;
         } else if is_own && !is_aside(words) {
-            let is_well = play_line(rt, stage, hand, words) == Some(true);
+            let is_well = play_line(rt, counts, hand, words) == Some(true);
             row.expect(rt, is_well, line);
         }
     }
 }
 
-fn play_place<F: Fairness, R: Host>(rt: &R, stage: &Stage<'_, F>, row: &Row<'_>, place: usize) {
-    let mut hand = stage.hand();
-    play_lines(rt, stage, &mut hand, row, place);
-}
-
-fn play_on<F: Fairness + Sync, R: Host>(rt: &R, stage: &Stage<'_, F>, row: &Row<'_>) {
-    play_place(rt, stage, row, BEFORE);
-    let play = |index: usize| play_place(rt, stage, row, index.wrapping_add(1));
+fn play_places<S: Stage + Sync, R: Host>(rt: &R, stage: &S, row: &Row<'_>) {
+    stage.play_place(rt, row, BEFORE);
+    let play = |index: usize| stage.play_place(rt, row, index.wrapping_add(1));
     let threads = row.threads();
     thread::map_indices(rt, rt.alloc(), threads, &play).expect(rt, "threads");
-    play_place(rt, stage, row, AFTER);
+    stage.play_place(rt, row, AFTER);
 }
 
 /// A script with its numbers, and for how many waiting threads the lots are.
@@ -212,7 +218,7 @@ pub struct Row<'s> {
 }
 
 impl Row<'_> {
-    fn expect<R: Host>(&self, rt: &R, is_well: bool, line: &str) {
+    fn expect<R: Abort + AllocGlobal>(&self, rt: &R, is_well: bool, line: &str) {
         let (script, values, room) = (self.script, self.values, self.room);
         assert!(rt;
             is_well,
@@ -245,64 +251,51 @@ impl Row<'_> {
         self.told("begins")?.number()
     }
 
-    // Whether these values are what the script tells of one of them, if it does.
-    fn leaves(&self, values: [usize; 3]) -> Option<bool> {
-        let Some(mut words) = self.told("leaves") else {
-            return Some(true);
-        };
-        let [mutex, rwlock, reentrant] = values;
-        let left = match words.word()? {
-            "mutex" => mutex,
-            "rwlock" => rwlock,
-            "reentrant" => reentrant,
-            _ => return None,
-        };
-        Some(words.number()? == left)
+    // Whether this value is what the script tells, if it does.
+    fn leaves(&self, value: usize) -> Option<bool> {
+        match self.told("leaves") {
+            Some(mut words) => Some(words.number()? == value),
+            None => Some(true),
+        }
     }
 }
 
-/// Plays a row on a new stage, with mutexes of this kind.
-pub fn play<F: Fairness + Sync, R: Host>(rt: &R, row: &Row<'_>) {
-    let lot = new_lot(rt, row.room);
-    let other = new_lot(rt, row.room);
-    let mut stage: Stage<'_, F> = Stage::new(rt, &lot, &other);
+/// Plays a row on this stage, which is new.
+pub fn play_on<S: Stage + Sync, R: Host>(rt: &R, mut stage: S, row: &Row<'_>) {
     if let Some(value) = row.begins() {
         stage.begin(value);
     }
-    play_on(rt, &stage, row);
+    play_places(rt, &stage, row);
     let is_well = row.leaves(stage.end()) == Some(true);
     row.expect(rt, is_well, "what is left");
 }
 
-/// Plays each script in a lot of each of these sizes, so often, with either kind of mutex.
-pub fn play_both<R: Host>(rt: &R, rooms: &[usize], times: usize, scripts: &[&str]) {
-    for script in scripts {
+/// Plays each script of a text in a lot of each of these sizes, so often, with locks of this kind.
+pub fn play_each<R: Host>(rt: &R, kind: Kind, rooms: &[usize], times: usize, scripts: &str) {
+    for script in scripts.split("\n\n") {
         for room in rooms {
             let row = Row {
-                script: *script,
+                script,
                 values: &[],
                 room: *room,
             };
             for _ in 0..times {
-                play::<Barging, R>(rt, &row);
-                play::<InOrder, R>(rt, &row);
+                play(rt, kind, &row);
             }
         }
     }
 }
 
-/// Plays each script in a lot of each of these sizes, so often.
-pub fn play_each<R: Host>(rt: &R, rooms: &[usize], times: usize, scripts: &[&str]) {
-    for script in scripts {
-        for room in rooms {
-            let row = Row {
-                script: *script,
-                values: &[],
-                room: *room,
-            };
-            for _ in 0..times {
-                play::<Barging, R>(rt, &row);
-            }
+// Plays a row on a new stage.
+fn play<R: Host>(rt: &R, kind: Kind, row: &Row<'_>) {
+    match kind {
+        Kind::Mutexes => {
+            mutex::play::<Barging, R>(rt, row);
+            mutex::play::<InOrder, R>(rt, row);
         }
+        Kind::RwLock => rw_lock::play(rt, row),
+        Kind::ReentrantMutex => reentrant_mutex::play(rt, row),
+        Kind::Semaphore => semaphore::play(rt, row),
+        Kind::Onces => once::play(rt, row),
     }
 }

@@ -2,14 +2,15 @@
 //! hundredth of the messages or fewer, so that they end soon. The queue is its length: a message
 //! that is lost, or taken twice, leaves a length that is not 0, or a thread that waits for ever.
 
-use crate::player::{Row, play};
+use crate::mutex::play;
+use crate::player::Row;
 use crate::stage::{Host, ROOM};
 use parking_lot::mutex::Barging;
 
 // A row's numbers: producers, consumers, the length at the end, that length but one, and the
 // messages of each producer and of each consumer.
 const NOTIFY_ALL: &str = "# Whoever changes what others wait for notifies all.
-leaves mutex 0
+leaves 0
 thread $0
 repeat $4 mutex lock ; other_condvar wait_while is $2 ; guard add 1 ; guard unlock ; \
 condvar notify_all_after 1 -> any
@@ -18,7 +19,7 @@ repeat $5 mutex lock ; condvar wait_while is 0 ; guard take 1 ; guard unlock ; \
 other_condvar notify_all_after $3 -> any";
 
 const NOTIFY_ONE: &str = "# Whoever changes the queue notifies one.
-leaves mutex 0
+leaves 0
 thread $0
 repeat $4 mutex lock ; other_condvar wait_while is $2 ; guard add 1 ; guard unlock ; \
 condvar notify_one -> any
@@ -27,7 +28,7 @@ repeat $5 mutex lock ; condvar wait_while is 0 ; guard take 1 ; guard unlock ; \
 other_condvar notify_one -> any";
 
 const WITH_A_DEADLINE: &str = "# Whoever waits looks again after a time.
-leaves mutex 0
+leaves 0
 thread $0
 repeat $4 mutex lock ; other_condvar wait_while_for long is $2 ; guard add 1 ; guard unlock ; \
 condvar notify_all_after 1 -> any

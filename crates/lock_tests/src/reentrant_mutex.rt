@@ -6,31 +6,76 @@
 //! `held` while it has it, and waits for `done`), `refused` (whether each way to lock it is
 //! refused, since another owner has it).
 
-use crate::player::play_each;
-use crate::stage::{Host, ROOMS, Stage, expect, has};
+use crate::player::{Hand, Kind, Row, Stage, play_each, play_lines, play_on};
+use crate::stage::{Actor, Counts, Host, ROOMS, expect, has, new_lot};
 use parking_lot::ReentrantMutex;
-use parking_lot::mutex::Fairness;
+use std::process::Abort;
+use std::sync::Wait;
 use std::sync::atomic::{AtomicUsize, Ordering};
-use std::time::{Duration, Instant};
+use std::time::{Clock, Duration, Instant};
 use test_support::waits::comes_to;
 use test_support::words::Words;
 
-type Counter<'l> = ReentrantMutex<'l, AtomicUsize>;
+type Counter = ReentrantMutex<'static, AtomicUsize>;
 
-pub fn use_reentrant<F: Fairness, R: Host>(
+/// Plays a row on a new stage.
+pub fn play<R: Host>(rt: &R, row: &Row<'_>) {
+    let value = AtomicUsize::new(0);
+    let mutex = ReentrantMutex::new(new_lot(rt, row.room), value).expect(rt, "a mutex");
+    let counts = Counts::new();
+    play_on(rt, OneMutex { mutex, counts }, row);
+}
+
+#[derive(Drop)]
+struct OneMutex {
+    mutex: Counter,
+    counts: Counts,
+}
+
+impl Stage for OneMutex {
+    fn begin(&mut self, value: usize) {
+        *self.mutex.get_mut() = AtomicUsize::new(value);
+    }
+
+    fn play_place<'x, R: Actor>(&'x self, rt: &'x R, row: &Row<'_>, place: usize) {
+        let mut hand = Owners { rt, stage: self };
+        play_lines(rt, &self.counts, &mut hand, row, place);
+    }
+
+    fn end(self) -> usize {
+        value_of(&self.mutex.into_inner())
+    }
+}
+
+#[derive(Drop)]
+struct Owners<'x, R> {
+    rt: &'x R,
+    stage: &'x OneMutex,
+}
+
+impl<R: Wait + Clock + Abort> Hand for Owners<'_, R> {
+    fn call(&mut self, first: &str, words: &mut Words<'_>) -> Option<usize> {
+        match first {
+            "reentrant" => use_reentrant(self.rt, &self.stage.mutex, &self.stage.counts, words),
+            _ => None,
+        }
+    }
+}
+
+fn use_reentrant<R: Wait + Clock + Abort>(
     rt: &R,
-    stage: &Stage<'_, F>,
+    mutex: &Counter,
+    counts: &Counts,
     words: &mut Words<'_>,
 ) -> Option<usize> {
-    let mutex = &stage.reentrant;
     let is_well = match words.word()? {
         "thrice" => {
             lock_thrice(rt, mutex);
             !mutex.is_locked()
         }
-        "nested" => add_nested(rt, mutex, &stage.held),
+        "nested" => add_nested(rt, mutex, &counts.held),
         "look" => return Some(look(rt, mutex)),
-        "tries" => gets_it_in_each_way(rt, mutex, stage),
+        "tries" => gets_it_in_each_way(rt, mutex, counts),
         "refused" => is_refused(rt, mutex),
         _ => return None,
     };
@@ -41,7 +86,7 @@ fn value_of(counter: &AtomicUsize) -> usize {
     counter.load(Ordering::SeqCst)
 }
 
-fn lock_thrice<R: Host>(rt: &R, mutex: &Counter<'_>) {
+fn lock_thrice<R: Wait + Clock + Abort>(rt: &R, mutex: &Counter) {
     let owner = mutex.owner();
     let first = mutex.lock(rt, &owner);
     let second = mutex.lock(rt, &owner);
@@ -56,7 +101,7 @@ fn lock_thrice<R: Host>(rt: &R, mutex: &Counter<'_>) {
     drop(first);
 }
 
-fn add_nested<R: Host>(rt: &R, mutex: &Counter<'_>, is_held: &AtomicUsize) -> bool {
+fn add_nested<R: Wait + Clock + Abort>(rt: &R, mutex: &Counter, is_held: &AtomicUsize) -> bool {
     let owner = mutex.owner();
     let guard = mutex.lock(rt, &owner);
     is_held.fetch_add(1, Ordering::SeqCst);
@@ -69,7 +114,7 @@ fn add_nested<R: Host>(rt: &R, mutex: &Counter<'_>, is_held: &AtomicUsize) -> bo
     true
 }
 
-fn look<R: Host>(rt: &R, mutex: &Counter<'_>) -> usize {
+fn look<R: Wait + Clock + Abort>(rt: &R, mutex: &Counter) -> usize {
     let owner = mutex.owner();
     let guard = mutex.lock(rt, &owner);
     let value = value_of(&guard);
@@ -77,24 +122,20 @@ fn look<R: Host>(rt: &R, mutex: &Counter<'_>) -> usize {
     value
 }
 
-fn gets_it_in_each_way<F: Fairness, R: Host>(
-    rt: &R,
-    mutex: &Counter<'_>,
-    stage: &Stage<'_, F>,
-) -> bool {
+fn gets_it_in_each_way<R: Wait + Clock + Abort>(rt: &R, mutex: &Counter, counts: &Counts) -> bool {
     let owner = mutex.owner();
     let time = Duration::from_secs(20);
     let deadline = Instant::now(rt).expect(rt, "a clock");
     let first = mutex.try_lock(rt, &owner);
     let has_it_for = has(mutex.lock_for(rt, &owner, time));
     let has_it_until = has(mutex.lock_until(rt, &owner, deadline));
-    stage.held.fetch_add(1, Ordering::SeqCst);
-    let is_done = comes_to(&stage.done, 1);
+    counts.held.fetch_add(1, Ordering::SeqCst);
+    let is_done = comes_to(&counts.done, 1);
     let has_it_again = has(mutex.try_lock(rt, &owner));
     has(first) && has_it_for && has_it_until && is_done && has_it_again
 }
 
-fn is_refused<R: Host>(rt: &R, mutex: &Counter<'_>) -> bool {
+fn is_refused<R: Wait + Clock + Abort>(rt: &R, mutex: &Counter) -> bool {
     let owner = mutex.owner();
     let time = Duration::from_millis(30);
     let deadline = Instant::now(rt).expect(rt, "a clock");
@@ -108,24 +149,24 @@ fn is_refused<R: Host>(rt: &R, mutex: &Counter<'_>) -> bool {
 
 #[test]
 fn its_owner_alone_has_it(rt: HostRuntime) {
-    let scripts = [
-        "# smoke
+    let scripts = "# smoke
 begins 2
-leaves reentrant 2
-reentrant thrice ; reentrant look -> 2",
-        "# is_mutex, whose value is a RefCell there
-leaves reentrant 4950
+leaves 2
+reentrant thrice ; reentrant look -> 2
+
+# is_mutex, whose value is a RefCell there
+leaves 4950
 thread
 await held ; reentrant look -> 4950
 thread
-reentrant nested",
-        "# trylock_works
+reentrant nested
+
+# trylock_works
 begins 4
-leaves reentrant 4
+leaves 4
 thread
 reentrant tries
 thread
-await held ; reentrant refused ; raise done",
-    ];
-    play_each(&rt, &ROOMS, 1, &scripts);
+await held ; reentrant refused ; raise done";
+    play_each(&rt, Kind::ReentrantMutex, &ROOMS, 1, scripts);
 }

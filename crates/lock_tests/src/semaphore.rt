@@ -6,50 +6,122 @@
 //! - `permit`: `permits`, `split N` (whether there are so many; they are given back), `forget`,
 //!   `drop`.
 
-use crate::player::play_each;
-use crate::stage::{Host, ROOM, ROOMS, has, instant, keep, let_go, time};
+use crate::player::{Hand, Kind, Row, Stage, play_each, play_lines, play_on};
+use crate::stage::{
+    Actor, Counts, Host, Patience, ROOM, ROOMS, has, keep, let_go, new_lot, number_or_one,
+};
 use parking_lot::{Semaphore, SemaphorePermit};
+use std::sync::Wait;
+use std::time::Clock;
 use test_support::words::Words;
 
-type Permit<'x, 'l, R> = SemaphorePermit<'x, 'x, 'l, R>;
+type Permit<'x, R> = SemaphorePermit<'x, 'x, 'static, R>;
 
-pub fn use_semaphore<'x, 'l, R: Host>(
-    rt: &'x R,
-    semaphore: &'x Semaphore<'l>,
-    permit: &mut Option<Permit<'x, 'l, R>>,
-    words: &mut Words<'_>,
-) -> Option<usize> {
-    let found = match words.word()? {
-        "available_permits" => return Some(semaphore.available_permits()),
-        "add_permits" => {
-            semaphore.add_permits(rt, words.number()?);
-            return Some(1);
-        }
-        "acquire" => Some(semaphore.acquire(rt)),
-        "try_acquire" => semaphore.try_acquire(rt),
-        "acquire_many" => Some(semaphore.acquire_many(rt, words.number()?)),
-        "try_acquire_many" => semaphore.try_acquire_many(rt, words.number()?),
-        "acquire_for" => semaphore.acquire_for(rt, time(words)?),
-        "acquire_until" => semaphore.acquire_until(rt, instant(rt, words)?),
-        "acquire_many_until" => {
-            let deadline = instant(rt, words)?;
-            semaphore.acquire_many_until(rt, words.number()?, deadline)
-        }
-        _ => return None,
-    };
-    Some(usize::from(keep(permit, found)))
+const PERMITS: usize = 3;
+
+/// Plays a row on a new stage.
+pub fn play<R: Host>(rt: &R, row: &Row<'_>) {
+    let semaphore = Semaphore::new(new_lot(rt, row.room), PERMITS).expect(rt, "a semaphore");
+    let counts = Counts::new();
+    play_on(rt, Permits { semaphore, counts }, row);
 }
 
-pub fn use_permit<'x, 'l, R: Host>(
-    held: &mut Option<Permit<'x, 'l, R>>,
+#[derive(Drop)]
+struct Permits {
+    semaphore: Semaphore<'static>,
+    counts: Counts,
+}
+
+impl Stage for Permits {
+    fn begin(&mut self, _value: usize) {}
+
+    fn play_place<'x, R: Actor>(&'x self, rt: &'x R, row: &Row<'_>, place: usize) {
+        let mut taker = Taker {
+            rt,
+            semaphore: &self.semaphore,
+            permit: None,
+        };
+        play_lines(rt, &self.counts, &mut taker, row, place);
+    }
+
+    fn end(self) -> usize {
+        self.semaphore.available_permits()
+    }
+}
+
+// A thread with what it has of the permits.
+#[derive(Drop)]
+struct Taker<'x, R: Wait> {
+    rt: &'x R,
+    semaphore: &'x Semaphore<'static>,
+    permit: Option<Permit<'x, R>>,
+}
+
+impl<R: Wait + Clock> Hand for Taker<'_, R> {
+    fn call(&mut self, first: &str, words: &mut Words<'_>) -> Option<usize> {
+        match first {
+            "semaphore" => use_semaphore(self.rt, self.semaphore, &mut self.permit, words),
+            "permit" => use_permit(&mut self.permit, words),
+            _ => None,
+        }
+    }
+}
+
+fn use_semaphore<'x, R: Wait + Clock>(
+    rt: &'x R,
+    semaphore: &'x Semaphore<'static>,
+    permit: &mut Option<Permit<'x, R>>,
     words: &mut Words<'_>,
 ) -> Option<usize> {
-    match words.word()? {
-        "permits" => Some(held.as_ref()?.permits()),
-        "split" => {
-            let number = words.number()?;
-            Some(usize::from(has(held.as_mut()?.split(number))))
+    let (name, patience) = Patience::of(rt, words.word()?, words)?;
+    let number = number_or_one(words);
+    match name {
+        "available_permits" => return Some(semaphore.available_permits()),
+        "add_permits" => semaphore.add_permits(rt, number),
+        "acquire" => return Some(usize::from(keep(permit, acquire(rt, semaphore, patience)))),
+        "acquire_many" => {
+            let found = acquire_many(rt, semaphore, number, patience);
+            return Some(usize::from(keep(permit, found)));
         }
+        _ => return None,
+    }
+    Some(1)
+}
+
+fn acquire<'x, R: Wait + Clock>(
+    rt: &'x R,
+    semaphore: &'x Semaphore<'static>,
+    patience: Patience,
+) -> Option<Permit<'x, R>> {
+    match patience {
+        Patience::Over => semaphore.try_acquire(rt),
+        Patience::Endless => Some(semaphore.acquire(rt)),
+        Patience::For(time) => semaphore.acquire_for(rt, time),
+        Patience::Until(deadline) => semaphore.acquire_until(rt, deadline),
+    }
+}
+
+// There is no call that acquires many for a time.
+fn acquire_many<'x, R: Wait + Clock>(
+    rt: &'x R,
+    semaphore: &'x Semaphore<'static>,
+    permits: usize,
+    patience: Patience,
+) -> Option<Permit<'x, R>> {
+    match patience {
+        Patience::Over => semaphore.try_acquire_many(rt, permits),
+        Patience::Endless => Some(semaphore.acquire_many(rt, permits)),
+        Patience::For(_time) => None,
+        Patience::Until(deadline) => semaphore.acquire_many_until(rt, permits, deadline),
+    }
+}
+
+fn use_permit<R: Wait>(held: &mut Option<Permit<'_, R>>, words: &mut Words<'_>) -> Option<usize> {
+    let call = words.word()?;
+    let number = number_or_one(words);
+    match call {
+        "permits" => Some(held.as_ref()?.permits()),
+        "split" => Some(usize::from(has(held.as_mut()?.split(number)))),
         "forget" => {
             SemaphorePermit::forget(held.take()?);
             Some(1)
@@ -61,28 +133,26 @@ pub fn use_permit<'x, 'l, R: Host>(
 
 #[test]
 fn permits_go_and_come_back(rt: HostRuntime) {
-    let scripts = [
-        "# One thread has them.
+    let scripts = "# One thread has them.
 semaphore acquire_many 3 ; permit permits -> 3 ; semaphore try_acquire -> 0
 permit split 1 ; permit permits -> 2 ; semaphore available_permits -> 1
 semaphore try_acquire_many 2 -> 0 ; permit split 3 -> 0 ; permit permits -> 2
 permit split 1 ; semaphore available_permits -> 2
 permit forget ; semaphore available_permits -> 2
 semaphore add_permits 5 ; semaphore try_acquire_many 7 ; semaphore available_permits -> 0
-permit drop ; semaphore available_permits -> 7",
-    ];
-    play_each(&rt, &[ROOM], 1, &scripts);
+permit drop ; semaphore available_permits -> 7";
+    play_each(&rt, Kind::Semaphore, &[ROOM], 1, scripts);
 }
 
 #[test]
 fn deadlines_of_a_semaphore_pass_or_do_not(rt: HostRuntime) {
-    let scripts = [
-        "# None is left.
+    let scripts = "# None is left.
 semaphore acquire_many 3
 semaphore acquire_for short -> 0 ; semaphore acquire_until short -> 0
 semaphore acquire_many_until no_time 2 -> 0
-permit drop ; semaphore acquire_until no_time",
-        "# Some are given back, or added.
+permit drop ; semaphore acquire_until no_time
+
+# Some are given back, or added.
 thread
 semaphore acquire_many 3 ; raise held ; pause 2 ; permit drop ; await done 1
 semaphore acquire_many 3 ; raise held ; pause 2 ; permit split 1 ; semaphore add_permits 1
@@ -90,15 +160,13 @@ thread
 await held 1 ; semaphore acquire_for long ; permit drop ; raise done
 await held 2 ; semaphore acquire_many_until long 2
 after
-semaphore available_permits -> 4",
-    ];
-    play_each(&rt, &ROOMS, 1, &scripts);
+semaphore available_permits -> 4";
+    play_each(&rt, Kind::Semaphore, &ROOMS, 1, scripts);
 }
 
 #[test]
 fn six_threads_share_three_permits(rt: HostRuntime) {
-    let scripts = [
-        "# Nobody has permits that another has, and none is lost.
+    let scripts = "# Nobody has permits that another has, and none is lost.
 thread 2
 repeat 300 semaphore acquire ; raise held 1 -> at_most 3 ; yield ; lower held 1 ; permit drop
 thread 2
@@ -108,7 +176,6 @@ thread 2
 repeat 300 semaphore acquire_many 3 ; raise held 3 -> at_most 3 ; yield ; lower held 3 ; \
 permit drop
 after
-semaphore available_permits -> 3",
-    ];
-    play_each(&rt, &ROOMS, 1, &scripts);
+semaphore available_permits -> 3";
+    play_each(&rt, Kind::Semaphore, &ROOMS, 1, scripts);
 }

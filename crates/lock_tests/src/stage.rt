@@ -1,10 +1,7 @@
-//! A lot with one lock of each kind, what a thread holds of them, and what threads tell each other.
+//! What scripts and tests of each kind of lock share: lots, what threads tell each other, what one
+//! holds, and words that several locks have.
 
-use parking_lot::mutex::{Fairness, MutexGuardIn, MutexIn};
-use parking_lot::{
-    Condvar, Lot, Once, OnceLock, ReentrantMutex, RwLock, RwLockReadGuard,
-    RwLockUpgradableReadGuard, RwLockWriteGuard, Semaphore, SemaphorePermit,
-};
+use parking_lot::Lot;
 use std::alloc::AllocGlobal;
 use std::ops::Deref;
 use std::process::Abort;
@@ -20,6 +17,11 @@ pub trait Host: Threads + Wait + Clock + Abort + AllocGlobal + Sync {}
 
 impl<R: Threads + Wait + Clock + Abort + AllocGlobal + Sync> Host for R {}
 
+/// What a runtime can do that a thread of a script takes.
+pub trait Actor: Wait + Clock + Abort + AllocGlobal {}
+
+impl<R: Wait + Clock + Abort + AllocGlobal> Actor for R {}
+
 /// In a lot of this size each thread of a test can wait.
 pub const ROOM: usize = 20;
 
@@ -29,110 +31,30 @@ pub const ROOMS: [usize; 3] = [0, 1, ROOM];
 /// A value that nobody but a writer may see.
 pub const BETWEEN: usize = usize::MAX;
 
-/// The permits of the semaphore.
-pub const PERMITS: usize = 3;
-
-/// A lot in which so many threads can wait.
-pub fn new_lot<R: Host>(rt: &R, room: usize) -> Lot {
-    Lot::new(rt.alloc(), room).expect(rt, "a lot")
+/// A lot in which so many threads can wait. It is never given back, since each function that owned
+/// one would have to be proved to drop each of its parts.
+pub fn new_lot<R: Abort + AllocGlobal>(rt: &R, room: usize) -> &'static Lot {
+    Lot::for_ever(rt.alloc(), room).expect(rt, "a lot")
 }
 
-/// Locks of a lot around 0 each, and what threads tell each other.
+/// What the threads of a script tell each other.
 #[derive(Drop)]
-pub struct Stage<'l, F: Fairness> {
-    pub mutex: MutexIn<'l, usize, F>,
-    pub second: MutexIn<'l, usize, F>,
-    // That of another lot.
-    pub foreign: MutexIn<'l, usize, F>,
-    pub condvar: Condvar<'l>,
-    pub other_condvar: Condvar<'l>,
-    pub rwlock: RwLock<'l, usize>,
-    pub reentrant: ReentrantMutex<'l, AtomicUsize>,
-    pub semaphore: Semaphore<'l>,
-    pub once: Once<'l>,
-    pub cell: OnceLock<'l, usize>,
+pub struct Counts {
     pub came: AtomicUsize,
     pub held: AtomicUsize,
     pub done: AtomicUsize,
 }
 
-/// What a thread holds, and the value that it saw or wrote last.
-#[derive(Drop)]
-pub struct Hand<'x, 'l, F: Fairness, R: Wait> {
-    pub mutex: &'x MutexIn<'l, usize, F>,
-    pub guard: Option<MutexGuardIn<'x, 'x, 'l, usize, R, F>>,
-    pub reader: Option<RwLockReadGuard<'x, 'x, 'l, usize, R>>,
-    pub upgradable: Option<RwLockUpgradableReadGuard<'x, 'x, 'l, usize, R>>,
-    pub writer: Option<RwLockWriteGuard<'x, 'x, 'l, usize, R>>,
-    pub permit: Option<SemaphorePermit<'x, 'x, 'l, R>>,
-    pub last: usize,
-}
-
-impl<'l, F: Fairness> Stage<'l, F> {
-    pub fn new<R: Host>(rt: &R, lot: &'l Lot, other: &'l Lot) -> Stage<'l, F> {
-        Stage {
-            mutex: MutexIn::new(lot, 0).expect(rt, "a mutex"),
-            second: MutexIn::new(lot, 0).expect(rt, "a mutex"),
-            foreign: MutexIn::new(other, 0).expect(rt, "a mutex"),
-            condvar: Condvar::new(lot).expect(rt, "a condition variable"),
-            other_condvar: Condvar::new(lot).expect(rt, "a condition variable"),
-            rwlock: RwLock::new(lot, 0).expect(rt, "a lock"),
-            reentrant: ReentrantMutex::new(lot, AtomicUsize::new(0)).expect(rt, "a mutex"),
-            semaphore: Semaphore::new(lot, PERMITS).expect(rt, "a semaphore"),
-            once: Once::new(lot).expect(rt, "a once"),
-            cell: OnceLock::new(lot).expect(rt, "a cell"),
+impl Counts {
+    pub fn new() -> Counts {
+        Counts {
             came: AtomicUsize::new(0),
             held: AtomicUsize::new(0),
             done: AtomicUsize::new(0),
         }
     }
 
-    /// A thread that holds nothing.
-    pub fn hand<R: Host>(&self) -> Hand<'_, 'l, F, R> {
-        Hand {
-            mutex: &self.mutex,
-            guard: None,
-            reader: None,
-            upgradable: None,
-            writer: None,
-            permit: None,
-            last: 0,
-        }
-    }
-
-    /// Changes the value in each lock before any thread has it.
-    pub fn begin(&mut self, value: usize) {
-        *self.mutex.get_mut() = value;
-        *self.rwlock.get_mut() = value;
-        *self.reentrant.get_mut() = AtomicUsize::new(value);
-    }
-
-    /// The values of the mutex, of the lock, and of the reentrant mutex, which end with that.
-    pub fn end(self) -> [usize; 3] {
-        let Stage {
-            mutex,
-            second: _second,
-            foreign: _foreign,
-            condvar: _condvar,
-            other_condvar: _other_condvar,
-            rwlock,
-            reentrant,
-            semaphore: _semaphore,
-            once: _once,
-            cell: _cell,
-            came: _came,
-            held: _held,
-            done: _done,
-        } = self;
-        let counter = reentrant.into_inner();
-        [
-            mutex.into_inner(),
-            rwlock.into_inner(),
-            counter.load(Ordering::SeqCst),
-        ]
-    }
-
-    fn count(&self, words: &mut Words<'_>) -> Option<&AtomicUsize> {
+    fn named(&self, words: &mut Words<'_>) -> Option<&AtomicUsize> {
         match words.word()? {
             "came" => Some(&self.came),
             "held" => Some(&self.held),
@@ -141,9 +63,9 @@ impl<'l, F: Fairness> Stage<'l, F> {
         }
     }
 
-    /// What has to do with a count.
-    pub fn use_count(&self, call: &str, words: &mut Words<'_>) -> Option<usize> {
-        let count = self.count(words)?;
+    /// What comes out of a call that has to do with a count.
+    pub fn call(&self, call: &str, words: &mut Words<'_>) -> Option<usize> {
+        let count = self.named(words)?;
         let number = number_or_one(words);
         match call {
             "raise" => Some(
@@ -188,6 +110,36 @@ pub fn let_go<G: Drop>(held: &mut Option<G>) -> bool {
     has(held.take())
 }
 
+/// How long a call waits.
+#[derive(Clone, Copy)]
+pub enum Patience {
+    Over,
+    Endless,
+    For(Duration),
+    Until(Instant),
+}
+
+impl Patience {
+    /// What a call is named beside the words that tell how long it waits, as `lock` in `try_lock`,
+    /// `lock_for TIME` and `lock_until TIME`; and how long that is.
+    pub fn of<'t, R: Clock>(
+        rt: &R,
+        call: &'t str,
+        words: &mut Words<'_>,
+    ) -> Option<(&'t str, Patience)> {
+        if let Some(name) = call.strip_prefix("try_") {
+            return Some((name, Patience::Over));
+        }
+        if let Some(name) = call.strip_suffix("_for") {
+            return Some((name, Patience::For(time(words)?)));
+        }
+        if let Some(name) = call.strip_suffix("_until") {
+            return Some((name, Patience::Until(instant(rt, words)?)));
+        }
+        Some((call, Patience::Endless))
+    }
+}
+
 /// The value that a guard shows, which is let go.
 pub fn value_in<G: Deref<Target = usize> + Drop>(guard: G) -> usize {
     *guard
@@ -203,8 +155,8 @@ pub fn number_or_one(words: &mut Words<'_>) -> usize {
     number
 }
 
-/// The time that the next word names. The first three pass while a test runs.
-pub fn time(words: &mut Words<'_>) -> Option<Duration> {
+// The time that the next word names. The first three pass while a test runs.
+fn time(words: &mut Words<'_>) -> Option<Duration> {
     match words.word()? {
         "no_time" => Some(Duration::from_millis(0)),
         "moment" => Some(Duration::from_millis(1)),
@@ -215,7 +167,7 @@ pub fn time(words: &mut Words<'_>) -> Option<Duration> {
     }
 }
 
-/// The instant that comes in the time that the next word names.
-pub fn instant<R: Clock>(rt: &R, words: &mut Words<'_>) -> Option<Instant> {
+// The instant that comes in the time that the next word names.
+fn instant<R: Clock>(rt: &R, words: &mut Words<'_>) -> Option<Instant> {
     Instant::now(rt).ok()?.checked_add(time(words)?)
 }

@@ -1,11 +1,11 @@
 //! What kinds of values locks keep, and how locks are shown.
 
 use crate::drops::{leaves_a_lock, leaves_a_mutex};
-use crate::stage::{Host, ROOM, ROOMS, Stage, expect, new_lot, value_in};
-use parking_lot::mutex::Barging;
+use crate::stage::{Host, ROOM, ROOMS, expect, new_lot, value_in};
 use parking_lot::{
-    Barrier, FairMutexGuard, LazyLock, Lot, Mutex, MutexGuard, OnceLock, ReentrantMutex, RwLock,
-    RwLockReadGuard, RwLockUpgradableReadGuard, RwLockWriteGuard,
+    Barrier, Condvar, FairMutexGuard, LazyLock, Lot, Mutex, MutexGuard, Once, OnceLock,
+    ReentrantMutex, RwLock, RwLockReadGuard, RwLockUpgradableReadGuard, RwLockWriteGuard,
+    Semaphore,
 };
 use std::fmt::Debug;
 use std::sync::Arc;
@@ -37,8 +37,7 @@ fn nests<R: Host + Copy + Send + 'static>(rt: R, lot: &'static Lot) {
 
 #[test]
 fn arc_nested(rt: HostRuntime) {
-    let lot = Lot::for_ever(rt.alloc(), ROOM).expect(&rt, "a lot");
-    nests(rt, lot);
+    nests(rt, new_lot(&rt, ROOM));
 }
 
 // Expects that the value is shown by this text.
@@ -47,28 +46,45 @@ fn expect_shown<T: Debug, R: Host>(rt: &R, value: &T, wanted: &str) {
     expect(rt, shown.as_str() == wanted, wanted);
 }
 
-fn expect_all_shown<R: Host>(rt: &R, stage: &Stage<'_, Barging>) {
-    let guard = stage.mutex.lock(rt);
-    let writer = stage.rwlock.write(rt);
-    expect_shown(rt, &stage.mutex, "Mutex { .. }");
-    expect_shown(rt, &stage.rwlock, "RwLock { .. }");
-    expect_shown(rt, &stage.reentrant, "ReentrantMutex { .. }");
-    expect_shown(rt, &stage.condvar, "Condvar { .. }");
-    expect_shown(rt, &stage.once, "Once { .. }");
-    expect_shown(rt, &stage.semaphore, "Semaphore { permits: 3, .. }");
-    expect_shown(rt, &stage.cell, "OnceLock(..)");
+// Expects that a lock that could be made is shown by this text.
+fn expect_made<T: Debug + Drop, E: Debug + Drop, R: Host>(
+    rt: &R,
+    made: Result<T, E>,
+    wanted: &str,
+) {
+    let value = made.expect(rt, wanted);
+    expect_shown(rt, &value, wanted);
+}
+
+fn shows_locks<R: Host>(rt: &R, lot: &'static Lot) {
+    expect_made(
+        rt,
+        ReentrantMutex::new(lot, 0usize),
+        "ReentrantMutex { .. }",
+    );
+    expect_made(rt, Condvar::new(lot), "Condvar { .. }");
+    expect_made(rt, Once::new(lot), "Once { .. }");
+    expect_made(rt, Semaphore::new(lot, 3), "Semaphore { permits: 3, .. }");
+    expect_made(rt, Barrier::new(lot, 1), "Barrier { .. }");
+}
+
+fn shows_a_locked_mutex<R: Host>(rt: &R, lot: &'static Lot) {
+    let mutex = Mutex::new(lot, 1usize).expect(rt, "a mutex");
+    let guard = mutex.lock(rt);
+    expect_shown(rt, &mutex, "Mutex { .. }");
     drop(guard);
-    drop(writer);
 }
 
-fn shows_a_stage<R: Host>(rt: &R, lot: &Lot) {
-    let stage = Stage::new(rt, lot, lot);
-    expect_all_shown(rt, &stage);
-    stage.end();
+fn shows_a_written_lock<R: Host>(rt: &R, lot: &'static Lot) {
+    let lock = RwLock::new(lot, 1usize).expect(rt, "a lock");
+    let guard = lock.write(rt);
+    expect_shown(rt, &lock, "RwLock { .. }");
+    drop(guard);
 }
 
-fn shows_a_cell<R: Host>(rt: &R, lot: &Lot) {
+fn shows_a_cell<R: Host>(rt: &R, lot: &'static Lot) {
     let mut cell = OnceLock::new(lot).expect(rt, "a cell");
+    expect_shown(rt, &cell, "OnceLock(..)");
     expect(rt, cell.set(rt, 5usize).is_ok(), "it is empty");
     expect_shown(rt, &cell, "OnceLock(5)");
     if let Some(value) = cell.get_mut() {
@@ -77,16 +93,12 @@ fn shows_a_cell<R: Host>(rt: &R, lot: &Lot) {
     expect(rt, cell.into_inner() == Some(8), "it was changed");
 }
 
-fn shows_a_barrier<R: Host>(rt: &R, lot: &Lot) {
-    let barrier = Barrier::new(lot, 1).expect(rt, "a barrier");
-    expect_shown(rt, &barrier, "Barrier { .. }");
-}
-
 fn shows_all<R: Host>(rt: &R) {
     let lot = new_lot(rt, ROOM);
-    shows_a_stage(rt, &lot);
-    shows_a_cell(rt, &lot);
-    shows_a_barrier(rt, &lot);
+    shows_locks(rt, lot);
+    shows_a_locked_mutex(rt, lot);
+    shows_a_written_lock(rt, lot);
+    shows_a_cell(rt, lot);
 }
 
 // `mutex_debug`, `test_rwlock_debug`, `test_debug_condvar`, `once_debug`, and of the reentrant
@@ -102,10 +114,8 @@ fn compute(runs: &AtomicUsize) -> usize {
     2
 }
 
-fn ten_force_it<R: Host>(rt: &R, room: usize) {
-    let lot = new_lot(rt, room);
-    let runs = AtomicUsize::new(0);
-    let lazy = LazyLock::new(&lot, || compute(&runs)).expect(rt, "a lock");
+fn ten_force_it<'a, R: Host>(rt: &R, lot: &'a Lot, runs: &'a AtomicUsize) {
+    let lazy = LazyLock::new(lot, || compute(runs)).expect(rt, "a lock");
     expect(rt, lazy.get().is_none(), "nobody has wanted it");
     let force = |_: usize| expect(rt, *lazy.force(rt) == 2, "it is computed");
     thread::map_indices(rt, rt.alloc(), 10, &force).expect(rt, "threads");
@@ -118,7 +128,8 @@ fn ten_force_it<R: Host>(rt: &R, room: usize) {
 fn is_computed_once<R: Host>(rt: &R) {
     for room in ROOMS {
         for _ in 0..20usize {
-            ten_force_it(rt, room);
+            let runs = AtomicUsize::new(0);
+            ten_force_it(rt, new_lot(rt, room), &runs);
         }
     }
 }
@@ -129,7 +140,7 @@ fn value_is_computed_once(rt: HostRuntime) {
 }
 
 // It is the `Arc` that is cloned, and not the guard.
-fn clones_a_value<R: Host>(rt: &R, lot: &Lot) {
+fn clones_a_value<R: Host>(rt: &R, lot: &'static Lot) {
     let shared = Arc::new(rt.alloc(), 1usize).expect(rt, "memory");
     let lock = RwLock::new(lot, shared).expect(rt, "a lock");
     let guard = lock.read_recursive(rt);
@@ -151,7 +162,7 @@ fn guards_are_shared<'a, R: Host + 'a>() {
 }
 
 // An owner that the lot made may lock each reentrant mutex of it.
-fn owner_of_a_lot_locks<R: Host>(rt: &R, lot: &Lot) {
+fn owner_of_a_lot_locks<R: Host>(rt: &R, lot: &'static Lot) {
     let mutex = ReentrantMutex::new(lot, 1usize).expect(rt, "a mutex");
     let owner = lot.owner();
     expect(rt, value_in(mutex.lock(rt, &owner)) == 1, "it is 1");
@@ -160,10 +171,10 @@ fn owner_of_a_lot_locks<R: Host>(rt: &R, lot: &Lot) {
 fn keeps_values<R: Host>(rt: &R) {
     let lot = new_lot(rt, ROOM);
     guards_are_shared::<R>();
-    clones_a_value(rt, &lot);
-    owner_of_a_lot_locks(rt, &lot);
-    expect(rt, leaves_a_mutex(rt, &lot), "into_inner_drop");
-    expect(rt, leaves_a_lock(rt, &lot), "into_inner_drop");
+    clones_a_value(rt, lot);
+    owner_of_a_lot_locks(rt, lot);
+    expect(rt, leaves_a_mutex(rt, lot), "into_inner_drop");
+    expect(rt, leaves_a_lock(rt, lot), "into_inner_drop");
 }
 
 // `test_mutexguard_sync`, `test_rwlockguard_sync`, `test_clone`, and `test_into_inner_drop`.
