@@ -9,6 +9,7 @@ ghost use Rattle.lot_base.specs.declared.token.FilterOp.{FilterOp};
 
 use crate::queue::{Node, Queue};
 use crate::token::{FilterOp, ParkToken, UnparkResult, UnparkToken};
+use std::mem;
 
 // Takes the first node of the key from the queue, and tells whether another one is left.
 pub(super) fn take_first(queue: &mut Queue, key: usize) -> (Option<Box<Node>>, bool)
@@ -66,10 +67,12 @@ pub(super) fn take_every(queue: &mut Queue, key: usize, token: UnparkToken) -> (
     ensures taken { result.1 ≡ map (with_token token) (lists_of queue.old key) }
     ensures lists { ChangesOnly queue.old queue.new key [] }
 {
+    // A queue of its own has its ends in registers while it is walked.
+    let mut nodes = mem::replace(queue, Queue::new());
     let mut taken = Queue::new();
     let mut others = Queue::new();
     let mut count: usize = 0;
-    while let Some(node) = queue.pop_front() {
+    while let Some(node) = nodes.pop_front() {
         if node.key == key {
             taken.push_back(with_unpark_token(node, token));
             count = count.saturating_add(1);

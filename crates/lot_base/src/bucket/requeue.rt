@@ -10,6 +10,7 @@ ghost use Rattle.lot_base.specs.declared.token.RequeueOp.{RequeueOp};
 use super::passing::{queue_of, take_first, take_next, with_unpark_token};
 use crate::queue::{Node, Queue};
 use crate::token::{RequeueOp, UnparkResult, UnparkToken};
+use std::mem;
 
 // What a requeue gives, with the nodes that are still to be put behind those of their new key.
 #[derive(Drop)]
@@ -159,10 +160,12 @@ fn rekey_every<M: FnMut(usize, bool)>(
         moved.new }
     ensures lists { ChangesOnly queue.old queue.new from [] }
 {
+    // A queue of its own has its ends in registers while it is walked.
+    let mut nodes = mem::replace(queue, Queue::new());
     let mut rekeyed = Queue::new();
     let mut others = Queue::new();
     let mut count: usize = 0;
-    while let Some(node) = queue.pop_front() {
+    while let Some(node) = nodes.pop_front() {
         if node.key == from {
             moved(node.number, node.timed);
             rekeyed.push_back(with_key(node, to));

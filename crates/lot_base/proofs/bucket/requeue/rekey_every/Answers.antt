@@ -10,8 +10,8 @@ pub loop-node-preserved-then-deref-from : goal.loop-node-preserved-then-deref-fr
 loop-node-preserved-then-deref-from g c =
     let first = fields c.in-Some.node.value in
     let rest = lists_of c.pop_front.new.self c.args.from in
-    let waiters = lists_of c.loop-node.queue c.args.from in
-    let popped = lists_of-first c.args.from first c.pop_front.new.self c.loop-node.queue (search rules)
+    let waiters = lists_of c.loop-node.nodes c.args.from in
+    let popped = lists_of-first c.args.from first c.pop_front.new.self c.loop-node.nodes (search rules)
     (search rules) in
     let move = move_read c.in-Some.node.value c.deref-then-deref-from.result.now c.deref-then-deref-from-2.result.now
     (search rules) (search rules) in
@@ -31,10 +31,10 @@ loop-node-preserved-then-deref-from g c =
 pub moved-requires : goal.moved-requires
 moved-requires g c =
     let first = fields c.in-Some.node.value in
-    let waiters = lists_of-first c.args.from first c.pop_front.new.self c.loop-node.queue (search rules)
+    let waiters = lists_of-first c.args.from first c.pop_front.new.self c.loop-node.nodes (search rules)
     (search rules) in
     callable_first g.M.FnMut c.loop-node.moved first (lists_of c.pop_front.new.self c.args.from)
-    (lists_of c.loop-node.queue c.args.from) _ waiters
+    (lists_of c.loop-node.nodes c.args.from) _ waiters
     (move_read c.in-Some.node.value c.deref-then-deref-from.result.now c.deref-then-deref-from-2.result.now
     (search rules) (search rules)) c.loop-node.invariant.callable
 
