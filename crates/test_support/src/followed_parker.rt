@@ -97,16 +97,12 @@ impl ParkerT for FollowedParker {
         self.parker.timed_out(rt)
     }
 
-    fn park<R: Wait>(&self, rt: &R) -> (Box<Node>, Option<Letter>) {
+    fn park<R: Wait>(&self, rt: &R) -> (Box<Node>, Letter) {
         self.parked.fetch_add(1, Ordering::SeqCst);
         self.parker.park(rt)
     }
 
-    fn park_until<R: Wait + Clock>(
-        &self,
-        rt: &R,
-        timeout: Instant,
-    ) -> Option<(Box<Node>, Option<Letter>)> {
+    fn park_until<R: Wait + Clock>(&self, rt: &R, timeout: Instant) -> Option<(Box<Node>, Letter)> {
         self.parked.fetch_add(1, Ordering::SeqCst);
         self.parker.park_until(rt, timeout)
     }

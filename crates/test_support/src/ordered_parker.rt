@@ -79,7 +79,7 @@ impl ParkerT for OrderedParker {
         self.parker.timed_out(rt)
     }
 
-    fn park<R: Wait>(&self, rt: &R) -> (Box<Node>, Option<Letter>) {
+    fn park<R: Wait>(&self, rt: &R) -> (Box<Node>, Letter) {
         let calls = self.call(PARK);
         let (node, letter) = self.parker.park(rt);
         self.expect(calls, if node.timed { 11_234 } else { 1_124 });
@@ -90,7 +90,7 @@ impl ParkerT for OrderedParker {
         &self,
         rt: &R,
         _timeout: Instant,
-    ) -> Option<(Box<Node>, Option<Letter>)> {
+    ) -> Option<(Box<Node>, Letter)> {
         self.call(PARK_UNTIL);
         self.faults.tell(rt);
         None
