@@ -10,9 +10,6 @@ use lot_history::history::Part;
 ///
 /// A contract sees which threads wait in it on a key, in order, by `waiters_in`. It has no bytes,
 /// and no `Drop`.
-///
-/// Upstream has no such type: its closures are called while the queue is locked, as the
-/// documentation says.
 pub struct CriticalSection {
     pub(crate) part: Part,
 }

@@ -17,9 +17,6 @@ use lot_machine::step::{Answer, Step};
 ///
 /// It may ask for memory, for the records alone. It takes no lock, and nobody waits for it.
 ///
-/// Upstream has it under this name. There it finds the thread's data in a thread local, does
-/// nothing without a feature, and cannot be refused.
-///
 /// # Errors
 ///
 /// `NoMemory` if memory cannot be had. The records did not change then, and the history tells that.
@@ -67,9 +64,6 @@ pub fn acquire_resource<P: ThreadParkerT>(
 /// of a thread of this lot.
 ///
 /// It searches the records from the last one. It asks for no memory and takes no lock.
-///
-/// Upstream has it under this name. There it finds the thread's data in a thread local, and does
-/// nothing without a feature.
 pub fn release_resource<P: ThreadParkerT>(
     lot: &ParkingLot<P>,
     thread_data: &mut ThreadData,

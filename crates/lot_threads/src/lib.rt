@@ -1,6 +1,26 @@
 //! A parking lot: queues of waiting threads by key, for building mutexes, condition variables and
 //! schedulers. Whatever its threads call is proved to be one history: a run, from a new one, of the
 //! machine with one list of waiters for each key.
+//!
+//! # Differences from upstream
+//!
+//! `docs/DIFFERENCES.md` maps every public item of the Rust crate to what there is here. This list
+//! adds in what way they work differently.
+//!
+//! - `ParkingLot`: upstream has one lot for the process, in statics, whose table never becomes
+//!   smaller.
+//! - `ThreadData`: upstream keeps it in a thread local. A thread is registered with its first use,
+//!   and deregistered as it ends. Threads have no numbers there, and their records are private.
+//! - `park`: upstream finds the lot and the thread's data by itself. A key to which the caller has
+//!   no right is unsafe there; here it is only unwise.
+//! - `unpark_all`, `unpark_filter`: upstream allocates to keep the handles of more than eight
+//!   threads. Its one filter is `unpark_filter` and `unpark_chosen` here.
+//! - `acquire_resource`, `release_resource`: upstream's do nothing without a feature, and cannot
+//!   fail.
+//! - `WordParker`, `ThreadParker`, `YieldParker`: upstream's `ThreadParker` of `linux.rs`, `unix.rs`
+//!   and `generic.rs`. They hand nothing over, so `Letter` has no counterpart.
+//! - `Member`, `Visitor`, `CriticalSection`, and the calls whose names end in `_within` have none
+//!   either. Upstream's documentation says which closures run while a queue is locked.
 #![tactic(auto)]
 
 mod cell;

@@ -34,8 +34,6 @@ use std::time::{Clock, Instant};
 /// added.
 ///
 /// A member that is only dropped leaves its number registered; `retire` frees it.
-///
-/// Upstream has no such type: each thread's data is in a thread local.
 #[derive(Drop)]
 pub struct Member<'a, P: ThreadParkerT> {
     lot: &'a ParkingLot<P>,
@@ -251,8 +249,6 @@ impl<'a, P: ThreadParkerT> Member<'a, P> {
     /// A body that called it before the bucket is locked, or after, would have none to lend. So the
     /// contract says which threads waited on the key as the callback was called: those that the
     /// unpark found.
-    ///
-    /// Upstream has no such call.
     pub fn unpark_one_within<R: Wait, C: FnOnce(&CriticalSection, UnparkResult) -> UnparkToken>(
         &mut self,
         rt: &R,
@@ -317,8 +313,6 @@ impl<'a, P: ThreadParkerT> Member<'a, P> {
 
     /// Does what `unpark_filter` does, and lends the callback the critical section in which it is
     /// called, as `unpark_one_within` does.
-    ///
-    /// Upstream has no such call.
     pub fn unpark_filter_within<
         R: Wait,
         F: FnMut(ParkToken) -> FilterOp,
@@ -391,8 +385,6 @@ impl<'a, P: ThreadParkerT> Member<'a, P> {
     ///
     /// The contract says which threads waited on `from` as `validate` was called: those that the
     /// requeue found. Of the list of `to` it says only what the step does to it.
-    ///
-    /// Upstream has no such call.
     pub fn unpark_requeue_within<
         R: Wait,
         V: FnOnce(&CriticalSection) -> RequeueOp,
@@ -412,7 +404,7 @@ impl<'a, P: ThreadParkerT> Member<'a, P> {
     /// that the member has seen then: it sees the history in the section of the key's bucket.
     ///
     /// It asks for memory with the bucket locked, again whenever the list has to grow. A section
-    /// must not call it. Upstream has no such call.
+    /// must not call it.
     ///
     /// # Errors
     ///
@@ -438,8 +430,6 @@ impl<'a, P: ThreadParkerT> Member<'a, P> {
     /// It takes the lock of the numbers, and with it those of the buckets, one at a time; meanwhile
     /// other calls wait for it. It asks for no memory, and gives none back. A section must not call
     /// it.
-    ///
-    /// Upstream's table never becomes smaller.
     pub fn trim<R: Wait>(&mut self, rt: &R)
         ensures stays { Stays self.old self.new }
         ensures trimmed { Makes self.old Step.Trim Answer.Trimmed self.new }
@@ -479,8 +469,6 @@ impl<'a, P: ThreadParkerT> Member<'a, P> {
     }
 
     /// How often the thread has recorded the key. It visits the records.
-    ///
-    /// Upstream keeps them to itself.
     pub fn records(&self, key: usize) -> usize
         ensures { result ≡ times_recorded self.now.records key }
     {

@@ -16,9 +16,6 @@ use std::marker::Model;
 /// The nodes are made one after another, with the lot: a registration asks for none, and whoever
 /// walks a queue finds them close together, where nodes that threads make lie each in the heap of
 /// its thread.
-///
-/// Upstream has no numbers, and each thread's data, which stands for it in a queue, lies in a
-/// thread local.
 #[derive(Drop)]
 pub struct NumberedNodes {
     numbers: Numbers,

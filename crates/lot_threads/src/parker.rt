@@ -6,8 +6,6 @@ use lot_history::history::Part;
 
 /// What goes beside the node of a thread that was unparked: its piece of the history, which says
 /// that it was taken with the token that the node has. It has no bytes.
-///
-/// Upstream hands nothing over.
 #[derive(Drop)]
 pub struct Letter {
     pub(crate) part: Part,
@@ -22,23 +20,15 @@ impl Payload for Letter {
 }
 
 /// A parker of a lot's thread.
-///
-/// Upstream has the trait under this name.
 pub trait ThreadParkerT: ParkerT<Payload = Letter> {}
 
 /// A parker of one word, on which its thread sleeps.
-///
-/// Upstream's `linux.rs` has it as `ThreadParker`.
 pub type WordParker = thread_parker::WordParker<Letter>;
 
 /// A parker over a mutex and a condition variable.
-///
-/// Upstream's `unix.rs` has it under this name.
 pub type ThreadParker = thread_parker::ThreadParker<Letter>;
 
 /// A parker whose thread yields the processor between its looks.
-///
-/// Upstream's `generic.rs` has it as `ThreadParker`.
 pub type YieldParker = thread_parker::YieldParker<Letter>;
 
 impl<P: ParkerT<Payload = Letter>> ThreadParkerT for P {}

@@ -35,8 +35,6 @@ use std::time::{Clock, Instant};
 /// a contract asks where the two are handed in together; `Member` has both.
 ///
 /// Data that is only dropped leaves its number registered; `ParkingLot::retire` frees it.
-///
-/// Upstream has it under this name, in a thread local, and its end deregisters the thread.
 #[derive(Drop)]
 pub struct ThreadData {
     pub(crate) number: usize,
@@ -64,8 +62,6 @@ impl Model for ThreadData {
 
 impl ThreadData {
     /// The number of the thread.
-    ///
-    /// Upstream has no numbers.
     pub fn number(&self) -> usize
         ensures { result ≡ self.now.number }
     {
@@ -73,8 +69,6 @@ impl ThreadData {
     }
 
     /// How often the thread has recorded the key. It visits the records.
-    ///
-    /// Upstream keeps them to itself.
     pub fn records(&self, key: usize) -> usize
         ensures { result ≡ times_recorded self.now.records key }
     {
@@ -92,8 +86,6 @@ impl<P: ThreadParkerT> ParkingLot<P> {
     /// nothing to the history: it asks for the memory of that row if it was not needed before,
     /// then visits every bucket and every waiting thread, and other calls wait for it. A section
     /// must not call it.
-    ///
-    /// Upstream registers a thread with its first use, by `ThreadData::new`, which grows the table.
     ///
     /// # Errors
     ///
@@ -127,8 +119,6 @@ impl<P: ThreadParkerT> ParkingLot<P> {
     ///
     /// It takes the lock of the numbers and asks for no memory. The lot keeps the thread's node for
     /// whoever has the number next. A section must not call it.
-    ///
-    /// Upstream does this as the thread's local data is dropped.
     pub fn retire<R: Wait>(&self, rt: &R, thread_data: ThreadData) -> Witness
         requires own { IsDataOf self.now thread_data }
         ensures still { IsStill self.now thread_data.witness result }
@@ -153,7 +143,7 @@ impl<P: ThreadParkerT> ParkingLot<P> {
     /// `Visitor::list` or `Member::list` where a proof is to know it.
     ///
     /// It asks for memory with the bucket locked, again whenever the list has to grow. A section
-    /// must not call it. Upstream has no such call.
+    /// must not call it.
     ///
     /// # Errors
     ///
@@ -164,8 +154,6 @@ impl<P: ThreadParkerT> ParkingLot<P> {
 
     /// Makes the table smaller, as `Visitor::trim` does by a new visitor. No clause says so here:
     /// call `Visitor::trim` or `Member::trim` where a proof is to know it.
-    ///
-    /// Upstream's table never becomes smaller.
     pub fn trim<R: Wait>(&self, rt: &R) {
         self.visitor().trim(rt);
     }
@@ -192,9 +180,6 @@ impl<P: ThreadParkerT> ParkingLot<P> {
 ///
 /// What the other thread did before its unpark is seen once this answers `Unparked`, and what a
 /// section did by the next section of that bucket: every step on a shared word is `SeqCst`.
-///
-/// Upstream has it under this name. There the lot and the thread's data are found, not handed in,
-/// and any number that the caller has no right to is unsafe as a key; here it is only unwise.
 pub fn park<
     P: ThreadParkerT,
     R: Wait + Clock,
@@ -252,8 +237,6 @@ pub fn park<
 /// Where the thread was let in, the contract says that `validate` was asked while the threads
 /// waited on the key that the entry found, and `before_sleep` called once the thread stood in the
 /// list. Of a refusal it says only that `validate` was asked in a section of the key's bucket.
-///
-/// Upstream has no such call.
 pub fn park_within<
     P: ThreadParkerT,
     R: Wait + Clock,
@@ -310,8 +293,6 @@ pub fn park_within<
 ///
 /// Its clause says what the callback was called with and answered, and no more: the visitor that
 /// knows which step was added is gone. Where a proof is to know it, call the visitor or a member.
-///
-/// Upstream has it under this name.
 pub fn unpark_one<P: ThreadParkerT, R: Wait, C: FnOnce(UnparkResult) -> UnparkToken>(
     rt: &R,
     lot: &ParkingLot<P>,
@@ -328,9 +309,6 @@ pub fn unpark_one<P: ThreadParkerT, R: Wait, C: FnOnce(UnparkResult) -> UnparkTo
 /// Unparks all threads in the list of the key, as `Visitor::unpark_all` does by a new visitor, and
 /// answers how many there were. No clause says so here: where a proof is to know it, call the
 /// visitor or a member.
-///
-/// Upstream has it under this name, and keeps the handles of more than eight threads in memory that
-/// it asks for.
 pub fn unpark_all<P: ThreadParkerT, R: Wait>(
     rt: &R,
     lot: &ParkingLot<P>,
@@ -345,9 +323,6 @@ pub fn unpark_all<P: ThreadParkerT, R: Wait>(
 ///
 /// Its clause says what the closures were called with and answered, on whatever park tokens, and no
 /// more. Where a proof is to know which step was added, call the visitor or a member.
-///
-/// Upstream has it under this name, and keeps the handles of more than eight threads in memory that
-/// it asks for.
 pub fn unpark_filter<
     P: ThreadParkerT,
     R: Wait,
@@ -362,8 +337,6 @@ pub fn unpark_filter<
 
 /// Does what `unpark_filter` does, for closures that may be called at any time, as those without
 /// conditions of their own: its caller proves nothing of lists of waiters.
-///
-/// Upstream has one function for both.
 pub fn unpark_chosen<
     P: ThreadParkerT,
     R: Wait,
@@ -382,8 +355,6 @@ pub fn unpark_chosen<
 ///
 /// Its clause says what the closures were called with and answered, and no more. Where a proof is
 /// to know which step was added, call the visitor or a member.
-///
-/// Upstream has it under this name.
 pub fn unpark_requeue<
     P: ThreadParkerT,
     R: Wait,

@@ -75,8 +75,6 @@ struct PerThread<P: ThreadParkerT> {
 /// bucket away waits for that lock, and looks again.
 ///
 /// Whoever finds a lock taken sleeps, once it has spun in vain. No order is kept among callers.
-///
-/// Upstream has one lot for the process, in statics.
 #[derive(Drop)]
 pub struct ParkingLot<P: ThreadParkerT> {
     history: History,

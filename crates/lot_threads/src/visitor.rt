@@ -35,8 +35,6 @@ use std::sync::Wait;
 ///
 /// Visitors of several threads hear of each other's calls by `tell` and `hear_witness`: a witness
 /// may go from one to another through a lock or a channel.
-///
-/// Upstream has no such type.
 #[derive(Drop)]
 pub struct Visitor<'a, P: ThreadParkerT> {
     lot: &'a ParkingLot<P>,
@@ -47,8 +45,6 @@ pub struct Visitor<'a, P: ThreadParkerT> {
 impl<P: ThreadParkerT> ParkingLot<P> {
     /// A visitor of the lot: a caller with a witness of its own, which has seen nothing and added
     /// nothing. It costs a load.
-    ///
-    /// Upstream has no such call.
     #[inline]
     pub fn visitor(&self) -> Visitor<'_, P>
         ensures lot { result.history ≡ self.now }
@@ -155,8 +151,6 @@ impl<'a, P: ThreadParkerT> Visitor<'a, P> {
     /// A body that called it before the bucket is locked, or after, would have none to lend. So the
     /// contract says which threads waited on the key as the callback was called: those that the
     /// unpark found.
-    ///
-    /// Upstream has no such call.
     pub fn unpark_one_within<R: Wait, C: FnOnce(&CriticalSection, UnparkResult) -> UnparkToken>(
         &mut self,
         rt: &R,
@@ -206,8 +200,6 @@ impl<'a, P: ThreadParkerT> Visitor<'a, P> {
 
     /// Does what `unpark_filter` does, and lends the callback the critical section in which it is
     /// called, as `unpark_one_within` does.
-    ///
-    /// Upstream has no such call.
     pub fn unpark_filter_within<
         R: Wait,
         F: FnMut(ParkToken) -> FilterOp,
@@ -268,8 +260,6 @@ impl<'a, P: ThreadParkerT> Visitor<'a, P> {
 
     /// Does what `unpark_requeue` does, and lends the closures the critical section of the bucket
     /// of `from`, as `Member::unpark_requeue_within` does.
-    ///
-    /// Upstream has no such call.
     pub fn unpark_requeue_within<
         R: Wait,
         V: FnOnce(&CriticalSection) -> RequeueOp,
