@@ -37,7 +37,8 @@
 //! - `WordParker`: `ThreadParker` in upstream's `linux.rs`, over a word alone. An unpark is one
 //!   store there, and always a call of the system, by which time the parker may be gone. Here a
 //!   node goes through the slot, in two steps on the word, and there is no call of the system
-//!   unless the owner may sleep. Upstream's `park_until` does not look again at its deadline.
+//!   unless the owner may sleep. The owner spins before it sleeps; upstream's sleeps at once.
+//!   Upstream's `park_until` does not look again at its deadline.
 //! - `ThreadParker`: upstream's is in `unix.rs`, over the system's own calls, which `prepare_park`
 //!   makes ready. It waits without a deadline where its system cannot represent that.
 //! - `YieldParker`: `ThreadParker` in upstream's `generic.rs`, over an atomic flag and without a

@@ -250,6 +250,24 @@ impl<L: Payload> WordParker<L> {
         unparked
     }
 
+    // Takes the node and its payload if they come while the owner spins, which costs about as much
+    // as a sleep. Then the owner need not sleep, and the unpark need not wake it.
+    fn take_soon<R: Wait>(&self, rt: &R) -> Option<(Box<Node>, L)>
+        ensures { IfSome result (IsUnparked
+            (L.fits self.now.table.shared.key.home) self.now.table.shared.key.number) }
+    {
+        let mut spin = SpinWait::new();
+        for _ in rt.forever() {
+            if !spin.spin() {
+                return None;
+            }
+            if let Some(unparked) = self.take(rt) {
+                return Some(unparked);
+            }
+        }
+        unreachable!()
+    }
+
     // Marks that the owner sleeps, if the slot is empty. Answers whether the mark is there.
     fn mark_asleep(&self) -> bool {
         let (word, mut seat) = self.table.shared.load_new_seat::<Step>(WORD);
@@ -272,13 +290,16 @@ impl<L: Payload> WordParker<L> {
             .compare_exchange::<Step>(&mut seat, WORD, EMPTY_ASLEEP, EMPTY);
     }
 
-    // Sleeps until the slot holds a node, and takes it with its payload.
+    // Waits until the slot holds a node, and takes it with its payload.
     #[cold]
     #[inline(never)]
     fn park_slow<R: Wait>(&self, rt: &R) -> (Box<Node>, L)
         ensures { IsUnparked
             (L.fits self.now.table.shared.key.home) self.now.table.shared.key.number result }
     {
+        if let Some(unparked) = self.take_soon(rt) {
+            return unparked;
+        }
         for _ in rt.forever() {
             if self.mark_asleep() {
                 self.table.shared.park(rt, WORD, EMPTY_ASLEEP as u32);
@@ -290,13 +311,18 @@ impl<L: Payload> WordParker<L> {
         unreachable!()
     }
 
-    // Sleeps until the slot holds a node, and takes it with its payload, or until the deadline.
+    // Waits until the slot holds a node, and takes it with its payload, or until the deadline.
     #[cold]
     #[inline(never)]
     fn park_until_slow<R: Wait + Clock>(&self, rt: &R, timeout: Instant) -> Option<(Box<Node>, L)>
         ensures { IfSome result (IsUnparked
             (L.fits self.now.table.shared.key.home) self.now.table.shared.key.number) }
     {
+        if time_left(rt, timeout).is_some()
+            && let Some(unparked) = self.take_soon(rt)
+        {
+            return Some(unparked);
+        }
         for _ in rt.forever() {
             let Some(left) = time_left(rt, timeout) else {
                 return self.take(rt);
@@ -357,10 +383,11 @@ impl<L: Payload> ParkerT for WordParker<L> {
         says_empty(self.word(rt))
     }
 
-    /// Takes a node that is there by a swap and a store; if there is none, marks that the owner
-    /// sleeps, and sleeps on the word.
+    /// Takes a node that is there by a swap and a store.
     ///
-    /// If it is woken without a node, it sleeps again.
+    /// If there is none, it spins, and looks ten times in some microseconds, about as long as a
+    /// sleep and a wake-up take. Then it marks that the owner sleeps, and sleeps on the word. If it
+    /// is woken without a node, it sleeps again.
     #[inline]
     fn park<R: Wait>(&self, rt: &R) -> (Box<Node>, L) {
         match self.take(rt) {
@@ -371,7 +398,9 @@ impl<L: Payload> ParkerT for WordParker<L> {
 
     /// Does what `park` does, but sleeps at most until the deadline.
     ///
-    /// It reads the clock after each look, and looks once more after the deadline.
+    /// It reads the clock before it spins and before each sleep, and looks once more after the
+    /// deadline. It may return some microseconds late, because it does not read the clock while it
+    /// spins.
     #[inline]
     fn park_until<R: Wait + Clock>(&self, rt: &R, timeout: Instant) -> Option<(Box<Node>, L)> {
         match self.take(rt) {
