@@ -22,6 +22,7 @@ use Rattle.lot_history.specs.Rule.{IsDealt, Knows, Kept}
 use Rattle.lot_history.specs.Moves.{Regroups}
 use Rattle.lot_history.specs.Titles.{deal, titled_pieces, with_deal}
 use Rattle.lot_history.specs.Views.{all_pieces, rest_of}
+use Rattle.lot_history.proofs.RuleLemmas.{at_place, with_seats}
 
 -- the first of the keys from this one on is this one, and the others are those from the next on
 pub first-above : (key k : ℕ) (b : Bool) → b ≡ true → k ≡ key → at_or_above key k b ≡ 1
@@ -144,21 +145,10 @@ module _ (max_threads : ℕ) (views : List View) (kept : Kept max_threads views)
 
   -- a seat deals the first of the titles that it has to deal
   pub dealt : Kept max_threads (set views id (with_deal key limit home v))
-  dealt = record {
-    events = kept.events;
-    machine = kept.machine;
-    owner = kept.owner;
-    homes = homes;
-    run = kept.run;
-    few = kept.few;
-    threads = kept.threads;
-    consistent = kept.consistent;
-    each = λ j u there. ⊎_elim
-        (λ t. subst (λ i. Knows kept.events kept.machine kept.owner homes i u) (sym t.0)
-        (subst (Knows kept.events kept.machine kept.owner homes id) t.1 own_knows))
-        (λ t. other_knows j u t.0 (kept.each j u t.1)) (at_set views id j new u there);
-    others = λ j high. kept.others j (subst (λ n. n ≤ j) (length-set views id new) high);
-  }
+  dealt = with_seats max_threads views kept (set views id new) kept.owner homes (omega (arith, length-set views id new))
+      (λ j u there. ⊎_elim
+      (λ t. at_place (Knows kept.events kept.machine kept.owner homes) id j new u t.0 t.1 own_knows)
+      (λ t. other_knows j u t.0 (kept.each j u t.1)) (at_set views id j new u there))
 
 -- the keys below a limit get titles, before anything was done
 

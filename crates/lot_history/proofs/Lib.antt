@@ -29,4 +29,5 @@ pub mod TurnLemmas
 pub mod OrderLemmas
 pub mod TitleLemmas
 pub mod TitledLemmas
+pub mod KeyedLemmas
 pub mod HoldLemmas

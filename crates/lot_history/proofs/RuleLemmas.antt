@@ -50,23 +50,35 @@ agree homes deals so one other among too same = same_Some one.home other.home
     (sym (All-contains (IsDealt homes) deals one so among)
     ∙ (ap homes same ∙ All-contains (IsDealt homes) deals other so too))
 
--- a new seat, which knows of nothing
-pub arrives : (max_threads : ℕ) (views : List View) → Kept max_threads views → Kept max_threads (views ++ told_view [] ∷ [])
-arrives max_threads views kept = record {
+-- what is so of a seat and its number is so of them by other names
+pub at_place : (so : ℕ → View → Type 0) (i j : ℕ) (w u : View) → j ≡ i → w ≡ u → so i w → so j u
+at_place so i j w u place same holds = subst (λ k. so k u) (sym place) (subst (so i) same holds)
+
+-- other seats know of the same history
+pub with_seats : (max_threads : ℕ) (views : List View) (kept : Kept max_threads views) (after : List View)
+    (owner : Name → ℕ) (homes : ℕ → Option TableId) → length views ≤ length after
+    → ((j : ℕ) (u : View) → get_elem? after j ≡ some u → Knows kept.events kept.machine owner homes j u)
+    → Kept max_threads after
+with_seats max_threads views kept after owner homes longer each = record {
   events = kept.events;
   machine = kept.machine;
-  owner = kept.owner;
-  homes = kept.homes;
+  owner = owner;
+  homes = homes;
   run = kept.run;
   few = kept.few;
   threads = kept.threads;
   consistent = kept.consistent;
-  each = λ j u there. ⊎_elim (kept.each j u)
-      (λ t. subst (λ i. Knows kept.events kept.machine kept.owner kept.homes i u) (sym t.0)
-      (subst (Knows kept.events kept.machine kept.owner kept.homes (length views)) t.1 knows))
-      (at_end views (told_view []) u j there);
-  others = λ j high. kept.others j (let a = length-append views (told_view [] ∷ []) in omega arith);
+  each = each;
+  others = λ j high. kept.others j (omega (arith, longer, high));
 }
+
+-- a new seat, which knows of nothing
+pub arrives : (max_threads : ℕ) (views : List View) → Kept max_threads views → Kept max_threads (views ++ told_view [] ∷ [])
+arrives max_threads views kept = with_seats max_threads views kept (views ++ told_view [] ∷ []) kept.owner kept.homes
+    (omega (arith, length-append views (told_view [] ∷ [])))
+    (λ j u there. ⊎_elim (kept.each j u)
+    (λ t. at_place (Knows kept.events kept.machine kept.owner kept.homes) (length views) j (told_view []) u t.0 t.1 knows)
+    (at_end views (told_view []) u j there))
   where
     knows : Knows kept.events kept.machine kept.owner kept.homes (length views) (told_view [])
     knows = record {
@@ -95,21 +107,11 @@ module _ (max_threads : ℕ) (views : List View) (kept : Kept max_threads views)
   -- a seat knows otherwise of the same history
   pub with_view : (w : View) → Knows kept.events kept.machine kept.owner kept.homes id w
       → Kept max_threads (set views id w)
-  with_view w knows = record {
-    events = kept.events;
-    machine = kept.machine;
-    owner = kept.owner;
-    homes = kept.homes;
-    run = kept.run;
-    few = kept.few;
-    threads = kept.threads;
-    consistent = kept.consistent;
-    each = λ j u there. ⊎_elim
-        (λ t. subst (λ i. Knows kept.events kept.machine kept.owner kept.homes i u) (sym t.0)
-        (subst (Knows kept.events kept.machine kept.owner kept.homes id) t.1 knows))
-        (λ t. kept.each j u t.1) (at_set views id j w u there);
-    others = λ j high. kept.others j (subst (λ n. n ≤ j) (length-set views id w) high);
-  }
+  with_view w knows = with_seats max_threads views kept (set views id w) kept.owner kept.homes
+      (omega (arith, length-set views id w))
+      (λ j u there. ⊎_elim
+      (λ t. at_place (Knows kept.events kept.machine kept.owner kept.homes) id j w u t.0 t.1 knows)
+      (λ t. kept.each j u t.1) (at_set views id j w u there))
 
   -- a look
   pub looks : (w : View) × Kept max_threads (set views id w) × Looks max_threads id v w × IsPrefix v.heard w.seen
@@ -217,8 +219,7 @@ module _ (max_threads : ℕ) (views : List View) (kept : Kept max_threads views)
       threads = max_threads-step kept.machine from.step from.answer from.next from.does ∙ kept.threads;
       consistent = IsConsistent-step kept.machine from.step from.answer from.next kept.consistent from.does;
       each = λ j u there. ⊎_elim
-          (λ t. subst (λ i. Knows (kept.events ++ added ∷ []) from.next kept.owner kept.homes i u) (sym t.0)
-          (subst (Knows (kept.events ++ added ∷ []) from.next kept.owner kept.homes id) t.1 own_knows))
+          (λ t. at_place (Knows (kept.events ++ added ∷ []) from.next kept.owner kept.homes) id j new_view u t.0 t.1 own_knows)
           (λ t. other_knows j u t.0 (kept.each j u t.1)) (at_set views id j new_view u there);
       others = λ j high. let far : length views ≤ j = subst (λ n. n ≤ j) (length-set views id new_view) high in
           events_by-other j kept.events added (λ e. absurd (let b = below in omega arith)) ∙ kept.others j far;
@@ -320,25 +321,15 @@ module _ (max_threads : ℕ) (views : List View) (kept : Kept max_threads views)
       }
 
       pub splits : Kept max_threads (set views id left ++ right ∷ [])
-      splits = record {
-        events = kept.events;
-        machine = kept.machine;
-        owner = owner;
-        homes = kept.homes;
-        run = kept.run;
-        few = kept.few;
-        threads = kept.threads;
-        consistent = kept.consistent;
-        each = λ j u there. ⊎_elim
-            (λ here. ⊎_elim
-            (λ t. subst (λ i. Knows kept.events kept.machine owner kept.homes i u) (sym t.0)
-            (subst (Knows kept.events kept.machine owner kept.homes id) t.1 left_knows))
-            (λ t. rest_knows j u t.0 (kept.each j u t.1)) (at_set views id j left u here))
-            (λ t. subst (λ i. Knows kept.events kept.machine owner kept.homes i u) (sym (t.0 ∙ length-set views id left))
-            (subst (Knows kept.events kept.machine owner kept.homes new) t.1 right_knows))
-            (at_end (set views id left) right u j there);
-        others = λ j high. kept.others j (let l = length-set views id left in let a = length-append (set views id left) (right ∷ []) in omega arith);
-      }
+      splits = with_seats max_threads views kept (set views id left ++ right ∷ []) owner kept.homes
+          (omega (arith, length-set views id left, length-append (set views id left) (right ∷ [])))
+          (λ j u there. ⊎_elim
+          (λ here. ⊎_elim
+          (λ t. at_place (Knows kept.events kept.machine owner kept.homes) id j left u t.0 t.1 left_knows)
+          (λ t. rest_knows j u t.0 (kept.each j u t.1)) (at_set views id j left u here))
+          (λ t. at_place (Knows kept.events kept.machine owner kept.homes) new j right u
+          (t.0 ∙ length-set views id left) t.1 right_knows)
+          (at_end (set views id left) right u j there))
 
   -- another seat, which has added nothing, gives its pieces to this one, and tells what it has seen
   module _ (other : ℕ) (w : View) (apart : other ≢ id) (there : get_elem? views other ≡ some w) (quiet : w.mine ≡ []) where
@@ -425,25 +416,14 @@ module _ (max_threads : ℕ) (views : List View) (kept : Kept max_threads views)
     }
 
     pub joins : Kept max_threads (set (set views id both) other spent_view)
-    joins = record {
-      events = kept.events;
-      machine = kept.machine;
-      owner = new_owner;
-      homes = kept.homes;
-      run = kept.run;
-      few = kept.few;
-      threads = kept.threads;
-      consistent = kept.consistent;
-      each = λ j u now. ⊎_elim
-          (λ t. subst (λ i. Knows kept.events kept.machine new_owner kept.homes i u) (sym t.0)
-          (subst (Knows kept.events kept.machine new_owner kept.homes other) t.1 spent_knows))
-          (λ t. ⊎_elim
-          (λ s. subst (λ i. Knows kept.events kept.machine new_owner kept.homes i u) (sym s.0)
-          (subst (Knows kept.events kept.machine new_owner kept.homes id) s.1 both_knows))
-          (λ s. third_knows j u t.0 (kept.each j u s.1)) (at_set views id j both u t.1))
-          (at_set (set views id both) other j spent_view u now);
-      others = λ j high. kept.others j (let a = length-set views id both in let b = length-set (set views id both) other spent_view in omega arith);
-    }
+    joins = with_seats max_threads views kept (set (set views id both) other spent_view) new_owner kept.homes
+        (omega (arith, length-set views id both, length-set (set views id both) other spent_view))
+        (λ j u now. ⊎_elim
+        (λ t. at_place (Knows kept.events kept.machine new_owner kept.homes) other j spent_view u t.0 t.1 spent_knows)
+        (λ t. ⊎_elim
+        (λ s. at_place (Knows kept.events kept.machine new_owner kept.homes) id j both u s.0 s.1 both_knows)
+        (λ s. third_knows j u t.0 (kept.each j u s.1)) (at_set views id j both u t.1))
+        (at_set (set views id both) other j spent_view u now))
 
 -- what a seat learns by a look, once another without pieces was joined to it
 pub looks-joined : (max_threads number same_number : ℕ) (old joined new : View) (heard : List Event)

@@ -1,20 +1,16 @@
 -- Steps where keys have titles, each with the titles before it and after it.
-use Rattle.std.proofs.Common.{◌≡◌, ◌≢◌, ℕ, ◌+◌, ◌≤◌, ◌==◌, Bool, true, false, not, cond, find, Some, List, []}
-use Rattle.std.proofs.Common.{◌∷◌, ◌++◌, map, refl, sym, ap, ◌∙◌, subst, ⊎_elim, arith, append-nil}
+use Rattle.std.proofs.Common.{◌≡◌, ◌≢◌, ℕ, ◌+◌, ◌≤◌, ◌==◌, Bool, true, false, cond, Some, List, []}
+use Rattle.std.proofs.Common.{Option, None, ◌∷◌, ◌++◌, map, refl, sym, ap, ◌∙◌, subst, ⊎_elim, arith, append-nil}
 use Rattle.std.proofs.lemmas.Bool.{cases_eq, eq-eqb, ne_eqb, le-ltb, cond-true, cond-false}
 use Rattle.std.proofs.lemmas.List.{map-append}
 use Rattle.lot_base.specs.declared.token.ParkToken.{ParkToken}
-use Rattle.lot_base.specs.declared.token.RequeueOp.{RequeueOp}
 use Rattle.lot_base.specs.declared.token.UnparkToken.{UnparkToken}
 use Rattle.lot_base.specs.Place.{place_of}
-use Rattle.lot_base.specs.Waiting.{Split, split_first, result_of, requeue_result, has_any, without_first, with_value}
-use Rattle.lot_base.specs.Waiting.{lists_after_requeue}
 use Rattle.lot_base.proofs.ValueLemmas.{with_value-same, with_value-other}
 use Rattle.lot_machine.specs.declared.status.Status.{Status}
 use Rattle.lot_machine.specs.declared.status.Status.TheVariants as status
 use Rattle.lot_machine.specs.declared.step.Answer.{Answer}
 use Rattle.lot_machine.specs.declared.step.Answer.TheVariants as answer
-use Rattle.lot_machine.specs.declared.step.Op.TheVariants as op
 use Rattle.lot_machine.specs.declared.step.Step.{Step}
 use Rattle.lot_machine.specs.declared.step.Step.TheVariants as step
 use Rattle.lot_machine.specs.Machine.{Waiter}
@@ -23,14 +19,10 @@ use Rattle.lot_history.specs.declared.view.Piece.TheVariants.{Lists, Thread, Tit
 use Rattle.lot_history.specs.declared.view.Standing.{Standing}
 use Rattle.lot_history.specs.Moves.{Moves}
 use Rattle.lot_history.specs.Pieces.{list, title, dealing, covers, cover, at_or_above, at_key, waiter_of, threads_taken}
-use Rattle.lot_history.specs.Titles.{title_of, entering}
-use Rattle.lot_history.proofs.AcrossLemmas.{requeued, requeues_within, requeues_across}
+use Rattle.lot_history.specs.Titles.{MayChange, with_title, retold, title_of, entering}
 use Rattle.lot_history.proofs.EnterLemmas.{enters}
-use Rattle.lot_history.proofs.ListsLemmas.{with_key, moved_to}
 use Rattle.lot_history.proofs.PieceLemmas.{own_list, own_title}
-use Rattle.lot_history.proofs.TakeLemmas.{unparks_one}
 use Rattle.lot_history.proofs.ThreadLemmas.{Is}
-use Rattle.lot_history.proofs.TimeoutLemmas.{is_number, with_late, late_at_key, late_waiters, passes_deadline, times_out}
 use Rattle.lot_history.proofs.TimesLemmas.{ChangesKey, at_own, at_other, at_key-append}
 use Rattle.lot_history.proofs.TitleLemmas.{standing_at, without_titles, AllTell, under_titles}
 
@@ -81,16 +73,16 @@ changes-elsewhere standing after waiting key lists k other =
 
 -- whom the pieces have of a place
 
-same_joined : (first second other another : List Standing) → map waiter_of first ≡ map waiter_of second
+pub same_joined : (first second other another : List Standing) → map waiter_of first ≡ map waiter_of second
     → map waiter_of other ≡ map waiter_of another → map waiter_of (first ++ other) ≡ map waiter_of (second ++ another)
 same_joined first second other another same too =
     map-append waiter_of first other ∙ (ap (λ (ws : List Waiter). ws ++ map waiter_of other) same
     ∙ (ap (λ (ws : List Waiter). map waiter_of second ++ ws) too ∙ sym (map-append waiter_of second another)))
 
-abbrev stands_at : ℕ → ℕ → ℕ → List Standing → List Standing
+abbrev pub stands_at : ℕ → ℕ → ℕ → List Standing → List Standing
 stands_at size place k all = cond (place_of k size == place) (at_key k all) []
 
-same_stand : (size place k : ℕ) (standing after : List Standing)
+pub same_stand : (size place k : ℕ) (standing after : List Standing)
     → map waiter_of (at_key k after) ≡ map waiter_of (at_key k standing)
     → map waiter_of (stands_at size place k after) ≡ map waiter_of (stands_at size place k standing)
 same_stand size place k standing after same = either (place_of k size == place)
@@ -99,12 +91,12 @@ same_stand size place k standing after same = either (place_of k size == place)
     either true = same
     either false = refl
 
-all_stand_here : (size place k : ℕ) (standing : List Standing) → place_of k size ≡ place
+pub all_stand_here : (size place k : ℕ) (standing : List Standing) → place_of k size ≡ place
     → stands_at size place k standing ≡ at_key k standing
 all_stand_here size place k standing here =
     cond-true (place_of k size == place) (at_key k standing) [] (eq-eqb (place_of k size) place here)
 
-none_stand_elsewhere : (size place k : ℕ) (standing : List Standing) → place_of k size ≢ place
+pub none_stand_elsewhere : (size place k : ℕ) (standing : List Standing) → place_of k size ≢ place
     → stands_at size place k standing ≡ []
 none_stand_elsewhere size place k standing there =
     cond-false (place_of k size == place) (at_key k standing) [] (ne_eqb (place_of k size) place there)
@@ -190,101 +182,13 @@ module _ (max_threads limit size place : ℕ) (standing after : List Standing) (
         );
       }) plain
 
-  -- the lists of two keys of the place change, with both titles
-  pub moves_titled_both : (from to : ℕ) (stand target : List ℕ)
-      → ((k : ℕ) → k ≢ from → k ≢ to → map waiter_of (at_key k after) ≡ map waiter_of (at_key k standing))
-      → place_of from size ≡ place → place_of to size ≡ place
-      → Moves max_threads said
-      (TitledLists limit size place standing ∷ Title from stand ∷ Title to target ∷ old)
-      (TitledLists limit size place after ∷ title_of from after ∷ title_of to after ∷ new)
-  moves_titled_both from to stand target elsewhere from_here to_here =
-      under_titles max_threads said
-      (TitledLists limit size place standing ∷ Title from stand ∷ Title to target ∷ old)
-      (TitledLists limit size place after ∷ title_of from after ∷ title_of to after ∷ new) (record {
-        titles = λ k. omega (arith, beside.titles k, further.titles k);
-        dealings = λ k. omega (arith, beside.dealings k, further.dealings k);
-        others = λ k none. same_where k (elsewhere k (other_key from k [] (omega (arith, none)))
-            (other_key to k [] (omega (arith, none))));
-        tell = (
-          record {
-            owns = omega (arith, own_list from size place after from_here);
-            stand = ap (λ (l : List Standing). map (λ each. each.number) l) (sym (all_here from from_here));
-          },
-          (
-            record {
-              owns = omega (arith, own_list to size place after to_here);
-              stand = ap (λ (l : List Standing). map (λ each. each.number) l) (sym (all_here to to_here));
-            },
-            further.tell (TitledLists limit size place after ∷ title_of from after ∷ title_of to after ∷ new),
-          ),
-        );
-      }) plain
-
--- the lists of keys of two places change, with both titles
-module _ (max_threads limit size place other : ℕ) (standing after target target_after : List Standing)
-    (new : List Piece) (further : AreBeside new) (from to : ℕ) (said : Step → Answer → Type 0)
-    (moves : Moves max_threads said (Lists size place standing ∷ Lists size other target ∷ [])
-    (Lists size place after ∷ Lists size other target_after ∷ new)) (apart : other ≢ place)
-    (from_here : place_of from size ≡ place) (to_there : place_of to size ≡ other)
-    (elsewhere : SameElsewhere standing after from) (elsewhere_there : SameElsewhere target target_after to) where
-  abbrev both : List Piece
-  both = TitledLists limit size place after ∷ TitledLists limit size other target_after ∷ title_of from after
-      ∷ title_of to target_after ∷ new
-
-  same_both : (k : ℕ) → k ≢ from → k ≢ to
-      → map waiter_of (stands_at size place k after ++ (stands_at size other k target_after ++ standing_at k new))
-      ≡ map waiter_of (stands_at size place k standing ++ (stands_at size other k target ++ []))
-  same_both k not_from not_to =
-      same_joined (stands_at size place k after) (stands_at size place k standing)
-      (stands_at size other k target_after ++ standing_at k new) (stands_at size other k target ++ [])
-      (same_stand size place k standing after (elsewhere k not_from))
-      (same_joined (stands_at size other k target_after) (stands_at size other k target) (standing_at k new) []
-      (same_stand size other k target target_after (elsewhere_there k not_to))
-      (ap (map waiter_of) (further.nobody k)))
-
-  all_from : standing_at from both ≡ at_key from after
-  all_from =
-      ap (λ (l : List Standing). stands_at size place from after ++ (stands_at size other from target_after ++ l))
-      (further.nobody from)
-      ∙ (ap (λ (l : List Standing). stands_at size place from after ++ (l ++ []))
-      (none_stand_elsewhere size other from target_after (λ same. apart (sym same ∙ from_here)))
-      ∙ (append-nil (stands_at size place from after) ∙ all_stand_here size place from after from_here))
-
-  all_to : standing_at to both ≡ at_key to target_after
-  all_to =
-      ap (λ (l : List Standing). l ++ (stands_at size other to target_after ++ standing_at to new))
-      (none_stand_elsewhere size place to after (λ same. apart (sym to_there ∙ same)))
-      ∙ (ap (λ (l : List Standing). stands_at size other to target_after ++ l) (further.nobody to)
-      ∙ (append-nil (stands_at size other to target_after) ∙ all_stand_here size other to target_after to_there))
-
-  pub moves_titled_across : (stand numbers : List ℕ) → Moves max_threads said
-      (TitledLists limit size place standing ∷ TitledLists limit size other target ∷ Title from stand
-      ∷ Title to numbers ∷ [])
-      (TitledLists limit size place after ∷ TitledLists limit size other target_after ∷ title_of from after
-      ∷ title_of to target_after ∷ new)
-  moves_titled_across stand numbers =
-      under_titles max_threads said
-      (TitledLists limit size place standing ∷ TitledLists limit size other target ∷ Title from stand
-      ∷ Title to numbers ∷ []) both (record {
-        titles = λ k. omega (arith, further.titles k);
-        dealings = λ k. omega (arith, further.dealings k);
-        others = λ k none. same_both k (other_key from k [] (omega (arith, none)))
-            (other_key to k [] (omega (arith, none)));
-        tell = (
-          record {
-            owns = omega (arith, own_list from size place after from_here);
-            stand = ap (λ (l : List Standing). map (λ each. each.number) l) (sym all_from);
-          },
-          (
-            record {
-              owns = omega (arith, own_list to size other target_after to_there);
-              stand = ap (λ (l : List Standing). map (λ each. each.number) l) (sym all_to);
-            },
-            further.tell both,
-          ),
-        );
-      }) (subst (λ (ps : List Piece). Moves max_threads said (Lists size place standing ∷ Lists size other target ∷ [])
-      (Lists size place after ∷ Lists size other target_after ∷ ps)) (sym further.same) moves)
+  -- the list of a key changes, with its title where it has one
+  pub moves_keyed : (key : ℕ) (right : Option (List ℕ)) → MayChange limit key right → SameElsewhere standing after key
+      → place_of key size ≡ place
+      → Moves max_threads said (TitledLists limit size place standing ∷ with_title key right old)
+      (TitledLists limit size place after ∷ with_title key (retold key after right) new)
+  moves_keyed key None above elsewhere here = moves_untitled key elsewhere above here
+  moves_keyed key (Some told) _ elsewhere here = moves_titled key told elsewhere here
 
 -- a thread that enters stands behind the others of its key
 pub enters_key : (standing : List Standing) (each : Standing)
@@ -317,93 +221,3 @@ enters_titled max_threads limit size place standing stand number key park_token 
     (changes-elsewhere standing (standing ++ each ∷ []) (at_key key standing ++ each ∷ []) key
     (enters_key standing each))
     here
-
-module _ (max_threads limit size place key : ℕ) (standing after : List Standing) (stand : List ℕ)
-    (here : place_of key size ≡ place) where
-  -- the first waiter of the key is taken, if there is one
-  pub unparks_one_titled : (token : UnparkToken)
-      → ChangesKey standing after key (split_first (at_key key standing)).left
-      → Moves max_threads
-      (Is (step.Unpark (op.One key token)) (answer.Unpark (result_of (split_first (at_key key standing)))))
-      (TitledLists limit size place standing ∷ Title key stand ∷ [])
-      (TitledLists limit size place after ∷ title_of key after
-      ∷ threads_taken token (split_first (at_key key standing)).taken)
-  unparks_one_titled token lists =
-      let split = split_first (at_key key standing) in
-      moves_titled max_threads limit size place standing after [] (threads_taken token split.taken) none_beside
-      (taken_beside token split.taken) (Is (step.Unpark (op.One key token)) (answer.Unpark (result_of split)))
-      (unparks_one max_threads size place key standing after token here lists) key stand
-      (changes-elsewhere standing after split.left key lists) here
-
-  module _ (number : ℕ) (found : Standing) (finds_it : find (is_number number) (at_key key standing) ≡ Some found)
-    where
-      -- the waiters of each key are as they were before a deadline passed
-      same_late : (k : ℕ) → map waiter_of (at_key k (with_late number standing)) ≡ map waiter_of (at_key k standing)
-      same_late k = ap (map waiter_of) (late_at_key number k standing) ∙ late_waiters number (at_key k standing)
-
-      -- the deadline of a waiter of the key passes, for which the title is not needed
-      pub passes_deadline_titled : found.timed ≡ true → found.late ≡ false
-          → Moves max_threads (Is (step.Deadline number) answer.Late) (TitledLists limit size place standing ∷ [])
-          (TitledLists limit size place (with_late number standing) ∷ [])
-      passes_deadline_titled timed waits =
-          moves_unchanged max_threads limit size place standing (with_late number standing) [] [] none_beside
-          none_beside (Is (step.Deadline number) answer.Late)
-          (passes_deadline max_threads size place key number standing found here finds_it timed waits) same_late
-
-      -- it leaves the list, and runs
-      pub times_out_titled : ChangesKey standing after key (without_first (is_number number) (at_key key standing))
-          → Moves max_threads
-          (Is (step.Resolve number)
-          (answer.TimedOut key (not (has_any (without_first (is_number number) (at_key key standing))))))
-          (TitledLists limit size place (with_late number standing) ∷ Title key stand ∷ [])
-          (TitledLists limit size place after ∷ title_of key after ∷ Thread number status.Running ∷ [])
-      times_out_titled lists =
-          let left = without_first (is_number number) (at_key key standing) in
-          moves_titled max_threads limit size place (with_late number standing) after []
-          (Thread number status.Running ∷ []) none_beside (thread_beside number status.Running [] none_beside)
-          (Is (step.Resolve number) (answer.TimedOut key (not (has_any left))))
-          (times_out max_threads size place key number standing found here finds_it after lists) key stand
-          (λ k other. changes-elsewhere standing after left key lists k other ∙ sym (same_late k)) here
-
--- requeues, with both titles
-module _ (max_threads limit size place from to : ℕ) (standing after : List Standing) (stand target : List ℕ)
-    (chosen : RequeueOp) (token : UnparkToken) (from_here : place_of from size ≡ place) where
-  abbrev split : Split Standing
-  split = requeued max_threads from to standing chosen token
-
-  abbrev IsRequeue : Step → Answer → Type 0
-  IsRequeue = Is (step.Unpark (op.Requeue from to chosen token)) (answer.Unpark (requeue_result chosen split))
-
-  pub requeues_within_titled : place_of to size ≡ place
-      → ((k : ℕ) → at_key k after ≡ lists_after_requeue (λ q. at_key q standing) from to (moved_to to split) k)
-      → Moves max_threads IsRequeue
-      (TitledLists limit size place standing ∷ Title from stand ∷ Title to target ∷ [])
-      (TitledLists limit size place after ∷ title_of from after ∷ title_of to after ∷ threads_taken token split.taken)
-  requeues_within_titled to_here lists =
-      moves_titled_both max_threads limit size place standing after [] (threads_taken token split.taken) none_beside
-      (taken_beside token split.taken) IsRequeue
-      (requeues_within max_threads from to standing chosen token size place after from_here to_here lists) from to
-      stand target
-      (λ k not_from not_to. ap (map waiter_of) (lists k ∙ (with_value-other kept to
-      (kept to ++ map (with_key to) split.moved) k not_to
-      ∙ with_value-other (λ q. at_key q standing) from split.left k not_from)))
-      from_here to_here
-    where
-      kept : ℕ → List Standing
-      kept = with_value (λ q. at_key q standing) from split.left
-
-  pub requeues_across_titled : (other : ℕ) (there there_after : List Standing) → other ≢ place
-      → place_of to size ≡ other → ChangesKey standing after from split.left
-      → ChangesKey there there_after to (at_key to there ++ map (with_key to) split.moved)
-      → Moves max_threads IsRequeue
-      (TitledLists limit size place standing ∷ TitledLists limit size other there ∷ Title from stand
-      ∷ Title to target ∷ [])
-      (TitledLists limit size place after ∷ TitledLists limit size other there_after ∷ title_of from after
-      ∷ title_of to there_after ∷ threads_taken token split.taken)
-  requeues_across_titled other there there_after apart to_there lists targets =
-      moves_titled_across max_threads limit size place other standing after there there_after
-      (threads_taken token split.taken) (taken_beside token split.taken) from to IsRequeue
-      (requeues_across max_threads from to standing chosen token size place other after there there_after apart
-      from_here to_there lists targets) apart from_here to_there
-      (changes-elsewhere standing after split.left from lists)
-      (changes-elsewhere there there_after (at_key to there ++ map (with_key to) split.moved) to targets) stand target

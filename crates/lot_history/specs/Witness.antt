@@ -13,12 +13,15 @@ use Rattle.lot_history.specs.declared.view.View.{View}
 use Rattle.lot_history.specs.Views.{part_view, pieces_seen, deals_seen}
 use Rattle.lot_history.specs.Tells as tells
 
--- which history it is, and for how many threads
+-- which history it is, for how many threads, and below which key keys have titles
 abbrev pub id_of : History → TableId
 id_of history = history.table.shared.table_id
 
 abbrev pub max_threads_of : History → ℕ
-max_threads_of history = history.table.shared.key
+max_threads_of history = history.table.shared.key.max_threads
+
+abbrev pub limit_of : History → ℕ
+limit_of history = history.table.shared.key.limit
 
 -- what a witness knows
 abbrev pub view_of : Witness → View

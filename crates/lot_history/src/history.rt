@@ -11,6 +11,7 @@ ghost use Rattle.lot_history.specs.Views.{all_pieces, first_of, rest_of};
 ghost use Rattle.lot_history.specs.declared.view.Piece.{Piece};
 ghost use Rattle.lot_history.specs.declared.view.Piece.TheVariants.{Undealt};
 
+use crate::bounds::Bounds;
 use crate::plays::{
     Add, Arrive, DealTitle, Dealing, Giving, Look, OneHistory, Regroup, Seated, Taking, Telling,
     Told,
@@ -27,7 +28,7 @@ use std::marker::Brand;
 /// Threads share it by reference. It has two blocks on the heap, one of a word and one of a byte.
 #[derive(Drop)]
 pub struct History {
-    table: Table<(), View, usize, OneHistory, Global>,
+    table: Table<(), View, Bounds, OneHistory, Global>,
     ghost sized: { table.shared.table_id.words ≡ 1 },
 }
 
@@ -59,7 +60,7 @@ impl Part {
 }
 
 impl History {
-    ghost use Rattle.lot_history.specs.Witness.{Adds, Found, IsPartOf, IsStill, IsWitnessOf, Looks, deals_in, deals_of, events_of, id_of, max_threads_of, number_of, pieces_in, pieces_of, seen_by, view_of};
+    ghost use Rattle.lot_history.specs.Witness.{Adds, Found, IsPartOf, IsStill, IsWitnessOf, Looks, deals_in, deals_of, events_of, id_of, limit_of, max_threads_of, number_of, pieces_in, pieces_of, seen_by, view_of};
 
     /// Creates a history for a lot with at most `max_threads` threads, in which nothing was done,
     /// and its first witness, which has all pieces of the machine.
@@ -71,13 +72,32 @@ impl History {
     /// Returns `NoMemory` if there is not enough memory.
     pub fn new(alloc: Global, max_threads: usize) -> Result<(History, Witness), NoMemory>
         ensures threads { IfOk result (λ made. max_threads_of made.0 ≡ max_threads) }
+        ensures no_titles { IfOk result (λ made. limit_of made.0 ≡ 0) }
         ensures witness { IfOk result (λ made. IsWitnessOf made.0 made.1) }
         ensures nothing_seen { IfOk result (λ made. seen_by made.1 ≡ []) }
         ensures nothing_added { IfOk result (λ made. events_of made.1 ≡ []) }
         ensures pieces { IfOk result (λ made. pieces_of made.1 ≡ all_pieces) }
         ensures nothing_dealt { IfOk result (λ made. deals_of made.1 ≡ []) }
     {
-        let (table, seat) = Table::of_words(alloc, &[0], &max_threads)?;
+        History::bounded(alloc, max_threads, 0)
+    }
+
+    // The same, where the keys below the limit are to have titles.
+    pub(crate) fn bounded(
+        alloc: Global,
+        max_threads: usize,
+        limit: usize,
+    ) -> Result<(History, Witness), NoMemory>
+        ensures threads { IfOk result (λ made. max_threads_of made.0 ≡ max_threads) }
+        ensures limit { IfOk result (λ made. limit_of made.0 ≡ limit) }
+        ensures witness { IfOk result (λ made. IsWitnessOf made.0 made.1) }
+        ensures nothing_seen { IfOk result (λ made. seen_by made.1 ≡ []) }
+        ensures nothing_added { IfOk result (λ made. events_of made.1 ≡ []) }
+        ensures pieces { IfOk result (λ made. pieces_of made.1 ≡ all_pieces) }
+        ensures nothing_dealt { IfOk result (λ made. deals_of made.1 ≡ []) }
+    {
+        let bounds = Bounds { max_threads, limit };
+        let (table, seat) = Table::of_words(alloc, &[0], &bounds)?;
         Ok((History { table }, Witness { seat }))
     }
 

@@ -8,6 +8,7 @@ ghost use Rattle.lot_history.specs.Takings.{TakenThreadsComeBack};
 ghost use Rattle.lot_history.specs.Titles.{TitlesHoldWhere};
 ghost use Rattle.lot_history.specs.Turns.{FirstComeFirstOut};
 
+use crate::bounds::Bounds;
 use crate::plays::OneHistory;
 use crate::view::View;
 use atomic_table::TableRule;
@@ -71,10 +72,10 @@ pub fn first_come_first_out()
     ensures { FirstComeFirstOut }
 {}
 
-/// Titles hold between any two steps of all threads, since the rule that the table of every history
-/// keeps gives it. Whoever stands in the list of a key that has a title is told by the title,
-/// wherever it is; no key has two titles, and none was dealt for two tables.
+/// States that titles hold between any two steps of all threads. Each title, wherever it is, tells
+/// who stands in the list of its key; no key has two titles, and no title was dealt for two tables.
+/// It follows from the rule that the table of every history keeps.
 pub fn titles_hold()
     ensures { TitlesHoldWhere
-        (λ max_threads s. ⟦<OneHistory as TableRule<(), View, usize>>⟧.holds max_threads s) }
+        (λ bounds s. ⟦<OneHistory as TableRule<(), View, Bounds>>⟧.holds bounds s) }
 {}

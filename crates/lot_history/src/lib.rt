@@ -8,6 +8,7 @@
 //! Upstream has no counterpart of this crate.
 #![tactic(auto)]
 
+pub mod bounds;
 pub mod deal;
 pub mod event;
 pub mod history;

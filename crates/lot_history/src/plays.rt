@@ -1,6 +1,7 @@
 //! This module has the rule of a history's table, and what each of its steps tells. All types
 //! except `Told` are for proofs alone.
 
+use crate::bounds::Bounds;
 use crate::view::View;
 use atomic_table::{Join, Play, Split, TableRule};
 use std::marker::{Brand, PhantomData};
@@ -9,13 +10,13 @@ use std::marker::{Brand, PhantomData};
 /// two steps.
 pub struct OneHistory;
 
-impl TableRule<(), View, usize> for OneHistory {
+impl TableRule<(), View, Bounds> for OneHistory {
     ghost use Rattle.lot_history.specs.Rule.{Kept};
     ghost use Rattle.lot_history.specs.Views.{first_view};
 
-    ghost holds = { λ max_threads s. Kept max_threads s.views };
+    ghost holds = { λ bounds s. Kept bounds.max_threads s.views };
 
-    ghost first = { λ max_threads. first_view };
+    ghost first = { λ bounds. first_view };
 }
 
 /// `Told` says which step `History::add` makes, and what its answer is.

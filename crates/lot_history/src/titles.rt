@@ -1,27 +1,48 @@
 //! Titles. In a lot whose keys below a limit have titles, the title of a key tells who stands in
 //! the key's list, and nobody changes the list without it.
 
-ghost use Rattle.std.specs.Prelude.{◌≡◌, ◌+◌, ◌<◌, ◌∷◌, [], true, ℕ, List};
+ghost use Rattle.std.specs.Prelude.{◌≡◌, ◌+◌, ◌<◌, ◌∷◌, [], true, IfOk, List};
 ghost use Rattle.atomic_table.specs.Seated.{TableId};
-ghost use Rattle.lot_base.specs.Place.{place_of};
-ghost use Rattle.lot_history.specs.Titles.{deal, entering, titled_pieces, with_entry};
+ghost use Rattle.lot_history.specs.Titles.{MayEnter, deal, entering, titled_pieces, with_entry};
 ghost use Rattle.lot_history.specs.Views.{all_pieces, rest_of};
-ghost use Rattle.lot_history.specs.Witness.{Adds, Extends, Found, IsStill, IsWitnessOf, deals_of, events_of, pieces_of, seen_by};
+ghost use Rattle.lot_history.specs.Witness.{Adds, Extends, Found, IsStill, IsWitnessOf, deals_of, events_of, limit_of, max_threads_of, pieces_of, seen_by};
 ghost use Rattle.lot_history.specs.declared.view.Piece.{Piece};
-ghost use Rattle.lot_history.specs.declared.view.Piece.TheVariants.{Thread, Title, TitledLists, Undealt};
-ghost use Rattle.lot_history.specs.declared.view.Standing.{Standing};
+ghost use Rattle.lot_history.specs.declared.view.Piece.TheVariants.{Title, Undealt};
 
 use crate::history::{History, Witness};
 use crate::plays::Told;
-use lot_base::token::ParkToken;
-use lot_machine::status::Status;
+use lot_base::token::{NoMemory, ParkToken};
 use lot_machine::step::{Answer, Step};
+use std::alloc::Global;
 use std::marker::Brand;
 
 impl History {
-    /// The keys below the limit have titles from now on. The witness has all pieces of a new
-    /// machine. It costs a load.
-    pub fn entitle(&self, me: &mut Witness, limit: usize)
+    /// Creates a history as `new` does, for a lot whose keys below the limit have titles, which are
+    /// still to be dealt.
+    ///
+    /// # Errors
+    ///
+    /// Returns `NoMemory` if there is not enough memory.
+    pub fn with_titles(
+        alloc: Global,
+        max_threads: usize,
+        limit: usize,
+    ) -> Result<(History, Witness), NoMemory>
+        ensures threads { IfOk result (λ made. max_threads_of made.0 ≡ max_threads) }
+        ensures limit { IfOk result (λ made. limit_of made.0 ≡ limit) }
+        ensures witness { IfOk result (λ made. IsWitnessOf made.0 made.1) }
+        ensures nothing_seen { IfOk result (λ made. seen_by made.1 ≡ []) }
+        ensures nothing_added { IfOk result (λ made. events_of made.1 ≡ []) }
+        ensures pieces { IfOk result (λ made. pieces_of made.1 ≡ titled_pieces limit) }
+        ensures nothing_dealt { IfOk result (λ made. deals_of made.1 ≡ []) }
+    {
+        let (history, mut me) = History::bounded(alloc, max_threads, limit)?;
+        history.entitle(&mut me, limit);
+        Ok((history, me))
+    }
+
+    // Gives the keys below the limit titles. The caller has the witness of a new history.
+    fn entitle(&self, me: &mut Witness, limit: usize)
         requires witness { IsWitnessOf self.now me.old }
         requires all { pieces_of me.old ≡ all_pieces }
         ensures still { IsStill self.now me.old me.new }
@@ -48,9 +69,9 @@ impl History {
         self.regroup(me);
     }
 
-    /// Deals the title of a key, for the table of a lock, once and for good. It is the first of the
-    /// titles that were not dealt, which the witness has before its other pieces. The caller picks
-    /// the table `home`. It costs a load.
+    /// Deals the title of a key for the table of a lock, once and for good. The caller names the
+    /// table as the ghost argument `home`. The witness has the titles that are still to be dealt
+    /// before its other pieces, and the key is the first of them. It costs a load.
     pub fn deal(&self, me: &mut Witness, key: usize, limit: usize)
         ghost home: { TableId }
         requires witness { IsWitnessOf self.now me.old }
@@ -66,9 +87,9 @@ impl History {
         self.deal_as::<Brand>(me, key, limit);
     }
 
-    /// Adds that a running thread enters the list of a key that has a title. The witness has the
-    /// lists of the key's place, the title and the thread's piece before its others, and keeps the
-    /// first two. The title tells of the thread then. It costs a load.
+    /// Adds the event that a running thread enters the list of a key that has a title. The witness
+    /// has the lists of the key's place, the title and the thread's piece before its other pieces.
+    /// It keeps the first two, and the title tells of the thread then. It costs a load.
     pub fn enter_titled(
         &self,
         me: &mut Witness,
@@ -78,16 +99,7 @@ impl History {
         timed: bool,
     )
         requires witness { IsWitnessOf self.now me.old }
-        requires titled { record {
-          limit : ℕ;
-          size : ℕ;
-          place : ℕ;
-          standing : List Standing;
-          numbers : List ℕ;
-          pieces : pieces_of me.old ≡ TitledLists limit size place standing ∷ Title key numbers
-              ∷ Thread number Status.Running ∷ rest_of (rest_of (rest_of (pieces_of me.old)));
-          here : place_of key size ≡ place;
-        } }
+        requires titled { MayEnter (pieces_of me.old) key number }
         ensures still { IsStill self.now me.old me.new }
         ensures extends { Extends self.now me.old
             (Step.Enter number key true park_token timed) Answer.Entered me.new }
@@ -111,16 +123,7 @@ impl History {
     )
         ghost after: { List Piece }
         requires witness { IsWitnessOf self.now me.old }
-        requires titled { record {
-          limit : ℕ;
-          size : ℕ;
-          place : ℕ;
-          standing : List Standing;
-          numbers : List ℕ;
-          pieces : pieces_of me.old ≡ TitledLists limit size place standing ∷ Title key numbers
-              ∷ Thread number Status.Running ∷ rest_of (rest_of (rest_of (pieces_of me.old)));
-          here : place_of key size ≡ place;
-        } }
+        requires titled { MayEnter (pieces_of me.old) key number }
         requires after { after
             ≡ with_entry (entering number key park_token timed) (pieces_of me.old) }
         requires said { E.said (Step.Enter number key true park_token timed) Answer.Entered }

@@ -19,7 +19,7 @@ use Rattle.lot_history.specs.declared.history.History.{History}
 use Rattle.lot_history.specs.declared.history.Witness.{Witness}
 use Rattle.lot_history.specs.History.{IsHistory, events_by}
 use Rattle.lot_history.specs.Pieces.{AllSo}
-use Rattle.lot_history.specs.Witness.{Adds, Extends, Found, events_of, id_of, max_threads_of, number_of, seen_by}
+use Rattle.lot_history.specs.Witness.{Adds, Extends, Found, events_of, id_of, max_threads_of, number_of, seen_by, limit_of}
 use Rattle.lot_threads.specs.Cells.{Has, lists_in}
 use Rattle.lot_threads.specs.Requeues.{ChoosesWithin, IsRequeueWithin, RequeuesWithin}
 use Rattle.lot_threads.specs.Within.{FindsPieces, MayCallBack, UnparksOne}
@@ -54,13 +54,13 @@ module _ {C : Type 0} (c : Once C (Bor CriticalSection × (UnparkResult × Unit 
   -- the unpark has the token that the callback answered in a section that has the bucket's part
   abbrev pub IsOne : Step → Answer → Type 0
   IsOne s a = (section : Bor CriticalSection) × (given : UnparkResult) × (token : UnparkToken)
-      × Has (id_of history) (lists_in bucket ∷ []) section.now.part
+      × Has (id_of history) (lists_in (limit_of history) bucket ∷ []) section.now.part
       × c.post callback (section, (given, tt)) token
       × (s ≡ step.Unpark (op.One key token)) × (a ≡ answer.Unpark given)
 
   -- it may be called there
   pub may_call_back : place_of key bucket.size ≡ bucket.place → MayCallBack c callback history key
-      → (section : Bor CriticalSection) → Has (id_of history) (lists_in bucket ∷ []) section.now.part
+      → (section : Bor CriticalSection) → Has (id_of history) (lists_in (limit_of history) bucket ∷ []) section.now.part
       → c.pre callback (section, (result_of (split_first (lists_of bucket.nodes key)), tt))
   may_call_back here may section has =
       subst (λ (found : UnparkResult). c.pre callback (section, (found, tt)))
@@ -72,7 +72,7 @@ module _ (history : History) (bucket : BucketState) (key : ℕ) (here : place_of
   module _ {C : Type 0} (c : Once C (Bor CriticalSection × (UnparkResult × Unit {0})) UnparkToken) (callback : C) where
     -- the section in which the callback was called has the bucket as the step found it
     pub unparks_one : Adds history old (λ s a. IsOne c callback history bucket key s a × (a ≡ answer.Unpark result)) told
-        → FindsPieces history (lists_in bucket ∷ []) old told → UnparksOne c callback key history old result new
+        → FindsPieces history (lists_in (limit_of history) bucket ∷ []) old told → UnparksOne c callback key history old result new
     unparks_one adds found =
         let said = adds.is_said.0 in
         let section = said.0 in
@@ -97,7 +97,7 @@ module _ (history : History) (bucket : BucketState) (key : ℕ) (here : place_of
     -- the section in which the closures were called has the bucket as the step found it
     pub requeues : Adds history old (λ s a. ((given : UnparkResult)
         × IsRequeueWithin v c validate callback history bucket key to given s a) × (a ≡ answer.Unpark result)) told
-        → (found : Found history old told) → AllSo found.machine (lists_in bucket ∷ [])
+        → (found : Found history old told) → AllSo found.machine (lists_in (limit_of history) bucket ∷ [])
         → RequeuesWithin v c validate callback key to history old result new
     requeues adds found so =
         let said = adds.is_said.0.1 in

@@ -12,7 +12,7 @@ use Rattle.lot_base.specs.Place.{IsTableSize, place_of}
 use Rattle.lot_base.proofs.FilterLemmas.{lists_of-append}
 use Rattle.lot_history.specs.Moves.{Regroups}
 use Rattle.lot_history.specs.Pieces.{standing_in}
-use Rattle.lot_history.proofs.GrowthLemmas.{IsHalved, grows, halved_nodes, shrinks}
+use Rattle.lot_history.proofs.GrowthLemmas.{IsHalved, grows_titled, halved_nodes, shrinks_titled}
 use Rattle.lot_history.proofs.PlaceLemmas.{place_of-half}
 use Rattle.lot_threads.specs.Cells.{IsBelow, lists_in}
 use Rattle.lot_threads.specs.Halves.{AreHalves, IsHalfSize}
@@ -166,7 +166,7 @@ module _ (size place : ℕ) where
           (cases_eq (place_of k (2 * size)) (2 * place));
     }
 
-module _ (bound size place : ℕ) (bucket low high : BucketState) (half : IsHalfSize size)
+module _ (bound limit size place : ℕ) (bucket low high : BucketState) (half : IsHalfSize size)
     (at : IsBucketAt place size bucket) (low_at : IsBucketAt (2 * place) (2 * size) low)
     (high_at : IsBucketAt (2 * place + 1) (2 * size) high)
     (halves : AreHalves size place bucket.nodes low.nodes high.nodes) where
@@ -174,16 +174,16 @@ module _ (bound size place : ℕ) (bucket low high : BucketState) (half : IsHalf
   halved = halved_nodes size place bucket.nodes low.nodes high.nodes halves.low_place halves.high_place halves.lists
 
   -- the pieces where a bucket is cut in two
-  pub cut_regroups : Regroups bound (lists_in bucket ∷ []) (lists_in low ∷ lists_in high ∷ [])
+  pub cut_regroups : Regroups bound (lists_in limit bucket ∷ []) (lists_in limit low ∷ lists_in limit high ∷ [])
   cut_regroups = rw (at.place, at.size, low_at.place, low_at.size, high_at.place, high_at.size)
-      (grows size place half.bits half.below_16 half.is_power bound (standing_in bucket.nodes) (standing_in low.nodes)
-      (standing_in high.nodes) halved)
+      (grows_titled size place half.bits half.below_16 half.is_power bound (standing_in bucket.nodes)
+      (standing_in low.nodes) (standing_in high.nodes) halved limit)
 
   -- and where it is put together
-  pub joined_regroups : Regroups bound (lists_in low ∷ lists_in high ∷ []) (lists_in bucket ∷ [])
+  pub joined_regroups : Regroups bound (lists_in limit low ∷ lists_in limit high ∷ []) (lists_in limit bucket ∷ [])
   joined_regroups = rw (at.place, at.size, low_at.place, low_at.size, high_at.place, high_at.size)
-      (shrinks size place half.bits half.below_16 half.is_power bound (standing_in bucket.nodes) (standing_in low.nodes)
-      (standing_in high.nodes) halved)
+      (shrinks_titled size place half.bits half.below_16 half.is_power bound (standing_in bucket.nodes)
+      (standing_in low.nodes) (standing_in high.nodes) halved limit)
 
 -- the nodes of one place behind those of the other
 pub joined_halves : (size place : ℕ) (nodes : List NodeFields) (low high : BucketState)

@@ -16,3 +16,5 @@ pub mod HalfLemmas
 pub mod OncePlaceLemmas
 pub mod SizeLemmas
 pub mod ParkLemmas
+pub mod ToldLemmas
+pub mod OutLemmas

@@ -7,14 +7,14 @@ use Rattle.lot_base.specs.Place.{place_of}
 use Rattle.lot_base.specs.Waiting.{has_any}
 use Rattle.lot_base.specs.declared.token.ParkToken.{ParkToken}
 use Rattle.lot_machine.specs.Machine.{Machine, Waiter}
-use Rattle.lot_history.specs.declared.view.Piece.TheVariants.{Lists}
+use Rattle.lot_history.specs.declared.view.Piece.TheVariants.{TitledLists}
 use Rattle.lot_history.specs.declared.view.Standing.{Standing}
 use Rattle.lot_history.specs.Pieces.{AllSo, standing_in, waiter_of}
 use Rattle.lot_history.proofs.NodeLemmas.{at_key-nodes}
 use Rattle.lot_threads.specs.Filters.{tokens_in}
 
-module _ (m : Machine) (size place key : ℕ) (nodes : List NodeFields) (here : place_of key size ≡ place)
-    (so : AllSo m (Lists size place (standing_in nodes) ∷ [])) where
+module _ (m : Machine) (limit size place key : ℕ) (nodes : List NodeFields) (here : place_of key size ≡ place)
+    (so : AllSo m (TitledLists limit size place (standing_in nodes) ∷ [])) where
   waiters : m.lists key ≡ map waiter_of (standing_in (lists_of nodes key))
   waiters = (so.0 key here).waiters ∙ ap (λ (standing : List Standing). map waiter_of standing) (at_key-nodes nodes key)
 

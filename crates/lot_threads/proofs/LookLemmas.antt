@@ -16,7 +16,7 @@ use Rattle.lot_history.specs.declared.view.View.{View}
 use Rattle.lot_history.specs.Pieces.{AllSo}
 use Rattle.lot_history.specs.Tells.{Extends, event}
 use Rattle.lot_history.specs.Tells as tells
-use Rattle.lot_history.specs.Witness.{Looks, pieces_of, seen_by}
+use Rattle.lot_history.specs.Witness.{Looks, limit_of, pieces_of, seen_by}
 use Rattle.lot_threads.specs.Cells.{lists_in}
 use Rattle.lot_threads.specs.Filters.{MayFind, tokens_in}
 use Rattle.lot_threads.proofs.ListLemmas.{tokens_at}
@@ -44,7 +44,7 @@ module _ (max_threads number : ℕ) (old between new : View) (looks : tells.Look
 
 module _ (history : History) (old took looked : Witness) (bucket : BucketState) (key : ℕ)
     (here : place_of key bucket.size ≡ bucket.place) (same : seen_by took ≡ seen_by old)
-    (taken : pieces_of took ≡ lists_in bucket ∷ []) (looks : Looks history took looked) where
+    (taken : pieces_of took ≡ lists_in (limit_of history) bucket ∷ []) (looks : Looks history took looked) where
   pub finds : MayFind history old looks.machine
   finds = record {
     seen = seen_by looked;
@@ -52,8 +52,8 @@ module _ (history : History) (old took looked : Witness) (bucket : BucketState) 
     leads = looks.history;
   }
 
-  so : AllSo looks.machine (lists_in bucket ∷ [])
+  so : AllSo looks.machine (lists_in (limit_of history) bucket ∷ [])
   so = subst (λ (ps : List Piece). AllSo looks.machine ps) (looks.pieces ∙ taken) looks.so
 
   pub same_tokens : park_tokens (lists_of bucket.nodes key) ≡ tokens_in looks.machine key
-  same_tokens = tokens_at looks.machine bucket.size bucket.place key bucket.nodes here so
+  same_tokens = tokens_at looks.machine (limit_of history) bucket.size bucket.place key bucket.nodes here so

@@ -42,10 +42,10 @@ module _ (size place : ℕ) (table : IsTableSize size) (below : place < size) wh
       ∙ mul-div_cancel place (pow_pos (64 - table.bits))))
 
 -- so no machine is as two buckets of one place say
-pub none_twice : (max_threads : ℕ) (one other : BucketState) → IsTableSize one.size → one.place < one.size
+pub none_twice : (max_threads limit : ℕ) (one other : BucketState) → IsTableSize one.size → one.place < one.size
     → other.size ≡ one.size → other.place ≡ one.place → (m : Machine)
-    → Finds max_threads (lists_in one ∷ lists_in other ∷ []) m → ⊥
-none_twice max_threads one other table below same_size same_place m finds =
+    → Finds max_threads (lists_in limit one ∷ lists_in limit other ∷ []) m → ⊥
+none_twice max_threads limit one other table below same_size same_place m finds =
     let k = key one.size one.place table below in
     let here = is_there one.size one.place table below in
     let there : place_of k other.size ≡ other.place =

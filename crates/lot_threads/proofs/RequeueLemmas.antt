@@ -1,5 +1,5 @@
 -- Requeues, in one bucket and across two: the step that they are, and whose the nodes are then.
-use Rattle.std.proofs.Common.{◌≡◌, ◌≢◌, ℕ, ◌≤◌, ◌==◌, Bool, true, false, if◌then◌else◌, List, [], ◌∷◌, ◌++◌, All, map}
+use Rattle.std.proofs.Common.{None, ◌≡◌, ◌≢◌, ℕ, ◌≤◌, ◌==◌, Bool, true, false, if◌then◌else◌, List, [], ◌∷◌, ◌++◌, All, map}
 use Rattle.std.proofs.Common.{length, refl, ap, subst, arith}
 use Rattle.std.proofs.lemmas.List.{length-map}
 use Rattle.std.proofs.lemmas.List.Elements.{All-nil, All-cons, All-head, All-tail, All-filter, All-append}
@@ -20,11 +20,12 @@ use Rattle.lot_machine.specs.declared.step.Op.TheVariants as op
 use Rattle.lot_machine.specs.declared.step.Step.{Step}
 use Rattle.lot_machine.specs.declared.step.Step.TheVariants as step
 use Rattle.lot_history.specs.declared.view.Piece.{Piece}
-use Rattle.lot_history.specs.declared.view.Piece.TheVariants.{Lists}
+use Rattle.lot_history.specs.declared.view.Piece.TheVariants.{TitledLists}
 use Rattle.lot_history.specs.Moves.{Moves}
 use Rattle.lot_history.specs.Pieces.{standing_in, threads_taken}
+use Rattle.lot_history.proofs.KeyedLemmas.{requeues_keyed_across}
 use Rattle.lot_history.proofs.NodeLemmas.{requeues_two}
-use Rattle.lot_history.proofs.ThreadLemmas.{said_moves}
+use Rattle.lot_history.proofs.ThreadLemmas.{Is, said_moves}
 use Rattle.lot_threads.specs.Cells.{IsBelow, lists_in, threads_in}
 use Rattle.lot_threads.proofs.BelowLemmas.{HoldsOfParts, first_parts}
 use Rattle.lot_threads.proofs.TakingLemmas.{taken_pieces}
@@ -110,11 +111,12 @@ module _ (bound from to : ℕ) (chosen : RequeueOp) (old : List NodeFields) (all
       (at_key_below bound to target others) moved_below)
       (at_key_below bound k target others)))
 
--- a requeue across two buckets
-module _ (bound from to : ℕ) (chosen : RequeueOp) (token : UnparkToken) (source target source_new target_new : BucketState)
-    (keeps : KeepsPlace source source_new) (keeps_other : KeepsPlace target target_new)
-    (size : target.size ≡ source.size) (apart : target.place ≢ source.place)
-    (from_here : place_of from source.size ≡ source.place) (to_there : place_of to target.size ≡ target.place) where
+-- a requeue across two buckets, where neither key has a title
+module _ (bound limit from to : ℕ) (chosen : RequeueOp) (token : UnparkToken)
+    (source target source_new target_new : BucketState) (keeps : KeepsPlace source source_new)
+    (keeps_other : KeepsPlace target target_new) (size : target.size ≡ source.size)
+    (apart : target.place ≢ source.place) (from_here : place_of from source.size ≡ source.place)
+    (to_there : place_of to target.size ≡ target.place) (above : limit ≤ from) (to_above : limit ≤ to) where
   abbrev requeued : Split NodeFields
   requeued = split_by chosen (lists_of source.nodes from)
 
@@ -126,23 +128,27 @@ module _ (bound from to : ℕ) (chosen : RequeueOp) (token : UnparkToken) (sourc
       → said (step.Unpark (op.Requeue from to chosen token)) given
       → ChangesOnly source.nodes source_new.nodes from requeued.left
       → ChangesOnly target.nodes target_new.nodes to (lists_of target.nodes to ++ (split_to to requeued).moved)
-      → Moves bound said (lists_in source ∷ lists_in target ∷ [])
-      (lists_in source_new ∷ lists_in target_new ∷ threads_in taken)
+      → Moves bound said (lists_in limit source ∷ lists_in limit target ∷ [])
+      (lists_in limit source_new ∷ lists_in limit target_new ∷ threads_in taken)
   across_moves taken said is_taken is_said lists targets =
+      let taken_pieces_there : List Piece = threads_taken token (standing_in requeued.taken) ++ [] in
       let before : List Piece =
-      Lists source.size source.place (standing_in source.nodes)
-      ∷ Lists source.size target.place (standing_in target.nodes) ∷ [] in
+      TitledLists limit source.size source.place (standing_in source.nodes)
+      ∷ TitledLists limit source.size target.place (standing_in target.nodes) ∷ [] in
       let after : List Piece =
-      Lists source.size source.place (standing_in source_new.nodes)
-      ∷ Lists source.size target.place (standing_in target_new.nodes)
-      ∷ (threads_taken token (standing_in requeued.taken) ++ []) in
-      let is_before : lists_in source ∷ lists_in target ∷ [] ≡ before = rw size refl in
-      let is_after : lists_in source_new ∷ lists_in target_new ∷ threads_in taken ≡ after =
+      TitledLists limit source.size source.place (standing_in source_new.nodes)
+      ∷ TitledLists limit source.size target.place (standing_in target_new.nodes) ∷ taken_pieces_there in
+      let is_before : lists_in limit source ∷ lists_in limit target ∷ [] ≡ before = rw size refl in
+      let is_after : lists_in limit source_new ∷ lists_in limit target_new ∷ threads_in taken ≡ after =
       rw (keeps.place, keeps.size, keeps_other.place, keeps_other.size, size, taken_pieces token requeued.taken taken is_taken)
       refl in
+      let to_size : place_of to source.size ≡ target.place =
+      subst (λ (n : ℕ). place_of to n ≡ target.place) size to_there in
       said_moves bound (step.Unpark (op.Requeue from to chosen token)) given said before after
-      (lists_in source ∷ lists_in target ∷ []) (lists_in source_new ∷ lists_in target_new ∷ threads_in taken)
-      is_before is_after is_said
+      (lists_in limit source ∷ lists_in limit target ∷ [])
+      (lists_in limit source_new ∷ lists_in limit target_new ∷ threads_in taken) is_before is_after is_said
+      (requeues_keyed_across bound limit source.size source.place from to source.nodes source_new.nodes requeued token
+      (standing_in requeued.taken) (Is (step.Unpark (op.Requeue from to chosen token)) given) None None above to_above
+      from_here target.place target.nodes target_new.nodes apart to_size lists targets
       (requeues_two bound source.size source.place from to source.nodes source_new.nodes chosen token [] from_here
-      target.place target.nodes target_new.nodes apart
-      (subst (λ (n : ℕ). place_of to n ≡ target.place) size to_there) lists targets)
+      target.place target.nodes target_new.nodes apart to_size lists targets))

@@ -9,7 +9,7 @@ use Rattle.lot_history.specs.declared.history.History.{History}
 use Rattle.lot_history.specs.declared.view.Piece.{Piece}
 use Rattle.lot_history.specs.declared.view.Standing.{Standing}
 use Rattle.lot_history.specs.Pieces.{AllSo, at_key, standing_in, standing_of, waiter_of}
-use Rattle.lot_history.specs.Witness.{id_of}
+use Rattle.lot_history.specs.Witness.{id_of, limit_of}
 use Rattle.lot_history.proofs.NodeLemmas.{at_key-nodes}
 use Rattle.lot_history.proofs.SplitLemmas.{split_first-map, result_of-map}
 use Rattle.lot_threads.specs.Cells.{Has, lists_in}
@@ -23,7 +23,7 @@ same_first : {A B : Type 0} (f : A → B) (xs : List A)
 same_first f xs = ap result_of (sym (split_first-map f xs)) ∙ result_of-map f (split_first xs)
 
 -- a thread whose deadline has passed waits still
-late_waiters : (number key : ℕ) (standing : List Standing)
+pub late_waiters : (number key : ℕ) (standing : List Standing)
     → map waiter_of (at_key key (map (late_of number) standing)) ≡ map waiter_of (at_key key standing)
 late_waiters number key [] = refl
 late_waiters number key (each ∷ standing) = either (each.key == key) (late_waiters number key standing)
@@ -37,7 +37,7 @@ late_waiters number key (each ∷ standing) = either (each.key == key) (late_wai
     either false same = same
 
 module _ (history : History) (bucket : BucketState) (key : ℕ) (here : place_of key bucket.size ≡ bucket.place)
-    (section : CriticalSection) (has : Has (id_of history) (lists_in bucket ∷ []) section.part) where
+    (section : CriticalSection) (has : Has (id_of history) (lists_in (limit_of history) bucket ∷ []) section.part) where
   pub is_section : IsSectionOf history key section
   is_section = record {
     size = bucket.size;
@@ -51,11 +51,11 @@ module _ (history : History) (bucket : BucketState) (key : ℕ) (here : place_of
   waiters_stand = ap (λ (pieces : List Piece). waiting_in pieces key) has.pieces
 
   -- the machine that the step finds
-  pub finds : (m : Machine) → AllSo m (lists_in bucket ∷ []) → m.lists key ≡ waiters_in section key
+  pub finds : (m : Machine) → AllSo m (lists_in (limit_of history) bucket ∷ []) → m.lists key ≡ waiters_in section key
   finds m so = (so.0 key here).waiters ∙ sym waiters_stand
 
   -- and where the deadline of one of them has passed
-  pub finds_late : (number : ℕ) (m : Machine) → AllSo m (late_pieces number (lists_in bucket ∷ []))
+  pub finds_late : (number : ℕ) (m : Machine) → AllSo m (late_pieces number (lists_in (limit_of history) bucket ∷ []))
       → m.lists key ≡ waiters_in section key
   finds_late number m so =
       (so.0 key here).waiters ∙ (late_waiters number key (standing_in bucket.nodes) ∙ sym waiters_stand)

@@ -16,9 +16,9 @@ use Rattle.lot_history.specs.declared.history.History.{History}
 use Rattle.lot_history.specs.declared.history.Part.{Part}
 use Rattle.lot_history.specs.declared.history.Witness.{Witness}
 use Rattle.lot_history.specs.declared.view.Piece.{Piece}
-use Rattle.lot_history.specs.declared.view.Piece.TheVariants.{Lists, Thread, Records, Numbers}
+use Rattle.lot_history.specs.declared.view.Piece.TheVariants.{TitledLists, Thread, Records, Numbers}
 use Rattle.lot_history.specs.Pieces.{standing_in}
-use Rattle.lot_history.specs.Witness.{IsPartOf, events_of, id_of, max_threads_of, pieces_in, pieces_of}
+use Rattle.lot_history.specs.Witness.{IsPartOf, events_of, id_of, limit_of, max_threads_of, pieces_in, pieces_of}
 use Rattle.lot_threads.specs.declared.cell.Cell.{Cell}
 use Rattle.lot_threads.specs.declared.cell.CellKey.{CellKey}
 use Rattle.lot_threads.specs.declared.cell.Slot.{Slot}
@@ -41,23 +41,23 @@ pub record HasRecords (home : TableId) (number : ℕ) (part : Part) : Type 0 whe
   pub keys : List ℕ
   pub has : Has home (Records number keys ∷ []) part
 
--- the lists of a bucket
-abbrev pub lists_in : BucketState → Piece
-lists_in bucket = Lists bucket.size bucket.place (standing_in bucket.nodes)
+-- the lists of a bucket, where keys below the limit have titles
+abbrev pub lists_in : ℕ → BucketState → Piece
+lists_in limit bucket = TitledLists limit bucket.size bucket.place (standing_in bucket.nodes)
 
 -- the node is one of a thread of this lot
 abbrev pub IsBelow : ℕ → NodeFields → Type 0
 IsBelow max_threads node = node.number < max_threads
 
 -- the bucket's part has its lists, and its nodes are those of threads of the lot
-pub record IsCell (home : TableId) (max_threads : ℕ) (cell : Cell) : Type 0 where
-  pub part : Has home (lists_in cell.bucket ∷ []) cell.part
+pub record IsCell (home : TableId) (max_threads limit : ℕ) (cell : Cell) : Type 0 where
+  pub part : Has home (lists_in limit cell.bucket ∷ []) cell.part
   pub below : All (IsBelow max_threads) cell.bucket.nodes
 
 -- a bucket with its part, of this place of a row
 pub record FitsCell (key : CellKey) (cell : Cell) : Type 0 where
   pub bucket : IsBucketAt key.place key.size cell.bucket
-  pub own : IsCell (home_of key.home) key.max_threads cell
+  pub own : IsCell (home_of key.home) key.max_threads key.limit cell
 
 -- behind the lock of a place: its bucket, if the row is in use there
 abbrev pub HoldsCell : CellKey → Option Cell → Type 0
@@ -68,31 +68,33 @@ abbrev pub FitsSlot : CellKey → Slot → Type 0
 FitsSlot key slot = HoldsCell key slot.cell
 
 -- the lock is that of the bucket of this place in a row of the lot
-pub record IsCellLock (home : TableId) (max_threads size place : ℕ) (lock : WordLock Slot CellKey) : Type 0 where
+pub record IsCellLock (home : TableId) (max_threads limit size place : ℕ) (lock : WordLock Slot CellKey) : Type 0 where
   pub at_place : (key_of lock).place ≡ place
   pub of_size : (key_of lock).size ≡ size
   pub for_threads : (key_of lock).max_threads ≡ max_threads
+  pub for_limit : (key_of lock).limit ≡ limit
   pub of_lot : home_of (key_of lock).home ≡ home
 
 -- a row of so many places of the lot, in order
-pub record IsRow (home : TableId) (max_threads size : ℕ) (row : List (WordLock Slot CellKey)) : Type 0 where
+pub record IsRow (home : TableId) (max_threads limit size : ℕ) (row : List (WordLock Slot CellKey)) : Type 0 where
   pub table : IsTableSize size
   pub count : length row ≡ size
-  pub locks : EachAt (IsCellLock home max_threads size) 0 row
+  pub locks : EachAt (IsCellLock home max_threads limit size) 0 row
 
 -- the lock is that of this place, in whatever row
 abbrev pub IsLockAt : ℕ → List (WordLock Slot CellKey) → WordLock Slot CellKey → Type 0
-IsLockAt place row lock = (home : TableId) (max_threads size : ℕ) → IsRow home max_threads size row
-    → IsCellLock home max_threads size place lock
+IsLockAt place row lock = (home : TableId) (max_threads limit size : ℕ)
+    → IsRow home max_threads limit size row → IsCellLock home max_threads limit size place lock
 
--- the tag of the slot of a row: which lot it is of, for how many threads, and how many places it has
-abbrev pub row_tag : TableId → ℕ → ℕ → List ℕ
-row_tag home max_threads size = max_threads ∷ size ∷ home.words ∷ home.slots ∷ home.views_name ∷ home.atom ∷ home.block
+-- the tag of the slot of a row: which lot it is of, for how many threads, below which key keys have titles, and how
+-- many places it has
+abbrev pub row_tag : TableId → ℕ → ℕ → ℕ → List ℕ
+row_tag home max_threads limit size = max_threads ∷ limit ∷ size ∷ home.words ∷ home.slots ∷ home.views_name ∷ home.atom ∷ home.block
     ∷ home.offset ∷ home.slot_names
 
 -- the row in a slot is as its tag says
 abbrev pub FitsTag : List ℕ → List (WordLock Slot CellKey) → Type 0
-FitsTag (max_threads ∷ size ∷ words ∷ slots ∷ views_name ∷ atom ∷ block ∷ offset ∷ slot_names) row =
+FitsTag (max_threads ∷ limit ∷ size ∷ words ∷ slots ∷ views_name ∷ atom ∷ block ∷ offset ∷ slot_names) row =
     IsRow (record {
       words = words;
       slots = slots;
@@ -101,16 +103,16 @@ FitsTag (max_threads ∷ size ∷ words ∷ slots ∷ views_name ∷ atom ∷ bl
       block = block;
       offset = offset;
       slot_names = slot_names;
-    }) max_threads size row
+    }) max_threads limit size row
 FitsTag _ row = ⊥
 
 -- the slots of the rows of a lot, by their sizes: of 16 places, of 32, and so on
-abbrev pub IsSlotAt : TableId → ℕ → ℕ → Named → Type 0
-IsSlotAt home max_threads index slot = slot.tag ≡ row_tag home max_threads (2 ^ (index + 4))
+abbrev pub IsSlotAt : TableId → ℕ → ℕ → ℕ → Named → Type 0
+IsSlotAt home max_threads limit index slot = slot.tag ≡ row_tag home max_threads limit (2 ^ (index + 4))
 
-pub record AreRows (home : TableId) (max_threads : ℕ) (rows : List Named) : Type 0 where
+pub record AreRows (home : TableId) (max_threads limit : ℕ) (rows : List Named) : Type 0 where
   pub count : length rows ≡ 13
-  pub each : EachAt (IsSlotAt home max_threads) 0 rows
+  pub each : EachAt (IsSlotAt home max_threads limit) 0 rows
 
 -- threads that were taken, each with the token that its node has
 abbrev pub thread_taken : NodeFields → Piece
@@ -121,13 +123,13 @@ threads_in taken = map thread_taken taken
 
 -- a bucket of the lot, of whose place the key is
 pub record IsCellFor (history : History) (key : ℕ) (cell : Cell) : Type 0 where
-  pub own : IsCell (id_of history) (max_threads_of history) cell
+  pub own : IsCell (id_of history) (max_threads_of history) (limit_of history) cell
   pub here : place_of key cell.bucket.size ≡ cell.bucket.place
 
 -- what taking threads out of a bucket leaves: the bucket in its place, and the pieces of those threads with the witness
 pub record TakesFrom (history : History) (old new : Cell) (taken : List NodeFields) (me : Witness) : Type 0 where
   pub pieces : pieces_of me ≡ threads_in taken
-  pub cell : IsCell (id_of history) (max_threads_of history) new
+  pub cell : IsCell (id_of history) (max_threads_of history) (limit_of history) new
   pub place : KeepsPlace old.bucket new.bucket
   pub below : All (IsBelow (max_threads_of history)) taken
 
@@ -177,4 +179,5 @@ pub record AreApart (lock other : WordLock Slot CellKey) : Type 0 where
 pub record IsLockFor (history : History) (key : ℕ) (lock : WordLock Slot CellKey) : Type 0 where
   pub for_key : place_of key (key_of lock).size ≡ (key_of lock).place
   pub for_threads : (key_of lock).max_threads ≡ max_threads_of history
+  pub for_limit : (key_of lock).limit ≡ limit_of history
   pub of_lot : home_of (key_of lock).home ≡ id_of history

@@ -21,6 +21,9 @@ pub mod Filters
 pub mod Within
 -- Then requeues.
 pub mod Requeues
+-- Then titles of keys, and those that are still to be dealt.
+pub mod Titled
+pub mod Dealers
 -- Then the handles of threads that are to be woken.
 pub mod Handles
 -- Last what follows by the laws of every history.

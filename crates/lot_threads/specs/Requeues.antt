@@ -17,7 +17,7 @@ use Rattle.lot_machine.specs.declared.step.Step.{Step}
 use Rattle.lot_machine.specs.declared.step.Step.TheVariants.{Unpark}
 use Rattle.lot_history.specs.declared.history.History.{History}
 use Rattle.lot_history.specs.declared.history.Witness.{Witness}
-use Rattle.lot_history.specs.Witness.{Extends, Found, id_of}
+use Rattle.lot_history.specs.Witness.{Extends, Found, id_of, limit_of}
 use Rattle.lot_threads.specs.Cells.{Has, lists_in}
 use Rattle.lot_threads.specs.Within.{IsSectionOf, waiters_in}
 use Rattle.lot_threads.specs.declared.critical_section.CriticalSection.{CriticalSection}
@@ -75,7 +75,7 @@ module _ {V C : Type 0} (v : Once V (Bor CriticalSection × Unit {0}) RequeueOp)
   pub record IsRequeueWithin (validate : V) (callback : C) (history : History) (bucket : BucketState) (from to : ℕ)
       (result : UnparkResult) (s : Step) (a : Answer) : Type 0 where
     pub section : CriticalSection
-    pub has : Has (id_of history) (lists_in bucket ∷ []) section.part
+    pub has : Has (id_of history) (lists_in (limit_of history) bucket ∷ []) section.part
     pub op : RequeueOp
     pub token : UnparkToken
     pub calls : ChoosesWithin validate callback section op result token

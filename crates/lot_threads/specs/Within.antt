@@ -25,10 +25,10 @@ use Rattle.lot_machine.specs.declared.step.Step.TheVariants.{Return, Unpark}
 use Rattle.lot_history.specs.declared.history.History.{History}
 use Rattle.lot_history.specs.declared.history.Witness.{Witness}
 use Rattle.lot_history.specs.declared.view.Piece.{Piece}
-use Rattle.lot_history.specs.declared.view.Piece.TheVariants.{Lists}
+use Rattle.lot_history.specs.declared.view.Piece.TheVariants.{TitledLists}
 use Rattle.lot_history.specs.declared.view.Standing.{Standing}
 use Rattle.lot_history.specs.Pieces.{AllSo, at_key, waiter_of}
-use Rattle.lot_history.specs.Witness.{Extends, Found, IsStill, id_of, pieces_in}
+use Rattle.lot_history.specs.Witness.{Extends, Found, IsStill, id_of, limit_of, pieces_in}
 use Rattle.lot_threads.specs.Cells.{Has, lists_in}
 use Rattle.lot_threads.specs.Filters.{MayFind, tokens_in}
 use Rattle.lot_threads.specs.Late.{late_pieces}
@@ -38,7 +38,7 @@ use Rattle.lot_threads.specs.declared.critical_section.CriticalSection.{Critical
 
 -- the threads in the list of the key, in order, as these pieces of a bucket have them
 abbrev pub waiting_in : List Piece → ℕ → List Waiter
-waiting_in (Lists size place standing ∷ []) key = map waiter_of (at_key key standing)
+waiting_in (TitledLists limit size place standing ∷ []) key = map waiter_of (at_key key standing)
 waiting_in _ key = []
 
 -- the threads that wait on the key in a critical section, in order
@@ -50,7 +50,7 @@ pub record IsSectionOf (history : History) (key : ℕ) (section : CriticalSectio
   pub size : ℕ
   pub place : ℕ
   pub standing : List Standing
-  pub bucket : Has (id_of history) (Lists size place standing ∷ []) section.part
+  pub bucket : Has (id_of history) (TitledLists (limit_of history) size place standing ∷ []) section.part
   pub here : place_of key size ≡ place
 
 -- a step found a machine that was as these pieces say
@@ -105,7 +105,7 @@ module _ {F C : Type 0} (f : Mut F (ParkToken × Unit {0}) FilterOp)
     pub token : UnparkToken
     pub decided : IsFiltered f filter (park_tokens (lists_of bucket.nodes key)) decisions.items
     pub section : Bor CriticalSection
-    pub has : Has (id_of history) (lists_in bucket ∷ []) section.now.part
+    pub has : Has (id_of history) (lists_in (limit_of history) bucket ∷ []) section.now.part
     pub called : c.post callback (section, (result, tt)) token
     pub step : s ≡ Unpark (Filter key decisions token)
     pub answer : a ≡ answer.Unpark result

@@ -3,10 +3,10 @@
 ghost use Rattle.std.specs.Prelude.{◌≡◌, ◌∷◌, ◌+◌, ◌<◌, ◌^◌, [], length, IfOk, IfSome};
 ghost use Rattle.lot_base.specs.Place.{IsTableSize};
 ghost use Rattle.lot_history.specs.Views.{rest_of};
-ghost use Rattle.lot_history.specs.Witness.{IsPartOf, IsStill, IsWitnessOf, events_of, id_of, max_threads_of, pieces_of};
-ghost use Rattle.lot_history.specs.declared.view.Piece.TheVariants.{Lists};
+ghost use Rattle.lot_history.specs.Witness.{IsPartOf, IsStill, IsWitnessOf, events_of, id_of, max_threads_of, pieces_of, limit_of};
+ghost use Rattle.lot_history.specs.declared.view.Piece.TheVariants.{TitledLists};
 ghost use Rattle.lot_word_lock.specs.WordLock.{key_of};
-ghost use Rattle.lot_threads.specs.Rows.{EachAt, empty_lists, free_numbers};
+ghost use Rattle.lot_threads.specs.Rows.{EachAt, empty_lists, other_pieces};
 ghost use Rattle.lot_threads.specs.Idle.{IsIdle, StaysIdle};
 ghost use Rattle.lot_threads.specs.Cells.{AreRows, FitsCell, IsCellLock, IsLockAt, IsRow, home_of};
 
@@ -34,13 +34,14 @@ pub(crate) struct Slot {
     pub(crate) cell: Option<Cell>,
 }
 
-// Which bucket a lock is around, in a row of how many, and of which lot: `home` is a part of the
-// lot's history, without a piece.
+// Which bucket a lock is around, in a row of how many, and of which lot: keys below the limit have
+// titles, and `home` is a part of the lot's history, without a piece.
 #[derive(Drop)]
 pub(crate) struct CellKey {
     pub(crate) place: usize,
     pub(crate) size: usize,
     pub(crate) max_threads: usize,
+    pub(crate) limit: usize,
     pub(crate) home: Part,
 }
 
@@ -74,6 +75,7 @@ pub(crate) fn put<R: Wait>(
 )
     requires idle { IsIdle history.now me.old }
     requires for_threads { (key_of lock.now).max_threads ≡ max_threads_of history.now }
+    requires for_limit { (key_of lock.now).limit ≡ limit_of history.now }
     requires of_lot { home_of (key_of lock.now).home ≡ id_of history.now }
     requires fits { FitsCell (key_of lock.now) cell }
     ensures idle { StaysIdle history.now me.old me.new }
@@ -121,7 +123,7 @@ struct RowTag;
 impl Names<CellKey> for RowTag {
     ghost use Rattle.lot_threads.specs.Cells.{home_of, row_tag};
 
-    ghost numbers = { λ key. row_tag (home_of key.home) key.max_threads key.size };
+    ghost numbers = { λ key. row_tag (home_of key.home) key.max_threads key.limit key.size };
 }
 
 // The place of a row, which is made where it is first needed, and kept to the lot's end.
@@ -136,20 +138,25 @@ pub(crate) fn new_rows(
     me: &mut Witness,
     other: &mut Witness,
     max_threads: usize,
+    limit: usize,
 ) -> Result<Vec<RowSlot>, NoMemory>
     requires witness { IsWitnessOf history.now me.old }
     requires other { IsWitnessOf history.now other.old }
     requires max_threads { max_threads ≡ max_threads_of history.now }
-    requires pieces { pieces_of me.old ≡ empty_lists 16 0 16 (free_numbers max_threads ∷ []) }
+    requires limit { limit ≡ limit_of history.now }
+    requires pieces { pieces_of me.old
+        ≡ empty_lists limit 16 0 16 (other_pieces max_threads limit) }
     ensures still { IsStill history.now me.old me.new }
     ensures other { IsStill history.now other.old other.new }
-    ensures pieces { IfOk result (λ _. pieces_of me.new ≡ free_numbers max_threads ∷ []) }
-    ensures rows { IfOk result (λ rows. AreRows (id_of history.now) max_threads rows.items) }
+    ensures pieces { IfOk result (λ _. pieces_of me.new ≡ other_pieces max_threads limit) }
+    ensures rows { IfOk result (λ rows.
+        AreRows (id_of history.now) max_threads limit rows.items) }
 {
     let home = history.give(other);
-    let first = new_cells(alloc, history, me, INITIAL_BUCKETS, max_threads, home)?;
+    let size = INITIAL_BUCKETS;
+    let first = new_cells(alloc, history, me, size, max_threads, limit, home)?;
     let home = history.give(other);
-    let rows = new_slots(alloc, max_threads, home)?;
+    let rows = new_slots(alloc, max_threads, limit, home)?;
     if let Some(slot) = rows.first() {
         let _ = slot.set(first);
     }
@@ -157,13 +164,19 @@ pub(crate) fn new_rows(
 }
 
 // The places of rows of all sizes, of which none is made.
-fn new_slots(alloc: Global, max_threads: usize, home: Part) -> Result<Vec<RowSlot>, NoMemory>
-    ensures { IfOk result (λ rows. AreRows (home_of home) max_threads rows.items) }
+fn new_slots(
+    alloc: Global,
+    max_threads: usize,
+    limit: usize,
+    home: Part,
+) -> Result<Vec<RowSlot>, NoMemory>
+    ensures { IfOk result (λ rows. AreRows (home_of home) max_threads limit rows.items) }
 {
     let mut key = CellKey {
         place: 0,
         size: INITIAL_BUCKETS,
         max_threads,
+        limit,
         home,
     };
     let mut rows = Vec::with_capacity(alloc, MOST_ROWS)?;
@@ -179,15 +192,17 @@ pub(crate) fn new_row(
     alloc: Global,
     size: usize,
     max_threads: usize,
+    limit: usize,
     home: Part,
 ) -> Result<Vec<WordLock<Slot>>, NoMemory>
     requires { IsTableSize size }
-    ensures { IfOk result (λ row. IsRow (home_of home) max_threads size row.items) }
+    ensures { IfOk result (λ row. IsRow (home_of home) max_threads limit size row.items) }
 {
     let mut key = CellKey {
         place: 0,
         size,
         max_threads,
+        limit,
         home,
     };
     let mut row = Vec::with_capacity(alloc, size)?;
@@ -205,23 +220,27 @@ fn new_cells(
     me: &mut Witness,
     size: usize,
     max_threads: usize,
+    limit: usize,
     home: Part,
 ) -> Result<Vec<WordLock<Slot>>, NoMemory>
     requires witness { IsWitnessOf history.now me.old }
     requires size { IsTableSize size }
     requires max_threads { max_threads ≡ max_threads_of history.now }
+    requires limit { limit ≡ limit_of history.now }
     requires home { IsPartOf (id_of history.now) home }
-    requires pieces { pieces_of me.old ≡ empty_lists size 0 size (free_numbers max_threads ∷ []) }
+    requires pieces { pieces_of me.old
+        ≡ empty_lists limit size 0 size (other_pieces max_threads limit) }
     ensures still { IsStill history.now me.old me.new }
-    ensures pieces { IfOk result (λ _. pieces_of me.new ≡ free_numbers max_threads ∷ []) }
+    ensures pieces { IfOk result (λ _. pieces_of me.new ≡ other_pieces max_threads limit) }
     ensures count { IfOk result (λ cells. length cells.items ≡ size) }
     ensures cells { IfOk result (λ cells.
-        EachAt (IsCellLock (id_of history.now) max_threads size) 0 cells.items) }
+        EachAt (IsCellLock (id_of history.now) max_threads limit size) 0 cells.items) }
 {
     let mut key = CellKey {
         place: 0,
         size,
         max_threads,
+        limit,
         home,
     };
     let mut cells = Vec::with_capacity(alloc, size)?;
@@ -244,7 +263,7 @@ fn new_cell(
     requires place { key.now.place < key.now.size }
     requires home { IsPartOf (id_of history.now) key.now.home }
     requires piece { pieces_of me.old
-        ≡ Lists key.now.size key.now.place [] ∷ rest_of (pieces_of me.old) }
+        ≡ TitledLists key.now.limit key.now.size key.now.place [] ∷ rest_of (pieces_of me.old) }
     ensures still { IsStill history.now me.old me.new }
     ensures pieces { pieces_of me.new ≡ rest_of (pieces_of me.old) }
     ensures key { IfOk result (λ lock. key_of lock ≡ key.now) }

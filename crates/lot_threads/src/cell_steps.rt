@@ -12,7 +12,7 @@ ghost use Rattle.lot_base.specs.Waiting.{result_of, split_filter, split_first};
 ghost use Rattle.lot_machine.specs.declared.step.Answer.{Answer};
 ghost use Rattle.lot_machine.specs.declared.step.Step.{Step};
 ghost use Rattle.lot_base.specs.declared.token.UnparkResult.{UnparkResult};
-ghost use Rattle.lot_history.specs.Witness.{Adds, Found, IsStill, IsWitnessOf, events_of, id_of, max_threads_of, pieces_of, seen_by};
+ghost use Rattle.lot_history.specs.Witness.{events_of, id_of, limit_of, max_threads_of, pieces_of, seen_by, Adds, Found, IsStill, IsWitnessOf};
 ghost use Rattle.lot_history.specs.declared.view.Piece.TheVariants.{Thread};
 ghost use Rattle.lot_threads.specs.Cells.{Has, IsBelow, IsCell, IsCellFor, TakesFrom, lists_in};
 ghost use Rattle.lot_threads.specs.Idle.{IsIdle, StaysIdle};
@@ -46,18 +46,22 @@ pub(crate) fn take_one_of<E: Told, C: FnOnce(&CriticalSection, UnparkResult) -> 
 ) -> (UnparkResult, Queue)
     requires idle { IsIdle history.now me.old }
     requires cell { IsCellFor history.now key cell.old }
+    requires above { limit_of history.now ≤ key }
     requires callable { (section : Bor CriticalSection)
-        → Has (id_of history.now) (lists_in cell.old.bucket ∷ []) section.now.part
+        → Has (id_of history.now) (lists_in (limit_of history.now) cell.old.bucket ∷ [])
+        section.now.part
         → C.pre callback section (result_of (split_first (lists_of cell.old.bucket.nodes key))) }
     requires said { (section : Bor CriticalSection) (answer : UnparkResult) (token : UnparkToken)
-        → Has (id_of history.now) (lists_in cell.old.bucket ∷ []) section.now.part
+        → Has (id_of history.now) (lists_in (limit_of history.now) cell.old.bucket ∷ [])
+        section.now.part
         → C.post callback section answer token
         → E.said (Step.Unpark (Op.One key token)) (Answer.Unpark answer) }
 
     ensures still { IsStill history.now me.old me.new }
     ensures adds { Adds history.now me.old
         (λ s a. E.said s a × (a ≡ Answer.Unpark result.0)) me.new }
-    ensures found { FindsPieces history.now (lists_in cell.old.bucket ∷ []) me.old me.new }
+    ensures found { FindsPieces history.now (lists_in (limit_of history.now) cell.old.bucket ∷ [])
+        me.old me.new }
     ensures taken { TakesFrom history.now cell.old cell.new result.1 me.new }
     ensures one { length result.1 ≤ 1 }
 {
@@ -88,6 +92,7 @@ pub(crate) fn take_all_of<E: Told>(
 ) -> (usize, Queue)
     requires idle { IsIdle history.now me.old }
     requires cell { IsCellFor history.now key cell.old }
+    requires above { limit_of history.now ≤ key }
     requires said { (count : ℕ)
         → E.said (Step.Unpark (Op.All key token)) (Answer.Count count) }
 
@@ -118,6 +123,7 @@ pub(crate) fn take_filter_of<
     requires idle { IsIdle history.now me.old }
     requires few { max_threads_of history.now < 2 ^ 63 }
     requires cell { IsCellFor history.now key cell.old }
+    requires above { limit_of history.now ≤ key }
     requires callable { MayFilterWithin F.FnMut C.FnOnce filter callback key history.now me.old }
 
     ensures still { IsStill history.now me.old me.new }
@@ -147,16 +153,18 @@ fn take_filter_with<
     callback: C,
 ) -> (UnparkResult, Queue)
     requires witness { IsWitnessOf history.now me.old }
-    requires piece { pieces_of me.old ≡ lists_in cell.old.bucket ∷ [] }
+    requires piece { pieces_of me.old ≡ lists_in (limit_of history.now) cell.old.bucket ∷ [] }
     requires few { max_threads_of history.now < 2 ^ 63 }
     requires below { All (IsBelow (max_threads_of history.now)) cell.old.bucket.nodes }
     requires place { place_of key cell.old.bucket.size ≡ cell.old.bucket.place }
+    requires above { limit_of history.now ≤ key }
     requires filter { IsFilterCallable F.FnMut filter
         (park_tokens (lists_of cell.old.bucket.nodes key)) }
     requires callback { (decisions : _)
         → IsFiltered F.FnMut filter (park_tokens (lists_of cell.old.bucket.nodes key)) decisions
         → (section : Bor CriticalSection)
-        → Has (id_of history.now) (lists_in cell.old.bucket ∷ []) section.now.part
+        → Has (id_of history.now) (lists_in (limit_of history.now) cell.old.bucket ∷ [])
+        section.now.part
         → C.pre callback section (with_saturated_counts
         (result_of (split_filter decisions (lists_of cell.old.bucket.nodes key)))) }
     requires said { (answer : UnparkResult) (s : Step) (a : Answer)
@@ -198,13 +206,15 @@ pub(crate) fn enter_in<V: FnOnce(&CriticalSection) -> bool>(
 ) -> Result<(), (Part, Box<Node>)>
     requires idle { IsIdle history.now me.old }
     requires cell { IsCellFor history.now (fields node.value).key cell.old }
+    requires above { limit_of history.now ≤ (fields node.value).key }
     requires below { IsBelow (max_threads_of history.now) (fields node.value) }
     requires thread { Has (id_of history.now)
         (Thread (fields node.value).number Status.Running ∷ []) thread }
     requires callable { MayValidate V.FnOnce validate history.now (fields node.value).key }
 
     ensures idle { StaysIdle history.now me.old me.new }
-    ensures cell { IsCell (id_of history.now) (max_threads_of history.now) cell.new }
+    ensures cell { IsCell (id_of history.now) (max_threads_of history.now)
+        (limit_of history.now) cell.new }
     ensures place { KeepsPlace cell.old.bucket cell.new.bucket }
     ensures entered { OnOk result (Enters V.FnOnce validate history.now
         (entry_of (fields node.value)) me.old me.new) }
@@ -249,10 +259,12 @@ pub(crate) fn leave_in<T: FnOnce(&CriticalSection, usize, bool)>(
 ) -> Option<(Part, Box<Node>)>
     requires idle { IsIdle history.now me.old }
     requires cell { IsCellFor history.now key cell.old }
+    requires above { limit_of history.now ≤ key }
     requires callable { MayTellTimeout T.FnOnce timed_out history.now }
 
     ensures idle { StaysIdle history.now me.old me.new }
-    ensures cell { IsCell (id_of history.now) (max_threads_of history.now) cell.new }
+    ensures cell { IsCell (id_of history.now) (max_threads_of history.now)
+        (limit_of history.now) cell.new }
     ensures place { KeepsPlace cell.old.bucket cell.new.bucket }
     ensures left { IfSome result (λ back. (last : Bool)
         × TellsTimeout T.FnOnce timed_out history.now number key last me.old me.new) }
@@ -284,7 +296,8 @@ pub(crate) fn list_in(
     requires cell { IsCellFor history.now key cell.old }
 
     ensures idle { StaysIdle history.now me.old me.new }
-    ensures cell { IsCell (id_of history.now) (max_threads_of history.now) cell.new }
+    ensures cell { IsCell (id_of history.now) (max_threads_of history.now)
+        (limit_of history.now) cell.new }
     ensures place { KeepsPlace cell.old.bucket cell.new.bucket }
     ensures listed { IsListed history.now key me.old me.new result }
 {
@@ -296,7 +309,7 @@ pub(crate) fn list_in(
 }
 
 // What the thread of a node enters with.
-fn entry_for(node: &Node) -> Entry
+pub(crate) fn entry_for(node: &Node) -> Entry
     ensures { result ≡ entry_of (fields node.now) }
 {
     Entry {

@@ -1,15 +1,17 @@
-//! What a closure is lent that is called in a critical section.
+//! This module has the critical section that a lot lends to a closure while it calls the closure.
 
 ghost use Rattle.std.specs.Prelude.{◌≡◌};
 
 use lot_history::history::Part;
 
-/// A critical section: somebody has the bucket of a key locked, and with it the bucket's part of
-/// the history. A call of the lot lends it to the closures that it calls there. Nothing else makes
-/// one, so a closure that asks for one is called at no other time.
+/// A `CriticalSection` shows that the bucket of a key is locked, and with it the bucket's part of
+/// the history.
 ///
-/// A contract sees which threads wait in it on a key, in order, by `waiters_in`. It has no bytes,
-/// and no `Drop`.
+/// A call of the lot lends it to the closures that it calls in a critical section. Nothing else
+/// makes one, so a closure that takes one is called at no other time.
+///
+/// In contracts `waiters_in` is the list of the threads that wait on a key in this critical
+/// section, in order. The value has no bytes, and no `Drop`.
 pub struct CriticalSection {
     pub(crate) part: Part,
 }

@@ -1,25 +1,27 @@
-//! Records of the resources that a thread holds, in the thread's own data. No detector of deadlocks
-//! is here.
+//! This module has records of the resources that a thread holds, in the thread's own data. There is
+//! no detector of deadlocks here.
 
 ghost use Rattle.std.specs.Prelude.{◌≡◌, OnErr, OnOk};
 ghost use Rattle.lot_machine.specs.Records.{one_less, one_more, times_recorded};
 ghost use Rattle.lot_threads.specs.Members.{IsDataOf, IsSame, Makes, member_of};
 
 use crate::parker::ThreadParkerT;
-use crate::parking_lot::ThreadData;
-use crate::shared_lot::ParkingLot;
+use crate::parking_lot::{ParkingLot, ThreadData};
 use crate::told::add_recording;
 use lot_base::token::NoMemory;
 use lot_machine::step::{Answer, Step};
 
-/// Records that the thread holds the resource of this key, once it has it. A key that is recorded
-/// again counts once more. The data is that of a thread of this lot.
+/// Records that the thread holds the resource of this key.
 ///
-/// It may ask for memory, for the records alone. It takes no lock, and nobody waits for it.
+/// Call it when the thread has the resource. If the key is recorded already, it counts once more.
+/// The contract requires data of a thread of this lot.
+///
+/// The call may allocate, for the records alone. It takes no lock, and no other call waits for it.
 ///
 /// # Errors
 ///
-/// `NoMemory` if memory cannot be had. The records did not change then, and the history tells that.
+/// Returns `NoMemory` if there is not enough memory. The records have not changed then, and the
+/// history says so.
 pub fn acquire_resource<P: ThreadParkerT>(
     lot: &ParkingLot<P>,
     thread_data: &mut ThreadData,
@@ -45,7 +47,7 @@ pub fn acquire_resource<P: ThreadParkerT>(
         Answer::NoMemory
     };
     add_recording(
-        lot.history(),
+        lot.shared().history(),
         &mut thread_data.witness,
         &mut thread_data.thread,
         &mut thread_data.records,
@@ -60,10 +62,12 @@ pub fn acquire_resource<P: ThreadParkerT>(
     acquired
 }
 
-/// Records one less of this key. Where the key is not recorded, no count changes. The data is that
-/// of a thread of this lot.
+/// Takes one from the count of this key in the thread's records.
 ///
-/// It searches the records from the last one. It asks for no memory and takes no lock.
+/// If the key is not recorded, no count changes. The contract requires data of a thread of this
+/// lot.
+///
+/// The call searches the records from the last one. It allocates nothing and takes no lock.
 pub fn release_resource<P: ThreadParkerT>(
     lot: &ParkingLot<P>,
     thread_data: &mut ThreadData,
@@ -80,7 +84,7 @@ pub fn release_resource<P: ThreadParkerT>(
     let number = thread_data.number;
     thread_data.keys.release(key);
     add_recording(
-        lot.history(),
+        lot.shared().history(),
         &mut thread_data.witness,
         &mut thread_data.thread,
         &mut thread_data.records,

@@ -5,7 +5,7 @@ ghost use Rattle.std.specs.Prelude.{◌≡◌, ◌+◌, ◌*◌, ◌/◌, ◌<�
 ghost use Rattle.lot_base.specs.BucketState.{IsBucketAt, KeepsPlace};
 ghost use Rattle.lot_base.specs.Node.{fields};
 ghost use Rattle.lot_base.specs.Place.{place_of};
-ghost use Rattle.lot_history.specs.Witness.{events_of, id_of, max_threads_of};
+ghost use Rattle.lot_history.specs.Witness.{events_of, id_of, limit_of, max_threads_of};
 ghost use Rattle.lot_threads.specs.Cells.{IsBelow, IsCell};
 ghost use Rattle.lot_threads.specs.Halves.{AreHalves, IsHalfSize};
 ghost use Rattle.lot_threads.specs.Idle.{IsIdle, StaysIdle};
@@ -21,15 +21,18 @@ use lot_history::history::{History, Witness};
 pub(crate) fn split(history: &History, me: &mut Witness, cell: Cell) -> (Cell, Cell)
     requires idle { IsIdle history.now me.old }
     requires size { IsHalfSize cell.bucket.size }
-    requires cell { IsCell (id_of history.now) (max_threads_of history.now) cell }
+    requires cell { IsCell (id_of history.now) (max_threads_of history.now)
+        (limit_of history.now) cell }
     ensures idle { StaysIdle history.now me.old me.new }
     ensures nothing_added { events_of me.new ≡ events_of me.old }
     ensures low_place { IsBucketAt (2 * cell.bucket.place) (2 * cell.bucket.size)
         result.0.bucket }
     ensures high_place { IsBucketAt (2 * cell.bucket.place + 1) (2 * cell.bucket.size)
         result.1.bucket }
-    ensures low { IsCell (id_of history.now) (max_threads_of history.now) result.0 }
-    ensures high { IsCell (id_of history.now) (max_threads_of history.now) result.1 }
+    ensures low { IsCell (id_of history.now) (max_threads_of history.now)
+        (limit_of history.now) result.0 }
+    ensures high { IsCell (id_of history.now) (max_threads_of history.now)
+        (limit_of history.now) result.1 }
 {
     let Cell { mut bucket, part } = cell;
     let size = 2 * bucket.size();
@@ -67,12 +70,15 @@ pub(crate) fn join(
     requires place { place < size }
     requires low_place { IsBucketAt (2 * place) (2 * size) low.bucket }
     requires high_place { IsBucketAt (2 * place + 1) (2 * size) high.bucket }
-    requires low { IsCell (id_of history.now) (max_threads_of history.now) low }
-    requires high { IsCell (id_of history.now) (max_threads_of history.now) high }
+    requires low { IsCell (id_of history.now) (max_threads_of history.now)
+        (limit_of history.now) low }
+    requires high { IsCell (id_of history.now) (max_threads_of history.now)
+        (limit_of history.now) high }
     ensures idle { StaysIdle history.now me.old me.new }
     ensures nothing_added { events_of me.new ≡ events_of me.old }
     ensures place { IsBucketAt place size result.bucket }
-    ensures cell { IsCell (id_of history.now) (max_threads_of history.now) result }
+    ensures cell { IsCell (id_of history.now) (max_threads_of history.now)
+        (limit_of history.now) result }
 {
     let Cell {
         bucket: mut low,
@@ -130,7 +136,7 @@ fn pour(from: &mut Bucket, into: &mut Bucket)
 }
 
 // Puts the node last into the bucket, which is that of its key.
-fn put_last(bucket: &mut Bucket, node: Box<Node>)
+pub(crate) fn put_last(bucket: &mut Bucket, node: Box<Node>)
     requires { place_of (fields node.value).key bucket.old.size ≡ bucket.old.place }
     ensures { bucket.new
         ≡ record bucket.old { nodes = bucket.old.nodes ++ fields node.value ∷ [] } }

@@ -1,10 +1,14 @@
-//! Laws of a lot's calls. The functions do nothing: their contract is the law, over the definitions
-//! that the contracts of `Member` cite.
+//! This module has the laws of a lot's calls.
+//!
+//! Its functions do nothing. Their contracts are the laws, and use the definitions that the
+//! contracts of `Member` use.
 
 ghost use Rattle.lot_threads.specs.Laws.{ParksGetTokensOfUnparks};
 
-/// Where a park ends unparked with a token, an unpark that stands before it in the history took the
-/// thread and handed it this token, and none of the thread's parks ended between.
+/// States that a token which a park returns was handed to that thread by an unpark before it.
+///
+/// The unpark took the thread from its list, and none of the thread's parks ended between the
+/// unpark and this return.
 pub fn parks_get_tokens_of_unparks()
     ensures { ParksGetTokensOfUnparks }
 {}

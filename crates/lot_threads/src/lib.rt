@@ -1,6 +1,21 @@
-//! A parking lot: queues of waiting threads by key, for building mutexes, condition variables and
-//! schedulers. Whatever its threads call is proved to be one history: a run, from a new one, of the
-//! machine with one list of waiters for each key.
+//! This crate has a parking lot for real threads: it keeps queues of waiting threads by key, from
+//! which you can build mutexes, condition variables and schedulers.
+//!
+//! For example, this registered thread sleeps on a key until another thread unparks it:
+//!
+//! ```
+//! /// Parks on the key until another thread unparks this one.
+//! pub fn wait<P: ThreadParkerT, R: Wait + Clock>(
+//!     rt: &R,
+//!     member: &mut Member<'_, P>,
+//!     key: usize,
+//! ) -> ParkResult {
+//!     member.park(rt, key, || true, || (), |_, _| (), DEFAULT_PARK_TOKEN, None)
+//! }
+//! ```
+//!
+//! It is proved that all calls of a lot, by all its threads, make one history. A history is a run,
+//! from the beginning, of the machine with one list of waiters for each key.
 //!
 //! # Differences from upstream
 //!
@@ -9,24 +24,28 @@
 //!
 //! - `ParkingLot`: upstream has one lot for the process, in statics, whose table never becomes
 //!   smaller.
-//! - `ThreadData`: upstream keeps it in a thread local. A thread is registered with its first use,
-//!   and deregistered as it ends. Threads have no numbers there, and their records are private.
-//! - `park`: upstream finds the lot and the thread's data by itself. A key to which the caller has
-//!   no right is unsafe there; here it is only unwise.
+//! - `ThreadData`: upstream keeps it in a thread local. It registers a thread when this data is
+//!   first used, and deregisters it when the thread ends. Threads have no numbers there, and their
+//!   records are private.
+//! - `park`: upstream finds the lot and the thread's data by itself. It is unsafe there to use a
+//!   key to which the caller has no right; here it is only unwise.
 //! - `unpark_all`, `unpark_filter`: upstream allocates to keep the handles of more than eight
-//!   threads. Its one filter is `unpark_filter` and `unpark_chosen` here.
+//!   threads. Here `unpark_chosen` is a second form of `unpark_filter`.
 //! - `acquire_resource`, `release_resource`: upstream's do nothing without a feature, and cannot
 //!   fail.
-//! - `WordParker`, `ThreadParker`, `YieldParker`: upstream's `ThreadParker` of `linux.rs`, `unix.rs`
-//!   and `generic.rs`. They hand nothing over, so `Letter` has no counterpart.
-//! - `Member`, `Visitor`, `CriticalSection`, and the calls whose names end in `_within` have none
-//!   either. Upstream's documentation says which closures run while a queue is locked.
+//! - `WordParker`, `ThreadParker`, `YieldParker`: they are upstream's `ThreadParker` of `linux.rs`,
+//!   `unix.rs` and `generic.rs`. Upstream's parkers hand nothing over, so `Letter` has no
+//!   counterpart.
+//! - `Member`, `Visitor`, `CriticalSection`, `TitledLot` with its sections and titles, and the calls
+//!   whose names end in `_within` have no counterpart. Only upstream's documentation says which
+//!   closures run while a queue is locked.
 #![tactic(auto)]
 
 mod cell;
 mod cell_steps;
 pub mod critical_section;
 pub mod deadlock;
+mod dealer;
 mod halves;
 pub mod history_laws;
 pub mod member;
@@ -36,6 +55,10 @@ pub mod parking_lot;
 mod registry;
 mod section;
 mod shared_lot;
+pub mod title;
+pub mod titled_lot;
+pub mod titled_section;
+mod titled_steps;
 mod told;
 pub mod visitor;
 
@@ -66,4 +89,7 @@ pub use parking_lot::{
     ParkingLot, ThreadData, park, park_within, unpark_all, unpark_chosen, unpark_filter,
     unpark_one, unpark_requeue,
 };
+pub use title::Title;
+pub use titled_lot::TitledLot;
+pub use titled_section::{ClosingSection, Entered, TitledSection};
 pub use visitor::Visitor;

@@ -1,4 +1,4 @@
-//! Members of a lot: registered threads, whose calls tell the history what they did.
+//! This module has members of a lot: registered threads whose calls add to the lot's history.
 
 ghost use Rattle.std.specs.Prelude.{◌≡◌, ◌≢◌, List, [], true, Err, IfOk, None, OnErr, OnOk};
 ghost use Rattle.std.specs.Option.{is_some};
@@ -15,8 +15,7 @@ ghost use Rattle.lot_threads.specs.Within.{IsParkedWithin, MayCallBack, MayFilte
 use crate::critical_section::CriticalSection;
 use crate::deadlock::{acquire_resource, release_resource};
 use crate::parker::ThreadParkerT;
-use crate::parking_lot::{ThreadData, park, park_within};
-use crate::shared_lot::ParkingLot;
+use crate::parking_lot::{ParkingLot, ThreadData, park, park_within};
 use lot_base::token::{
     FilterOp, LotError, NoMemory, ParkResult, ParkToken, RequeueOp, UnparkResult, UnparkToken,
 };
@@ -27,13 +26,13 @@ use std::marker::Model;
 use std::sync::Wait;
 use std::time::{Clock, Instant};
 
-/// A registered thread and its lot. All calls of the lot are made by members.
+/// A `Member` is a registered thread together with its lot. It can make every call of the lot.
 ///
-/// A contract sees it as the history of its lot, its number, the keys that it has recorded, and its
-/// witness: the beginning of the history that it has seen, and which events in it its own calls
-/// added.
+/// In contracts a member has four fields: the history of its lot, its number, the keys that it has
+/// recorded, and its witness. The witness says which beginning of the history the member has seen,
+/// and which of the events in it were added by its own calls.
 ///
-/// A member that is only dropped leaves its number registered; `retire` frees it.
+/// If a member is only dropped, its number stays registered; `retire` gives it back.
 #[derive(Drop)]
 pub struct Member<'a, P: ThreadParkerT> {
     lot: &'a ParkingLot<P>,
@@ -50,11 +49,13 @@ impl<'a, P: ThreadParkerT> Model for Member<'a, P> {
 }
 
 impl<'a, P: ThreadParkerT> Member<'a, P> {
-    /// Registers a thread, as `ParkingLot::thread_data` does. Its witness begins with that step.
+    /// Registers a thread, as `ParkingLot::thread_data` does.
+    ///
+    /// The first event of the member's witness is this registration.
     ///
     /// # Errors
     ///
-    /// Those of `ParkingLot::thread_data`.
+    /// Returns the errors of `ParkingLot::thread_data`.
     pub fn register<R: Wait>(
         rt: &R,
         alloc: Global,
@@ -70,7 +71,7 @@ impl<'a, P: ThreadParkerT> Member<'a, P> {
         Ok(Member { lot, thread })
     }
 
-    /// The thread of data that `thread_data` of this lot gave.
+    /// Creates a member from data that `thread_data` of this lot returned.
     pub fn of(lot: &'a ParkingLot<P>, thread: ThreadData) -> Member<'a, P>
         requires own { IsDataOf lot.now thread }
         ensures { result ≡ member_of lot.now thread }
@@ -78,7 +79,7 @@ impl<'a, P: ThreadParkerT> Member<'a, P> {
         Member { lot, thread }
     }
 
-    /// The data of the thread, which belongs to the lot.
+    /// Returns the data of the thread, which belongs to the lot, and ends the member.
     pub fn into_data(self) -> ThreadData
         ensures own { IsDataOf self.entry.history result }
         ensures thread { member_of self.entry.history result ≡ self.entry }
@@ -87,21 +88,23 @@ impl<'a, P: ThreadParkerT> Member<'a, P> {
         thread
     }
 
-    /// The lot that the thread is registered with.
+    /// Returns the lot with which the thread is registered.
     pub fn lot(&self) -> &'a ParkingLot<P>
         ensures { result.now ≡ self.now.history }
     {
         self.lot
     }
 
-    /// The number of the thread.
+    /// Returns the number of the thread.
     pub fn number(&self) -> usize
         ensures { result ≡ self.now.number }
     {
         self.thread.number()
     }
 
-    /// Sees the history as it is, which begins with all that the other has seen, too.
+    /// Updates the witness of the member, so that it has seen all that the other member has seen.
+    ///
+    /// It sees the whole history up to this moment, which begins with all that the other has seen.
     pub fn hear(&mut self, other: &mut Member<'a, P>)
         requires { id_of other.old.history ≡ id_of self.old.history }
         ensures stays { Stays self.old self.new }
@@ -110,13 +113,14 @@ impl<'a, P: ThreadParkerT> Member<'a, P> {
         ensures other { Stays other.old other.new }
         ensures unchanged { view_of other.new.witness ≡ view_of other.old.witness }
     {
-        self.lot
-            .history()
-            .hear(&mut self.thread.witness, &mut other.thread.witness);
+        let history = self.lot.shared().history();
+        history.hear(&mut self.thread.witness, &mut other.thread.witness);
     }
 
-    /// Another witness, which has seen as much as the member, and has added nothing. Whoever hears
-    /// it by `hear_witness` has seen at least that much then. It costs a load.
+    /// Returns another witness, which has seen as much as this member, and has added no events.
+    ///
+    /// Whoever hears it by `hear_witness` has then seen at least that much. The call costs one
+    /// load.
     pub fn tell(&mut self) -> Witness
         ensures stays { Stays self.old self.new }
         ensures unchanged { view_of self.new.witness ≡ view_of self.old.witness }
@@ -125,11 +129,13 @@ impl<'a, P: ThreadParkerT> Member<'a, P> {
         ensures nothing_added { events_of result ≡ [] }
         ensures no_pieces { pieces_of result ≡ [] }
     {
-        self.lot.history().tell(&mut self.thread.witness)
+        self.lot.shared().history().tell(&mut self.thread.witness)
     }
 
-    /// Sees the history as it is, which begins with all that the other witness has seen, too, as
-    /// one that `tell` gave, or `retire`. It costs three loads.
+    /// Updates the witness of the member, so that it has seen all that the other witness has seen.
+    ///
+    /// It sees the whole history up to this moment. The other witness may come from `tell` or
+    /// `retire`. The call costs three loads.
     pub fn hear_witness(&mut self, other: &mut Witness)
         requires { IsWitnessOf self.old.history other.old }
         ensures stays { Stays self.old self.new }
@@ -138,7 +144,8 @@ impl<'a, P: ThreadParkerT> Member<'a, P> {
         ensures other { IsStill self.old.history other.old other.new }
         ensures unchanged { view_of other.new ≡ view_of other.old }
     {
-        self.lot.history().hear(&mut self.thread.witness, other);
+        let history = self.lot.shared().history();
+        history.hear(&mut self.thread.witness, other);
     }
 
     /// Parks the thread, as the function `park` does.
@@ -212,14 +219,15 @@ impl<'a, P: ThreadParkerT> Member<'a, P> {
     }
 
     /// Unparks the first thread in the list of the key, if there is one, and hands it the token
-    /// that `callback` answers.
+    /// that `callback` returns.
     ///
-    /// `callback` is called once, in the section of the key's bucket, with the result that is
-    /// answered too: `(1, 0, more)`, where `more` says whether the key has another waiter, or
-    /// `(0, 0, false)` where nobody waits. What it answers then is ignored, and stands in the
-    /// history nevertheless.
+    /// `callback` is called once, in the critical section of the key. It is given the result that
+    /// this call returns: `(1, 0, more)`, where `more` says whether another thread waits on the
+    /// key, or `(0, 0, false)` if nobody waits. In the second case nobody gets its token, but the
+    /// history contains it all the same.
     ///
-    /// `callback` must not call the lot, nor wait for a thread that does. It allocates nothing.
+    /// `callback` must not call the lot, nor wait for a thread that does. The unpark allocates
+    /// nothing.
     pub fn unpark_one<R: Wait, C: FnOnce(UnparkResult) -> UnparkToken>(
         &mut self,
         rt: &R,
@@ -243,12 +251,12 @@ impl<'a, P: ThreadParkerT> Member<'a, P> {
         )
     }
 
-    /// Does what `unpark_one` does, and lends the callback the critical section in which it is
+    /// Unparks as `unpark_one` does, and lends the callback the critical section in which it is
     /// called.
     ///
-    /// A body that called it before the bucket is locked, or after, would have none to lend. So the
-    /// contract says which threads waited on the key as the callback was called: those that the
-    /// unpark found.
+    /// So the contract says which threads waited on the key when the callback was called: those
+    /// that the unpark found. No critical section exists before the bucket is locked or after it is
+    /// unlocked, so the callback cannot be called at another time.
     pub fn unpark_one_within<R: Wait, C: FnOnce(&CriticalSection, UnparkResult) -> UnparkToken>(
         &mut self,
         rt: &R,
@@ -260,35 +268,37 @@ impl<'a, P: ThreadParkerT> Member<'a, P> {
         ensures unparked { UnparksOne C.FnOnce callback key self.old.history self.old.witness
             result self.new.witness }
     {
-        self.lot
-            .unpark_one(rt, &mut self.thread.witness, key, callback)
+        let lot = self.lot.shared();
+        lot.unpark_one(rt, &mut self.thread.witness, key, callback)
     }
 
-    /// Unparks all threads in the list of the key, in order, hands each the token, and answers how
-    /// many there were.
+    /// Unparks all threads in the list of the key, in order, and hands each of them the token. It
+    /// returns how many there were.
     ///
-    /// Each unpark is committed in the section. The first eight threads are woken after it, and any
-    /// others before, with the bucket locked. It allocates nothing.
+    /// Each thread is handed its node and its token in the critical section. The first eight
+    /// threads are woken after it, and all others in it, with the bucket locked. The call allocates
+    /// nothing.
     pub fn unpark_all<R: Wait>(&mut self, rt: &R, key: usize, token: UnparkToken) -> usize
         ensures stays { Stays self.old self.new }
         ensures unparked { Extends self.old.history self.old.witness
             (Step.Unpark (Op.All key token)) (Answer.Count result) self.new.witness }
     {
-        self.lot
-            .unpark_all(rt, &mut self.thread.witness, key, token)
+        let lot = self.lot.shared();
+        lot.unpark_all(rt, &mut self.thread.witness, key, token)
     }
 
-    /// Unparks those threads in the list of the key that the filter unparks, in order, hands each
-    /// the token that `callback` answers, and answers how many there were and whether one is left.
+    /// Unparks those threads in the list of the key that the filter chooses, in order, and hands
+    /// each of them the token that `callback` returns. It returns how many there were, and whether
+    /// others are left.
     ///
-    /// In the section of the key's bucket the filter is called with the park tokens of the threads
-    /// in order, up to and with the first at which it answers `Stop`: that thread and all behind it
-    /// stay. Then `callback` is called once with the result, also where nobody waits. A count that
-    /// no `usize` can hold would be `usize::MAX`.
+    /// In the critical section of the key, the filter is called with the park tokens of the waiting
+    /// threads, in order. When it returns `Stop`, that thread and all behind it stay, and it is not
+    /// called again. Then `callback` is called once with the result, also if nobody waits. (By the
+    /// contract a count above `usize::MAX` would be returned as `usize::MAX`.)
     ///
-    /// Each unpark is committed in the section. The first eight threads are woken after it, and any
-    /// others before, with the bucket locked. Neither closure may call the lot, nor wait for a
-    /// thread that does. It allocates nothing.
+    /// Each thread is handed its node and its token in the critical section. The first eight
+    /// threads are woken after it, and all others in it, with the bucket locked. Neither closure
+    /// may call the lot, nor wait for a thread that does. The call allocates nothing.
     pub fn unpark_filter<
         R: Wait,
         F: FnMut(ParkToken) -> FilterOp,
@@ -311,7 +321,7 @@ impl<'a, P: ThreadParkerT> Member<'a, P> {
         )
     }
 
-    /// Does what `unpark_filter` does, and lends the callback the critical section in which it is
+    /// Unparks as `unpark_filter` does, and lends the callback the critical section in which it is
     /// called, as `unpark_one_within` does.
     pub fn unpark_filter_within<
         R: Wait,
@@ -324,12 +334,14 @@ impl<'a, P: ThreadParkerT> Member<'a, P> {
         ensures unparked { UnparksWithin F.FnMut C.FnOnce filter callback key self.old.history
             self.old.witness result self.new.witness }
     {
-        self.lot
-            .unpark_filter(rt, &mut self.thread.witness, key, filter, callback)
+        let lot = self.lot.shared();
+        lot.unpark_filter(rt, &mut self.thread.witness, key, filter, callback)
     }
 
-    /// Does what `unpark_filter` does, for closures that may be called at any time, as those
-    /// without conditions of their own: its caller proves nothing of lists of waiters.
+    /// Unparks as `unpark_filter` does, with closures that may be called at any time.
+    ///
+    /// Most closures have no conditions of their own, so they can be called at any time. Then the
+    /// caller need not prove anything about lists of waiters.
     pub fn unpark_chosen<
         R: Wait,
         F: FnMut(ParkToken) -> FilterOp,
@@ -344,17 +356,20 @@ impl<'a, P: ThreadParkerT> Member<'a, P> {
         self.unpark_filter(rt, key, filter, callback)
     }
 
-    /// Unparks or requeues threads in the list of the key `from` onto that of `to`, as `validate`
-    /// chooses, hands the one that is unparked the token that `callback` answers, and answers how
-    /// many were unparked and requeued, and whether one is left.
+    /// Unparks one thread of the key `from`, or moves threads from its list to the list of `to`, or
+    /// does both, as `validate` chooses.
     ///
-    /// In one section of both keys' buckets `validate` is called once, and then `callback` once,
-    /// with what was chosen and the result, but not at an abort, which changes nothing. A count
-    /// that no `usize` can hold would be `usize::MAX`. A thread with a timeout that was requeued
-    /// leaves the list of `to` if its deadline passes.
+    /// A thread that is unparked is handed the token that `callback` returns. The call returns how
+    /// many threads were unparked and moved, and whether others are left.
     ///
-    /// The buckets are locked by place, lower first. Neither closure may call the lot, nor wait for
-    /// a thread that does. It allocates nothing.
+    /// In one critical section of both keys `validate` is called once, and then `callback` once,
+    /// with what `validate` returned and with the result. If `validate` returns `Abort`, nothing
+    /// changes and `callback` is not called. (By the contract a count above `usize::MAX` would be
+    /// returned as `usize::MAX`.) If the deadline of a thread passes after it was moved, it leaves
+    /// the list of `to`.
+    ///
+    /// The bucket with the lower index is locked first. Neither closure may call the lot, nor wait
+    /// for a thread that does. The call allocates nothing.
     pub fn unpark_requeue<
         R: Wait,
         V: FnOnce() -> RequeueOp,
@@ -380,11 +395,11 @@ impl<'a, P: ThreadParkerT> Member<'a, P> {
         )
     }
 
-    /// Does what `unpark_requeue` does, and lends the closures the critical section of the bucket
+    /// Requeues as `unpark_requeue` does, and lends the closures the critical section of the bucket
     /// of `from`, in which they are called.
     ///
-    /// The contract says which threads waited on `from` as `validate` was called: those that the
-    /// requeue found. Of the list of `to` it says only what the step does to it.
+    /// The contract says which threads waited on `from` when `validate` was called: those that the
+    /// requeue found. About the list of `to` it says only what the step does to it.
     pub fn unpark_requeue_within<
         R: Wait,
         V: FnOnce(&CriticalSection) -> RequeueOp,
@@ -396,19 +411,21 @@ impl<'a, P: ThreadParkerT> Member<'a, P> {
         ensures requeued { RequeuesWithin V.FnOnce C.FnOnce validate callback from to
             self.old.history self.old.witness result self.new.witness }
     {
-        self.lot
-            .unpark_requeue(rt, &mut self.thread.witness, from, to, validate, callback)
+        let lot = self.lot.shared();
+        lot.unpark_requeue(rt, &mut self.thread.witness, from, to, validate, callback)
     }
 
-    /// The numbers of the threads that stand in the list of the key, in order, as it is after all
-    /// that the member has seen then: it sees the history in the section of the key's bucket.
+    /// Returns the numbers of the threads that are in the list of the key, in order.
     ///
-    /// It asks for memory with the bucket locked, again whenever the list has to grow. A section
-    /// must not call it.
+    /// The list is the one after all events that the member has seen when the call returns, because
+    /// the member sees the history while the bucket of the key is locked.
+    ///
+    /// The call allocates while the bucket is locked, and again whenever the list has to grow. Do
+    /// not call it in a critical section.
     ///
     /// # Errors
     ///
-    /// `NoMemory` if memory for the list cannot be had. The empty list needs none.
+    /// Returns `NoMemory` if there is not enough memory for the list. An empty list needs none.
     pub fn list<R: Wait>(
         &mut self,
         rt: &R,
@@ -418,23 +435,26 @@ impl<'a, P: ThreadParkerT> Member<'a, P> {
         ensures stays { Stays self.old self.new }
         ensures listed { IsListed self.old.history key self.old.witness self.new.witness result }
     {
-        self.lot
-            .list_in_section(rt, alloc, &mut self.thread.witness, key)
+        let lot = self.lot.shared();
+        lot.list_in_section(rt, alloc, &mut self.thread.witness, key)
     }
 
-    /// Makes the table smaller, if it has more buckets than it needs: than the next power of two of
-    /// 3 for each registered thread, or 16. The list of every key stays as it was.
+    /// Makes the table smaller if it has more buckets than it needs. The list of every key stays as
+    /// it was.
     ///
-    /// It puts one row after another in use, each of half the size of the one before, until that
-    /// size is reached. For each it visits every bucket of the one before and every waiting thread.
-    /// It takes the lock of the numbers, and with it those of the buckets, one at a time; meanwhile
-    /// other calls wait for it. It asks for no memory, and gives none back. A section must not call
-    /// it.
+    /// A table needs three buckets for each registered thread, rounded up to a power of two, and at
+    /// least 16.
+    ///
+    /// The call halves the table until it has that size. For each of these resizes it visits every
+    /// bucket and every waiting thread. It takes the lock of the registry, and the locks of the
+    /// buckets one at a time. Registrations, and calls whose bucket is being moved, wait for its
+    /// end. The call neither allocates nor frees memory. Do not call it in a critical section.
     pub fn trim<R: Wait>(&mut self, rt: &R)
         ensures stays { Stays self.old self.new }
         ensures trimmed { Makes self.old Step.Trim Answer.Trimmed self.new }
     {
-        self.lot.trim_and_tell(rt, &mut self.thread.witness);
+        let lot = self.lot.shared();
+        lot.trim_and_tell(rt, &mut self.thread.witness);
     }
 
     /// Records that the thread holds the resource of this key, as `deadlock::acquire_resource`
@@ -442,8 +462,8 @@ impl<'a, P: ThreadParkerT> Member<'a, P> {
     ///
     /// # Errors
     ///
-    /// `NoMemory` if memory cannot be had. The records did not change then, and the history tells
-    /// that.
+    /// Returns `NoMemory` if there is not enough memory. The records have not changed then, and the
+    /// history says so.
     pub fn acquire_resource(&mut self, key: usize) -> Result<(), NoMemory>
         ensures same { IsSame self.old self.new }
         ensures ok { OnOk result (times_recorded self.new.records
@@ -457,7 +477,7 @@ impl<'a, P: ThreadParkerT> Member<'a, P> {
         acquire_resource(self.lot, &mut self.thread, key)
     }
 
-    /// Records one less of this key, as `deadlock::release_resource` does.
+    /// Takes one from the count of this key, as `deadlock::release_resource` does.
     pub fn release_resource(&mut self, key: usize)
         ensures same { IsSame self.old self.new }
         ensures records { times_recorded self.new.records
@@ -468,15 +488,14 @@ impl<'a, P: ThreadParkerT> Member<'a, P> {
         release_resource(self.lot, &mut self.thread, key);
     }
 
-    /// How often the thread has recorded the key. It visits the records.
+    /// Returns how often the thread has recorded the key. It visits the records.
     pub fn records(&self, key: usize) -> usize
         ensures { result ≡ times_recorded self.now.records key }
     {
         self.thread.records(key)
     }
 
-    /// Ends the registration of the thread, as `ParkingLot::retire` does, and gives back its
-    /// witness.
+    /// Ends the registration of the thread, as `ParkingLot::retire` does, and returns its witness.
     pub fn retire<R: Wait>(self, rt: &R) -> Witness
         ensures still { IsStill self.entry.history self.entry.witness result }
         ensures retired { Extends self.entry.history self.entry.witness

@@ -1,11 +1,14 @@
-//! Parkers of a lot's threads, through which an unpark hands a thread its node, and beside it the
-//! thread's piece of the history.
+//! This module has the parkers of a lot's threads.
+//!
+//! By a parker, an unpark hands a thread its node, and with it the thread's piece of the history.
 
 use lot_base::thread_parker::{self, ParkerT, Payload};
 use lot_history::history::Part;
 
-/// What goes beside the node of a thread that was unparked: its piece of the history, which says
-/// that it was taken with the token that the node has. It has no bytes.
+/// A `Letter` is handed to an unparked thread together with its node.
+///
+/// It has the thread's piece of the history, which says that the thread was taken with the token
+/// that is in the node. It has no bytes.
 #[derive(Drop)]
 pub struct Letter {
     pub(crate) part: Part,
@@ -19,16 +22,16 @@ impl Payload for Letter {
     ghost fits = { FitsLetter };
 }
 
-/// A parker of a lot's thread.
+/// A `ThreadParkerT` is a parker for the threads of a lot.
 pub trait ThreadParkerT: ParkerT<Payload = Letter> {}
 
-/// A parker of one word, on which its thread sleeps.
+/// A `WordParker` has one word, on which its thread sleeps.
 pub type WordParker = thread_parker::WordParker<Letter>;
 
-/// A parker over a mutex and a condition variable.
+/// A `ThreadParker` has a mutex and a condition variable, on which its thread sleeps.
 pub type ThreadParker = thread_parker::ThreadParker<Letter>;
 
-/// A parker whose thread yields the processor between its looks.
+/// A `YieldParker` does not sleep: its thread yields the processor until it was unparked.
 pub type YieldParker = thread_parker::YieldParker<Letter>;
 
 impl<P: ParkerT<Payload = Letter>> ThreadParkerT for P {}

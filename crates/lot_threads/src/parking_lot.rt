@@ -1,27 +1,29 @@
-//! The calls of a lot as upstream has them: a thread parks by its data, and whoever has the lot may
-//! unpark it.
+//! This module has the calls of a lot as upstream has them: a thread parks by its data, and whoever
+//! has the lot may unpark it.
 
-ghost use Rattle.std.specs.Prelude.{◌≡◌, ◌≢◌, List, [], true, Err, IfOk, None};
+ghost use Rattle.std.specs.Prelude.{◌≡◌, ◌≢◌, ◌↔◌, ◌<◌, List, [], true, Err, IfOk, IsErrOf, None};
 ghost use Rattle.std.specs.Option.{is_some};
 ghost use Rattle.lot_machine.specs.Machine.{Waiter};
 ghost use Rattle.lot_base.specs.Waiting.{result_of, split_first};
 ghost use Rattle.lot_machine.specs.Records.{times_recorded};
-ghost use Rattle.lot_history.specs.Witness.{Extends, IsStill, events_of, seen_by};
+ghost use Rattle.lot_history.specs.Witness.{Extends, IsStill, events_of, limit_of, max_threads_of, seen_by};
 ghost use Rattle.lot_threads.specs.Filters.{AreCallable, WereCalled};
 ghost use Rattle.lot_threads.specs.Members.{Begins, IsDataOf, IsParked, Stays, member_of};
 ghost use Rattle.lot_threads.specs.Requeues.{ChoseRequeue, MayRequeue};
 ghost use Rattle.lot_threads.specs.Within.{IsParkedWithin, MayPark};
 
 use crate::critical_section::CriticalSection;
+use crate::numbered_nodes::NumberedNodes;
 use crate::parker::ThreadParkerT;
 use crate::section::Section;
-pub use crate::shared_lot::ParkingLot;
+use crate::shared_lot::SharedLot;
 use lot_base::queue::Node;
 use lot_base::thread_parker::ParkerT;
 use lot_base::token::{
     FilterOp, LotError, NoMemory, ParkResult, ParkToken, RequeueOp, UnparkResult, UnparkToken,
 };
 use lot_history::history::{Part, Witness};
+use lot_machine::numbers::MAX_THREADS;
 use lot_machine::records::Records;
 use lot_machine::step::{Answer, Step};
 use std::alloc::Global;
@@ -30,15 +32,57 @@ use std::mem;
 use std::sync::Wait;
 use std::time::{Clock, Instant};
 
-/// A registered thread: its number, its node while it does not wait, the records of what it holds,
-/// and a witness of the history, in which its parks are. It belongs to the lot that gave it, which
-/// a contract asks where the two are handed in together; `Member` has both.
+/// A `ParkingLot` is a lot that real threads share: they park on keys, and others unpark them.
 ///
-/// Data that is only dropped leaves its number registered; `ParkingLot::retire` frees it.
+/// Its calls are the functions of `parking_lot` and the methods of `Member` and `Visitor`. In
+/// contracts a lot is the history of its calls.
+///
+/// A lot is made for a greatest number of threads, each of which registers by `thread_data`. It
+/// begins with a row of 16 buckets. Each bucket and its part of the history are protected by a lock
+/// of their own. A critical section is what a call does while it has the bucket of its key locked.
+/// A requeue locks the buckets of both keys, the one with the lower index first. In the section an
+/// unpark puts the thread's node into the thread's parker, and with it the thread's piece of the
+/// history; from then on the thread is unparked. A section takes no other locks, except those of
+/// parkers, one at a time.
+///
+/// If a registration would leave less than three buckets for each thread, it first resizes the
+/// table to twice its size. It makes the row of that size if the lot has not had it before, and the
+/// lot keeps the row to its end. While it has the lock of the registry, it takes one bucket after
+/// another out of the old row, and puts its nodes and its part of the history into two buckets of
+/// the new row. A call that does not find its bucket waits for that lock, and tries again.
+///
+/// A call that finds a lock held spins for a while, and then sleeps. The order in which callers get
+/// a lock is not fixed.
+#[derive(Drop)]
+pub struct ParkingLot<P: ThreadParkerT> {
+    shared: SharedLot<P>,
+}
+
+impl<P: ThreadParkerT> Model for ParkingLot<P> {
+    ghost use Rattle.lot_history.specs.declared.history.History.{History};
+
+    ghost Value = { History };
+
+    ghost use Rattle.std.specs.Prelude.{◌≡◌};
+    ghost use Rattle.lot_history.specs.Witness.{limit_of};
+
+    ghost view = { λ lot. lot.shared };
+
+    ghost invariant = { λ lot. limit_of lot.shared ≡ 0 };
+}
+
+/// A `ThreadData` is the data of a registered thread.
+///
+/// It has the thread's number, the thread's node while the thread does not wait, the records of
+/// what the thread holds, and a witness of the history, which has seen the thread's parks. It
+/// belongs to the lot that created it, and calls that take a lot and data require that they belong
+/// together. A `Member` has both.
+///
+/// If the data is only dropped, the number stays registered; `ParkingLot::retire` gives it back.
 #[derive(Drop)]
 pub struct ThreadData {
     pub(crate) number: usize,
-    node: Option<Box<Node>>,
+    pub(crate) node: Option<Box<Node>>,
     pub(crate) keys: Records,
     pub(crate) thread: Part,
     pub(crate) records: Part,
@@ -61,14 +105,14 @@ impl Model for ThreadData {
 }
 
 impl ThreadData {
-    /// The number of the thread.
+    /// Returns the number of the thread.
     pub fn number(&self) -> usize
         ensures { result ≡ self.now.number }
     {
         self.number
     }
 
-    /// How often the thread has recorded the key. It visits the records.
+    /// Returns how often the thread has recorded the key. It visits the records.
     pub fn records(&self, key: usize) -> usize
         ensures { result ≡ times_recorded self.now.records key }
     {
@@ -77,21 +121,110 @@ impl ThreadData {
 }
 
 impl<P: ThreadParkerT> ParkingLot<P> {
-    /// Registers a thread under the least free number. Its witness begins with that step.
+    /// Creates a lot for at most this many threads, none of which is registered. Its history is
+    /// empty.
     ///
-    /// It takes the lock of the numbers. It begins behind the number that was registered last, or
-    /// at the least one that was released since, and passes over numbers up to the one that it
-    /// takes. The thread's node was made with the lot. Where the table would have less than three
-    /// buckets for each thread, it puts the row of twice the size in use first, which adds
-    /// nothing to the history: it asks for the memory of that row if it was not needed before,
-    /// then visits every bucket and every waiting thread, and other calls wait for it. A section
-    /// must not call it.
+    /// It allocates the word of the history, 16 buckets each with a lock, and for each thread
+    /// number its use, a node and a parker.
     ///
     /// # Errors
     ///
-    /// `Full` if the greatest number of threads is registered, which is tested first, and else
-    /// `NoMemory` if memory cannot be had. No number was given then.
+    /// Returns `TooManyThreads` if and only if the number is above `MAX_THREADS`. Otherwise returns
+    /// `NoMemory` if there is not enough memory. Nothing was created then.
+    pub fn new(alloc: Global, max_threads: usize) -> Result<ParkingLot<P>, LotError>
+        ensures too_many { IsErrOf result LotError.TooManyThreads ↔ (MAX_THREADS < max_threads) }
+        ensures not_full { result ≢ Err LotError.Full }
+        ensures ok { IfOk result (λ lot. max_threads_of lot ≡ max_threads) }
+    {
+        let numbers = NumberedNodes::new(alloc, max_threads)?;
+        let (shared, _undealt) = SharedLot::for_threads(alloc, max_threads, 0, numbers)?;
+        Ok(ParkingLot { shared })
+    }
+
+    /// Returns the greatest number of threads. Every thread number is below it.
+    pub fn max_threads(&self) -> usize
+        ensures { result ≡ max_threads_of self.now }
+    {
+        self.shared.max_threads()
+    }
+
+    // What it is, a lot whose keys have no titles.
+    #[inline(always)]
+    pub(crate) fn shared(&self) -> &SharedLot<P>
+        ensures history { result.now ≡ self.now }
+        ensures plain { limit_of self.now ≡ 0 }
+    {
+        &self.shared
+    }
+
+    /// Registers a thread, and gives it the least free number.
+    ///
+    /// The first event of its witness is this registration.
+    ///
+    /// The call takes the lock of the registry. It searches for the number behind the one that was
+    /// registered last, or from the least one that was released since. The node of the thread was
+    /// made with the lot. If the table would have less than three buckets for each thread, the call
+    /// first doubles it, which adds nothing to the history. For that it allocates the new row of
+    /// buckets, if the lot has not had it before, and visits every bucket and every waiting thread;
+    /// calls whose bucket is being moved wait. Do not call it in a critical section.
+    ///
+    /// # Errors
+    ///
+    /// Returns `Full` if as many threads are registered as the lot is for. Otherwise returns
+    /// `NoMemory` if there is not enough memory. No number was given out then.
     pub fn thread_data<R: Wait>(&self, rt: &R, alloc: Global) -> Result<ThreadData, LotError>
+        ensures not_too_many { result ≢ Err LotError.TooManyThreads }
+        ensures own { IfOk result (IsDataOf self.now) }
+        ensures records { IfOk result (λ thread. thread.records ≡ []) }
+        ensures registered { IfOk result (λ thread.
+            Begins self.now Step.Register (Answer.Registered thread.number) thread.witness) }
+    {
+        self.shared().thread_data(rt, alloc)
+    }
+
+    /// Ends the registration of the thread, and returns its witness.
+    ///
+    /// The number may be given to another thread then. The last event of the witness is this end;
+    /// others hear it by `hear_witness`.
+    ///
+    /// The call takes the lock of the registry and allocates nothing. The lot keeps the node for
+    /// the thread that has the number next. Do not call it in a critical section.
+    pub fn retire<R: Wait>(&self, rt: &R, thread_data: ThreadData) -> Witness
+        requires own { IsDataOf self.now thread_data }
+        ensures still { IsStill self.now thread_data.witness result }
+        ensures retired { Extends self.now thread_data.witness
+            (Step.Retire thread_data.number) Answer.Retired result }
+    {
+        self.shared().retire(rt, thread_data)
+    }
+
+    /// Returns the numbers of the threads that are in the list of the key, in order.
+    ///
+    /// It calls `Visitor::list` with a new visitor, so its contract does not say this. If a proof
+    /// needs it, call `Visitor::list` or `Member::list`.
+    ///
+    /// The call allocates while the bucket is locked, and again whenever the list has to grow. Do
+    /// not call it in a critical section.
+    ///
+    /// # Errors
+    ///
+    /// Returns `NoMemory` if there is not enough memory for the list. An empty list needs none.
+    pub fn list<R: Wait>(&self, rt: &R, alloc: Global, key: usize) -> Result<Vec<usize>, NoMemory> {
+        self.visitor().list(rt, alloc, key)
+    }
+
+    /// Makes the table smaller if it has more buckets than it needs.
+    ///
+    /// It calls `Visitor::trim` with a new visitor, so its contract does not say this. If a proof
+    /// needs it, call `Visitor::trim` or `Member::trim`.
+    pub fn trim<R: Wait>(&self, rt: &R) {
+        self.visitor().trim(rt);
+    }
+}
+
+impl<P: ThreadParkerT> SharedLot<P> {
+    // Registers a thread under the least free number, as a lot's public call does.
+    pub(crate) fn thread_data<R: Wait>(&self, rt: &R, alloc: Global) -> Result<ThreadData, LotError>
         ensures not_too_many { result ≢ Err LotError.TooManyThreads }
         ensures own { IfOk result (IsDataOf self.now) }
         ensures records { IfOk result (λ thread. thread.records ≡ []) }
@@ -114,12 +247,8 @@ impl<P: ThreadParkerT> ParkingLot<P> {
         })
     }
 
-    /// Ends the registration of the thread, whose number may be given to another thread then, and
-    /// gives back its witness, whose last event that is. Others hear it by `hear_witness`.
-    ///
-    /// It takes the lock of the numbers and asks for no memory. The lot keeps the thread's node for
-    /// whoever has the number next. A section must not call it.
-    pub fn retire<R: Wait>(&self, rt: &R, thread_data: ThreadData) -> Witness
+    // Ends the registration of the thread, as a lot's public call does.
+    pub(crate) fn retire<R: Wait>(&self, rt: &R, thread_data: ThreadData) -> Witness
         requires own { IsDataOf self.now thread_data }
         ensures still { IsStill self.now thread_data.witness result }
         ensures retired { Extends self.now thread_data.witness
@@ -137,49 +266,34 @@ impl<P: ThreadParkerT> ParkingLot<P> {
         self.release(rt, &mut witness, node.unwrap(), thread, records);
         witness
     }
-
-    /// The numbers of the threads that stand in the list of the key, in order, as `Visitor::list`
-    /// tells them to a new visitor. No clause says so here, since that visitor is gone: call
-    /// `Visitor::list` or `Member::list` where a proof is to know it.
-    ///
-    /// It asks for memory with the bucket locked, again whenever the list has to grow. A section
-    /// must not call it.
-    ///
-    /// # Errors
-    ///
-    /// `NoMemory` if memory for the list cannot be had. The empty list needs none.
-    pub fn list<R: Wait>(&self, rt: &R, alloc: Global, key: usize) -> Result<Vec<usize>, NoMemory> {
-        self.visitor().list(rt, alloc, key)
-    }
-
-    /// Makes the table smaller, as `Visitor::trim` does by a new visitor. No clause says so here:
-    /// call `Visitor::trim` or `Member::trim` where a proof is to know it.
-    pub fn trim<R: Wait>(&self, rt: &R) {
-        self.visitor().trim(rt);
-    }
 }
 
-/// Parks the thread of this data in the list of the key, until another thread unparks it. The data
-/// is that of a thread of this lot.
+/// Parks the thread of this data on the key, until another thread unparks it.
 ///
-/// `validate` is called once, in the section of the key's bucket. If it answers false, the answer
-/// is `Invalid` and nothing else is called. If it answers true, the thread stands last in the list,
-/// the section ends, `before_sleep` is called once with no lock held, and the thread sleeps until
-/// its unpark was committed. The answer is `Unparked` with the token that the other thread gave.
+/// The contract requires data of a thread of this lot.
 ///
-/// With a timeout the thread waits no longer than until that instant; a clock that cannot be read
-/// counts as past it. Then, in a section of its list's bucket, the thread leaves the list in which
-/// it stands and `timed_out` is called once, with the key of that list, which is another where the
-/// thread was requeued, and with whether no other thread waits on it; the answer is `TimedOut`. If
-/// an unpark took the thread before that section, `timed_out` is not called, and the answer is
-/// `Unparked`.
+/// First `validate` is called once, in the critical section of the key. If it returns false, `park`
+/// returns `Invalid` and calls nothing else. If it returns true, the thread is appended to the list
+/// of the key, and the section ends. Then `before_sleep` is called once with no lock held, and the
+/// thread sleeps until another thread has unparked it. In this case `park` returns `Unparked` with
+/// the token of that unpark.
+///
+/// With a timeout the thread sleeps no longer than until that instant. A clock that cannot be read
+/// counts as past it. At the deadline there are two cases:
+///
+/// - The thread is still in a list, perhaps of another key if it was requeued. It leaves the list
+///   in a critical section of that key. In the section `timed_out` is called once, with that key
+///   and with whether no other thread waits on it. `park` returns `TimedOut`.
+/// - An unpark took the thread before that. `timed_out` is not called, and `park` returns
+///   `Unparked`.
 ///
 /// The park token is what a filter sees of the thread. `validate` and `timed_out` must not call the
-/// lot, nor wait for a thread that does. `before_sleep` may make any call of the lot, `park` with
-/// other data. It allocates nothing.
+/// lot, nor wait for a thread that does. `before_sleep` may make any call of the lot, even `park`
+/// with other data. The call allocates nothing.
 ///
-/// What the other thread did before its unpark is seen once this answers `Unparked`, and what a
-/// section did by the next section of that bucket: every step on a shared word is `SeqCst`.
+/// When `park` returns `Unparked`, the thread sees everything that the other thread did before its
+/// unpark. What was done in one section of a bucket is seen in the next, because every access to a
+/// shared word is `SeqCst`.
 pub fn park<
     P: ThreadParkerT,
     R: Wait + Clock,
@@ -230,13 +344,16 @@ pub fn park<
     )
 }
 
-/// Parks the thread of this data as `park` does, and lends each closure what exists only when it is
-/// to be called: `validate` and `timed_out` the critical section, and `before_sleep` the thread's
-/// witness, which has seen the thread enter the list.
+/// Parks the thread of this data as `park` does, and lends a value to each closure that shows when
+/// the closure is called.
 ///
-/// Where the thread was let in, the contract says that `validate` was asked while the threads
-/// waited on the key that the entry found, and `before_sleep` called once the thread stood in the
-/// list. Of a refusal it says only that `validate` was asked in a section of the key's bucket.
+/// `validate` and `timed_out` are lent the critical section. `before_sleep` is lent the witness of
+/// the thread, which has seen that the thread entered the list.
+///
+/// If `validate` returned true, the contract says which threads waited on the key when it was
+/// called: those that the entry found. It also says that `before_sleep` was called after the thread
+/// had entered the list. If `validate` returned false, the contract says only that it was called in
+/// a critical section of the key.
 pub fn park_within<
     P: ThreadParkerT,
     R: Wait + Clock,
@@ -263,6 +380,7 @@ pub fn park_within<
         (member_of lot.now thread_data.old) key park_token (is_some timeout) result
         (member_of lot.now thread_data.new) }
 {
+    let lot = lot.shared();
     let number = thread_data.number;
     // The data of a thread that does not wait has its node: its type keeps that.
     let mut node = thread_data.node.take().unwrap();
@@ -289,10 +407,11 @@ pub fn park_within<
     result
 }
 
-/// Unparks the first thread in the list of the key, as `Visitor::unpark_one` does by a new visitor.
+/// Unparks the first thread in the list of the key, as `Visitor::unpark_one` does with a new
+/// visitor.
 ///
-/// Its clause says what the callback was called with and answered, and no more: the visitor that
-/// knows which step was added is gone. Where a proof is to know it, call the visitor or a member.
+/// The contract says only with what the callback was called and what it returned. If a proof needs
+/// to know which step was added to the history, call a visitor or a member instead.
 pub fn unpark_one<P: ThreadParkerT, R: Wait, C: FnOnce(UnparkResult) -> UnparkToken>(
     rt: &R,
     lot: &ParkingLot<P>,
@@ -306,9 +425,10 @@ pub fn unpark_one<P: ThreadParkerT, R: Wait, C: FnOnce(UnparkResult) -> UnparkTo
     lot.visitor().unpark_one(rt, key, callback)
 }
 
-/// Unparks all threads in the list of the key, as `Visitor::unpark_all` does by a new visitor, and
-/// answers how many there were. No clause says so here: where a proof is to know it, call the
-/// visitor or a member.
+/// Unparks all threads in the list of the key, as `Visitor::unpark_all` does with a new visitor,
+/// and returns how many there were.
+///
+/// The contract does not say so. If a proof needs it, call a visitor or a member instead.
 pub fn unpark_all<P: ThreadParkerT, R: Wait>(
     rt: &R,
     lot: &ParkingLot<P>,
@@ -318,11 +438,12 @@ pub fn unpark_all<P: ThreadParkerT, R: Wait>(
     lot.visitor().unpark_all(rt, key, unpark_token)
 }
 
-/// Unparks those threads in the list of the key that the filter unparks, as
-/// `Visitor::unpark_filter` does by a new visitor.
+/// Unparks those threads in the list of the key that the filter chooses, as
+/// `Visitor::unpark_filter` does with a new visitor.
 ///
-/// Its clause says what the closures were called with and answered, on whatever park tokens, and no
-/// more. Where a proof is to know which step was added, call the visitor or a member.
+/// The contract says only with what the closures were called, on some park tokens, and what they
+/// returned. If a proof needs to know which step was added to the history, call a visitor or a
+/// member instead.
 pub fn unpark_filter<
     P: ThreadParkerT,
     R: Wait,
@@ -335,8 +456,10 @@ pub fn unpark_filter<
     lot.visitor().unpark_filter(rt, key, filter, callback)
 }
 
-/// Does what `unpark_filter` does, for closures that may be called at any time, as those without
-/// conditions of their own: its caller proves nothing of lists of waiters.
+/// Unparks as `unpark_filter` does, with closures that may be called at any time.
+///
+/// Most closures have no conditions of their own, so they can be called at any time. Then the
+/// caller need not prove anything about lists of waiters.
 pub fn unpark_chosen<
     P: ThreadParkerT,
     R: Wait,
@@ -350,11 +473,11 @@ pub fn unpark_chosen<
     lot.visitor().unpark_chosen(rt, key, filter, callback)
 }
 
-/// Unparks or requeues threads in the list of the key `key_from` onto that of `key_to`, as
-/// `Visitor::unpark_requeue` does by a new visitor.
+/// Unparks one thread of the key `key_from`, or moves threads to the list of `key_to`, or does
+/// both, as `Visitor::unpark_requeue` does with a new visitor.
 ///
-/// Its clause says what the closures were called with and answered, and no more. Where a proof is
-/// to know which step was added, call the visitor or a member.
+/// The contract says only with what the closures were called and what they returned. If a proof
+/// needs to know which step was added to the history, call a visitor or a member instead.
 pub fn unpark_requeue<
     P: ThreadParkerT,
     R: Wait,

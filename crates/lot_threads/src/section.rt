@@ -1,11 +1,11 @@
 //! A section: what a call does while it has the bucket of a key locked.
 
-ghost use Rattle.std.specs.Prelude.{◌≡◌, ◌<◌, ◌∷◌, [], true, Bool, IfErr, IfNone, IfSome, IsFalse, IsTrue, OnOk, Some};
+ghost use Rattle.std.specs.Prelude.{◌≡◌, ◌<◌, ◌≤◌, ◌∷◌, [], true, Bool, IfErr, IfNone, IfSome, IsFalse, IsTrue, OnOk, Some};
 ghost use Rattle.std.proofs.Props.{props};
 ghost use Rattle.lot_base.specs.Node.{fields};
 ghost use Rattle.lot_machine.specs.declared.step.Answer.{Answer};
 ghost use Rattle.lot_machine.specs.declared.step.Step.{Step};
-ghost use Rattle.lot_history.specs.Witness.{Extends, events_of, id_of, max_threads_of, seen_by};
+ghost use Rattle.lot_history.specs.Witness.{Extends, events_of, id_of, max_threads_of, seen_by, limit_of};
 ghost use Rattle.lot_history.specs.declared.view.Piece.TheVariants.{Thread};
 ghost use Rattle.lot_word_lock.specs.WordLock.{IsClaimOn, key_of};
 ghost use Rattle.lot_threads.specs.Cells.{AreApart, FitsSlot, Has, IsBelow, IsLockFor};
@@ -15,11 +15,13 @@ ghost use Rattle.lot_threads.specs.Requeues.{MayRequeueWithin, RequeuesWithin};
 ghost use Rattle.lot_threads.specs.Sections.{HasBucket};
 ghost use Rattle.lot_threads.specs.Within.{Enters, MayCallBack, MayFilterWithin, MayTellTimeout, MayValidate, Refuses, TellsTimeout, UnparksOne, UnparksWithin};
 
+mod titled;
+
 use crate::cell::Slot;
 use crate::cell_steps::{enter_in, leave_in, list_in, take_all_of, take_filter_of, take_one_of};
 use crate::critical_section::CriticalSection;
 use crate::parker::ThreadParkerT;
-use crate::shared_lot::ParkingLot;
+use crate::shared_lot::SharedLot;
 use crate::shared_lot::handles::Handles;
 use lot_base::queue::Node;
 use lot_base::token::{FilterOp, NoMemory, ParkToken, RequeueOp, UnparkResult, UnparkToken};
@@ -50,11 +52,11 @@ impl Licence {
 ///
 /// A requeue has two, of which `behind` tells the place of the one that was opened before.
 pub(crate) struct Section<'a, P: ThreadParkerT> {
-    lot: &'a ParkingLot<P>,
+    pub(crate) lot: &'a SharedLot<P>,
     lock: &'a WordLock<Slot>,
     behind: Option<usize>,
     claim: Claim<Slot>,
-    key: usize,
+    pub(crate) key: usize,
     ghost for_key: { IsLockFor lot.now key lock.now },
     ghost has_bucket: { HasBucket lock.now claim } by { Prim.hlevel props },
 }
@@ -65,7 +67,7 @@ impl<'a, P: ThreadParkerT> Section<'a, P> {
     #[inline(always)]
     pub(crate) fn open<R: Wait>(
         rt: &R,
-        lot: &'a ParkingLot<P>,
+        lot: &'a SharedLot<P>,
         key: usize,
     ) -> (Section<'a, P>, Licence)
         ensures lot { result.0.lot.now ≡ lot.now }
@@ -87,7 +89,7 @@ impl<'a, P: ThreadParkerT> Section<'a, P> {
     #[inline(always)]
     pub(crate) fn at<R: Wait>(
         rt: &R,
-        lot: &'a ParkingLot<P>,
+        lot: &'a SharedLot<P>,
         lock: &'a WordLock<Slot>,
         key: usize,
     ) -> Option<(Section<'a, P>, Licence)>
@@ -159,6 +161,7 @@ impl<'a, P: ThreadParkerT> Section<'a, P> {
         callback: C,
     ) -> (UnparkResult, Option<P::UnparkHandle>)
         requires idle { IsIdle self.old.lot.now me.old }
+        requires above { limit_of self.old.lot.now ≤ self.old.key }
         requires callable { MayCallBack C.FnOnce callback self.old.lot.now self.old.key }
         ensures idle { StaysIdle self.old.lot.now me.old me.new }
         ensures unparked { UnparksOne C.FnOnce callback self.old.key self.old.lot.now me.old
@@ -188,6 +191,7 @@ impl<'a, P: ThreadParkerT> Section<'a, P> {
         token: UnparkToken,
     ) -> (usize, Handles<P::UnparkHandle>)
         requires idle { IsIdle self.old.lot.now me.old }
+        requires above { limit_of self.old.lot.now ≤ self.old.key }
         ensures idle { StaysIdle self.old.lot.now me.old me.new }
         ensures unparked { Extends self.old.lot.now me.old
             (Step.Unpark (Op.All self.old.key token)) (Answer.Count result.0) me.new }
@@ -215,6 +219,7 @@ impl<'a, P: ThreadParkerT> Section<'a, P> {
         callback: C,
     ) -> (UnparkResult, Handles<P::UnparkHandle>)
         requires idle { IsIdle self.old.lot.now me.old }
+        requires above { limit_of self.old.lot.now ≤ self.old.key }
         requires callable { MayFilterWithin F.FnMut C.FnOnce filter callback self.old.key
             self.old.lot.now me.old }
         ensures idle { StaysIdle self.old.lot.now me.old me.new }
@@ -253,6 +258,8 @@ impl<'a, P: ThreadParkerT> Section<'a, P> {
         callback: C,
     ) -> (UnparkResult, Option<P::UnparkHandle>)
         requires idle { IsIdle self.old.lot.now me.old }
+        requires above { limit_of self.old.lot.now ≤ self.old.key }
+        requires to_above { limit_of self.old.lot.now ≤ to }
         requires to { IsLockFor self.old.lot.now to self.old.lock.now }
         requires callable { MayRequeueWithin V.FnOnce C.FnOnce validate callback self.old.lot.now
             self.old.key }
@@ -286,6 +293,8 @@ impl<'a, P: ThreadParkerT> Section<'a, P> {
         callback: C,
     ) -> (UnparkResult, Option<P::UnparkHandle>)
         requires idle { IsIdle self.old.lot.now me.old }
+        requires above { limit_of self.old.lot.now ≤ self.old.key }
+        requires to_above { limit_of self.old.lot.now ≤ target.old.key }
         requires lot { target.old.lot.now ≡ self.old.lot.now }
         requires apart { AreApart self.old.lock.now target.old.lock.now }
         requires callable { MayRequeueWithin V.FnOnce C.FnOnce validate callback self.old.lot.now
@@ -319,6 +328,7 @@ impl<'a, P: ThreadParkerT> Section<'a, P> {
         validate: V,
     ) -> Result<(), (Part, Box<Node>)>
         requires idle { IsIdle self.old.lot.now me.old }
+        requires above { limit_of self.old.lot.now ≤ self.old.key }
         requires key { (fields node.value).key ≡ self.old.key }
         requires below { IsBelow (max_threads_of self.old.lot.now) (fields node.value) }
         requires thread { Has (id_of self.old.lot.now)
@@ -356,6 +366,7 @@ impl<'a, P: ThreadParkerT> Section<'a, P> {
         timed_out: T,
     ) -> Option<(Part, Box<Node>)>
         requires idle { IsIdle self.old.lot.now me.old }
+        requires above { limit_of self.old.lot.now ≤ self.old.key }
         requires callable { MayTellTimeout T.FnOnce timed_out self.old.lot.now }
         ensures idle { StaysIdle self.old.lot.now me.old me.new }
         ensures left { IfSome result (λ back. (last : Bool)

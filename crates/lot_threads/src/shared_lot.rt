@@ -1,4 +1,5 @@
-//! The lot, which threads share by reference: its buckets, and a parker for each thread.
+//! This module has the lot, which threads share by reference. It has the lot's buckets, and a
+//! parker for each thread.
 
 ghost use Rattle.std.specs.Prelude.{◌≡◌, ◌≢◌, ◌↔◌, ◌∷◌, ◌+◌, ◌<◌, ◌≤◌, ◌^◌, ℕ, List, [], true, false, length, replicate, All, Err, IsErrOf, Bool, IfErr, IfNone, IfOk, IfSome, IsOkAnd, None, OnOk, is_ok};
 ghost use Rattle.lot_base.specs.BucketState.{KeepsPlace};
@@ -11,8 +12,8 @@ ghost use Rattle.lot_base.specs.declared.token.UnparkResult.{UnparkResult};
 ghost use Rattle.lot_machine.specs.Numbers.{count_registered};
 ghost use Rattle.lot_machine.specs.declared.step.Answer.{Answer};
 ghost use Rattle.lot_machine.specs.declared.step.Step.{Step};
-ghost use Rattle.lot_history.specs.Witness.{Adds, Extends, IsPartOf, IsStill, IsWitnessOf, events_of, id_of, max_threads_of, pieces_of, seen_by};
-ghost use Rattle.lot_history.specs.declared.view.Piece.TheVariants.{Thread};
+ghost use Rattle.lot_history.specs.Witness.{events_of, id_of, limit_of, max_threads_of, pieces_of, seen_by, Adds, Extends, IsPartOf, IsStill, IsWitnessOf};
+ghost use Rattle.lot_history.specs.declared.view.Piece.TheVariants.{Thread, Undealt};
 ghost use Rattle.lot_threads.specs.Cells.{Has, HasRecords, IsBelow, IsCell, IsLockFor, IsRegistry, home_of, threads_in};
 ghost use Rattle.lot_threads.specs.Filters.{MayFilter, Unparks};
 ghost use Rattle.lot_threads.specs.Idle.{IsIdle, StaysIdle};
@@ -25,6 +26,7 @@ pub(crate) mod handles;
 mod park;
 mod requeue;
 mod rows;
+mod titled;
 mod unpark;
 
 use crate::cell::{Cell, RowSlot, new_rows};
@@ -58,25 +60,10 @@ struct PerThread<P: ThreadParkerT> {
     key: AtomicUsize,
 }
 
-/// A parking lot: threads park on keys and are unparked by others, through the functions of
-/// `parking_lot` or the methods of a `Member`. A contract sees it as the history of its calls.
-///
-/// It is made for a greatest number of threads, each of which registers by `thread_data`, with a
-/// row of 16 buckets. Each bucket lies behind a lock of its own with its part of the history, and a
-/// section is what a call does under the lock of its key's bucket, or of its two keys' buckets, the
-/// one at the lower place first. In it an unpark puts the thread's node into its parker, and beside
-/// it its piece of the history: then the unpark is committed. A section takes no other lock but
-/// parkers' own, one at a time.
-///
-/// Where there would be less than three buckets for each thread, a registration puts the row of
-/// twice the size in use, which is made if it was not needed before, and kept to the lot's end.
-/// Under the lock of the numbers it takes each bucket of the old row away from its place, one after
-/// another, and puts its nodes and its part into the two of its keys. A section that finds its
-/// bucket away waits for that lock, and looks again.
-///
-/// Whoever finds a lock taken sleeps, once it has spun in vain. No order is kept among callers.
+// What each parking lot is, with titles or without: the history of its calls, its buckets and its
+// threads.
 #[derive(Drop)]
-pub struct ParkingLot<P: ThreadParkerT> {
+pub(crate) struct SharedLot<P: ThreadParkerT> {
     history: History,
     rows: Vec<RowSlot>,
     // The index of the row in use. It may be out of date where it is read, and then the bucket is
@@ -84,83 +71,81 @@ pub struct ParkingLot<P: ThreadParkerT> {
     current: AtomicUsize,
     threads: Vec<PerThread<P>>,
     registry: WordLock<Registry>,
+    // The keys below it have titles.
+    limit: usize,
 }
 
-impl<P: ThreadParkerT> Model for ParkingLot<P> {
+impl<P: ThreadParkerT> Model for SharedLot<P> {
     ghost use Rattle.lot_history.specs.declared.history.History.{History};
 
     ghost Value = { History };
 
     ghost use Rattle.std.specs.Prelude.{◌≡◌, ◌≤◌, length};
     ghost use Rattle.lot_machine.specs.declared.numbers.TheConstants.{MAX_THREADS};
-    ghost use Rattle.lot_history.specs.Witness.{id_of, max_threads_of};
+    ghost use Rattle.lot_history.specs.Witness.{id_of, limit_of, max_threads_of};
     ghost use Rattle.lot_threads.specs.Cells.{AreRows, IsRegistryLock, home_of};
     ghost use Rattle.lot_threads.specs.Rows.{EachAt};
 
     ghost view = { λ lot. lot.history };
 
     ghost invariant = { λ lot.
-        AreRows (id_of lot.history) (max_threads_of lot.history) lot.rows.items
+        AreRows (id_of lot.history) (max_threads_of lot.history)
+        (limit_of lot.history) lot.rows.items
         × (length lot.threads.items ≡ max_threads_of lot.history)
         × EachAt (λ number thread. (P.owner thread.parker ≡ number)
         × (home_of (P.home thread.parker) ≡ id_of lot.history)) 0 lot.threads.items
         × IsRegistryLock (id_of lot.history) (max_threads_of lot.history) lot.registry
-        × (max_threads_of lot.history ≤ MAX_THREADS) };
+        × (max_threads_of lot.history ≤ MAX_THREADS)
+        × (lot.limit ≡ limit_of lot.history) };
 }
 
-impl<P: ThreadParkerT> ParkingLot<P> {
-    /// A lot for at most this many threads, none of which is registered, with a history in which
-    /// nothing was done.
-    ///
-    /// It allocates the history's word, 16 buckets with a lock each, and for each number its use, a
-    /// node and a parker.
-    ///
-    /// # Errors
-    ///
-    /// `TooManyThreads` exactly if there are more than `MAX_THREADS`, and else `NoMemory` if memory
-    /// cannot be had. Nothing was made then.
-    pub fn new(alloc: Global, max_threads: usize) -> Result<ParkingLot<P>, LotError>
-        ensures too_many { IsErrOf result LotError.TooManyThreads ↔ (MAX_THREADS < max_threads) }
-        ensures not_full { result ≢ Err LotError.Full }
-        ensures ok { IfOk result (λ lot. max_threads_of lot ≡ max_threads) }
-    {
-        let numbers = NumberedNodes::new(alloc, max_threads)?;
-        let lot = ParkingLot::for_threads(alloc, max_threads, numbers)?;
-        Ok(lot)
-    }
-
-    // The same, with these numbers, and so for no more threads than that.
-    fn for_threads(
+impl<P: ThreadParkerT> SharedLot<P> {
+    // A lot for at most this many threads with these numbers, where the keys below the limit have
+    // titles. The part has the titles, which are still to be dealt.
+    pub(crate) fn for_threads(
         alloc: Global,
         max_threads: usize,
+        limit: usize,
         numbers: NumberedNodes,
-    ) -> Result<ParkingLot<P>, NoMemory>
+    ) -> Result<(SharedLot<P>, Part), NoMemory>
         requires few { max_threads ≤ MAX_THREADS }
         requires numbers { numbers ≡ replicate max_threads Use.Free }
-        ensures { IfOk result (λ lot. max_threads_of lot ≡ max_threads) }
+        ensures threads { IfOk result (λ made. max_threads_of made.0 ≡ max_threads) }
+        ensures limit { IfOk result (λ made. limit_of made.0 ≡ limit) }
+        ensures undealt { IfOk result (λ made. Has (id_of made.0) (Undealt 0 limit ∷ []) made.1) }
     {
-        let (history, mut me) = History::new(alloc, max_threads)?;
-        cut_up(&history, &mut me, max_threads, INITIAL_BUCKETS);
+        let (history, mut me) = History::with_titles(alloc, max_threads, limit)?;
+        cut_up(&history, &mut me, max_threads, limit, INITIAL_BUCKETS);
         let mut other = history.tell(&mut me);
-        let rows = new_rows(alloc, &history, &mut me, &mut other, max_threads)?;
+        let rows = new_rows(alloc, &history, &mut me, &mut other, max_threads, limit)?;
+        let undealt = history.give(&mut me);
         let home = history.give(&mut other);
         let threads = new_threads(alloc, &history, max_threads, home)?;
         let home = history.give(&mut other);
         let registry = new_registry(alloc, &history, me, max_threads, numbers, home)?;
-        Ok(ParkingLot {
+        let lot = SharedLot {
             history,
             rows,
             current: AtomicUsize::new(0),
             threads,
             registry,
-        })
+            limit,
+        };
+        Ok((lot, undealt))
     }
 
-    /// The greatest number of threads. Every number is below it.
-    pub fn max_threads(&self) -> usize
+    // The greatest number of threads. Every number is below it.
+    pub(crate) fn max_threads(&self) -> usize
         ensures { result ≡ max_threads_of self.now }
     {
         self.threads.len()
+    }
+
+    // The keys below it have titles.
+    pub(crate) fn limit(&self) -> usize
+        ensures { result ≡ limit_of self.now }
+    {
+        self.limit
     }
 
     // The history of the lot's calls.

@@ -3,14 +3,14 @@
 ghost use Rattle.std.specs.Prelude.{◌≡◌, ◌∷◌, ◌++◌, List, [], true, false};
 ghost use Rattle.lot_base.specs.BucketState.{IsBucketAt};
 ghost use Rattle.lot_history.specs.Moves.{Moves, Regroups};
-ghost use Rattle.lot_history.specs.Witness.{Adds, Extends, Found, IsPartOf, IsStill, IsWitnessOf, events_of, id_of, max_threads_of, pieces_in, pieces_of};
+ghost use Rattle.lot_history.specs.Witness.{events_of, id_of, limit_of, max_threads_of, pieces_in, pieces_of, Adds, Extends, Found, IsPartOf, IsStill, IsWitnessOf, deals_of};
 ghost use Rattle.lot_history.specs.declared.view.Piece.{Piece};
 ghost use Rattle.lot_history.specs.declared.view.Piece.TheVariants.{Records, Thread};
 ghost use Rattle.lot_threads.specs.Cells.{Has, IsCell, lists_in, numbers_in, threads_in};
 ghost use Rattle.lot_threads.specs.Idle.{IsIdle, StaysIdle};
 ghost use Rattle.lot_threads.specs.Late.{late_pieces};
 ghost use Rattle.lot_threads.specs.Members.{Is, entry_step};
-ghost use Rattle.lot_threads.specs.Rows.{empty_lists, free_numbers};
+ghost use Rattle.lot_threads.specs.Rows.{empty_lists, other_pieces};
 ghost use Rattle.lot_threads.specs.Within.{FindsPieces, LeavesFrom};
 
 use crate::cell::Cell;
@@ -48,7 +48,7 @@ struct Requeued<'a> {
 // Makes a step that leaves the pieces `after`. The caller picks these, and what is said of the
 // step, by the values.
 #[inline]
-fn add_with<E: Told, V>(history: &History, me: &mut Witness, _values: &V)
+pub(crate) fn add_with<E: Told, V>(history: &History, me: &mut Witness, _values: &V)
     ghost after: { List Piece }
     requires witness { IsWitnessOf history.now me.old }
     requires moves { Moves (max_threads_of history.now) E.said (pieces_of me.old) after }
@@ -56,19 +56,27 @@ fn add_with<E: Told, V>(history: &History, me: &mut Witness, _values: &V)
     ensures adds { Adds history.now me.old E.said me.new }
     ensures found { Found history.now me.old me.new }
     ensures pieces { pieces_of me.new ≡ after }
+    ensures deals { deals_of me.new ≡ deals_of me.old }
 {
     history.add::<E>(me);
 }
 
 // Cuts the pieces of a new machine up for a row of buckets and so many numbers.
-pub(crate) fn cut_up(history: &History, me: &mut Witness, max_threads: usize, size: usize)
+pub(crate) fn cut_up(
+    history: &History,
+    me: &mut Witness,
+    max_threads: usize,
+    limit: usize,
+    size: usize,
+)
     requires witness { IsWitnessOf history.now me.old }
     requires regroups { Regroups (max_threads_of history.now) (pieces_of me.old)
-        (empty_lists size 0 size (free_numbers max_threads ∷ [])) }
+        (empty_lists limit size 0 size (other_pieces max_threads limit)) }
     ensures still { IsStill history.now me.old me.new }
-    ensures pieces { pieces_of me.new ≡ empty_lists size 0 size (free_numbers max_threads ∷ []) }
+    ensures pieces { pieces_of me.new
+        ≡ empty_lists limit size 0 size (other_pieces max_threads limit) }
 {
-    regroup_with(history, me, &(max_threads, size));
+    regroup_with(history, me, &(max_threads, limit, size));
 }
 
 // Puts the pieces together otherwise. The caller picks `after` by the values.
@@ -87,10 +95,11 @@ fn regroup_with<V>(history: &History, me: &mut Witness, _values: &V)
 pub(crate) fn regroup_split(history: &History, me: &mut Witness, low: &Bucket, high: &Bucket)
     requires witness { IsWitnessOf history.now me.old }
     requires regroups { Regroups (max_threads_of history.now) (pieces_of me.old)
-        (lists_in low.now ∷ lists_in high.now ∷ []) }
+        (lists_in (limit_of history.now) low.now ∷ lists_in (limit_of history.now) high.now ∷ []) }
     ensures still { IsStill history.now me.old me.new }
     ensures nothing_added { events_of me.new ≡ events_of me.old }
-    ensures pieces { pieces_of me.new ≡ lists_in low.now ∷ lists_in high.now ∷ [] }
+    ensures pieces { pieces_of me.new ≡ lists_in (limit_of history.now) low.now
+        ∷ lists_in (limit_of history.now) high.now ∷ [] }
 {
     regroup_with::<(&Bucket, &Bucket)>(history, me, &(low, high));
 }
@@ -99,10 +108,10 @@ pub(crate) fn regroup_split(history: &History, me: &mut Witness, low: &Bucket, h
 pub(crate) fn regroup_joined(history: &History, me: &mut Witness, bucket: &Bucket)
     requires witness { IsWitnessOf history.now me.old }
     requires regroups { Regroups (max_threads_of history.now) (pieces_of me.old)
-        (lists_in bucket.now ∷ []) }
+        (lists_in (limit_of history.now) bucket.now ∷ []) }
     ensures still { IsStill history.now me.old me.new }
     ensures nothing_added { events_of me.new ≡ events_of me.old }
-    ensures pieces { pieces_of me.new ≡ lists_in bucket.now ∷ [] }
+    ensures pieces { pieces_of me.new ≡ lists_in (limit_of history.now) bucket.now ∷ [] }
 {
     regroup_with::<&Bucket>(history, me, &bucket);
 }
@@ -113,8 +122,10 @@ pub(crate) fn regroup_joined(history: &History, me: &mut Witness, bucket: &Bucke
 #[inline(never)]
 pub(crate) fn refuse_two(history: &History, me: &mut Witness, one: Cell, other: Cell) -> !
     requires idle { IsIdle history.now me.old }
-    requires one { IsCell (id_of history.now) (max_threads_of history.now) one }
-    requires other { IsCell (id_of history.now) (max_threads_of history.now) other }
+    requires one { IsCell (id_of history.now) (max_threads_of history.now)
+        (limit_of history.now) one }
+    requires other { IsCell (id_of history.now) (max_threads_of history.now)
+        (limit_of history.now) other }
     requires same_place { IsBucketAt one.bucket.place one.bucket.size other.bucket }
 {
     let _place = one.bucket.place();
@@ -128,7 +139,7 @@ pub(crate) fn refuse_two(history: &History, me: &mut Witness, one: Cell, other: 
 fn find_two(history: &History, me: &mut Witness, one: &Bucket, other: &Bucket) -> !
     requires witness { IsWitnessOf history.now me.old }
     requires moves { Moves (max_threads_of history.now) (λ s a. ⊥) (pieces_of me.old)
-        (lists_in one.now ∷ lists_in other.now ∷ []) }
+        (lists_in (limit_of history.now) one.now ∷ lists_in (limit_of history.now) other.now ∷ []) }
 {
     add_with::<Brand, (&Bucket, &Bucket)>(history, me, &(one, other));
     unreachable!()
@@ -231,12 +242,14 @@ pub(crate) fn add_taking<E: Told>(
     requires idle { IsIdle history.now me.old }
     requires part { IsPartOf (id_of history.now) cell.old.part }
     requires moves { Moves (max_threads_of history.now) (λ s a. E.said s a × (a ≡ answer))
-        (pieces_in cell.old.part) (lists_in cell.old.bucket ∷ threads_in taken.now) }
+        (pieces_in cell.old.part)
+        (lists_in (limit_of history.now) cell.old.bucket ∷ threads_in taken.now) }
     ensures still { IsStill history.now me.old me.new }
     ensures adds { Adds history.now me.old (λ s a. E.said s a × (a ≡ answer)) me.new }
     ensures pieces { pieces_of me.new ≡ threads_in taken.now }
     ensures bucket { cell.new.bucket ≡ cell.old.bucket }
-    ensures part { Has (id_of history.now) (lists_in cell.old.bucket ∷ []) cell.new.part }
+    ensures part { Has (id_of history.now) (lists_in (limit_of history.now) cell.old.bucket ∷ [])
+        cell.new.part }
 {
     let part = mem::replace(&mut cell.part, Part::none());
     history.take(me, part);
@@ -255,13 +268,15 @@ pub(crate) fn add_taken<E: Told>(
 )
     requires witness { IsWitnessOf history.now me.old }
     requires moves { Moves (max_threads_of history.now) (λ s a. E.said s a × (a ≡ answer))
-        (pieces_of me.old) (lists_in cell.old.bucket ∷ threads_in taken.now) }
+        (pieces_of me.old)
+        (lists_in (limit_of history.now) cell.old.bucket ∷ threads_in taken.now) }
     ensures still { IsStill history.now me.old me.new }
     ensures adds { Adds history.now me.old (λ s a. E.said s a × (a ≡ answer)) me.new }
     ensures found { Found history.now me.old me.new }
     ensures pieces { pieces_of me.new ≡ threads_in taken.now }
     ensures bucket { cell.new.bucket ≡ cell.old.bucket }
-    ensures part { Has (id_of history.now) (lists_in cell.old.bucket ∷ []) cell.new.part }
+    ensures part { Has (id_of history.now) (lists_in (limit_of history.now) cell.old.bucket ∷ [])
+        cell.new.part }
 {
     licence.spend();
     add_with::<Brand, (&Bucket, &Queue, Answer)>(history, me, &(&cell.bucket, taken, answer));
@@ -284,7 +299,8 @@ pub(crate) fn add_requeue<E: Told>(
     requires target { IsPartOf (id_of history.now) target.old.part }
     requires moves { Moves (max_threads_of history.now) (λ s a. E.said s a × (a ≡ answer))
         (pieces_in source.old.part ++ pieces_in target.old.part)
-        (lists_in source.old.bucket ∷ lists_in target.old.bucket ∷ threads_in taken.now) }
+        (lists_in (limit_of history.now) source.old.bucket
+        ∷ lists_in (limit_of history.now) target.old.bucket ∷ threads_in taken.now) }
     ensures still { IsStill history.now me.old me.new }
     ensures adds { Adds history.now me.old (λ s a. E.said s a × (a ≡ answer)) me.new }
     ensures found { FindsPieces history.now
@@ -292,8 +308,10 @@ pub(crate) fn add_requeue<E: Told>(
     ensures pieces { pieces_of me.new ≡ threads_in taken.now }
     ensures buckets { (source.new.bucket ≡ source.old.bucket)
         × (target.new.bucket ≡ target.old.bucket) }
-    ensures source { Has (id_of history.now) (lists_in source.old.bucket ∷ []) source.new.part }
-    ensures target { Has (id_of history.now) (lists_in target.old.bucket ∷ []) target.new.part }
+    ensures source { Has (id_of history.now)
+        (lists_in (limit_of history.now) source.old.bucket ∷ []) source.new.part }
+    ensures target { Has (id_of history.now)
+        (lists_in (limit_of history.now) target.old.bucket ∷ []) target.new.part }
 {
     licence.spend();
     let part = mem::replace(&mut source.part, Part::none());
@@ -316,14 +334,16 @@ fn add_requeued<E: Told>(history: &History, me: &mut Witness, left: &Requeued<'_
     requires witness { IsWitnessOf history.now me.old }
     requires moves { Moves (max_threads_of history.now)
         (λ s a. E.said s a × (a ≡ left.now.answer)) (pieces_of me.old)
-        (lists_in left.now.source.now ∷ lists_in left.now.target.now
+        (lists_in (limit_of history.now) left.now.source.now
+        ∷ lists_in (limit_of history.now) left.now.target.now
         ∷ threads_in left.now.taken.now) }
     ensures still { IsStill history.now me.old me.new }
     ensures adds { Adds history.now me.old
         (λ s a. E.said s a × (a ≡ left.now.answer)) me.new }
     ensures found { Found history.now me.old me.new }
     ensures pieces { pieces_of me.new
-        ≡ lists_in left.now.source.now ∷ lists_in left.now.target.now
+        ≡ lists_in (limit_of history.now) left.now.source.now
+        ∷ lists_in (limit_of history.now) left.now.target.now
         ∷ threads_in left.now.taken.now }
 {
     add_with::<Brand, Requeued<'_>>(history, me, left);
@@ -346,13 +366,14 @@ pub(crate) fn add_entered(
     requires moves { Moves (max_threads_of history.now)
         (Is (entry_step entry true) Answer.Entered)
         (pieces_in cell.old.part ++ Thread entry.number Status.Running ∷ [])
-        (lists_in cell.old.bucket ∷ []) }
+        (lists_in (limit_of history.now) cell.old.bucket ∷ []) }
     ensures idle { StaysIdle history.now me.old me.new }
     ensures extends { Extends history.now me.old (entry_step entry true) Answer.Entered me.new }
     ensures found { FindsPieces history.now
         (pieces_in cell.old.part ++ Thread entry.number Status.Running ∷ []) me.old me.new }
     ensures bucket { cell.new.bucket ≡ cell.old.bucket }
-    ensures part { Has (id_of history.now) (lists_in cell.old.bucket ∷ []) cell.new.part }
+    ensures part { Has (id_of history.now) (lists_in (limit_of history.now) cell.old.bucket ∷ [])
+        cell.new.part }
 {
     let part = mem::replace(&mut cell.part, Part::none());
     history.take(me, part);
@@ -404,12 +425,13 @@ pub(crate) fn add_timeout(
     requires resolve { Moves (max_threads_of history.now)
         (Is (Step.Resolve number) (Answer.TimedOut key last))
         (late_pieces number (pieces_in cell.old.part))
-        (lists_in cell.old.bucket ∷ Thread number Status.Running ∷ []) }
+        (lists_in (limit_of history.now) cell.old.bucket ∷ Thread number Status.Running ∷ []) }
     ensures idle { StaysIdle history.now me.old me.new }
     ensures leaves { LeavesFrom history.now (pieces_in cell.old.part) number key last me.old
         me.new }
     ensures bucket { cell.new.bucket ≡ cell.old.bucket }
-    ensures part { Has (id_of history.now) (lists_in cell.old.bucket ∷ []) cell.new.part }
+    ensures part { Has (id_of history.now) (lists_in (limit_of history.now) cell.old.bucket ∷ [])
+        cell.new.part }
     ensures thread { Has (id_of history.now) (Thread number Status.Running ∷ []) result }
 {
     let part = mem::replace(&mut cell.part, Part::none());
@@ -422,7 +444,7 @@ pub(crate) fn add_timeout(
 }
 
 // Adds that the deadline of a thread passed.
-fn add_late(history: &History, me: &mut Witness, number: usize)
+pub(crate) fn add_late(history: &History, me: &mut Witness, number: usize)
     requires witness { IsWitnessOf history.now me.old }
     requires moves { Moves (max_threads_of history.now) (Is (Step.Deadline number) Answer.Late)
         (pieces_of me.old) (late_pieces number (pieces_of me.old)) }
@@ -445,12 +467,13 @@ fn add_resolved(
     requires witness { IsWitnessOf history.now me.old }
     requires moves { Moves (max_threads_of history.now)
         (Is (Step.Resolve number) (Answer.TimedOut key last)) (pieces_of me.old)
-        (lists_in bucket.now ∷ Thread number Status.Running ∷ []) }
+        (lists_in (limit_of history.now) bucket.now ∷ Thread number Status.Running ∷ []) }
     ensures still { IsStill history.now me.old me.new }
     ensures extends { Extends history.now me.old (Step.Resolve number)
         (Answer.TimedOut key last) me.new }
     ensures found { Found history.now me.old me.new }
-    ensures pieces { pieces_of me.new ≡ lists_in bucket.now ∷ Thread number Status.Running ∷ [] }
+    ensures pieces { pieces_of me.new
+        ≡ lists_in (limit_of history.now) bucket.now ∷ Thread number Status.Running ∷ [] }
 {
     add_with::<Brand, (&Bucket, usize, usize, bool)>(history, me, &(bucket, number, key, last));
 }

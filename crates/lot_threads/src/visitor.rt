@@ -1,5 +1,5 @@
-//! Visitors of a lot: callers that need no thread of it, whose calls tell the history what they
-//! did.
+//! This module has visitors of a lot: callers that are not registered, and whose calls add to the
+//! lot's history.
 
 ghost use Rattle.std.specs.Prelude.{◌≡◌, List, []};
 ghost use mathlib.Core.List.{IsPrefix};
@@ -17,7 +17,7 @@ ghost use Rattle.lot_threads.specs.Within.{MayCallBack, MayFilterWithin, Unparks
 
 use crate::critical_section::CriticalSection;
 use crate::parker::ThreadParkerT;
-use crate::shared_lot::ParkingLot;
+use crate::parking_lot::ParkingLot;
 use lot_base::token::{FilterOp, NoMemory, ParkToken, RequeueOp, UnparkResult, UnparkToken};
 use lot_history::history::Witness;
 use lot_machine::step::{Answer, Op, Step};
@@ -25,16 +25,17 @@ use std::alloc::Global;
 use std::marker::Model;
 use std::sync::Wait;
 
-/// A caller of a lot that has a witness of its own and is no registered thread. It has every call
-/// of a `Member` but those for which a thread is needed.
+/// A `Visitor` is a caller of a lot that has a witness of its own and is not registered as a
+/// thread. It can make every call of a `Member`, except those that need a registered thread.
 ///
-/// A contract sees it as the history of its lot, and its witness: the beginning of the history that
-/// it has seen, and which events in it its own calls added. So it says of each call which step was
-/// added to the history of this very lot, where a free function such as `unpark_one` can only say
-/// what its closures were called with.
+/// In contracts a visitor has two fields: the history of its lot, and its witness. The witness says
+/// which beginning of the history the visitor has seen, and which of the events in it were added by
+/// its own calls. So the contract of each call says which step it added to the history of this lot.
+/// The contract of a free function such as `unpark_one` can only say with what its closures were
+/// called.
 ///
-/// Visitors of several threads hear of each other's calls by `tell` and `hear_witness`: a witness
-/// may go from one to another through a lock or a channel.
+/// Visitors of several threads learn of each other's calls by `tell` and `hear_witness`. A witness
+/// may go from one thread to another through a lock or a channel.
 #[derive(Drop)]
 pub struct Visitor<'a, P: ThreadParkerT> {
     lot: &'a ParkingLot<P>,
@@ -43,8 +44,8 @@ pub struct Visitor<'a, P: ThreadParkerT> {
 }
 
 impl<P: ThreadParkerT> ParkingLot<P> {
-    /// A visitor of the lot: a caller with a witness of its own, which has seen nothing and added
-    /// nothing. It costs a load.
+    /// Creates a visitor of the lot, whose witness has seen nothing and added nothing. It costs one
+    /// load.
     #[inline]
     pub fn visitor(&self) -> Visitor<'_, P>
         ensures lot { result.history ≡ self.now }
@@ -53,7 +54,7 @@ impl<P: ThreadParkerT> ParkingLot<P> {
     {
         Visitor {
             lot: self,
-            witness: self.history().witness(),
+            witness: self.shared().history().witness(),
         }
     }
 }
@@ -70,7 +71,8 @@ impl<'a, P: ThreadParkerT> Model for Visitor<'a, P> {
 }
 
 impl<'a, P: ThreadParkerT> Visitor<'a, P> {
-    /// A visitor of the lot whose witness this is, as one that `tell` or `Member::retire` gave.
+    /// Creates a visitor of the lot from a witness, for example one that `tell` or `Member::retire`
+    /// returned.
     pub fn of(lot: &'a ParkingLot<P>, witness: Witness) -> Visitor<'a, P>
         requires of_history { IsWitnessOf lot.now witness }
         requires no_pieces { pieces_of witness ≡ [] }
@@ -80,7 +82,7 @@ impl<'a, P: ThreadParkerT> Visitor<'a, P> {
         Visitor { lot, witness }
     }
 
-    /// The witness of the visitor, which others may hear.
+    /// Returns the witness of the visitor, which others may hear, and ends the visitor.
     pub fn into_witness(self) -> Witness
         ensures of_history { IsWitnessOf self.entry.history result }
         ensures no_pieces { pieces_of result ≡ [] }
@@ -90,15 +92,17 @@ impl<'a, P: ThreadParkerT> Visitor<'a, P> {
         witness
     }
 
-    /// The lot that it visits.
+    /// Returns the lot of the visitor.
     pub fn lot(&self) -> &'a ParkingLot<P>
         ensures { result.now ≡ self.now.history }
     {
         self.lot
     }
 
-    /// Another witness, which has seen as much as the visitor, and has added nothing. Whoever hears
-    /// it by `hear_witness` has seen at least that much then. It costs a load.
+    /// Returns another witness, which has seen as much as this visitor, and has added no events.
+    ///
+    /// Whoever hears it by `hear_witness` has then seen at least that much. The call costs one
+    /// load.
     pub fn tell(&mut self) -> Witness
         ensures visits { Visits self.old self.new }
         ensures unchanged { view_of self.new.witness ≡ view_of self.old.witness }
@@ -107,11 +111,12 @@ impl<'a, P: ThreadParkerT> Visitor<'a, P> {
         ensures nothing_added { events_of result ≡ [] }
         ensures no_pieces { pieces_of result ≡ [] }
     {
-        self.lot.history().tell(&mut self.witness)
+        self.lot.shared().history().tell(&mut self.witness)
     }
 
-    /// Sees the history as it is, which begins with all that the other witness has seen, too. It
-    /// costs three loads.
+    /// Updates the witness of the visitor, so that it has seen all that the other witness has seen.
+    ///
+    /// It sees the whole history up to this moment. The call costs three loads.
     pub fn hear_witness(&mut self, other: &mut Witness)
         requires { IsWitnessOf self.old.history other.old }
         ensures visits { Visits self.old self.new }
@@ -120,7 +125,7 @@ impl<'a, P: ThreadParkerT> Visitor<'a, P> {
         ensures other { IsStill self.old.history other.old other.new }
         ensures unchanged { view_of other.new ≡ view_of other.old }
     {
-        self.lot.history().hear(&mut self.witness, other);
+        self.lot.shared().history().hear(&mut self.witness, other);
     }
 
     /// Unparks the first thread in the list of the key, as `Member::unpark_one` does.
@@ -145,12 +150,12 @@ impl<'a, P: ThreadParkerT> Visitor<'a, P> {
         )
     }
 
-    /// Does what `unpark_one` does, and lends the callback the critical section in which it is
+    /// Unparks as `unpark_one` does, and lends the callback the critical section in which it is
     /// called.
     ///
-    /// A body that called it before the bucket is locked, or after, would have none to lend. So the
-    /// contract says which threads waited on the key as the callback was called: those that the
-    /// unpark found.
+    /// So the contract says which threads waited on the key when the callback was called: those
+    /// that the unpark found. No critical section exists before the bucket is locked or after it is
+    /// unlocked, so the callback cannot be called at another time.
     pub fn unpark_one_within<R: Wait, C: FnOnce(&CriticalSection, UnparkResult) -> UnparkToken>(
         &mut self,
         rt: &R,
@@ -162,7 +167,8 @@ impl<'a, P: ThreadParkerT> Visitor<'a, P> {
         ensures unparked { UnparksOne C.FnOnce callback key self.old.history self.old.witness
             result self.new.witness }
     {
-        self.lot.unpark_one(rt, &mut self.witness, key, callback)
+        let lot = self.lot.shared();
+        lot.unpark_one(rt, &mut self.witness, key, callback)
     }
 
     /// Unparks all threads in the list of the key, as `Member::unpark_all` does.
@@ -171,10 +177,11 @@ impl<'a, P: ThreadParkerT> Visitor<'a, P> {
         ensures unparked { Does self.old (Step.Unpark (Op.All key token)) (Answer.Count result)
             self.new }
     {
-        self.lot.unpark_all(rt, &mut self.witness, key, token)
+        let lot = self.lot.shared();
+        lot.unpark_all(rt, &mut self.witness, key, token)
     }
 
-    /// Unparks those threads in the list of the key that the filter unparks, as
+    /// Unparks those threads in the list of the key that the filter chooses, as
     /// `Member::unpark_filter` does.
     pub fn unpark_filter<
         R: Wait,
@@ -198,7 +205,7 @@ impl<'a, P: ThreadParkerT> Visitor<'a, P> {
         )
     }
 
-    /// Does what `unpark_filter` does, and lends the callback the critical section in which it is
+    /// Unparks as `unpark_filter` does, and lends the callback the critical section in which it is
     /// called, as `unpark_one_within` does.
     pub fn unpark_filter_within<
         R: Wait,
@@ -211,12 +218,14 @@ impl<'a, P: ThreadParkerT> Visitor<'a, P> {
         ensures unparked { UnparksWithin F.FnMut C.FnOnce filter callback key self.old.history
             self.old.witness result self.new.witness }
     {
-        self.lot
-            .unpark_filter(rt, &mut self.witness, key, filter, callback)
+        let lot = self.lot.shared();
+        lot.unpark_filter(rt, &mut self.witness, key, filter, callback)
     }
 
-    /// Does what `unpark_filter` does, for closures that may be called at any time, as those
-    /// without conditions of their own: its caller proves nothing of lists of waiters.
+    /// Unparks as `unpark_filter` does, with closures that may be called at any time.
+    ///
+    /// Most closures have no conditions of their own, so they can be called at any time. Then the
+    /// caller need not prove anything about lists of waiters.
     pub fn unpark_chosen<
         R: Wait,
         F: FnMut(ParkToken) -> FilterOp,
@@ -231,7 +240,7 @@ impl<'a, P: ThreadParkerT> Visitor<'a, P> {
         self.unpark_filter(rt, key, filter, callback)
     }
 
-    /// Unparks or requeues threads in the list of the key `from` onto that of `to`, as
+    /// Unparks one thread of the key `from`, or moves threads to the list of `to`, or does both, as
     /// `Member::unpark_requeue` does.
     pub fn unpark_requeue<
         R: Wait,
@@ -258,7 +267,7 @@ impl<'a, P: ThreadParkerT> Visitor<'a, P> {
         )
     }
 
-    /// Does what `unpark_requeue` does, and lends the closures the critical section of the bucket
+    /// Requeues as `unpark_requeue` does, and lends the closures the critical section of the bucket
     /// of `from`, as `Member::unpark_requeue_within` does.
     pub fn unpark_requeue_within<
         R: Wait,
@@ -271,16 +280,16 @@ impl<'a, P: ThreadParkerT> Visitor<'a, P> {
         ensures requeued { RequeuesWithin V.FnOnce C.FnOnce validate callback from to
             self.old.history self.old.witness result self.new.witness }
     {
-        self.lot
-            .unpark_requeue(rt, &mut self.witness, from, to, validate, callback)
+        let lot = self.lot.shared();
+        lot.unpark_requeue(rt, &mut self.witness, from, to, validate, callback)
     }
 
-    /// The numbers of the threads that stand in the list of the key, in order, as `Member::list`
-    /// tells them.
+    /// Returns the numbers of the threads that are in the list of the key, in order, as
+    /// `Member::list` does.
     ///
     /// # Errors
     ///
-    /// `NoMemory` if memory for the list cannot be had. The empty list needs none.
+    /// Returns `NoMemory` if there is not enough memory for the list. An empty list needs none.
     pub fn list<R: Wait>(
         &mut self,
         rt: &R,
@@ -290,7 +299,8 @@ impl<'a, P: ThreadParkerT> Visitor<'a, P> {
         ensures visits { Visits self.old self.new }
         ensures listed { IsListed self.old.history key self.old.witness self.new.witness result }
     {
-        self.lot.list_in_section(rt, alloc, &mut self.witness, key)
+        let lot = self.lot.shared();
+        lot.list_in_section(rt, alloc, &mut self.witness, key)
     }
 
     /// Makes the table smaller, as `Member::trim` does.
@@ -298,6 +308,6 @@ impl<'a, P: ThreadParkerT> Visitor<'a, P> {
         ensures visits { Visits self.old self.new }
         ensures trimmed { Does self.old Step.Trim Answer.Trimmed self.new }
     {
-        self.lot.trim_and_tell(rt, &mut self.witness);
+        self.lot.shared().trim_and_tell(rt, &mut self.witness);
     }
 }

@@ -1,8 +1,7 @@
 //! Titles of keys: one is dealt, goes from hand to hand, and tells of a thread that enters.
 
 ghost use Rattle.std.specs.Prelude.{◌≡◌, ◌<◌, ◌∷◌, [], false, Contains};
-ghost use Rattle.lot_history.specs.Titles.{deal, entering};
-ghost use Rattle.lot_history.specs.Views.{all_pieces};
+ghost use Rattle.lot_history.specs.Titles.{deal, entering, titled_pieces};
 ghost use Rattle.lot_history.specs.Witness.{IsPartOf, IsStill, IsWitnessOf, deals_in, id_of, max_threads_of, pieces_in, pieces_of};
 ghost use Rattle.lot_history.specs.declared.view.Piece.TheVariants.{Numbers, Thread, Title, TitledLists};
 
@@ -13,7 +12,7 @@ use lot_machine::status::Status;
 // The key 0 alone has a title, which is dealt. Lists and title are handed out.
 fn deal_one(history: &History, me: &mut Witness) -> (Part, Part)
     requires witness { IsWitnessOf history.now me.old }
-    requires nobody { pieces_of me.old ≡ all_pieces }
+    requires nobody { pieces_of me.old ≡ titled_pieces 1 }
     ensures still { IsStill history.now me.old me.new }
     ensures rest { pieces_of me.new ≡ Numbers [] ∷ [] }
     ensures parts { IsPartOf (id_of history.now) result.0 × IsPartOf (id_of history.now) result.1 }
@@ -21,7 +20,6 @@ fn deal_one(history: &History, me: &mut Witness) -> (Part, Part)
     ensures title { pieces_in result.1 ≡ Title 0 [] ∷ [] }
     ensures dealt { Contains (deals_in result.1) (deal 0 (id_of history.now)) }
 {
-    history.entitle(me, 1);
     let lists = history.give(me);
     history.deal(me, 0, 1);
     let title = history.give(me);
@@ -71,7 +69,7 @@ fn enter_with(
 
 fn enter_one(history: &History, me: &mut Witness, park_token: ParkToken) -> Witness
     requires witness { IsWitnessOf history.now me.old }
-    requires nobody { pieces_of me.old ≡ all_pieces }
+    requires nobody { pieces_of me.old ≡ titled_pieces 1 }
     requires room { 0 < max_threads_of history.now }
     ensures still { IsStill history.now me.old me.new }
     ensures witness { IsWitnessOf history.now result }
@@ -87,6 +85,6 @@ fn enter_one(history: &History, me: &mut Witness, park_token: ParkToken) -> Witn
 
 #[test]
 fn a_title_tells_of_a_thread_that_enters(rt: HostRuntime) {
-    let (history, mut me) = History::new(rt.alloc(), 2).expect(&rt, "memory");
+    let (history, mut me) = History::with_titles(rt.alloc(), 2, 1).expect(&rt, "memory");
     let _other = enter_one(&history, &mut me, ParkToken(7));
 }

@@ -9,12 +9,12 @@ ghost use Rattle.lot_machine.specs.Size.{IsSizeFor, IsTrimmedSize};
 ghost use Rattle.lot_machine.specs.Numbers.{count_registered};
 ghost use Rattle.lot_machine.specs.declared.step.Answer.{Answer};
 ghost use Rattle.lot_machine.specs.declared.step.Step.{Step};
-ghost use Rattle.lot_history.specs.Witness.{Extends, id_of, max_threads_of};
+ghost use Rattle.lot_history.specs.Witness.{id_of, limit_of, max_threads_of, Extends};
 ghost use Rattle.lot_threads.specs.Cells.{IsFresh, IsRegistry, IsRow, size_in};
 ghost use Rattle.lot_threads.specs.Halves.{IsHalfSize};
 ghost use Rattle.lot_threads.specs.Idle.{IsIdle, StaysIdle};
 
-use super::ParkingLot;
+use super::SharedLot;
 use crate::cell::{Slot, lock_at, new_row, put, row_size, take_away};
 use crate::halves::{join, split};
 use crate::parker::ThreadParkerT;
@@ -30,7 +30,7 @@ use std::sync::atomic::Ordering;
 
 const BUCKETS_PER_THREAD: usize = 3;
 
-impl<P: ThreadParkerT> ParkingLot<P> {
+impl<P: ThreadParkerT> SharedLot<P> {
     // Puts the row of twice the size in use where the present one has less than three buckets for
     // each registered thread and one more. The registry is locked. It asks for memory only where
     // that row was never needed before.
@@ -80,7 +80,8 @@ impl<P: ThreadParkerT> ParkingLot<P> {
     {
         if self.row(index).is_none() {
             let home = self.history.give(me);
-            let row = new_row(alloc, row_size(index), self.threads.len(), home)?;
+            let threads = self.threads.len();
+            let row = new_row(alloc, row_size(index), threads, self.limit, home)?;
             let _ = self.row_slot(index).set(row);
         }
         Ok(())
@@ -165,9 +166,9 @@ impl<P: ThreadParkerT> ParkingLot<P> {
     )
         requires fresh { IsFresh (id_of self.now) me.old }
         requires half { IsHalfSize (length row.now.items) }
-        requires row { IsRow (id_of self.now) (max_threads_of self.now)
+        requires row { IsRow (id_of self.now) (max_threads_of self.now) (limit_of self.now)
             (length row.now.items) row.now.items }
-        requires larger { IsRow (id_of self.now) (max_threads_of self.now)
+        requires larger { IsRow (id_of self.now) (max_threads_of self.now) (limit_of self.now)
             (2 * length row.now.items) larger.now.items }
         ensures { IsFresh (id_of self.now) me.new }
     {
@@ -191,9 +192,9 @@ impl<P: ThreadParkerT> ParkingLot<P> {
     )
         requires fresh { IsFresh (id_of self.now) me.old }
         requires half { IsHalfSize (length row.now.items) }
-        requires row { IsRow (id_of self.now) (max_threads_of self.now)
+        requires row { IsRow (id_of self.now) (max_threads_of self.now) (limit_of self.now)
             (length row.now.items) row.now.items }
-        requires larger { IsRow (id_of self.now) (max_threads_of self.now)
+        requires larger { IsRow (id_of self.now) (max_threads_of self.now) (limit_of self.now)
             (2 * length row.now.items) larger.now.items }
         ensures { IsFresh (id_of self.now) me.new }
     {

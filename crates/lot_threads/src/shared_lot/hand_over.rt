@@ -11,7 +11,7 @@ ghost use Rattle.lot_threads.specs.Cells.{Has, IsBelow, thread_taken, threads_in
 ghost use Rattle.lot_threads.specs.Handles.{handle_numbers, kept_handles};
 ghost use Rattle.lot_threads.specs.Idle.{IsIdle, StaysIdle};
 
-use super::ParkingLot;
+use super::SharedLot;
 use super::handles::{HANDLES, Handles, Room};
 use crate::parker::{Letter, ThreadParkerT};
 use lot_base::queue::{Node, Queue};
@@ -21,7 +21,7 @@ use lot_machine::status::Status;
 use lot_machine::step::{Answer, Step};
 use std::sync::Wait;
 
-impl<P: ThreadParkerT> ParkingLot<P> {
+impl<P: ThreadParkerT> SharedLot<P> {
     // Commits the unparks of all nodes that were taken, in order. It wakes the threads for whose
     // handles there is no room.
     pub(crate) fn commit<R: Wait>(
@@ -87,7 +87,7 @@ impl<P: ThreadParkerT> ParkingLot<P> {
     // Wakes the thread whose unpark was committed, if there is one. Its number is that of a thread
     // of this lot, so none is skipped; no contract of a handle says so.
     #[inline]
-    pub(super) fn wake(&self, handle: Option<P::UnparkHandle>) {
+    pub(crate) fn wake(&self, handle: Option<P::UnparkHandle>) {
         let Some(handle) = handle else {
             return;
         };

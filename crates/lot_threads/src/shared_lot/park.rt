@@ -4,13 +4,13 @@
 ghost use Rattle.std.specs.Prelude.{◌≡◌, ◌≢◌, ◌∷◌, ◌<◌, ℕ, [], Bool, IfNone, IfSome, None};
 ghost use Rattle.std.specs.Option.{is_some};
 ghost use Rattle.lot_base.specs.Node.{fields};
-ghost use Rattle.lot_history.specs.Witness.{events_of, id_of, max_threads_of, seen_by};
+ghost use Rattle.lot_history.specs.Witness.{events_of, id_of, max_threads_of, seen_by, limit_of};
 ghost use Rattle.lot_history.specs.declared.view.Piece.TheVariants.{Thread};
 ghost use Rattle.lot_threads.specs.Cells.{Has};
 ghost use Rattle.lot_threads.specs.Idle.{IsIdle, StaysIdle};
 ghost use Rattle.lot_threads.specs.Within.{EndsWithin, MayTellTimeout, TellsTimeout};
 
-use super::ParkingLot;
+use super::SharedLot;
 use crate::critical_section::CriticalSection;
 use crate::parker::ThreadParkerT;
 use crate::section::{Licence, Section};
@@ -22,7 +22,7 @@ use lot_machine::step::Answer;
 use std::sync::Wait;
 use std::time::{Clock, Instant};
 
-impl<P: ThreadParkerT> ParkingLot<P> {
+impl<P: ThreadParkerT> SharedLot<P> {
     // The wait of a thread that entered a list: sleeps until an unpark of it was committed, or
     // until the deadline, and then leaves the list in which it stands, unless an unpark took it
     // meanwhile.
@@ -35,6 +35,7 @@ impl<P: ThreadParkerT> ParkingLot<P> {
         timeout: Option<Instant>,
     ) -> (ParkResult, Part, Box<Node>)
         requires idle { IsIdle self.now me.old }
+        requires plain { limit_of self.now ≡ 0 }
         requires below { number < max_threads_of self.now }
         requires callable { timeout ≢ None → MayTellTimeout T.FnOnce timed_out self.now }
         ensures idle { StaysIdle self.now me.old me.new }
@@ -71,6 +72,7 @@ impl<P: ThreadParkerT> ParkingLot<P> {
         timed_out: T,
     ) -> Option<(Part, Box<Node>)>
         requires idle { IsIdle self.now me.old }
+        requires plain { limit_of self.now ≡ 0 }
         requires below { number < max_threads_of self.now }
         requires callable { MayTellTimeout T.FnOnce timed_out self.now }
         ensures idle { StaysIdle self.now me.old me.new }

@@ -8,7 +8,7 @@ ghost use Rattle.lot_base.specs.Place.{place_of};
 ghost use Rattle.lot_base.specs.declared.token.UnparkResult.{UnparkResult};
 ghost use Rattle.lot_machine.specs.declared.step.Answer.{Answer};
 ghost use Rattle.lot_machine.specs.declared.step.Step.{Step};
-ghost use Rattle.lot_history.specs.Witness.{Adds, IsStill, id_of, max_threads_of};
+ghost use Rattle.lot_history.specs.Witness.{id_of, limit_of, max_threads_of, Adds, IsStill};
 ghost use Rattle.lot_word_lock.specs.WordLock.{key_of};
 ghost use Rattle.lot_threads.specs.Cells.{AreApart, IsCell, IsCellFor, IsLockAt, IsLockFor, TakesFrom, lists_in};
 ghost use Rattle.lot_threads.specs.Idle.{IsIdle, StaysIdle};
@@ -16,7 +16,7 @@ ghost use Rattle.lot_threads.specs.Requeues.{IsRequeueWithin, MayRequeueWithin, 
 ghost use Rattle.lot_threads.specs.Sections.{AreLockedInOrder, IsKeyedLock};
 ghost use Rattle.lot_threads.specs.Within.{FindsPieces};
 
-use super::ParkingLot;
+use super::SharedLot;
 use crate::cell::{Cell, Slot, lock_at};
 use crate::critical_section::CriticalSection;
 use crate::parker::ThreadParkerT;
@@ -41,7 +41,7 @@ struct KeyedLock<'b> {
     key: usize,
 }
 
-impl<P: ThreadParkerT> ParkingLot<P> {
+impl<P: ThreadParkerT> SharedLot<P> {
     // Requeues threads of the key `from` onto the key `to`, and wakes the one that was unparked, if
     // there is one, once the buckets were let go.
     pub(crate) fn unpark_requeue<
@@ -58,6 +58,7 @@ impl<P: ThreadParkerT> ParkingLot<P> {
         callback: C,
     ) -> UnparkResult
         requires idle { IsIdle self.now me.old }
+        requires plain { limit_of self.now ≡ 0 }
         requires callable { MayRequeueWithin V.FnOnce C.FnOnce validate callback self.now from }
         ensures idle { StaysIdle self.now me.old me.new }
         ensures requeued { RequeuesWithin V.FnOnce C.FnOnce validate callback from to self.now
@@ -208,6 +209,8 @@ impl<P: ThreadParkerT> ParkingLot<P> {
         callback: C,
     ) -> (UnparkResult, Queue)
         requires idle { IsIdle self.now me.old }
+        requires above { limit_of self.now ≤ from }
+        requires to_above { limit_of self.now ≤ to }
         requires cell { IsCellFor self.now from cell.old }
         requires to { place_of to cell.old.bucket.size ≡ cell.old.bucket.place }
         requires callable { MayRequeueWithin V.FnOnce C.FnOnce validate callback self.now from }
@@ -218,7 +221,8 @@ impl<P: ThreadParkerT> ParkingLot<P> {
         ensures still { IsStill self.now me.old me.new }
         ensures adds { Adds self.now me.old
             (λ s a. E.said s a × (a ≡ Answer.Unpark result.0)) me.new }
-        ensures found { FindsPieces self.now (lists_in cell.old.bucket ∷ []) me.old me.new }
+        ensures found { FindsPieces self.now (lists_in (limit_of self.now) cell.old.bucket ∷ [])
+            me.old me.new }
         ensures taken { TakesFrom self.now cell.old cell.new result.1 me.new }
         ensures one { length result.1 ≤ 1 }
     {
@@ -264,6 +268,8 @@ impl<P: ThreadParkerT> ParkingLot<P> {
         callback: C,
     ) -> (UnparkResult, Queue)
         requires idle { IsIdle self.now me.old }
+        requires above { limit_of self.now ≤ from }
+        requires to_above { limit_of self.now ≤ to }
         requires source { IsCellFor self.now from source.old }
         requires target { IsCellFor self.now to target.old }
         requires size { target.old.bucket.size ≡ source.old.bucket.size }
@@ -277,9 +283,11 @@ impl<P: ThreadParkerT> ParkingLot<P> {
         ensures adds { Adds self.now me.old
             (λ s a. E.said s a × (a ≡ Answer.Unpark result.0)) me.new }
         ensures found { FindsPieces self.now
-            (lists_in source.old.bucket ∷ lists_in target.old.bucket ∷ []) me.old me.new }
+            (lists_in (limit_of self.now) source.old.bucket
+            ∷ lists_in (limit_of self.now) target.old.bucket ∷ []) me.old me.new }
         ensures taken { TakesFrom self.now source.old source.new result.1 me.new }
-        ensures target { IsCell (id_of self.now) (max_threads_of self.now) target.new }
+        ensures target { IsCell (id_of self.now) (max_threads_of self.now)
+            (limit_of self.now) target.new }
         ensures place { KeepsPlace target.old.bucket target.new.bucket }
         ensures one { length result.1 ≤ 1 }
     {

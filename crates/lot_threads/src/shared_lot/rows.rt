@@ -1,10 +1,10 @@
 //! The rows of a lot, of which one is in use, and how a section reaches the bucket of its key.
 
 ghost use Rattle.std.specs.Prelude.{◌+◌, ◌<◌, ◌^◌, length, IfSome};
-ghost use Rattle.lot_history.specs.Witness.{id_of, max_threads_of};
+ghost use Rattle.lot_history.specs.Witness.{id_of, limit_of, max_threads_of};
 ghost use Rattle.lot_threads.specs.Cells.{IsLockFor, IsRow, IsSlotAt};
 
-use super::ParkingLot;
+use super::SharedLot;
 use crate::cell::{MOST_ROWS, RowSlot, Slot, lock_at};
 use crate::parker::ThreadParkerT;
 use lot_base::bucket::place;
@@ -12,12 +12,13 @@ use lot_base::word_lock::WordLock;
 use std::sync::Wait;
 use std::sync::atomic::Ordering;
 
-impl<P: ThreadParkerT> ParkingLot<P> {
+impl<P: ThreadParkerT> SharedLot<P> {
     // The place of the row of this index.
     #[inline]
     pub(super) fn row_slot(&self, index: usize) -> &RowSlot
         requires { index < 13 }
-        ensures { IsSlotAt (id_of self.now) (max_threads_of self.now) index result.now }
+        ensures { IsSlotAt (id_of self.now) (max_threads_of self.now)
+            (limit_of self.now) index result.now }
     {
         &self.rows[index]
     }
@@ -26,6 +27,7 @@ impl<P: ThreadParkerT> ParkingLot<P> {
     #[inline]
     pub(super) fn row(&self, index: usize) -> Option<&Vec<WordLock<Slot>>>
         ensures { IfSome result (λ row. IsRow (id_of self.now) (max_threads_of self.now)
+            (limit_of self.now)
             (2 ^ (index + 4)) row.now.items) }
     {
         if index >= MOST_ROWS {
@@ -39,6 +41,7 @@ impl<P: ThreadParkerT> ParkingLot<P> {
     #[inline]
     pub(super) fn row_in_use(&self) -> Option<&Vec<WordLock<Slot>>>
         ensures { IfSome result (λ row. IsRow (id_of self.now) (max_threads_of self.now)
+            (limit_of self.now)
             (length row.now.items) row.now.items) }
     {
         self.row(self.current.load(Ordering::SeqCst))

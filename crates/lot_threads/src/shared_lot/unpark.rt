@@ -1,13 +1,14 @@
 //! Unparks, but for requeues, and lists.
 
+ghost use Rattle.std.specs.Prelude.{◌≡◌};
 ghost use Rattle.lot_machine.specs.declared.step.Answer.{Answer};
 ghost use Rattle.lot_machine.specs.declared.step.Step.{Step};
-ghost use Rattle.lot_history.specs.Witness.{Extends};
+ghost use Rattle.lot_history.specs.Witness.{Extends, limit_of};
 ghost use Rattle.lot_threads.specs.Idle.{IsIdle, StaysIdle};
 ghost use Rattle.lot_threads.specs.Members.{IsListed};
 ghost use Rattle.lot_threads.specs.Within.{MayCallBack, MayFilterWithin, UnparksOne, UnparksWithin};
 
-use super::ParkingLot;
+use super::SharedLot;
 use crate::critical_section::CriticalSection;
 use crate::parker::ThreadParkerT;
 use crate::section::Section;
@@ -17,7 +18,7 @@ use lot_machine::step::{Answer, Op, Step};
 use std::alloc::Global;
 use std::sync::Wait;
 
-impl<P: ThreadParkerT> ParkingLot<P> {
+impl<P: ThreadParkerT> SharedLot<P> {
     // Unparks the first thread of the key, if there is one, and wakes it once the bucket was let
     // go.
     pub(crate) fn unpark_one<R: Wait, C: FnOnce(&CriticalSection, UnparkResult) -> UnparkToken>(
@@ -28,6 +29,7 @@ impl<P: ThreadParkerT> ParkingLot<P> {
         callback: C,
     ) -> UnparkResult
         requires idle { IsIdle self.now me.old }
+        requires plain { limit_of self.now ≡ 0 }
         requires callable { MayCallBack C.FnOnce callback self.now key }
         ensures idle { StaysIdle self.now me.old me.new }
         ensures unparked { UnparksOne C.FnOnce callback key self.now me.old result me.new }
@@ -48,6 +50,7 @@ impl<P: ThreadParkerT> ParkingLot<P> {
         token: UnparkToken,
     ) -> usize
         requires idle { IsIdle self.now me.old }
+        requires plain { limit_of self.now ≡ 0 }
         ensures idle { StaysIdle self.now me.old me.new }
         ensures unparked { Extends self.now me.old (Step.Unpark (Op.All key token))
             (Answer.Count result) me.new }
@@ -67,6 +70,7 @@ impl<P: ThreadParkerT> ParkingLot<P> {
         C: FnOnce(&CriticalSection, UnparkResult) -> UnparkToken,
     >(&self, rt: &R, me: &mut Witness, key: usize, filter: F, callback: C) -> UnparkResult
         requires idle { IsIdle self.now me.old }
+        requires plain { limit_of self.now ≡ 0 }
         requires callable { MayFilterWithin F.FnMut C.FnOnce filter callback key self.now me.old }
         ensures idle { StaysIdle self.now me.old me.new }
         ensures unparked { UnparksWithin F.FnMut C.FnOnce filter callback key self.now me.old

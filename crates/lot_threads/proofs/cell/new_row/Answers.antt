@@ -12,17 +12,19 @@ loop-place-preserved c =
     let lock = c.in_ok-new.field-0 in
     let made = c.in_ok-new.ensures in
     let pushed = c.in_ok-push.ensures.items in
-    let Own = IsCellLock (home_of c.args.home) c.args.max_threads c.args.size in
+    let Own = IsCellLock (home_of c.args.home) c.args.max_threads c.args.limit c.args.size in
     let own : Own place lock = record {
       at_place = ap (λ (key : CellKey). key.place) made;
       of_size = ap (λ (key : CellKey). key.size) made ∙ so_far.size;
       for_threads = ap (λ (key : CellKey). key.max_threads) made ∙ so_far.threads;
+      for_limit = ap (λ (key : CellKey). key.limit) made ∙ so_far.limit;
       of_lot = ap (λ (key : CellKey). home_of key.home) made ∙ so_far.home;
     } in
     let number : place ≡ 0 + length row = omega (arith, so_far.count) in
     record {
       size = so_far.size;
       threads = so_far.threads;
+      limit = so_far.limit;
       home = so_far.home;
       count = omega (arith, ap length pushed, length-append row (lock ∷ []), so_far.count);
       locks = rw pushed (EachAt-push Own 0 row lock (subst (λ (n : ℕ). Own n lock) number own) so_far.locks);

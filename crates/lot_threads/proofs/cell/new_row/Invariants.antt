@@ -7,7 +7,8 @@ abbrev pub invariant-loop-place : goal.invariant-loop-place
 invariant-loop-place l = record {
   size : l.key.size ≡ l.size;
   threads : l.key.max_threads ≡ l.max_threads;
+  limit : l.key.limit ≡ l.limit;
   home : home_of l.key.home ≡ home_of l.fn.home;
   count : length l.row.items ≡ l.place;
-  locks : EachAt (IsCellLock (home_of l.fn.home) l.max_threads l.size) 0 l.row.items;
+  locks : EachAt (IsCellLock (home_of l.fn.home) l.max_threads l.limit l.size) 0 l.row.items;
 }

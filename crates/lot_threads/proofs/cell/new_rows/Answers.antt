@@ -10,12 +10,13 @@ set-requires c =
     let rows = c.in_ok-rows.rows.items in
     let home = id_of c.args.history.now in
     let max_threads = c.args.max_threads in
-    let all : AreRows home max_threads rows =
-    subst (λ (found : TableId). AreRows found max_threads rows) c.give-home-2.ensures.part.table c.in_ok-rows.ensures in
-    let slot : IsSlotAt home max_threads 0 c.in-Some.slot.now =
-    item_got (IsSlotAt home max_threads) rows 0 (Some c.in-Some.slot)
+    let limit = c.args.limit in
+    let all : AreRows home max_threads limit rows =
+    subst (λ (found : TableId). AreRows found max_threads limit rows) c.give-home-2.ensures.part.table c.in_ok-rows.ensures in
+    let slot : IsSlotAt home max_threads limit 0 c.in-Some.slot.now =
+    item_got (IsSlotAt home max_threads limit) rows 0 (Some c.in-Some.slot)
     (rw (← c.deref.ensures.value) c.in-Some.ensures.item) all.each in
-    let row : IsRow home max_threads 16 c.in_ok-first.first.items = record {
+    let row : IsRow home max_threads limit 16 c.in_ok-first.first.items = record {
       table = record { bits = 4; at_least_4 = omega arith; at_most_16 = omega arith; is_power = refl };
       count = c.in_ok-first.ensures.count;
       locks = c.in_ok-first.ensures.cells;

@@ -21,19 +21,22 @@ loop-index-preserved c =
     let slot = c.new.result in
     let home = home_of c.args.home in
     let max_threads = c.args.max_threads in
+    let limit = c.args.limit in
     let pushed = c.in_ok-push.ensures.items in
     let number : index ≡ 0 + length rows = omega (arith, so_far.count) in
-    let own : IsSlotAt home max_threads (0 + length rows) slot =
-    c.new.ensures ∙ (c.of.ensures ∙ (ap (λ (h : TableId). row_tag h key.max_threads key.size) so_far.home
-    ∙ (ap (λ (n : ℕ). row_tag home n key.size) so_far.threads
-    ∙ ap (λ (n : ℕ). row_tag home max_threads n) (so_far.size ∙ ap (λ n. 2 ^ (n + 4)) number)))) in
+    let own : IsSlotAt home max_threads limit (0 + length rows) slot =
+    c.new.ensures ∙ (c.of.ensures ∙ (ap (λ (h : TableId). row_tag h key.max_threads key.limit key.size) so_far.home
+    ∙ (ap (λ (n : ℕ). row_tag home n key.limit key.size) so_far.threads
+    ∙ (ap (λ (n : ℕ). row_tag home max_threads n key.size) so_far.limit
+    ∙ ap (λ (n : ℕ). row_tag home max_threads limit n) (so_far.size ∙ ap (λ n. 2 ^ (n + 4)) number))))) in
     record {
       size =
           let one = pow-add 2 (index + 4) 1 in
           let same : index + 1 + 4 ≡ index + 4 + 1 = omega arith in
           let power = ap (λ n. 2 ^ n) same in omega (arith, one, power, so_far.size);
       threads = so_far.threads;
+      limit = so_far.limit;
       home = so_far.home;
       count = omega (arith, ap length pushed, length-append rows (slot ∷ []), so_far.count);
-      each = rw pushed (EachAt-push (IsSlotAt home max_threads) 0 rows slot own so_far.each);
+      each = rw pushed (EachAt-push (IsSlotAt home max_threads limit) 0 rows slot own so_far.each);
     }

@@ -8,7 +8,8 @@ abbrev pub invariant-loop-index : goal.invariant-loop-index
 invariant-loop-index l = record {
   size : l.key.size ≡ 2 ^ (l._index + 4);
   threads : l.key.max_threads ≡ l.max_threads;
+  limit : l.key.limit ≡ l.limit;
   home : home_of l.key.home ≡ home_of l.fn.home;
   count : length l.rows.items ≡ l._index;
-  each : EachAt (IsSlotAt (home_of l.fn.home) l.max_threads) 0 l.rows.items;
+  each : EachAt (IsSlotAt (home_of l.fn.home) l.max_threads l.limit) 0 l.rows.items;
 }

@@ -1,13 +1,14 @@
-use Rattle.std.proofs.Common.{◌≡◌, List, [], ◌∷◌, ◌++◌, true, rules, sym, ap, ◌∙◌, subst}
+use Rattle.std.proofs.Common.{◌≡◌, None, List, [], ◌∷◌, ◌++◌, true, rules, refl, sym, ap, ◌∙◌, subst}
 use Rattle.lot_base.specs.BucketState.{BucketState}
 use Rattle.lot_base.specs.Node.{fields}
 use Rattle.lot_machine.specs.declared.status.Status.TheVariants.{Running}
 use Rattle.lot_machine.specs.declared.step.Answer.TheVariants as answer
 use Rattle.lot_history.specs.Moves.{Moves}
 use Rattle.lot_history.specs.Pieces.{AllSo}
-use Rattle.lot_history.specs.Witness.{Extends, id_of, max_threads_of, pieces_in}
+use Rattle.lot_history.specs.Witness.{id_of, limit_of, max_threads_of, pieces_in, Extends}
 use Rattle.lot_history.specs.declared.view.Piece.{Piece}
 use Rattle.lot_history.specs.declared.view.Piece.TheVariants.{Thread}
+use Rattle.lot_history.proofs.KeyedLemmas.{enters_keyed}
 use Rattle.lot_history.proofs.NodeLemmas.{enters_node}
 use Rattle.lot_threads.specs.declared.told.Entry.{Entry}
 use Rattle.lot_threads.specs.Cells.{Has, lists_in}
@@ -25,21 +26,24 @@ add_entered-requires-clause-moves g c =
     let part_pieces : pieces_in c.into_part.result ≡ pieces_in c.args.cell.now.part =
     ap pieces_in (c.into_part.ensures ∙ (c.of-section.ensures ∙ c.replace.ensures.value)) in
     subst (λ (entry : Entry). Moves bound (Is (entry_step entry true) answer.Entered)
-    (pieces_in c.into_part.result ++ Thread entry.number Running ∷ []) (lists_in c.enter-entered.new.self ∷ []))
+    (pieces_in c.into_part.result ++ Thread entry.number Running ∷ []) (lists_in (limit_of c.args.history.now) c.enter-entered.new.self ∷ []))
     (sym same)
     (subst (λ (pieces : List Piece). Moves bound (Is (entry_step (entry_of node) true) answer.Entered)
-    (pieces ++ Thread node.number Running ∷ []) (lists_in c.enter-entered.new.self ∷ []))
+    (pieces ++ Thread node.number Running ∷ []) (lists_in (limit_of c.args.history.now) c.enter-entered.new.self ∷ []))
     (sym (part_pieces ∙ c.requires.cell.own.part.pieces))
     (subst (λ (new : BucketState). Moves bound (Is (entry_step (entry_of node) true) answer.Entered)
-    (lists_in old ∷ Thread node.number Running ∷ []) (lists_in new ∷ []))
-    (sym c.in-Ok.ensures.entered) (enters_node bound old.size old.place old.nodes node [] c.requires.cell.here)))
+    (lists_in (limit_of c.args.history.now) old ∷ Thread node.number Running ∷ []) (lists_in (limit_of c.args.history.now) new ∷ []))
+    (sym c.in-Ok.ensures.entered)
+    (enters_keyed bound (limit_of c.args.history.now) old.size old.place node.key None c.requires.above
+    c.requires.cell.here old.nodes node (Is (entry_step (entry_of node) true) answer.Entered) refl
+    (enters_node bound old.size old.place old.nodes node [] c.requires.cell.here))))
 
 pub returns-in-Ok-clause-cell : goal.returns-in-Ok-clause-cell
 returns-in-Ok-clause-cell g c =
     let bound = max_threads_of c.args.history.now in
     let same = c.add_entered.ensures.bucket in
     record {
-      part = subst (λ (bucket : BucketState). Has (id_of c.args.history.now) (lists_in bucket ∷ []) c.add_entered.new.cell.part)
+      part = subst (λ (bucket : BucketState). Has (id_of c.args.history.now) (lists_in (limit_of c.args.history.now) bucket ∷ []) c.add_entered.new.cell.part)
           (sym same) c.add_entered.ensures.part;
       below = rw (same, c.in-Ok.ensures.entered)
           (below-entered bound c.args.cell.now.bucket.nodes (fields c.args.node.value) c.requires.cell.own.below
@@ -60,9 +64,9 @@ returns-in-Ok-clause-entered g c =
     let same : c.entry_for-entry.result ≡ entry_of node = search rules in
     let part : c.into_part.result ≡ c.args.cell.now.part =
     c.into_part.ensures ∙ (c.of-section.ensures ∙ c.replace.ensures.value) in
-    let has : Has (id_of history) (lists_in bucket ∷ []) section.now.part =
+    let has : Has (id_of history) (lists_in (limit_of c.args.history.now) bucket ∷ []) section.now.part =
     rw (asked.1, c.of-section.ensures, c.replace.ensures.value) c.requires.cell.own.part in
-    let so : AllSo m (lists_in bucket ∷ Thread c.entry_for-entry.result.number Running ∷ []) =
+    let so : AllSo m (lists_in (limit_of c.args.history.now) bucket ∷ Thread c.entry_for-entry.result.number Running ∷ []) =
     subst (λ (pieces : List Piece). AllSo m (pieces ++ Thread c.entry_for-entry.result.number Running ∷ []))
     (ap pieces_in part ∙ c.requires.cell.own.part.pieces) found.so in
     record {

@@ -1,21 +1,23 @@
 use denote.Ref.{Bor}
-use Rattle.std.proofs.Common.{◌≡◌, List, [], ◌∷◌, refl, sym, ap, ◌∙◌, subst}
+use Rattle.std.proofs.Common.{◌≡◌, None, List, [], ◌∷◌, not, refl, sym, ap, ◌∙◌, subst}
 use Rattle.lot_base.specs.BucketState.{BucketState}
 use Rattle.lot_base.specs.Node.{fields}
-use Rattle.lot_base.specs.NodeLists.{lists_of}
+use Rattle.lot_base.specs.NodeLists.{lists_of, has_number}
+use Rattle.lot_base.specs.Waiting.{has_any, without_first}
 use Rattle.lot_machine.specs.declared.status.Status.TheVariants as status
 use Rattle.lot_machine.specs.declared.step.Answer.TheVariants as answer
 use Rattle.lot_machine.specs.declared.step.Step.TheVariants as step
 use Rattle.lot_base.proofs.RemoveLemmas.{find-number}
 use Rattle.lot_history.specs.Moves.{Moves}
-use Rattle.lot_history.specs.Witness.{id_of, max_threads_of, pieces_in}
+use Rattle.lot_history.specs.Witness.{id_of, limit_of, max_threads_of, pieces_in}
 use Rattle.lot_history.specs.declared.view.Piece.{Piece}
 use Rattle.lot_history.specs.declared.view.Piece.TheVariants.{Thread}
+use Rattle.lot_history.proofs.KeyedLemmas.{late_titled, leaves_keyed}
 use Rattle.lot_history.proofs.RemoveLemmas.{removes, removes_late}
 use Rattle.lot_threads.specs.Cells.{Has, lists_in}
 use Rattle.lot_threads.specs.Late.{late_pieces}
 use Rattle.lot_threads.specs.Members.{Is}
-use Rattle.lot_history.specs.Pieces.{AllSo}
+use Rattle.lot_history.specs.Pieces.{AllSo, standing_in}
 use Rattle.lot_threads.specs.declared.critical_section.CriticalSection.{CriticalSection}
 use Rattle.lot_threads.proofs.WithinLemmas.{finds_late, is_section}
 use Rattle.lot_threads.proofs.BelowLemmas.{below-left, split_without, without_parts}
@@ -29,8 +31,10 @@ add_timeout-thread-requires-clause-deadline g c =
     subst (λ (pieces : List Piece). Moves bound (Is (step.Deadline c.args.number) answer.Late) pieces
     (late_pieces c.args.number pieces)) (sym (ap pieces_in (c.into_part.ensures ∙ (c.of-section.ensures ∙ c.replace.ensures.value))
     ∙ c.requires.cell.own.part.pieces))
+    (late_titled bound (limit_of c.args.history.now) old.size old.place c.args.number (standing_in old.nodes)
+    (Is (step.Deadline c.args.number) answer.Late)
     (removes_late bound old.size old.place c.args.key c.args.number old.nodes node [] c.requires.cell.here
-    c.in-Some.ensures.removed.0 c.in-Some.ensures.removed.1)
+    c.in-Some.ensures.removed.0 c.in-Some.ensures.removed.1))
 
 pub add_timeout-thread-requires-clause-resolve : goal.add_timeout-thread-requires-clause-resolve
 add_timeout-thread-requires-clause-resolve g c =
@@ -42,11 +46,15 @@ add_timeout-thread-requires-clause-resolve g c =
     let told = c.remove_timed.ensures in
     let removed = c.in-Some.ensures.removed in
     subst (λ (pieces : List Piece). Moves bound (Is (step.Resolve number) (answer.TimedOut key c.in-Some.last))
-    (late_pieces number pieces) (lists_in new ∷ Thread number status.Running ∷ [])) (sym (ap pieces_in (c.into_part.ensures
+    (late_pieces number pieces) (lists_in (limit_of c.args.history.now) new ∷ Thread number status.Running ∷ [])) (sym (ap pieces_in (c.into_part.ensures
     ∙ (c.of-section.ensures ∙ c.replace.ensures.value)) ∙ c.requires.cell.own.part.pieces))
     (rw (told.place.place, told.place.size, removed.2)
+    (leaves_keyed bound (limit_of c.args.history.now) old.size old.place key None c.requires.above c.requires.cell.here
+    old.nodes new.nodes (without_first (has_number number) (lists_of old.nodes key)) number
+    (Is (step.Resolve number)
+    (answer.TimedOut key (not (has_any (without_first (has_number number) (lists_of old.nodes key)))))) removed.3
     (removes bound old.size old.place key number old.nodes (fields c.in-Some.node.value) [] c.requires.cell.here
-    removed.0 new.nodes removed.3))
+    removed.0 new.nodes removed.3)))
 
 pub returns-clause-cell : goal.returns-clause-cell
 returns-clause-cell g c =
@@ -56,7 +64,7 @@ returns-clause-cell g c =
     let waiting = lists_of nodes c.args.key in
     record {
       part = subst (λ (bucket : BucketState).
-          Has (id_of c.args.history.now) (lists_in bucket ∷ []) c.add_timeout-thread.new.cell.part)
+          Has (id_of c.args.history.now) (lists_in (limit_of c.args.history.now) bucket ∷ []) c.add_timeout-thread.new.cell.part)
           (sym same) c.add_timeout-thread.ensures.part;
       below = rw same (below-left bound c.args.key nodes (split_without c.args.number waiting)
           (without_parts c.args.number waiting) c.requires.cell.own.below c.remove_timed.new.self.nodes c.in-Some.ensures.removed.3);
@@ -76,9 +84,9 @@ returns-clause-left g c =
     let told : (section : Bor CriticalSection) × (section.now ≡ c.of-section.result)
     × g.T.FnOnce.post c.args.timed_out (section, (key, (c.in-Some.last, tt))) tt = (_, refl, c.timed_out.ensures) in
     let section = told.0 in
-    let has : Has (id_of history) (lists_in bucket ∷ []) section.now.part =
+    let has : Has (id_of history) (lists_in (limit_of c.args.history.now) bucket ∷ []) section.now.part =
     rw (told.1, c.of-section.ensures, c.replace.ensures.value) c.requires.cell.own.part in
-    let so : AllSo m (late_pieces c.args.number (lists_in bucket ∷ [])) =
+    let so : AllSo m (late_pieces c.args.number (lists_in (limit_of c.args.history.now) bucket ∷ [])) =
     subst (λ (pieces : List Piece). AllSo m (late_pieces c.args.number pieces))
     (ap pieces_in part ∙ c.requires.cell.own.part.pieces) left.finds.so in (
       c.in-Some.last,

@@ -13,7 +13,7 @@ use Rattle.lot_history.specs.declared.event.Event.{Event}
 use Rattle.lot_history.specs.declared.view.Piece.{Piece}
 use Rattle.lot_history.specs.Pieces.{AllSo}
 use Rattle.lot_history.specs.Tells as tells
-use Rattle.lot_history.specs.Witness.{Extends, max_threads_of, number_of, pieces_in, pieces_of, seen_by, view_of}
+use Rattle.lot_history.specs.Witness.{limit_of, max_threads_of, number_of, pieces_in, pieces_of, seen_by, view_of, Extends}
 use Rattle.lot_threads.specs.Cells.{lists_in}
 use Rattle.lot_threads.proofs.AnswerLemmas.{same_result}
 use Rattle.lot_threads.proofs.ListLemmas.{tokens_at}
@@ -27,7 +27,7 @@ take_filter_with-requires-clause-filter g c =
     let bucket = c.args.cell.now.bucket in
     let key = c.args.key in
     let took = c.take.new.me in
-    let taken : pieces_of took ≡ lists_in bucket ∷ [] =
+    let taken : pieces_of took ≡ lists_in (limit_of c.args.history.now) bucket ∷ [] =
     c.take.ensures.pieces ∙ (ap (λ (ps : List Piece). ps ++ pieces_in c.replace-part.result) c.requires.idle.no_pieces
     ∙ (ap (λ part. pieces_in part) c.replace-part.ensures.value ∙ c.requires.cell.own.part.pieces)) in
     let looks = c.look.ensures.looks in
@@ -42,7 +42,7 @@ take_filter_with-requires-clause-callback g c =
     let bucket = c.args.cell.now.bucket in
     let key = c.args.key in
     let took = c.take.new.me in
-    let taken : pieces_of took ≡ lists_in bucket ∷ [] =
+    let taken : pieces_of took ≡ lists_in (limit_of c.args.history.now) bucket ∷ [] =
     c.take.ensures.pieces ∙ (ap (λ (ps : List Piece). ps ++ pieces_in c.replace-part.result) c.requires.idle.no_pieces
     ∙ (ap (λ part. pieces_in part) c.replace-part.ensures.value ∙ c.requires.cell.own.part.pieces)) in
     let looks = c.look.ensures.looks in
@@ -68,13 +68,13 @@ returns-clause-unparked g c =
     let looked = c.look.new.me in
     let last = c.take_filter_with.new.me in
     let looks = c.look.ensures.looks in
-    let taken : pieces_of took ≡ lists_in bucket ∷ [] =
+    let taken : pieces_of took ≡ lists_in (limit_of c.args.history.now) bucket ∷ [] =
     c.take.ensures.pieces ∙ (ap (λ (ps : List Piece). ps ++ pieces_in c.replace-part.result) c.requires.idle.no_pieces
     ∙ (ap (λ part. pieces_in part) c.replace-part.ensures.value ∙ c.requires.cell.own.part.pieces)) in
     let adds = c.take_filter_with.ensures.adds in
     let found = c.take_filter_with.ensures.found in
     let m = found.machine in
-    let so : AllSo m (lists_in bucket ∷ []) =
+    let so : AllSo m (lists_in (limit_of c.args.history.now) bucket ∷ []) =
     subst (λ (ps : List Piece). AllSo m ps) (looks.pieces ∙ taken) found.so in
     let told = adds.is_said.0.1 in
     let same : adds.is_said.0.0 ≡ result =
@@ -109,7 +109,7 @@ returns-clause-unparked g c =
       };
       calls = record {
         decided = subst (λ (tokens : List ParkToken). IsFiltered g.F.FnMut filter tokens told.decisions.items)
-            (tokens_at m bucket.size bucket.place key bucket.nodes here so) told.decided;
+            (tokens_at m (limit_of c.args.history.now) bucket.size bucket.place key bucket.nodes here so) told.decided;
         section = told.section;
         within = is_section history bucket key here told.section.now told.has;
         finds = finds_waiters history bucket key here told.section.now told.has m so;

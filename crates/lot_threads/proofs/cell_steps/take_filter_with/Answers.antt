@@ -1,4 +1,4 @@
-use Rattle.std.proofs.Common.{◌≡◌, ◌≤◌, List, [], ◌∷◌, length, sym, ap, ◌∙◌, subst, arith, rules}
+use Rattle.std.proofs.Common.{◌≡◌, ◌≤◌, None, List, [], ◌∷◌, length, sym, ap, ◌∙◌, subst, arith, rules}
 use Rattle.std.proofs.lemmas.List.{length-map}
 use Rattle.lot_base.specs.BucketState.{BucketState}
 use Rattle.lot_base.specs.Filter.{IsFiltered, park_tokens}
@@ -10,7 +10,7 @@ use Rattle.lot_machine.specs.declared.step.Answer.TheVariants as answer
 use Rattle.lot_history.specs.Moves.{IsFilter, Moves}
 use Rattle.lot_history.specs.Pieces.{AllSo}
 use Rattle.lot_history.specs.Views.{first_of}
-use Rattle.lot_history.specs.Witness.{id_of, max_threads_of, pieces_of}
+use Rattle.lot_history.specs.Witness.{id_of, limit_of, max_threads_of, pieces_of}
 use Rattle.lot_history.specs.declared.view.Piece.{Piece}
 use Rattle.lot_history.proofs.NodeLemmas.{filtered_length, takes_filter}
 use Rattle.lot_threads.specs.Cells.{Has, lists_in, threads_in}
@@ -34,17 +34,18 @@ add_taken-requires-clause-moves g c =
     let asked = filtered_length g.F.FnMut filter (park_tokens waiting) decisions told.decided in
     let called = told.taken.1.1 in
     let given = c.give.ensures in
-    let part : Has (id_of c.args.history.now) (lists_in old ∷ []) c.give.result =
+    let part : Has (id_of c.args.history.now) (lists_in (limit_of c.args.history.now) old ∷ []) c.give.result =
     record { of_history = given.part; pieces = given.first ∙ ap first_of c.requires.piece } in
-    let pieces : pieces_of c.take.new.me ≡ lists_in old ∷ [] =
+    let pieces : pieces_of c.take.new.me ≡ lists_in (limit_of c.args.history.now) old ∷ [] =
     rw (c.take.ensures.pieces, given.rest, c.requires.piece, c.into_part.ensures, c.of-section.ensures) part.pieces in
-    let has : Has (id_of c.args.history.now) (lists_in old ∷ []) called.0.now.part =
+    let has : Has (id_of c.args.history.now) (lists_in (limit_of c.args.history.now) old ∷ []) called.0.now.part =
     rw (called.1, c.of-section.ensures) part in
     let short : length decisions ≤ length waiting = omega (arith, asked, all) in
     subst (λ (pieces : List Piece). Moves bound (λ s a. g.E.Told.said s a × (a ≡ answer.Unpark found)) pieces
-    (lists_in new ∷ threads_in c.take_filter-taken.result.1)) (sym pieces)
-    (taking_said bound old new token (split_filter decisions waiting).taken c.take_filter-taken.result.1
-    c.take_filter-taken.ensures.place told.taken.2
+    (lists_in (limit_of c.args.history.now) new ∷ threads_in c.take_filter-taken.result.1)) (sym pieces)
+    (taking_said bound (limit_of c.args.history.now) old new token (split_filter decisions waiting).taken
+    c.take_filter-taken.result.1 c.take_filter-taken.ensures.place told.taken.2 key None c.requires.above
+    c.requires.place (split_filter decisions waiting).left told.lists
     (IsFilter key decisions token (with_saturated_counts (result_of (split_filter decisions waiting))))
     (λ s a. g.E.Told.said s a × (a ≡ answer.Unpark found))
     (λ s a is.
@@ -69,7 +70,7 @@ add_taken-requires-clause-moves g c =
 pub take_filter-taken-requires-clause-callback : goal.take_filter-taken-requires-clause-callback
 take_filter-taken-requires-clause-callback g c =
     let given = c.give.ensures in
-    let part : Has (id_of c.args.history.now) (lists_in c.args.cell.now.bucket ∷ []) c.give.result =
+    let part : Has (id_of c.args.history.now) (lists_in (limit_of c.args.history.now) c.args.cell.now.bucket ∷ []) c.give.result =
     record { of_history = given.part; pieces = given.first ∙ ap first_of c.requires.piece } in
     λ decisions decided lent is. c.requires.callback decisions decided lent (rw (is, c.of-section.ensures) part)
 
@@ -100,7 +101,7 @@ returns-clause-taken g c = record {
       let told = c.take_filter-taken.ensures.filtered in
       let waiting : List NodeFields = lists_of nodes c.args.key in
       record {
-        part = subst (λ (bucket : BucketState). Has (id_of c.args.history.now) (lists_in bucket ∷ []) c.add_taken.new.cell.part)
+        part = subst (λ (bucket : BucketState). Has (id_of c.args.history.now) (lists_in (limit_of c.args.history.now) bucket ∷ []) c.add_taken.new.cell.part)
             (sym same) c.add_taken.ensures.part;
         below = rw same (below-left bound c.args.key nodes (split_filter told.decisions waiting)
             (filter_parts told.decisions waiting) c.requires.below c.take_filter-taken.new.self.nodes told.lists);

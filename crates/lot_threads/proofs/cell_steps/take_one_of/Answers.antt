@@ -1,4 +1,4 @@
-use Rattle.std.proofs.Common.{◌≡◌, List, [], ◌∷◌, refl, sym, subst, rules}
+use Rattle.std.proofs.Common.{◌≡◌, None, List, [], ◌∷◌, refl, sym, subst, rules}
 use Rattle.lot_base.specs.BucketState.{BucketState}
 use Rattle.lot_base.specs.NodeLists.{lists_of}
 use Rattle.lot_base.specs.Waiting.{result_of, split_first}
@@ -7,7 +7,7 @@ use Rattle.lot_machine.specs.declared.step.Answer.TheVariants as answer
 use Rattle.lot_machine.specs.declared.step.Op.TheVariants as op
 use Rattle.lot_machine.specs.declared.step.Step.TheVariants as step
 use Rattle.lot_history.specs.Moves.{Moves}
-use Rattle.lot_history.specs.Witness.{id_of, max_threads_of, pieces_of}
+use Rattle.lot_history.specs.Witness.{id_of, limit_of, max_threads_of, pieces_of}
 use Rattle.lot_history.specs.declared.view.Piece.{Piece}
 use Rattle.lot_history.specs.Pieces.{AllSo}
 use Rattle.lot_history.proofs.NodeLemmas.{takes_one}
@@ -25,7 +25,7 @@ add_taken-requires-clause-moves g c =
     let token = told.taken.0 in
     let found = c.take_one-taken.result.0 in
     let called = told.taken.1 in
-    let pieces : pieces_of c.take.new.me ≡ lists_in old ∷ [] =
+    let pieces : pieces_of c.take.new.me ≡ lists_in (limit_of c.args.history.now) old ∷ [] =
     rw (
       c.take.ensures.pieces,
       c.requires.idle.no_pieces,
@@ -34,9 +34,10 @@ add_taken-requires-clause-moves g c =
       c.replace.ensures.value,
     ) c.requires.cell.own.part.pieces in
     subst (λ (pieces : List Piece). Moves bound (λ s a. g.E.Told.said s a × (a ≡ answer.Unpark found)) pieces
-    (lists_in new ∷ threads_in c.take_one-taken.result.1)) (sym pieces)
-    (taking_moves bound old new token (split_first (lists_of old.nodes c.args.key)).taken c.take_one-taken.result.1
-    told.place told.taken.2 (op.One c.args.key token)
+    (lists_in (limit_of c.args.history.now) new ∷ threads_in c.take_one-taken.result.1)) (sym pieces)
+    (taking_moves bound (limit_of c.args.history.now) old new token (split_first (lists_of old.nodes c.args.key)).taken
+    c.take_one-taken.result.1 told.place told.taken.2 c.args.key None c.requires.above c.requires.cell.here
+    (split_first (lists_of old.nodes c.args.key)).left told.lists (op.One c.args.key token)
     (answer.Unpark (result_of (split_first (lists_of old.nodes c.args.key))))
     (λ s a. g.E.Told.said s a × (a ≡ answer.Unpark found))
     (subst (λ (given : UnparkResult). g.E.Told.said (step.Unpark (op.One c.args.key token)) (answer.Unpark given)
@@ -64,7 +65,7 @@ returns-clause-found g c = record {
   };
   so = (
       let old = c.args.cell.now.bucket in
-      let pieces : pieces_of c.take.new.me ≡ lists_in old ∷ [] =
+      let pieces : pieces_of c.take.new.me ≡ lists_in (limit_of c.args.history.now) old ∷ [] =
       rw (
         c.take.ensures.pieces,
         c.requires.idle.no_pieces,
@@ -84,7 +85,7 @@ returns-clause-taken g c = record {
       let same = c.add_taken.ensures.bucket in
       let nodes = c.args.cell.now.bucket.nodes in
       record {
-        part = subst (λ (bucket : BucketState). Has (id_of c.args.history.now) (lists_in bucket ∷ []) c.add_taken.new.cell.part)
+        part = subst (λ (bucket : BucketState). Has (id_of c.args.history.now) (lists_in (limit_of c.args.history.now) bucket ∷ []) c.add_taken.new.cell.part)
             (sym same) c.add_taken.ensures.part;
         below = rw same (below-left bound c.args.key nodes (split_first (lists_of nodes c.args.key))
             (first_parts (lists_of nodes c.args.key)) c.requires.cell.own.below

@@ -4,7 +4,7 @@ use Rattle.lot_base.specs.BucketState.{BucketState, IsBucketAt}
 use Rattle.lot_base.specs.NodeFields.{NodeFields}
 use Rattle.lot_history.specs.Moves.{Regroups}
 use Rattle.lot_history.specs.Views.{first_of}
-use Rattle.lot_history.specs.Witness.{max_threads_of, pieces_in, pieces_of}
+use Rattle.lot_history.specs.Witness.{limit_of, max_threads_of, pieces_in, pieces_of}
 use Rattle.lot_history.specs.declared.view.Piece.{Piece}
 use Rattle.lot_threads.specs.Cells.{IsBelow, lists_in}
 use Rattle.lot_threads.proofs.HalfLemmas.{joined_halves, joined_regroups}
@@ -16,13 +16,13 @@ regroup_joined-requires-clause-regroups c =
     let low = c.args.low in
     let high = c.args.high in
     let bucket = c.pour-2.new.into in
-    let first : pieces_of c.take.new.me ≡ lists_in low.bucket ∷ [] =
+    let first : pieces_of c.take.new.me ≡ lists_in (limit_of c.args.history.now) low.bucket ∷ [] =
     c.take.ensures.pieces
     ∙ (ap (λ (ps : List Piece). ps ++ pieces_in low.part) c.requires.idle.no_pieces ∙ c.requires.low.part.pieces) in
-    let before : pieces_of c.take-2.new.me ≡ lists_in low.bucket ∷ lists_in high.bucket ∷ [] =
+    let before : pieces_of c.take-2.new.me ≡ lists_in (limit_of c.args.history.now) low.bucket ∷ lists_in (limit_of c.args.history.now) high.bucket ∷ [] =
     c.take-2.ensures.pieces
     ∙ (ap (λ (ps : List Piece). ps ++ pieces_in high.part) first
-    ∙ ap (λ (ps : List Piece). lists_in low.bucket ∷ ps) c.requires.high.part.pieces) in
+    ∙ ap (λ (ps : List Piece). lists_in (limit_of c.args.history.now) low.bucket ∷ ps) c.requires.high.part.pieces) in
     let at : IsBucketAt c.args.place c.args.size bucket = record {
       place = c.pour-2.ensures.place.place
           ∙ (c.pour.ensures.place.place ∙ ap (λ (b : BucketState). b.place) c.new-bucket.ensures);
@@ -33,8 +33,8 @@ regroup_joined-requires-clause-regroups c =
     c.pour-2.ensures.nodes
     ∙ ap (λ (l : List NodeFields). l ++ high.bucket.nodes)
     (c.pour.ensures.nodes ∙ ap (λ (b : BucketState). b.nodes ++ low.bucket.nodes) c.new-bucket.ensures) in
-    subst (λ (ps : List Piece). Regroups bound ps (lists_in bucket ∷ [])) (sym before)
-    (joined_regroups bound c.args.size c.args.place bucket low.bucket high.bucket c.requires.size at c.requires.low_place
+    subst (λ (ps : List Piece). Regroups bound ps (lists_in (limit_of c.args.history.now) bucket ∷ [])) (sym before)
+    (joined_regroups bound (limit_of c.args.history.now) c.args.size c.args.place bucket low.bucket high.bucket c.requires.size at c.requires.low_place
     c.requires.high_place
     (joined_halves c.args.size c.args.place bucket.nodes low.bucket high.bucket nodes c.requires.low_place
     c.requires.high_place c.pour.ensures.in_place c.pour-2.ensures.in_place))

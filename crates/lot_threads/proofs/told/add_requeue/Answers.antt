@@ -1,7 +1,7 @@
 use Rattle.std.proofs.Common.{◌≡◌, List, ◌∷◌, ◌++◌, ap, ◌∙◌, rules, sym, subst}
 use Rattle.lot_history.specs.Moves.{Moves}
 use Rattle.lot_history.specs.Pieces.{AllSo}
-use Rattle.lot_history.specs.Witness.{max_threads_of, pieces_in, pieces_of}
+use Rattle.lot_history.specs.Witness.{limit_of, max_threads_of, pieces_in, pieces_of}
 use Rattle.lot_history.specs.declared.view.Piece.{Piece}
 use Rattle.lot_threads.specs.Cells.{lists_in, threads_in}
 use Rattle.lot_threads.proofs.told.add_requeue.Goals as goal
@@ -18,7 +18,8 @@ add_requeued-requires-clause-moves g c =
     c.take-2.ensures.pieces ∙ (ap (λ (ps : List Piece). ps ++ pieces_in c.replace-other.result) first
     ∙ ap (λ part. pieces_in source.part ++ pieces_in part) c.replace-other.ensures.value) in
     subst (λ (pieces : List Piece). Moves bound (λ s t. g.E.Told.said s t × (t ≡ c.args.answer)) pieces
-    (lists_in source.bucket ∷ lists_in target.bucket ∷ threads_in c.args.taken.now)) (sym before) c.requires.moves
+    (lists_in (limit_of c.args.history.now) source.bucket ∷ lists_in (limit_of c.args.history.now) target.bucket
+    ∷ threads_in c.args.taken.now)) (sym before) c.requires.moves
 
 pub returns-clause-found : goal.returns-clause-found
 returns-clause-found g c =

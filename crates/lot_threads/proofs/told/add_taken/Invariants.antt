@@ -1,4 +1,5 @@
 use Rattle.std.proofs.Common.{◌≡◌, ◌∷◌}
+use Rattle.lot_history.specs.Witness.{limit_of}
 use Rattle.lot_threads.specs.Cells.{lists_in, threads_in}
 use Rattle.lot_threads.proofs.told.add_taken.Given as goal
 
@@ -7,4 +8,4 @@ abbrev pub ghosts-add_with : goal.ghosts-add_with
 ghosts-add_with g a = record { said = λ s t. g.E.Told.said s t × (t ≡ a._values.now.2) }
 
 abbrev pub ghost-add_with : goal.ghost-add_with
-ghost-add_with g a = lists_in a._values.now.0.now ∷ threads_in a._values.now.1.now
+ghost-add_with g a = lists_in (limit_of a.history.now) a._values.now.0.now ∷ threads_in a._values.now.1.now

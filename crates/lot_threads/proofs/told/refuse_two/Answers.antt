@@ -1,7 +1,7 @@
 use Rattle.std.proofs.Common.{◌≡◌, ◌<◌, List, [], ◌∷◌, refl, subst, sym}
 use Rattle.lot_base.specs.Place.{IsTableSize}
 use Rattle.lot_history.specs.Moves.{Moves}
-use Rattle.lot_history.specs.Witness.{max_threads_of, pieces_of}
+use Rattle.lot_history.specs.Witness.{limit_of, max_threads_of, pieces_of}
 use Rattle.lot_history.specs.declared.view.Piece.{Piece}
 use Rattle.lot_threads.specs.Cells.{lists_in}
 use Rattle.lot_threads.proofs.OncePlaceLemmas.{none_twice}
@@ -12,7 +12,7 @@ find_two-requires-clause-moves c =
     let bound = max_threads_of c.args.history.now in
     let one = c.args.one.bucket in
     let other = c.args.other.bucket in
-    let pieces : pieces_of c.take-2.new.me ≡ lists_in one ∷ lists_in other ∷ [] =
+    let pieces : pieces_of c.take-2.new.me ≡ lists_in (limit_of c.args.history.now) one ∷ lists_in (limit_of c.args.history.now) other ∷ [] =
     rw (
       c.take-2.ensures.pieces,
       c.take.ensures.pieces,
@@ -22,9 +22,10 @@ find_two-requires-clause-moves c =
     ) refl in
     let table = subst IsTableSize c.size-size.ensures.value c.size-size.ensures.table in
     let below = subst (λ n. n < one.size) c.place-place.ensures.value c.place-place.ensures.below in
-    subst (λ (before : List Piece). Moves bound (λ s t. ⊥) before (lists_in one ∷ lists_in other ∷ [])) (sym pieces)
+    subst (λ (before : List Piece). Moves bound (λ s t. ⊥) before
+    (lists_in (limit_of c.args.history.now) one ∷ lists_in (limit_of c.args.history.now) other ∷ [])) (sym pieces)
     (record {
       cover = λ name. refl;
-      step = λ m finds. absurd (none_twice bound one other table below
+      step = λ m finds. absurd (none_twice bound (limit_of c.args.history.now) one other table below
           c.requires.same_place.size c.requires.same_place.place m finds);
     })

@@ -8,7 +8,7 @@ use Rattle.thread_tests.proofs.titles.deal_one.Goals.{After-give-lists}
 
 -- what the witness has without the lists
 listless : (c : After-give-lists) → pieces_of c.give-lists.new.me ≡ Undealt 0 1 ∷ Numbers [] ∷ []
-listless c = c.give-lists.ensures.rest ∙ ap rest_of c.entitle.ensures.pieces
+listless c = c.give-lists.ensures.rest ∙ ap rest_of c.requires.nobody
 
 pub deal-requires : goal.deal-requires
 deal-requires c =

@@ -27,7 +27,7 @@ enter_titled-requires-clause-titled c =
       place = 0;
       standing = [];
       numbers = [];
-      pieces = now ∙ ap (λ (ps : List Piece). TitledLists 1 1 0 [] ∷ Title 0 [] ∷ Thread 0 status.Running ∷ ps)
+      are = now ∙ ap (λ (ps : List Piece). TitledLists 1 1 0 [] ∷ Title 0 [] ∷ Thread 0 status.Running ∷ ps)
           (sym (ap (λ (ps : List Piece). rest_of (rest_of (rest_of ps))) now));
       here = refl;
     }

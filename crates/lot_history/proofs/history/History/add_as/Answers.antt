@@ -9,5 +9,5 @@ load-requires g c =
       c.requires.witness.table,
       search rules,
       rw (c.requires.max_threads, c.requires.number)
-          (adds_allowed shared.key shared.table_id.slots seat.id seat.me g.E.Told.said g.C.Seated.after c.requires.moves),
+          (adds_allowed shared.key.max_threads shared.table_id.slots seat.id seat.me g.E.Told.said g.C.Seated.after c.requires.moves),
     )

@@ -9,6 +9,6 @@ load-requires g c =
       c.requires.witness.table,
       search rules,
       rw (c.requires.key, c.requires.limit)
-          (deals_allowed shared.key shared.table_id.slots seat.id seat.me c.args.key c.args.limit g.D.Dealing.home
+          (deals_allowed shared.key.max_threads shared.table_id.slots seat.id seat.me c.args.key c.args.limit g.D.Dealing.home
           c.requires.undealt c.requires.below),
     )

@@ -14,7 +14,7 @@ use Rattle.lot_history.proofs.history.History.enter_titled_as.Goals as goal
 pub add-requires : goal.add-requires
 add-requires g c = λ lifetimes within.
     let rest : List Piece = rest_of (rest_of (rest_of c.args.me.now.seat.me.0.pieces)) in
-    let threads = c.args.self.now.table.shared.key in
+    let threads = c.args.self.now.table.shared.key.max_threads in
     let own = c.requires.1.1.0 in
     let each = entering c.args.number c.args.key c.args.park_token c.args.timed in
     let after = own.standing ++ each ∷ [] in
@@ -26,8 +26,8 @@ add-requires g c = λ lifetimes within.
             (TitledLists own.limit own.size own.place own.standing ∷ Title c.args.key own.numbers
             ∷ Thread c.args.number status.Running ∷ rest)
             (TitledLists own.limit own.size own.place after ∷ title_of c.args.key after ∷ rest)
-            c.args.me.now.seat.me.0.pieces g.after own.pieces
-            (c.requires.1.1.1.0 ∙ ap (λ (ps : List Piece). with_entry each ps) own.pieces) c.requires.1.1.1.1
+            c.args.me.now.seat.me.0.pieces g.after own.are
+            (c.requires.1.1.1.0 ∙ ap (λ (ps : List Piece). with_entry each ps) own.are) c.requires.1.1.1.1
             (framed threads (Is enter answer.Entered)
             (TitledLists own.limit own.size own.place own.standing ∷ Title c.args.key own.numbers
             ∷ Thread c.args.number status.Running ∷ [])

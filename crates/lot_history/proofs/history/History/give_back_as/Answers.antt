@@ -11,7 +11,7 @@ use Rattle.lot_history.proofs.history.History.give_back_as.Goals as goal
 pub add-requires : goal.add-requires
 add-requires g c = λ lifetimes within.
     let rest : List Piece = rest_of c.args.me.now.seat.me.0.pieces in
-    let threads = c.args.self.now.table.shared.key in (
+    let threads = c.args.self.now.table.shared.key.max_threads in (
       within,
       (
         c.requires.1.0,

@@ -10,5 +10,5 @@ join_seat-requires c =
       c.requires.other.table,
       c.requires.other.slots,
       search rules,
-      takes_allowed c.args.self.now.table.shared.key seat.id seat.me.0 other.id other.me.0 c.requires.quiet,
+      takes_allowed c.args.self.now.table.shared.key.max_threads seat.id seat.me.0 other.id other.me.0 c.requires.quiet,
     )

@@ -9,5 +9,5 @@ load-requires g c =
       c.requires.witness.table,
       search rules,
       rw (c.requires.max_threads, c.requires.number)
-          (looks_allowed shared.key shared.table_id.slots seat.id seat.me),
+          (looks_allowed shared.key.max_threads shared.table_id.slots seat.id seat.me),
     )

@@ -8,5 +8,5 @@ load-requires g c =
     let seat = c.args.me.now.seat in (
       c.requires.witness.table,
       search rules,
-      regroups_allowed shared.key shared.table_id.slots seat.id seat.me g.C.Seated.after c.requires.regroups,
+      regroups_allowed shared.key.max_threads shared.table_id.slots seat.id seat.me g.C.Seated.after c.requires.regroups,
     )

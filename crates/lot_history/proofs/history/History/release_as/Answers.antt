@@ -13,7 +13,7 @@ use Rattle.lot_history.proofs.history.History.release_as.Goals as goal
 pub add-requires : goal.add-requires
 add-requires g c = λ lifetimes within.
     let rest : List Piece = rest_of (rest_of c.args.me.now.seat.me.0.pieces) in
-    let threads = c.args.self.now.table.shared.key in
+    let threads = c.args.self.now.table.shared.key.max_threads in
     let own = c.requires.1.1.0 in (
       within,
       (

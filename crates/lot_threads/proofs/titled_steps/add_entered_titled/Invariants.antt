@@ -1,0 +1,11 @@
+use Rattle.std.proofs.Common.{[], true}
+use Rattle.lot_machine.specs.declared.step.Answer.TheVariants as answer
+use Rattle.lot_threads.specs.Members.{Is, entry_step}
+use Rattle.lot_threads.proofs.titled_steps.add_entered_titled.Given as goal
+
+-- the thread was let in, and its piece is the bucket's
+abbrev pub ghosts-add_titled : goal.ghosts-add_titled
+ghosts-add_titled a = record { said = Is (entry_step a._values.now true) answer.Entered }
+
+abbrev pub ghost-add_titled : goal.ghost-add_titled
+ghost-add_titled a = []
