@@ -66,7 +66,7 @@ fn is_asleep(parsed: &Parsed, walk: &Walk, sleeper: &Sleeper) -> bool {
         let thread = Thread { number };
         if !is_looker(thread)
             && is_named(parsed, thread, sleeper.thread.as_str())
-            && state.queues[sleeper.key.number].has(thread)
+            && state.queues[sleeper.key.index()].has(thread)
         {
             return true;
         }

@@ -1,6 +1,6 @@
 //! What threads, words and keys are called.
 
-use lot_litmus::code::{Instruction, Key, THREADS, Thread, Word};
+use lot_litmus::code::{Instruction, KEYS, Key, THREADS, Thread, Word};
 use lot_litmus::parse::{Parsed, Statement};
 use lot_litmus::state::State;
 use std::alloc::{AllocError, Global};
@@ -40,7 +40,7 @@ pub fn is_looker(thread: Thread) -> bool {
 
 /// The name of a word.
 pub fn word_name(parsed: &Parsed, word: Word) -> &str {
-    match parsed.words.get(word.number) {
+    match parsed.words.get(word.index()) {
         Some(name) => name.as_str(),
         None => "",
     }
@@ -48,7 +48,7 @@ pub fn word_name(parsed: &Parsed, word: Word) -> &str {
 
 /// The name of a key.
 pub fn key_name(parsed: &Parsed, key: Key) -> &str {
-    match parsed.keys.get(key.number) {
+    match parsed.keys.get(key.index()) {
         Some(name) => name.as_str(),
         None => "",
     }
@@ -77,14 +77,15 @@ pub fn line_at(parsed: &Parsed, thread: Thread, at: u16) -> usize {
 
 /// How many wait on the key.
 pub fn count_of(state: &State, key: Key) -> u8 {
-    state.queues[key.number].len()
+    state.queues[key.index()].len()
 }
 
 /// The key on which the thread waits, if it does.
 pub fn key_of(state: &State, thread: Thread) -> Option<Key> {
-    for number in 0..state.queues.len() {
-        if state.queues[number].has(thread) {
-            return Some(Key { number });
+    for number in 0..KEYS as u8 {
+        let key = Key { number };
+        if state.queues[key.index()].has(thread) {
+            return Some(key);
         }
     }
     None

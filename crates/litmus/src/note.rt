@@ -33,7 +33,7 @@ impl Taken<'_> {
         match self.instruction() {
             Some(Instruction::Read { word, .. }) => self.push_read(cell, statement, word),
             Some(Instruction::CompareExchange { word, expected, .. }) => {
-                let is_met = self.before.words[word.number] == self.progress().value(expected);
+                let is_met = self.before.words[word.index()] == self.progress().value(expected);
                 cell.push_str(if is_met { "" } else { ": fails" })
             }
             Some(Instruction::Lock { key, other }) => self.push_lock(cell, key, other),

@@ -27,8 +27,10 @@ const UNUSABLE: u8 = 2;
 // How wide a picture is where the terminal does not say.
 const WIDTH: usize = 100;
 
-/// Does what the arguments ask for. Where they ask for nothing, the error output says why, and how
-/// the program is called, and the status is 2.
+/// Does what the arguments ask for.
+///
+/// If they name no command, or are wrong, the program says why and prints its usage on the error
+/// output, and ends with status 2.
 pub fn run<R>(rt: &R) -> ExitCode
 where
     R: Env + Files + Print + Eprint + Threads + Wait + Clock + AllocGlobal + Copy + Send + 'static,

@@ -5,14 +5,16 @@ use Rattle.lot_litmus.specs.declared.local.Locally.{Locally}
 use Rattle.lot_litmus.specs.declared.local.Locally.TheVariants as locally
 use Rattle.lot_litmus.specs.declared.perform.Performed.{Performed}
 use Rattle.lot_litmus.specs.declared.perform.Performed.TheVariants as performed
+use Rattle.lot_litmus.specs.declared.state.Progress.{Progress}
 use Rattle.lot_litmus.specs.declared.state.State.{State}
 use Rattle.lot_litmus.specs.Steps as steps
 use Rattle.lot_litmus.specs.View.{configuration_of}
 
-abbrev pub locally_of : Locally → steps.Locally
-locally_of locally.Rests = steps.Rests
-locally_of (locally.Advances p) = steps.Advances p
-locally_of (locally.Errs fault) = steps.Errs fault
+-- where the thread has come so far afterwards
+abbrev pub locally_of : Locally → Progress → steps.Locally
+locally_of locally.Rests p = steps.Rests
+locally_of locally.Advances p = steps.Advances p
+locally_of (locally.Errs fault) p = steps.Errs fault
 
 -- where the state is this afterwards
 abbrev pub performed_of : Performed → State → steps.Performed

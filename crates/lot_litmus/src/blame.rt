@@ -19,8 +19,8 @@ impl State {
             let Some(instruction) = code.at(progress.at) else {
                 return progress;
             };
-            match self.do_locally(progress, instruction) {
-                Locally::Advances(next) => progress = next,
+            match self.do_locally(&mut progress, instruction) {
+                Locally::Advances => (),
                 Locally::Rests | Locally::Errs(_) => return progress,
             }
         }
@@ -29,7 +29,8 @@ impl State {
 }
 
 impl Test {
-    /// How far the thread comes by a step that shows a fault: to the instruction that shows it.
+    /// Returns how far the thread comes by a step that shows a fault: up to the instruction that
+    /// shows it.
     pub fn progress_at_fault(&self, from: &Reached, thread: Thread) -> Progress {
         let mut state = *from.state();
         let progress = state.threads[thread.index()];

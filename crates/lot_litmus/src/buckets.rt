@@ -9,21 +9,21 @@ use crate::state::{Progress, State};
 use crate::test::Test;
 
 impl Test {
-    /// The bucket of the key.
+    /// Returns the bucket of the key.
     pub fn bucket(&self, key: Key) -> Key
         ensures { result.number ≡ bucket_of self.now key.number }
     {
-        self.buckets[key.number]
+        self.buckets[key.index()]
     }
 }
 
 impl Progress {
-    /// With the bucket of the key locked.
+    /// Returns this progress with the bucket of the key locked too.
     pub fn locking(self, test: &Test, key: Key) -> Progress
         ensures { result ≡ locking test.now key.number self }
     {
         let mut next = self;
-        next.locked[test.bucket(key).number] = true;
+        next.locked[test.bucket(key).index()] = true;
         next
     }
 }
@@ -38,7 +38,7 @@ impl State {
         let mut others = self.threads;
         others[thread.index()] = progress.unlocked();
         for other in others {
-            if other.locked[bucket.number] {
+            if other.locked[bucket.index()] {
                 return false;
             }
         }

@@ -1,44 +1,74 @@
-//! What the threads of a test do, as instructions. Each is a *step*, which other threads can come
-//! between, or is *local*: it is done at once with the step before it. The numbers of a test are
-//! bytes.
+//! This module has the code of a test's threads: what they do, as instructions.
+//!
+//! An instruction is a *step* or is *local*. Other threads can act between two steps. A local
+//! instruction is done together with the step before it. The numbers of a test are bytes.
 
 ghost use Rattle.std.specs.Prelude.{◌≡◌, ◌<◌, vec_len, slice_get, IfSome, []};
 
 use std::alloc::Global;
 
-/// How many threads a test can have. The last of them mostly looks at the words once the others
-/// have ended.
+/// The greatest number of threads of a test.
+///
+/// The last of them is often used to look at the words after the others have ended.
 pub const THREADS: usize = 6;
 
-/// How many words, keys, and locals of each thread a test can have.
+/// The greatest number of words; the next two constants are those of keys, and of locals of each
+/// thread.
 pub const WORDS: usize = 8;
 
 pub const KEYS: usize = 4;
 
 pub const LOCALS: usize = 12;
 
-/// A local of a thread, which others do not see.
+/// A `Local` is a variable of one thread, which others do not see.
 #[derive(Clone, Copy, PartialEq, Eq)]
 pub struct Local {
-    pub number: usize,
+    pub number: u8,
     pub ghost below: { number < 12 },
 }
 
-/// A word that all threads share.
+impl Local {
+    /// Returns its index in a list of all locals.
+    pub fn index(self) -> usize
+        ensures { result ≡ self.number }
+    {
+        self.number as usize
+    }
+}
+
+/// A `Word` is a variable that all threads share.
 #[derive(Clone, Copy, PartialEq, Eq)]
 pub struct Word {
-    pub number: usize,
+    pub number: u8,
     pub ghost below: { number < 8 },
 }
 
-/// A key on which threads park.
+impl Word {
+    /// Returns its index in a list of all words.
+    pub fn index(self) -> usize
+        ensures { result ≡ self.number }
+    {
+        self.number as usize
+    }
+}
+
+/// A `Key` is a key on which threads park.
 #[derive(Clone, Copy, PartialEq, Eq)]
 pub struct Key {
-    pub number: usize,
+    pub number: u8,
     pub ghost below: { number < 4 },
 }
 
-/// A thread of a test.
+impl Key {
+    /// Returns its index in a list of all keys.
+    pub fn index(self) -> usize
+        ensures { result ≡ self.number }
+    {
+        self.number as usize
+    }
+}
+
+/// A `Thread` is a thread of a test, by its number.
 #[derive(Clone, Copy, PartialEq, Eq)]
 pub struct Thread {
     pub number: u8,
@@ -46,14 +76,15 @@ pub struct Thread {
 }
 
 impl Thread {
-    /// Its place in a list of all threads.
+    /// Returns the place of the thread in a list of all threads.
     pub fn index(self) -> usize
         ensures { result ≡ self.number }
     {
         self.number as usize
     }
 
-    /// Which one it is once two have changed places.
+    /// Returns the thread that this one is after the two given threads have exchanged their
+    /// numbers.
     pub fn exchanged(self, thread: Thread, other: Thread) -> Thread {
         if self == thread {
             other
@@ -65,67 +96,68 @@ impl Thread {
     }
 }
 
-/// A number that an instruction is given.
+/// An `Operand` is a number that an instruction uses.
 #[derive(Clone, Copy, PartialEq, Eq)]
 pub enum Operand {
-    /// This number.
+    /// The operand is this number.
     Constant(u8),
 
-    /// What the thread has in a local.
+    /// The operand is what the thread has in this local.
     Local(Local),
 }
 
-/// What is made of two numbers.
+/// An `Operation` makes a number from two numbers.
 #[derive(Clone, Copy, PartialEq, Eq)]
 pub enum Operation {
-    /// The second.
+    /// The second number.
     Second,
 
-    /// Their sum. One above 255 is a fault of the test.
+    /// The sum of both. A sum above 255 is a fault of the test.
     Add,
 
-    /// The first less the second. One below 0 is a fault of the test.
+    /// The first number minus the second. A difference below 0 is a fault of the test.
     Subtract,
 
     /// The bits that both have.
     And,
 
-    /// The bits that one of them has, or both.
+    /// The bits that at least one of them has.
     Or,
 
-    /// The bits that one of them has alone.
+    /// The bits that exactly one of them has.
     Xor,
 
-    /// 1 if they are equal, else 0.
+    /// 1 if they are equal, otherwise 0.
     Equal,
 
-    /// 1 if they are not, else 0.
+    /// 1 if they are not equal, otherwise 0.
     Unequal,
 
-    /// 1 if the first is below the second, else 0.
+    /// 1 if the first is below the second, otherwise 0.
     Below,
 
-    /// 1 if the first is not above the second, else 0.
+    /// 1 if the first is at most the second, otherwise 0.
     AtMost,
 }
 
-/// How a thread is in the critical section.
+/// An `Access` says with whom a thread shares the critical section that it is in.
 #[derive(Clone, Copy, PartialEq, Eq)]
 pub enum Access {
-    /// With any others that share it.
+    /// Other threads whose access is `Shared` may be in it too.
     Shared,
 
-    /// With nobody else.
+    /// No other thread may be in it.
     Alone,
 }
 
-/// What the validation of a park says.
+/// A `Validation` decides whether a thread that parks goes to sleep.
 #[derive(Clone, Copy, PartialEq, Eq)]
 pub enum Validation {
-    /// Whether this number is not 0.
+    /// The thread sleeps if this number is not 0.
     Given(Operand),
 
-    /// Whether the word and the number make anything but 0, by a look at the word in the section.
+    /// The thread sleeps if the operation makes a number other than 0 from the word and the
+    /// operand. The thread reads the word in the step that parks.
     Seen {
         word: Word,
         operation: Operation,
@@ -133,7 +165,7 @@ pub enum Validation {
     },
 }
 
-/// Whom a requeue unparks and whom it moves.
+/// A `Moves` says which waiters a requeue unparks, and which it moves.
 #[derive(Clone, Copy, PartialEq, Eq)]
 pub enum Moves {
     Nobody,
@@ -143,10 +175,11 @@ pub enum Moves {
     OneMoved,
 }
 
-/// What a thread does next. A `target` is the place of an instruction in the thread's code.
+/// An `Instruction` is what a thread does next. A `target` is the place of an instruction in the
+/// code of the thread.
 #[derive(Clone, Copy, PartialEq, Eq)]
 pub enum Instruction {
-    /// Local: the local becomes what the operation makes of two numbers.
+    /// Local: sets the local to what the operation makes of two numbers.
     Compute {
         to: Local,
         operation: Operation,
@@ -165,25 +198,25 @@ pub enum Instruction {
         target: u16,
     },
 
-    /// Local: a number that is 0 is a fault of the test.
+    /// Local: shows a fault of the test if the number is 0.
     Assert {
         operand: Operand,
     },
 
-    /// Local: enters the critical section. To be there with one who wants to be alone is a fault of
-    /// the test.
+    /// Local: enters the critical section. It is a fault of the test if another thread is in it and
+    /// one of the two has the access `Alone`.
     Enter {
         access: Access,
     },
 
-    /// Local: the local becomes the number of those that wait on the key.
+    /// Local: sets the local to the number of threads that wait on the key.
     Count {
         to: Local,
         key: Key,
     },
 
-    /// Local: the local becomes the park token of the waiter at this index of the key's queue, or
-    /// the thread goes on at the target if there is none.
+    /// Local: sets the local to the park token of the waiter at this index of the key's queue. If
+    /// there is no such waiter, it goes on at the target.
     Look {
         to: Local,
         key: Key,
@@ -197,19 +230,20 @@ pub enum Instruction {
     /// Leaves the critical section.
     Leave,
 
-    /// Reads the word.
+    /// Reads the word into the local.
     Read {
         to: Local,
         word: Word,
     },
 
-    /// Writes the word.
+    /// Writes the number to the word.
     Write {
         word: Word,
         operand: Operand,
     },
 
-    /// The word becomes what the operation makes of it and the number. The local is what it was.
+    /// Sets the word to what the operation makes of the word and the number, and sets the local to
+    /// what the word was before.
     Update {
         to: Local,
         word: Word,
@@ -217,7 +251,7 @@ pub enum Instruction {
         operand: Operand,
     },
 
-    /// If the word is the one number it becomes the other. The local is what it was.
+    /// Sets the word to `new` if it is `expected`, and sets the local to what the word was before.
     CompareExchange {
         to: Local,
         word: Word,
@@ -225,27 +259,28 @@ pub enum Instruction {
         new: Operand,
     },
 
-    /// Waits, awake, until the word and the number make anything but 0.
+    /// Waits, without parking, until the operation makes a number other than 0 from the word and
+    /// the operand.
     Await {
         word: Word,
         operation: Operation,
         operand: Operand,
     },
 
-    /// Waits, awake, until all other threads have ended.
+    /// Waits, without parking, until all other threads have ended.
     AwaitOthers,
 
-    /// Locks the buckets of two keys, which may be the same.
+    /// Locks the buckets of two keys, which may be the same key.
     Lock {
         key: Key,
         other: Key,
     },
 
-    /// Unlocks what it has locked.
+    /// Unlocks the buckets that the thread has locked.
     Unlock,
 
-    /// Enters the queue of the key, if the validation says so, and else goes on at the target.
-    /// Either way it unlocks what it has locked.
+    /// Enters the queue of the key if the validation decides so; otherwise goes on at the target.
+    /// In both cases it unlocks the buckets that the thread has locked.
     Park {
         key: Key,
         validation: Validation,
@@ -254,38 +289,41 @@ pub enum Instruction {
         target: u16,
     },
 
-    /// Sleeps until it is unparked: the local becomes the token. Or its deadline passes, and then it
-    /// locks the bucket of its queue and goes on at the target; `last` becomes whether nobody else
-    /// waits there.
+    /// Sleeps until the thread is unparked, and then sets the local `to` to the token. If the
+    /// deadline passes before, it locks the bucket of the thread's queue, sets `last` to 1 if
+    /// nobody else waits there and otherwise to 0, and goes on at the target.
     Sleep {
         to: Local,
         last: Local,
         target: u16,
     },
 
-    /// Leaves its queue after its deadline, and unlocks what it has locked.
+    /// Leaves the thread's queue after its deadline, and unlocks the buckets that the thread has
+    /// locked.
     GiveUp,
 
-    /// Unparks the first waiter of the key, and unlocks what it has locked.
+    /// Unparks the first waiter of the key, and unlocks the buckets that the thread has locked.
     UnparkOne {
         key: Key,
         token: Operand,
     },
 
-    /// Unparks all waiters of the key.
+    /// Unparks all waiters of the key, and unlocks the buckets that the thread has locked.
     UnparkAll {
         key: Key,
         token: Operand,
     },
 
-    /// Unparks those waiters of the key whose bits are in a number: the first has bit 0.
+    /// Unparks those waiters of the key whose bits are set in a number, and unlocks the buckets
+    /// that the thread has locked. The first waiter has bit 0.
     UnparkFilter {
         key: Key,
         chosen: Operand,
         token: Operand,
     },
 
-    /// Unparks waiters of the one key, or moves them to the other.
+    /// Unparks waiters of the key or moves them to the other key, and unlocks the buckets that the
+    /// thread has locked.
     Requeue {
         key: Key,
         other: Key,
@@ -294,14 +332,14 @@ pub enum Instruction {
     },
 }
 
-/// Whether a park has a deadline.
+/// A `Timing` says whether a park has a deadline.
 #[derive(Clone, Copy, PartialEq, Eq)]
 pub enum Timing {
     Endless,
     Timed,
 }
 
-/// What a thread does, from its first instruction to behind its last.
+/// A `Code` is the list of instructions that a thread does. The thread ends behind the last one.
 #[derive(Drop)]
 pub struct Code {
     pub instructions: Vec<Instruction>,
@@ -309,7 +347,7 @@ pub struct Code {
 }
 
 impl Code {
-    /// Code with these instructions, if they are not too many.
+    /// Creates code from these instructions, or returns `None` if they are too many.
     pub fn new(instructions: Vec<Instruction>) -> Option<Code>
         ensures { IfSome result (λ code. code.instructions.items ≡ instructions.items) }
     {
@@ -320,7 +358,7 @@ impl Code {
         }
     }
 
-    /// The code of a thread that has ended from the start. It asks for no memory.
+    /// Creates the code of a thread that has ended from the start. It allocates nothing.
     pub fn none(alloc: Global) -> Code
         ensures { result.instructions.items ≡ [] }
     {
@@ -329,7 +367,7 @@ impl Code {
         }
     }
 
-    /// The instruction at this place. There is none behind the last.
+    /// Returns the instruction at this place, or `None` if the place is behind the last one.
     pub fn at(&self, place: u16) -> Option<Instruction>
         ensures { result ≡ slice_get self.now.instructions.items place }
     {

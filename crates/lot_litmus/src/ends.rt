@@ -1,4 +1,4 @@
-//! From which states all threads can still come to their ends.
+//! This module finds the states from which all threads can still end.
 
 ghost use Rattle.std.specs.Prelude.{◌≡◌, ℕ, ◌<◌, IfOk, IfSome, IfNone, IsTrue, Some, slice_get, length, true, false};
 ghost use Rattle.lot_litmus.specs.Search.{IsSearch, AreHopeful, AreLost, lead_to_marked, is_hopeful};
@@ -12,9 +12,9 @@ impl Leads {
     fn lead_to_marked(&self, marks: &[bool]) -> bool
         ensures { result ≡ lead_to_marked marks.now self.now.to }
     {
-        for to in self.to {
+        for to in &self.to {
             if let Some(index) = to
-                && marks.get(index) == Some(&true)
+                && marks.get(*index as usize) == Some(&true)
             {
                 return true;
             }
@@ -24,11 +24,11 @@ impl Leads {
 }
 
 impl Search {
-    /// Marks the states from which an end can be reached.
+    /// Marks the states from which some steps lead to a state in which all threads have ended.
     ///
     /// # Errors
     ///
-    /// `AllocError` if memory cannot be had.
+    /// Returns `AllocError` if there is not enough memory.
     pub fn hopeful(&self, alloc: Global, test: &Test) -> Result<Vec<bool>, AllocError>
         ensures length { IfOk result (λ marks.
             length marks.items ≡ length self.now.states.items) }
@@ -82,14 +82,14 @@ impl Search {
     {
         match (self.states().get(index), self.leads().get(index)) {
             (Some(state), Some(leads)) => {
-                test.unended(state.state()) == 0 || leads.lead_to_marked(marks)
+                leads.lead_to_marked(marks) || test.unended(state.state()) == 0
             }
             _ => false,
         }
     }
 
-    /// Whether no step leads from a state that is not marked to one that is, and none of them has
-    /// ended.
+    /// Returns whether no state without a mark has ended, and no step from one leads to a marked
+    /// state.
     pub fn are_lost(&self, test: &Test, marks: &[bool]) -> bool
         requires search { IsSearch test.now self.now }
         requires complete { length self.now.leads.items ≡ length self.now.states.items }
@@ -105,7 +105,7 @@ impl Search {
     }
 }
 
-/// The index of the first that is not marked.
+/// Returns the index of the first state without a mark.
 pub fn first_unmarked(marks: &[bool]) -> Option<usize>
     ensures none { IfNone result
         ((i : ℕ) → i < length marks.now → slice_get marks.now i ≡ Some true) }

@@ -1,4 +1,4 @@
-//! Every state to which a test can come.
+//! This module searches every state that a test can reach.
 
 ghost use Rattle.std.specs.Prelude.{◌≡◌, IfOk, IsTrue, Some, false, length, slice_get};
 ghost use Rattle.lot_litmus.specs.Found.{Holds};
@@ -16,42 +16,42 @@ use std::alloc::{AllocError, Global};
 // A watcher is told each time that so many states have been looked at.
 const WATCHED: usize = 16_384;
 
-/// What a search found.
+/// A `Found` is the result of a search.
 #[derive(Drop)]
 pub enum Found {
-    /// The test is safe. It has so many states.
+    /// The test is safe. It can reach this number of states.
     Safe { states: usize },
 
     /// The last step of this schedule shows the fault.
     Fails { schedule: Vec<Thread>, fault: Fault },
 
-    /// After this schedule the threads can no longer all come to their ends.
+    /// After this schedule the threads can no longer all end.
     Stuck { schedule: Vec<Thread> },
 
-    /// There are more states than the search was to look at, so nothing is known.
+    /// There are more states than the search was allowed to look at, so nothing is known.
     TooMany,
 
-    /// The schedule of a fault did not show it when it was run again, or that of a stuck state did
-    /// not lead there, so nothing is known. This never comes, but nothing is proved of that.
+    /// The search found a schedule, but running it again did not lead to the same fault or stuck
+    /// state, so nothing is known. This should never happen, but that is not proved.
     Unknown,
 }
 
-/// Looks at every state to which the test can come, but at no more than so many.
+/// Searches every state that the test can reach, and gives up if there are more than `most`.
 ///
 /// # Errors
 ///
-/// `AllocError` if memory cannot be had.
+/// Returns `AllocError` if there is not enough memory.
 pub fn explore(alloc: Global, test: &Test, most: usize) -> Result<Found, AllocError>
     ensures { IfOk result (λ found. Holds test.now found) }
 {
     explore_watched(alloc, test, most, &mut Nobody)
 }
 
-/// Looks at the same states, and tells the watcher now and then how far it has come.
+/// Searches as `explore` does, and tells the watcher from time to time how far it has come.
 ///
 /// # Errors
 ///
-/// `AllocError` if memory cannot be had.
+/// Returns `AllocError` if there is not enough memory.
 pub fn explore_watched<W: Watcher>(
     alloc: Global,
     test: &Test,
@@ -65,16 +65,34 @@ pub fn explore_watched<W: Watcher>(
         if search.leads().len() >= search.states().len() {
             return judge(alloc, test, &search);
         }
-        if index % WATCHED == WATCHED - 1 {
-            watcher.watch(search.states().len(), search.depth(index));
-        }
+        tell(watcher, &search, index);
         if let Some(thread) = search.look(test)? {
-            let mut schedule = search.schedule(alloc, index)?;
-            schedule.push(thread)?;
-            return Ok(failing(test, schedule));
+            return failing_at(alloc, test, &search, index, thread);
         }
     }
     Ok(Found::TooMany)
+}
+
+// Tells the watcher now and then that the state at this index comes next.
+fn tell<W: Watcher>(watcher: &mut W, search: &Search, index: usize) {
+    if index % WATCHED == WATCHED - 1 {
+        watcher.watch(search.states().len(), search.depth(index));
+    }
+}
+
+// The fault that a step of the thread shows from the state at this index.
+fn failing_at(
+    alloc: Global,
+    test: &Test,
+    search: &Search,
+    index: usize,
+    thread: Thread,
+) -> Result<Found, AllocError>
+    ensures { IfOk result (λ found. Holds test.now found) }
+{
+    let mut schedule = search.schedule(alloc, index)?;
+    schedule.push(thread)?;
+    Ok(failing(test, schedule))
 }
 
 /// The fault that the schedule shows.

@@ -1,21 +1,22 @@
 //! Numbers by which states are told apart at a glance.
 
-use crate::code::LOCALS;
 use crate::state::{Progress, Standing, State};
 
 const MULTIPLIER: u64 = 0x9E37_79B9_7F4A_7C15;
 
 impl State {
-    /// A number that mixes most of what tells states apart.
-    pub fn hash(&self) -> u64 {
+    /// Returns a hash of the state. It leaves out what seldom tells two states apart.
+    pub fn hash(&self) -> u32 {
         let mut hash = u64::from_le_bytes(self.words);
         for progress in &self.threads {
             hash = mixed(hash, progress.hash());
         }
-        for standing in self.standings {
-            hash = mixed(hash, standing.hash());
+        let mut standings = 0;
+        for standing in &self.standings {
+            standings = standings << 9 ^ standing.hash();
         }
-        hash
+        let [_, _, _, _, a, b, c, d] = mixed(hash, standings).to_le_bytes();
+        u32::from_le_bytes([a, b, c, d])
     }
 }
 

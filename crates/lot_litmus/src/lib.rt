@@ -1,4 +1,8 @@
-//! Tests of the protocols of locks, on every schedule of their threads.
+//! This crate searches the protocol of a lock on every schedule of its threads.
+//!
+//! `parse` makes a test from the text of a protocol, and `explore` searches the test: it says that
+//! the test is safe, or returns a schedule that leads to a fault. `LANGUAGE.md` describes the
+//! language of the texts.
 #![tactic(auto)]
 
 mod alike;

@@ -1,7 +1,7 @@
 //! What local instructions do, which no other thread can come between.
 
 ghost use Rattle.std.specs.Prelude.{◌≡◌, ◌<◌, option_map, Option, Some, None};
-ghost use Rattle.lot_litmus.specs.Steps.{advanced, at_target, lets_in, all_pass, computed, looked, local_step};
+ghost use Rattle.lot_litmus.specs.Steps.{Advances, advanced, with_local, at_target, lets_in, all_pass, computed, looked, local_step};
 ghost use Rattle.lot_litmus.specs.View.{configuration_of, waiter_of};
 ghost use Rattle.lot_litmus.specs.Performing.{locally_of};
 
@@ -16,45 +16,73 @@ pub(crate) enum Locally {
     /// Nothing: it is a step.
     Rests,
 
-    /// It lets the thread come so far.
-    Advances(Progress),
+    /// It lets the thread go on.
+    Advances,
 
     /// It shows a fault.
     Errs(Fault),
 }
 
 impl Progress {
-    /// One instruction on, with what was made in the local, if it is a byte.
-    fn computed(self, to: Local, made: Option<u8>) -> Locally
-        requires { self.at < 65535 }
-        ensures { locally_of result ≡ computed self to made }
+    // Goes on behind the instruction, with what was made in the local, if it is a byte.
+    fn compute(&mut self, to: Local, made: Option<u8>) -> Locally
+        requires { self.old.at < 65535 }
+        ensures { locally_of result self.new ≡ computed self.old to made }
     {
         match made {
-            Some(number) => Locally::Advances(self.advanced_with(to, number)),
+            Some(number) => self.advance_with(to, number),
             None => Locally::Errs(Fault::Overflow),
         }
     }
 
-    /// One instruction on, with the waiter's token in the local, or at the target.
-    fn looked(self, to: Local, entry: Option<Entry>, target: u16) -> Locally
-        requires { self.at < 65535 }
-        ensures { locally_of result ≡ looked self to target (option_map waiter_of entry) }
+    // Goes on behind the instruction, with the number in the local.
+    fn advance_with(&mut self, to: Local, number: u8) -> Locally
+        requires { self.old.at < 65535 }
+        ensures { locally_of result self.new
+            ≡ Advances (advanced (with_local self.old to number)) }
+    {
+        self.locals[to.index()] = number;
+        self.at += 1;
+        Locally::Advances
+    }
+
+    // Goes on at the target.
+    fn jump(&mut self, target: u16) -> Locally
+        ensures { locally_of result self.new ≡ Advances (at_target self.old target) }
+    {
+        self.at = target;
+        Locally::Advances
+    }
+
+    // Goes on behind the instruction.
+    fn advance(&mut self) -> Locally
+        requires { self.old.at < 65535 }
+        ensures { locally_of result self.new ≡ Advances (advanced self.old) }
+    {
+        self.at += 1;
+        Locally::Advances
+    }
+
+    // Goes on with the waiter's token in the local, or at the target.
+    fn look(&mut self, to: Local, entry: Option<Entry>, target: u16) -> Locally
+        requires { self.old.at < 65535 }
+        ensures { locally_of result self.new
+            ≡ looked self.old to target (option_map waiter_of entry) }
     {
         match entry {
-            Some(entry) => Locally::Advances(self.advanced_with(to, entry.token)),
-            None => Locally::Advances(self.at_target(target)),
+            Some(entry) => self.advance_with(to, entry.token),
+            None => self.jump(target),
         }
     }
 
-    /// One instruction on, in the critical section.
-    fn entered(self, access: Access) -> Progress
-        requires { self.at < 65535 }
-        ensures { result ≡ advanced (record self { inside = Some access }) }
+    // Goes on in the critical section.
+    fn enter(&mut self, access: Access) -> Locally
+        requires { self.old.at < 65535 }
+        ensures { locally_of result self.new
+            ≡ Advances (advanced (record self.old { inside = Some access })) }
     {
-        Progress {
-            inside: Some(access),
-            ..self.advanced()
-        }
+        self.inside = Some(access);
+        self.advance()
     }
 }
 
@@ -83,11 +111,11 @@ impl State {
         true
     }
 
-    // What the instruction does, if it is a local one.
-    pub(crate) fn do_locally(&self, progress: Progress, instruction: Instruction) -> Locally
-        requires { progress.at < 65535 }
-        ensures { locally_of result
-            ≡ local_step (configuration_of self.now) progress (Some instruction) }
+    // Does the instruction, if it is a local one, with the thread that has come so far.
+    pub(crate) fn do_locally(&self, progress: &mut Progress, instruction: Instruction) -> Locally
+        requires { progress.old.at < 65535 }
+        ensures { locally_of result progress.new
+            ≡ local_step (configuration_of self.now) progress.old (Some instruction) }
     {
         match instruction {
             Instruction::Compute {
@@ -97,32 +125,32 @@ impl State {
                 second,
             } => {
                 let made = operation.make(progress.value(first), progress.value(second));
-                progress.computed(to, made)
+                progress.compute(to, made)
             }
-            Instruction::Jump { target } => Locally::Advances(progress.at_target(target)),
+            Instruction::Jump { target } => progress.jump(target),
             Instruction::JumpUnless { operand, target } => {
                 if progress.value(operand) == 0 {
-                    Locally::Advances(progress.at_target(target))
+                    progress.jump(target)
                 } else {
-                    Locally::Advances(progress.advanced())
+                    progress.advance()
                 }
             }
             Instruction::Assert { operand } => {
                 if progress.value(operand) == 0 {
                     Locally::Errs(Fault::Assertion)
                 } else {
-                    Locally::Advances(progress.advanced())
+                    progress.advance()
                 }
             }
             Instruction::Enter { access } => {
                 if self.lets_in(access) {
-                    Locally::Advances(progress.entered(access))
+                    progress.enter(access)
                 } else {
                     Locally::Errs(Fault::Exclusion)
                 }
             }
             Instruction::Count { to, key } => {
-                Locally::Advances(progress.advanced_with(to, self.queues[key.number].len()))
+                progress.advance_with(to, self.queues[key.index()].len())
             }
             Instruction::Look {
                 to,
@@ -130,8 +158,8 @@ impl State {
                 index,
                 target,
             } => {
-                let entry = self.queues[key.number].get(progress.value(index) as usize);
-                progress.looked(to, entry, target)
+                let entry = self.queues[key.index()].get(progress.value(index) as usize);
+                progress.look(to, entry, target)
             }
             _ => Locally::Rests,
         }

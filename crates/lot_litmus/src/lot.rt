@@ -17,7 +17,7 @@ impl State {
     fn queue(&self, key: Key) -> Queue
         ensures { slice_get self.now.queues key.number ≡ Some result }
     {
-        self.queues[key.number]
+        self.queues[key.index()]
     }
 
     // Puts another queue in the place of the key's.
@@ -25,7 +25,7 @@ impl State {
         ensures { self.new
             ≡ record self.old { queues = slice_set self.old.queues key.number queue } }
     {
-        self.queues[key.number] = queue;
+        self.queues[key.index()] = queue;
     }
 
     // Lets the thread do something else in the lot.
@@ -162,7 +162,7 @@ impl State {
         ensures { option_map (λ key. key.number) result
             ≡ standing_key (machine_of self.now.queues self.now.standings) thread.number }
     {
-        for number in 0..KEYS {
+        for number in 0..KEYS as u8 {
             let key = Key { number };
             if self.queue(key).has(thread) {
                 return Some(key);

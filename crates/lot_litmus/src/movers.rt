@@ -82,7 +82,7 @@ impl Test {
     // there; and who was unparked goes on whenever it likes.
     fn mover(&self, state: &State, thread: Thread) -> Mover {
         let progress = &state.threads[thread.index()];
-        let has_locked = |key: Key| progress.locked[self.bucket(key).number];
+        let has_locked = |key: Key| progress.locked[self.bucket(key).index()];
         match self.codes[thread.index()].at(progress.at) {
             Some(Instruction::Sleep { .. }) => match state.standing(thread) {
                 Standing::Taken(_) => Mover::Either,

@@ -12,7 +12,7 @@ pub(crate) fn one_if(holds: bool) -> u8
 }
 
 impl Operation {
-    /// What it makes of two numbers, if that is a byte.
+    /// Returns what the operation makes of two numbers, or `None` if that is not a byte.
     pub fn make(self, first: u8, second: u8) -> Option<u8>
         ensures { result ≡ made_of self first second }
     {
@@ -30,7 +30,7 @@ impl Operation {
         }
     }
 
-    /// Whether it makes anything but 0.
+    /// Returns whether the operation makes a number other than 0 of the two.
     pub fn holds(self, first: u8, second: u8) -> bool
         ensures { result ≡ is_set (made_of self first second) }
     {

@@ -1,5 +1,5 @@
-//! What can come of a test: the words at each of its ends, its faults, and whether somebody can be
-//! left behind.
+//! This module finds all outcomes of a test: the words when all threads have ended, faults, and
+//! whether some thread can wait for ever.
 
 use crate::code::{THREADS, Thread, WORDS};
 use crate::reached::Reached;
@@ -9,25 +9,27 @@ use crate::step::Next;
 use crate::test::{Fault, Test};
 use std::alloc::{AllocError, Global};
 
-/// What a run of a test comes to.
+/// An `Outcome` is how a run of a test can end.
 #[derive(Clone, Copy, PartialEq, Eq)]
 pub enum Outcome {
-    /// All threads have ended, and the words are these.
+    /// All threads have ended, and the words have these numbers.
     Ends([u8; WORDS]),
 
     /// A step shows this fault.
     Fails(Fault),
 
-    /// Somebody never comes to an end.
+    /// Some thread can never end.
     Stuck,
 }
 
-/// Everything that can come of the test, each once, or nothing if it has more than so many states.
-/// Nothing is proved of that; `explore` is the search whose answers are.
+/// Returns all outcomes that the test can have, each once, or `None` if there are more than `most`
+/// states.
+///
+/// Nothing is proved of them. `explore` is the search whose results are proved.
 ///
 /// # Errors
 ///
-/// `AllocError` if memory cannot be had.
+/// Returns `AllocError` if there is not enough memory.
 pub fn outcomes(
     alloc: Global,
     test: &Test,
@@ -75,8 +77,10 @@ impl Survey {
         }
     }
 
-    fn push(&mut self, state: Reached) -> Result<usize, AllocError> {
-        let index = self.states.len();
+    fn push(&mut self, state: Reached) -> Result<u32, AllocError> {
+        let Ok(index) = u32::try_from(self.states.len()) else {
+            return Err(AllocError);
+        };
         let hash = state.state().hash();
         self.states.push(state)?;
         self.marks.push(false)?;
@@ -121,12 +125,15 @@ impl Survey {
         let hash = next.state().hash();
         let to = match self
             .seen
-            .find(hash, |index| is_at(states, index, next.state()))
+            .find(hash, |index| is_at(states, index as usize, next.state()))
         {
             Some(index) => index,
             None => self.push(next)?,
         };
-        self.edges.push(Edge { from, to })?;
+        self.edges.push(Edge {
+            from,
+            to: to as usize,
+        })?;
         Ok(())
     }
 

@@ -1,7 +1,7 @@
-//! From the text of a protocol to a test.
+//! This module makes a test from the text of a protocol.
 //!
-//! The text is read once, from its beginning to its end, and instructions are written as it is
-//! read. A macro is read where it is called.
+//! It reads the text once, from its beginning to its end, and writes instructions as it reads. It
+//! reads a macro each time that the macro is called.
 
 mod block;
 mod cursor;
@@ -31,29 +31,35 @@ pub use parsed::{
 };
 use parser::Parser;
 use std::alloc::Global;
-use token::tokens_of;
+use token::{Token, tokens_of};
 use top::Reader;
 
-/// The test that a text says, with these numbers in the place of those that its `let` lines give
-/// to their names.
+/// Makes a test from a text. Each of the given numbers replaces the number of the `let` line with
+/// its name.
 ///
 /// # Errors
 ///
-/// The first thing that is wrong with the text, a number whose name it does not have, or that there
-/// is no memory.
+/// Returns the first thing that is wrong with the text, or a given name that no `let` line has, or
+/// that there is not enough memory.
 pub fn parse(alloc: Global, text: &str, numbers: &[(&str, u8)]) -> Result<Parsed, ParseError> {
-    let parser = Parser::new(alloc, tokens_of(alloc, text)?);
-    let mut reader = Reader {
-        parsed: nothing(alloc, &parser),
-        parser,
-        numbers,
-        ends: Draft::new(alloc),
-    };
+    let tokens = tokens_of(alloc, text)?;
+    let mut reader = reader(alloc, tokens, numbers);
     if let Err(wrong) = reader.read() {
         return Err(reader.parser.cursor.error(alloc, wrong));
     }
     reader.check_numbers()?;
     Ok(reader.parsed())
+}
+
+// A text of which nothing was read yet.
+fn reader<'t>(alloc: Global, tokens: Vec<Token<'t>>, numbers: &'t [(&'t str, u8)]) -> Reader<'t> {
+    let parser = Parser::new(alloc, tokens);
+    Reader {
+        parsed: nothing(alloc, &parser),
+        parser,
+        numbers,
+        ends: Draft::new(alloc),
+    }
 }
 
 // What a text says that says nothing.

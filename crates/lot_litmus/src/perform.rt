@@ -34,7 +34,7 @@ impl Performed {
 }
 
 impl Test {
-    /// How many threads have not ended.
+    /// Returns how many threads have not ended.
     pub fn unended(&self, state: &State) -> usize
         ensures { result ≡ unended self.now.codes state.now.threads }
     {
@@ -60,7 +60,7 @@ impl State {
                 word,
                 operation,
                 operand,
-            } => operation.holds(self.words[word.number], progress.value(operand)),
+            } => operation.holds(self.words[word.index()], progress.value(operand)),
         }
     }
 
@@ -68,7 +68,7 @@ impl State {
         ensures { self.new
             ≡ record self.old { words = slice_set self.old.words word.number number } }
     {
-        self.words[word.number] = number;
+        self.words[word.index()] = number;
     }
 }
 
@@ -83,7 +83,7 @@ impl State {
     {
         match made {
             Some(number) => {
-                let old = self.words[word.number];
+                let old = self.words[word.index()];
                 self.set_word(word, number);
                 Performed::Does(progress.advanced_with(to, old))
             }
@@ -113,7 +113,7 @@ impl State {
             Instruction::Pass => Performed::Does(progress.advanced()),
             Instruction::Leave => Performed::Does(progress.outside().advanced()),
             Instruction::Read { to, word } => {
-                Performed::Does(progress.advanced_with(to, self.words[word.number]))
+                Performed::Does(progress.advanced_with(to, self.words[word.index()]))
             }
             Instruction::Write { word, operand } => {
                 self.set_word(word, progress.value(operand));
@@ -125,7 +125,7 @@ impl State {
                 operation,
                 operand,
             } => {
-                let made = operation.make(self.words[word.number], progress.value(operand));
+                let made = operation.make(self.words[word.index()], progress.value(operand));
                 self.update(progress, to, word, made)
             }
             Instruction::CompareExchange {
@@ -134,7 +134,7 @@ impl State {
                 expected,
                 new,
             } => {
-                let old = self.words[word.number];
+                let old = self.words[word.index()];
                 let is_met = old == progress.value(expected);
                 let made = if is_met { progress.value(new) } else { old };
                 self.update(progress, to, word, Some(made))
@@ -144,7 +144,7 @@ impl State {
                 operation,
                 operand,
             } => {
-                let holds = operation.holds(self.words[word.number], progress.value(operand));
+                let holds = operation.holds(self.words[word.index()], progress.value(operand));
                 Performed::Does(progress.advanced()).only_if(holds)
             }
             Instruction::AwaitOthers => {

@@ -7,26 +7,26 @@ use crate::code::{KEYS, Local, Operand};
 use crate::state::Progress;
 
 impl Progress {
-    /// The number that the operand stands for.
+    /// Returns the number that the operand stands for.
     pub fn value(&self, operand: Operand) -> u8
         ensures { result ≡ value_of self.now operand }
     {
         match operand {
             Operand::Constant(number) => number,
-            Operand::Local(local) => self.locals[local.number],
+            Operand::Local(local) => self.locals[local.index()],
         }
     }
 
-    /// With the number in the local.
+    /// Returns this progress with the number in the local.
     pub fn with_local(self, to: Local, number: u8) -> Progress
         ensures { result ≡ with_local self to number }
     {
         let mut next = self;
-        next.locals[to.number] = number;
+        next.locals[to.index()] = number;
         next
     }
 
-    /// With the number in the local, one instruction on.
+    /// Returns this progress with the number in the local, at the next instruction.
     pub fn advanced_with(self, to: Local, number: u8) -> Progress
         requires { self.at < 65535 }
         ensures { result ≡ advanced (with_local self to number) }
@@ -34,7 +34,7 @@ impl Progress {
         self.with_local(to, number).advanced()
     }
 
-    /// One instruction on.
+    /// Returns this progress at the next instruction.
     pub fn advanced(self) -> Progress
         requires { self.at < 65535 }
         ensures { result ≡ advanced self }
@@ -45,14 +45,14 @@ impl Progress {
         }
     }
 
-    /// At the target.
+    /// Returns this progress at the target.
     pub fn at_target(self, target: u16) -> Progress
         ensures { result ≡ at_target self target }
     {
         Progress { at: target, ..self }
     }
 
-    /// Outside of the critical section.
+    /// Returns this progress outside of the critical section.
     pub fn outside(self) -> Progress
         ensures { result ≡ record self { inside = None } }
     {
@@ -62,7 +62,7 @@ impl Progress {
         }
     }
 
-    /// With no bucket locked.
+    /// Returns this progress with no bucket locked.
     pub fn unlocked(self) -> Progress
         ensures { result ≡ unlocked self }
     {

@@ -1,13 +1,13 @@
-//! The queue of a key, which is copied as it is.
+//! This module has the queue of a key. It is `Copy`, because a state has one for each key.
 
 ghost use Rattle.std.specs.Prelude.{◌≡◌, ◌+◌, ◌-◌, ◌<◌, ◌≤◌, ◌++◌, ◌∷◌, [], drop, length, slice_get, Some};
 
 use crate::code::{THREADS, Thread, Timing};
 
-/// A thread in a queue.
+/// An `Entry` is a thread in a queue.
 #[derive(Clone, Copy)]
 pub struct Entry {
-    /// Which thread it is.
+    /// The thread.
     pub thread: Thread,
 
     /// Its park token.
@@ -18,7 +18,7 @@ pub struct Entry {
 }
 
 impl Entry {
-    /// What stands behind the end of a queue.
+    /// The entry in the places behind the end of a queue.
     pub const NOBODY: Entry = Entry {
         thread: Thread { number: 0 },
         token: 0,
@@ -26,7 +26,7 @@ impl Entry {
     };
 }
 
-/// The threads that wait on a key, first in first.
+/// A `Queue` has the threads that wait on a key, in order of arrival.
 #[derive(Clone, Copy)]
 pub struct Queue {
     entries: [Entry; THREADS],
@@ -34,21 +34,22 @@ pub struct Queue {
     ghost fits: { length ≤ 6 },
 }
 
-/// What becomes of those in a queue.
+/// `Parts` are the three queues into which an unpark or a requeue divides a queue.
 #[derive(Clone, Copy)]
 pub struct Parts {
-    /// They leave it.
+    /// The threads that are unparked.
     pub taken: Queue,
 
-    /// They go to another.
+    /// The threads that are moved to another queue.
     pub moved: Queue,
 
-    /// They stay.
+    /// The threads that stay.
     pub left: Queue,
 }
 
-/// Who is taken and who is moved: the first of a queue has the lowest bit, and so on. One that is
-/// taken is not moved.
+/// A `Chosen` says who is taken and who is moved, by a bit for each thread.
+///
+/// The first thread of the queue has the lowest bit. A thread that is taken is not moved.
 #[derive(Clone, Copy)]
 pub struct Chosen {
     pub taken: u8,
@@ -83,7 +84,7 @@ impl Parts {
 impl Queue {
     ghost use Rattle.lot_litmus.specs.Queues.{entries_of, has_thread, without_thread, parted, Parted};
 
-    /// A queue in which nobody waits.
+    /// Creates a queue in which nobody waits.
     pub fn new() -> Queue
         ensures { entries_of result ≡ [] }
     {
@@ -93,14 +94,14 @@ impl Queue {
         }
     }
 
-    /// How many wait.
+    /// Returns how many threads wait.
     pub fn len(&self) -> u8
         ensures { result ≡ length (entries_of self.now) }
     {
         self.length
     }
 
-    /// The one who waits at this index.
+    /// Returns the thread that waits at this index, or `None` if there is none.
     pub fn get(&self, index: usize) -> Option<Entry>
         ensures { result ≡ slice_get (entries_of self.now) index }
     {
@@ -111,7 +112,7 @@ impl Queue {
         }
     }
 
-    /// The one who waits at this index.
+    /// Returns the thread that waits at this index.
     pub fn entry(&self, index: u8) -> Entry
         requires { index < length (entries_of self.now) }
         ensures { slice_get (entries_of self.now) index ≡ Some result }
@@ -119,7 +120,7 @@ impl Queue {
         self.entries[index as usize]
     }
 
-    /// Puts one behind the others.
+    /// Appends a thread.
     pub fn push(&mut self, entry: Entry)
         requires { length (entries_of self.old) < 6 }
         ensures { entries_of self.new ≡ entries_of self.old ++ entry ∷ [] }
@@ -128,7 +129,7 @@ impl Queue {
         self.length += 1;
     }
 
-    /// Puts those of another queue from this index on behind the others.
+    /// Appends the threads of another queue, from this index on.
     pub fn append(&mut self, other: &Queue, first: u8)
         requires { length (entries_of self.old) + (length (entries_of other.now) - first) ≤ 6 }
         ensures { entries_of self.new ≡ entries_of self.old ++ drop first (entries_of other.now) }
@@ -138,7 +139,7 @@ impl Queue {
         }
     }
 
-    /// Whether the thread waits here.
+    /// Returns whether the thread waits here.
     pub fn has(&self, thread: Thread) -> bool
         ensures { result ≡ has_thread thread.number (entries_of self.now) }
     {
@@ -150,7 +151,7 @@ impl Queue {
         false
     }
 
-    /// The index at which the thread waits.
+    /// Returns the index at which the thread waits, or `None` if it does not wait here.
     pub fn index_of(&self, thread: Thread) -> Option<u8> {
         for index in 0..self.length {
             if self.entry(index).thread == thread {
@@ -160,7 +161,8 @@ impl Queue {
         None
     }
 
-    /// The queue without the thread, or all of it if the thread does not wait here.
+    /// Returns the queue without the thread. If the thread does not wait here, this is the whole
+    /// queue.
     pub fn without(&self, thread: Thread) -> Queue
         ensures { entries_of result ≡ without_thread thread.number (entries_of self.now) }
     {
@@ -176,7 +178,7 @@ impl Queue {
         left
     }
 
-    /// The queue with each of two threads where the other is.
+    /// Returns the queue in which two threads have exchanged their places.
     pub fn exchanged(&self, thread: Thread, other: Thread) -> Queue {
         let mut exchanged = Queue::new();
         for index in 0..self.length {
@@ -189,7 +191,7 @@ impl Queue {
         exchanged
     }
 
-    /// Parts those who wait, each part in order.
+    /// Divides the queue into three, each in order.
     pub fn part(&self, chosen: Chosen) -> Parts
         ensures { Parted result (parted chosen.taken chosen.moved (entries_of self.now)) }
     {

@@ -1,4 +1,4 @@
-//! States to which a test can come.
+//! This module has the states that a test can reach.
 
 ghost use Rattle.std.specs.Prelude.{◌≡◌, length};
 
@@ -8,7 +8,9 @@ use crate::state::{Progress, Standing, State};
 use crate::test::Test;
 use std::marker::Model;
 
-/// A state in which the lot's machine is consistent, as it is in each to which a test can come.
+/// A `Reached` is a state in which the lot's machine is consistent.
+///
+/// Every state that a test can reach is such a state.
 #[derive(Drop)]
 pub struct Reached {
     state: State,
@@ -24,7 +26,8 @@ impl Model for Reached {
 
     ghost view = { λ reached. reached.state };
 
-    ghost invariant = { λ reached. IsConsistent (machine_of reached.state.queues reached.state.standings)
+    ghost invariant = { λ reached.
+        IsConsistent (machine_of reached.state.queues reached.state.standings)
         × (length reached.state.threads ≡ 6) };
 }
 
@@ -34,7 +37,7 @@ impl Reached {
     ghost use Rattle.lot_litmus.specs.Schedule.{first_of};
     ghost use Rattle.lot_litmus.specs.View.{configuration_of, machine_of};
 
-    /// The state of a test at its beginning.
+    /// Returns the state in which the test begins.
     pub fn first(test: &Test) -> Reached
         ensures { configuration_of result ≡ first_of test.now }
     {
@@ -43,7 +46,7 @@ impl Reached {
         }
     }
 
-    /// A state in which the machine is consistent.
+    /// Makes a `Reached` of a state in which the machine is consistent.
     pub fn new(state: State) -> Reached
         requires { IsConsistent (machine_of state.queues state.standings) }
         ensures { result ≡ state }
@@ -51,7 +54,7 @@ impl Reached {
         Reached { state }
     }
 
-    /// The state.
+    /// Returns the state.
     pub fn state(&self) -> &State
         ensures value { result.now ≡ self.now }
         ensures threads { length result.now.threads ≡ 6 }

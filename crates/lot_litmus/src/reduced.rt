@@ -1,8 +1,8 @@
-//! A search of fewer states.
+//! This module has a search that looks at fewer states.
 //!
-//! Steps that others need not see by themselves are done at once (`movers`), and of states that
-//! differ by the numbers of threads that do the same one is enough (`alike`). No proof says so: the
-//! search was compared with the other on the files of `protocols`.
+//! It merges steps between which other threads need not act (`movers`). If two states differ only
+//! in the numbers of threads with the same code, it looks at one of them (`alike`). It is not
+//! proved that this suffices; the search was compared with `explore` on the files of `protocols`.
 
 use crate::alike::Alike;
 use crate::code::{THREADS, Thread};
@@ -16,16 +16,17 @@ use crate::step::Next;
 use crate::test::Test;
 use std::alloc::{AllocError, Global};
 
-/// Looks at as many states of the test as it takes to tell what `explore` tells, but at no more
-/// than so many.
+/// Searches a test as `explore` does, but looks at fewer states, and gives up if there are more
+/// than `most`.
 ///
-/// No proof says that it tells the same: both were compared on the files of `protocols`. It is for
-/// tests whose texts `parse` read, in which queues are looked at in sections alone. The steps of
-/// its schedules are those of `explore`, and a fault that it answers was run again.
+/// It is not proved that the result is that of `explore`; both were compared on the files of
+/// `protocols`. The test must come from `parse`, where queues are looked at only in critical
+/// sections. The schedules have the steps of `explore`, and a fault is returned only after it was
+/// seen again.
 ///
 /// # Errors
 ///
-/// `AllocError` if memory cannot be had.
+/// Returns `AllocError` if there is not enough memory.
 pub fn explore_reduced(alloc: Global, test: &Test, most: usize) -> Result<Found, AllocError> {
     let mut reduced = Reduced::new(alloc, test)?;
     for index in 0..most {
@@ -63,10 +64,10 @@ impl Reduced {
 
     // The index of a state, or of one that differs by the places of threads alone. It is added if
     // there is none.
-    fn find(&mut self, state: Reached, origin: Origin) -> Result<usize, AllocError> {
+    fn find(&mut self, state: Reached, origin: Origin) -> Result<u32, AllocError> {
         let sorted = self.alike.sorted(state.state());
         let hash = sorted.hash();
-        let is_it = |index: usize| match self.sorted.get(index) {
+        let is_it = |index: u32| match self.sorted.get(index as usize) {
             Some(other) => other.is_same(&sorted),
             None => false,
         };
@@ -82,6 +83,9 @@ impl Reduced {
     // Looks at the state at the index: adds those to which the threads come from there, or tells
     // which of them shows a fault.
     fn look(&mut self, test: &Test, index: usize) -> Result<Option<Thread>, AllocError> {
+        let Ok(from_index) = u32::try_from(index) else {
+            return Err(AllocError);
+        };
         let mut leads = Leads::NOWHERE;
         for number in 0..THREADS as u8 {
             let thread = Thread { number };
@@ -92,7 +96,7 @@ impl Reduced {
                 Next::Blocked => (),
                 Next::Goes(next) => {
                     let origin = Origin {
-                        from: index,
+                        from: from_index,
                         thread,
                     };
                     leads.to[thread.index()] = Some(self.find(next, origin)?);

@@ -1,4 +1,4 @@
-//! Where a schedule leads.
+//! This module runs a test along a schedule.
 
 ghost use Rattle.std.specs.Prelude.{◌≡◌};
 ghost use Rattle.lot_litmus.specs.Outcomes.{end_of, numbers_of};
@@ -10,12 +10,13 @@ use crate::step::Next;
 use crate::test::{Fault, Test};
 
 impl Test {
-    /// Where the threads come by steps in this order, from the beginning. One that cannot go on is
-    /// passed by.
+    /// Returns the state to which the steps of this schedule lead from the beginning.
+    ///
+    /// A thread that cannot go on at its turn is skipped.
     ///
     /// # Errors
     ///
-    /// The fault that a step shows.
+    /// Returns the fault that a step shows.
     pub fn replay(&self, schedule: &[Thread]) -> Result<Reached, Fault>
         ensures { end_of result ≡ run self.now (first_of self.now) (numbers_of schedule.now) }
     {

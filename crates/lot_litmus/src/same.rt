@@ -82,7 +82,8 @@ fn are_same_standings(standings: &[Standing; THREADS], others: &[Standing; THREA
 
 fn are_same_queues(queues: &[Queue; KEYS], others: &[Queue; KEYS]) -> bool
     ensures { IsTrue result
-        → map (λ q. map waiter_of (entries_of q)) queues.now ≡ map (λ q. map waiter_of (entries_of q)) others.now }
+        → map (λ q. map waiter_of (entries_of q)) queues.now
+        ≡ map (λ q. map waiter_of (entries_of q)) others.now }
 {
     for index in 0..KEYS {
         if !queues[index].is_same(&others[index]) {
@@ -93,7 +94,7 @@ fn are_same_queues(queues: &[Queue; KEYS], others: &[Queue; KEYS]) -> bool
 }
 
 impl State {
-    /// Whether both stand for the same.
+    /// Returns whether the two states are the same, whatever is behind the ends of their queues.
     pub fn is_same(&self, other: &State) -> bool
         ensures { IsTrue result → configuration_of self.now ≡ configuration_of other.now }
     {

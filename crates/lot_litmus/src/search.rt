@@ -1,40 +1,42 @@
-//! What a search has found so far.
+//! This module has what a search has found so far.
 
 ghost use Rattle.std.specs.Prelude.{◌≡◌, ◌<◌, [], ◌++◌, ◌∷◌, IfOk, IsTrue, None, length};
+ghost use Rattle.lot_machine.specs.Machine.{IsConsistent};
 ghost use Rattle.lot_litmus.specs.Search.{IsAt, Grows, HasLooked, IsSearch};
+ghost use Rattle.lot_litmus.specs.View.{machine_of};
 
 use crate::code::{THREADS, Thread};
 use crate::reached::Reached;
 use crate::seen::Seen;
 use crate::state::State;
-use crate::step::Next;
+use crate::step::After;
 use crate::test::Test;
 use std::alloc::{AllocError, Global};
 
-/// By whose step a state was found first, and from which other.
+/// An `Origin` says by whose step a state was found first, and from which other state.
 #[derive(Clone, Copy)]
 pub(crate) struct Origin {
-    pub from: usize,
+    pub from: u32,
     pub thread: Thread,
 }
 
 impl Origin {
-    /// That of the first state, which was found without a step.
+    /// The origin of the first state, which was found without a step.
     pub const FIRST: Origin = Origin {
         from: 0,
         thread: Thread { number: 0 },
     };
 }
 
-/// Where the steps from a state lead: for each thread the index of a state, or none if it cannot go
-/// on.
+/// `Leads` say where the steps from a state lead: for each thread the index of a state, or none if
+/// the thread cannot go on.
 #[derive(Clone, Copy)]
 pub struct Leads {
-    pub to: [Option<usize>; THREADS],
+    pub to: [Option<u32>; THREADS],
 }
 
 impl Leads {
-    /// Those from a state from which no thread can go on.
+    /// The leads of a state from which no thread can go on.
     pub const NOWHERE: Leads = Leads {
         to: [None; THREADS],
     };
@@ -50,7 +52,8 @@ pub(crate) enum Looked {
     Fails(Thread),
 }
 
-/// States in the order in which they were found. A state's index is its place.
+/// A `Search` has the states that were found, in the order in which they were found. The index of a
+/// state is its place. There is no memory for more than 2^32 states, which take a terabyte.
 #[derive(Drop)]
 pub struct Search {
     states: Vec<Reached>,
@@ -76,11 +79,11 @@ impl Search {
         }
     }
 
-    /// A search that has found the state at the test's beginning.
+    /// Creates a search that has found the state in which the test begins.
     ///
     /// # Errors
     ///
-    /// `AllocError` if memory cannot be had.
+    /// Returns `AllocError` if there is not enough memory.
     pub fn new(alloc: Global, test: &Test) -> Result<Search, AllocError>
         ensures { IfOk result (λ search. IsSearch test.now search) }
     {
@@ -91,14 +94,14 @@ impl Search {
         Ok(search)
     }
 
-    /// The states that were found.
+    /// Returns the states that were found.
     pub fn states(&self) -> &[Reached]
         ensures { result.now ≡ self.now.states.items }
     {
         self.states.as_slice()
     }
 
-    /// Where the steps lead from those that were looked at.
+    /// Returns where the steps lead from the states that were looked at.
     pub fn leads(&self) -> &[Leads]
         ensures { result.now ≡ self.now.leads.items }
     {
@@ -110,18 +113,20 @@ impl Search {
         &self.seen
     }
 
-    /// Looks at the next state: adds those to which its steps lead, or tells whose step shows a
-    /// fault.
+    /// Looks at the next state: adds the states to which its steps lead, or returns the thread
+    /// whose step shows a fault.
     ///
     /// # Errors
     ///
-    /// `AllocError` if memory cannot be had.
+    /// Returns `AllocError` if there is not enough memory.
     pub fn look(&mut self, test: &Test) -> Result<Option<Thread>, AllocError>
         requires search { IsSearch test.now self.old }
         requires within { length self.old.leads.items < length self.old.states.items }
         ensures { IfOk result (λ failing. failing ≡ None → IsSearch test.now self.new) }
     {
-        let index = self.leads.len();
+        let Ok(index) = u32::try_from(self.leads.len()) else {
+            return Err(AllocError);
+        };
         match self.look_at(test, index)? {
             Looked::Leads(leads) => {
                 self.push_leads(leads)?;
@@ -145,7 +150,7 @@ impl Search {
     }
 
     // Looks at the state at this index.
-    fn look_at(&mut self, test: &Test, index: usize) -> Result<Looked, AllocError>
+    fn look_at(&mut self, test: &Test, index: u32) -> Result<Looked, AllocError>
         requires { index < length self.old.states.items }
         ensures { IfOk result (λ looked. Grows self.old.states.items self.new.states.items
             × (self.new.leads.items ≡ self.old.leads.items)
@@ -154,16 +159,17 @@ impl Search {
         let mut leads = Leads::NOWHERE;
         for number in 0..THREADS as u8 {
             let thread = Thread { number };
-            let to = match test.step(&self.states[index], thread) {
-                Next::Blocked => None,
-                Next::Goes(next) => {
+            let mut next = *self.states[index as usize].state();
+            let to = match test.step_on(&mut next, thread) {
+                After::Blocked => None,
+                After::Goes => {
                     let origin = Origin {
                         from: index,
                         thread,
                     };
-                    Some(self.find(next, origin)?)
+                    Some(self.find(&next, origin)?)
                 }
-                Next::Fails(_) => return Ok(Looked::Fails(thread)),
+                After::Fails(_) => return Ok(Looked::Fails(thread)),
             };
             leads.to[thread.index()] = to;
         }
@@ -171,19 +177,20 @@ impl Search {
     }
 
     // The index of a state, which is added if it is new.
-    fn find(&mut self, state: Reached, origin: Origin) -> Result<usize, AllocError>
+    fn find(&mut self, state: &State, origin: Origin) -> Result<u32, AllocError>
+        requires { IsConsistent (machine_of state.now.queues state.now.standings) }
         ensures { IfOk result (λ index. Grows self.old.states.items self.new.states.items
             × (self.new.leads.items ≡ self.old.leads.items)
-            × IsAt self.new.states.items index state) }
+            × IsAt self.new.states.items index state.now) }
     {
-        let hash = state.state().hash();
+        let hash = state.hash();
         let states = self.states.as_slice();
         match self
             .seen
-            .find(hash, |index| is_at(states, index, state.state()))
+            .find(hash, |index| is_at(states, index as usize, state))
         {
             Some(index) => Ok(index),
-            None => self.push(state, hash, origin),
+            None => self.push(Reached::new(*state), hash, origin),
         }
     }
 
@@ -195,26 +202,28 @@ impl Search {
     pub(crate) fn push(
         &mut self,
         state: Reached,
-        hash: u64,
+        hash: u32,
         origin: Origin,
-    ) -> Result<usize, AllocError>
+    ) -> Result<u32, AllocError>
         ensures { IfOk result (λ index. Grows self.old.states.items self.new.states.items
             × (self.new.leads.items ≡ self.old.leads.items)
             × IsAt self.new.states.items index state
             × (index ≡ length self.old.states.items)) }
     {
-        let index = self.states.len();
+        let Ok(index) = u32::try_from(self.states.len()) else {
+            return Err(AllocError);
+        };
         self.states.push(state)?;
         self.origins.push(origin)?;
         self.seen.note(hash, index)?;
         Ok(index)
     }
 
-    /// Whose steps lead to the state with this index from the first.
+    /// Returns the schedule that leads from the first state to the state with this index.
     ///
     /// # Errors
     ///
-    /// `AllocError` if memory cannot be had.
+    /// Returns `AllocError` if there is not enough memory.
     pub fn schedule(&self, alloc: Global, index: usize) -> Result<Vec<Thread>, AllocError> {
         let mut schedule = Vec::new(alloc);
         let mut at = index;
@@ -226,7 +235,7 @@ impl Search {
                 break;
             };
             schedule.push(thread)?;
-            at = from;
+            at = from as usize;
         }
         schedule.reverse();
         Ok(schedule)
@@ -234,13 +243,13 @@ impl Search {
 }
 
 impl Search {
-    /// How many steps lead to the state with this index from the first.
+    /// Returns how many steps lead from the first state to the state with this index.
     pub fn depth(&self, index: usize) -> usize {
         let mut depth = 0usize;
         let mut at = index;
         for _ in 0..self.origins.len() {
             match self.origins.get(at) {
-                Some(origin) if at != 0 => at = origin.from,
+                Some(origin) if at != 0 => at = origin.from as usize,
                 _ => break,
             }
             depth = depth.saturating_add(1);
@@ -249,7 +258,7 @@ impl Search {
     }
 }
 
-/// Whether the state is at this index of the list.
+/// Returns whether the state is at this index of the list.
 pub fn is_at(states: &[Reached], index: usize, state: &State) -> bool
     ensures { IsTrue result → IsAt states.now index state.now }
 {

@@ -1,12 +1,13 @@
-//! Where states are found again.
+//! This module has the hash table by which a search finds states again.
 
 ghost use Rattle.std.specs.Prelude.{IfSome, true};
 
 use std::alloc::{AllocError, Global};
 use std::mem;
 
-/// A table of indices, each with a hash. An index is at the place that its hash tells, or behind it
-/// where others are there.
+/// A `Seen` is a hash table of indices.
+///
+/// An index is at the place that its hash gives, or in a later place if others are there.
 #[derive(Drop)]
 pub struct Seen {
     // Their number is 0 or a power of two.
@@ -17,12 +18,12 @@ pub struct Seen {
 // An index, with its hash.
 #[derive(Clone, Copy)]
 struct Noted {
-    hash: u64,
-    index: usize,
+    hash: u32,
+    index: u32,
 }
 
 impl Seen {
-    /// A table of none. It asks for no memory.
+    /// Creates an empty table. It allocates nothing.
     pub fn new(alloc: Global) -> Seen {
         Seen {
             places: Vec::new(alloc),
@@ -30,12 +31,12 @@ impl Seen {
         }
     }
 
-    /// Notes an index with its hash.
+    /// Adds an index with its hash.
     ///
     /// # Errors
     ///
-    /// `AllocError` if memory cannot be had.
-    pub fn note(&mut self, hash: u64, index: usize) -> Result<(), AllocError> {
+    /// Returns `AllocError` if there is not enough memory.
+    pub fn note(&mut self, hash: u32, index: u32) -> Result<(), AllocError> {
         if self.noted >= self.places.len() / 2 {
             self.grow()?;
         }
@@ -49,8 +50,10 @@ impl Seen {
         let places = self.places.len().saturating_mul(2).max(LEAST_PLACES);
         let larger = vec![in *self.places.allocator(); None; places]?;
         let old = mem::replace(&mut self.places, larger);
-        for noted in old.into_iter().flatten() {
-            self.put(noted);
+        for place in &old {
+            if let Some(noted) = place {
+                self.put(*noted);
+            }
         }
         Ok(())
     }
@@ -67,8 +70,8 @@ impl Seen {
         }
     }
 
-    /// The index that was noted with this hash, and is the one that is looked for.
-    pub fn find<F: Fn(usize) -> bool>(&self, hash: u64, is_it: F) -> Option<usize>
+    /// Returns an index that was added with this hash and for which the closure returns true.
+    pub fn find<F: Fn(u32) -> bool>(&self, hash: u32, is_it: F) -> Option<u32>
         requires { F.IsAlwaysCallable is_it }
         ensures { IfSome result (λ index. F.post is_it index true) }
     {
@@ -86,7 +89,7 @@ impl Seen {
     }
 
     // Where an index with this hash is, if no other is there.
-    fn first_place(&self, hash: u64) -> usize {
+    fn first_place(&self, hash: u32) -> usize {
         hash as usize & self.places.len().wrapping_sub(1)
     }
 

@@ -1,44 +1,44 @@
-//! A state of a test, as a search keeps it: small, and copied as it is.
+//! This module has the state of a test. It is small and `Copy`, because a search keeps many.
 
 use crate::code::{Access, KEYS, LOCALS, THREADS, Timing, WORDS};
 use crate::queue::Queue;
 
-/// What a thread is doing in the lot.
+/// A `Standing` says what a thread is doing in the lot.
 #[derive(Clone, Copy, PartialEq, Eq)]
 pub enum Standing {
     /// It runs.
     Running,
 
-    /// It stands in a queue.
+    /// It waits in a queue.
     Waiting(Timing),
 
-    /// It stands in a queue, and its deadline has passed.
+    /// It waits in a queue, and its deadline has passed.
     Late,
 
     /// It was unparked with this token.
     Taken(u8),
 }
 
-/// How far a thread has come.
+/// A `Progress` says how far a thread has come.
 #[derive(Clone, Copy)]
 pub struct Progress {
     /// The place in its code.
     pub at: u16,
 
-    /// What it has in its locals.
+    /// The numbers in its locals.
     pub locals: [u8; LOCALS],
 
-    /// Which buckets it has locked.
+    /// The buckets that it has locked.
     pub locked: [bool; KEYS],
 
-    /// How it is in the critical section, if it is.
+    /// Its access to the critical section, or `None` if it is outside.
     pub inside: Option<Access>,
 }
 
-/// The state of a test.
+/// A `State` is a state of a test.
 #[derive(Clone, Copy)]
 pub struct State {
-    /// What the words are.
+    /// The numbers in the words.
     pub words: [u8; WORDS],
 
     /// How far each thread has come.

@@ -15,7 +15,7 @@ const MOST_LOCAL: usize = 256;
 
 /// What a step comes to.
 #[derive(Clone, Copy)]
-enum After {
+pub(crate) enum After {
     /// It cannot be done now.
     Blocked,
 
@@ -26,16 +26,16 @@ enum After {
     Fails(Fault),
 }
 
-/// What a thread can do next.
+/// A `Next` is the result of a thread's next step.
 #[derive(Drop)]
 pub enum Next {
-    /// Nothing, now.
+    /// The thread cannot go on now.
     Blocked,
 
-    /// It goes on to this state.
+    /// The thread goes on, and the test is in this state.
     Goes(Reached),
 
-    /// It shows a fault.
+    /// The step shows this fault.
     Fails(Fault),
 }
 
@@ -62,9 +62,9 @@ impl State {
             let Some(instruction) = code.at(progress.at) else {
                 return After::Goes;
             };
-            match self.do_locally(progress, instruction) {
+            match self.do_locally(&mut progress, instruction) {
                 Locally::Rests => return After::Goes,
-                Locally::Advances(next) => progress = next,
+                Locally::Advances => (),
                 Locally::Errs(fault) => return After::Fails(fault),
             }
         }
@@ -78,7 +78,7 @@ impl Test {
     ghost use Rattle.lot_litmus.specs.Performing.{after_of};
 
     // Lets the thread take a step, and tells what that comes to.
-    fn step_on(&self, state: &mut State, thread: Thread) -> After
+    pub(crate) fn step_on(&self, state: &mut State, thread: Thread) -> After
         requires { IsConsistent (machine_of state.old.queues state.old.standings) }
         ensures { after_of result state.new
             ≡ stepped self.now (configuration_of state.old) thread.number }
@@ -100,7 +100,7 @@ impl Test {
     ghost use Rattle.lot_litmus.specs.Steps.{stepped};
     ghost use Rattle.lot_litmus.specs.Outcomes.{outcome_of};
 
-    /// What a step of the thread comes to.
+    /// Does the next step of the thread.
     pub fn step(&self, from: &Reached, thread: Thread) -> Next
         ensures outcome { outcome_of result
             ≡ stepped self.now (configuration_of from.now) thread.number }

@@ -1,13 +1,13 @@
-//! What is told of a search while it goes on.
+//! This module has watchers, who are told how far a search has come.
 
-/// Somebody who is told how far a search has come.
+/// A `Watcher` is told from time to time how far a search has come.
 pub trait Watcher {
-    /// The search has found so many states. The one that it looks at lies so many steps behind the
-    /// first.
+    /// Is told that the search has found this number of states, and that it takes `depth` steps
+    /// from the first state to the one that the search looks at.
     fn watch(&mut self, states: usize, depth: usize);
 }
 
-/// Nobody, who is told nothing.
+/// A `Nobody` is a watcher that does nothing.
 #[derive(Clone, Copy)]
 pub struct Nobody;
 

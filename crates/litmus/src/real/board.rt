@@ -59,9 +59,9 @@ impl Board {
 
     /// A round of so many threads begins with these words. No thread of another one is left.
     pub fn begin<R: Wait>(&self, rt: &R, words: [u8; WORDS], threads: u64) {
-        for number in 0..WORDS {
-            let word = self.word(Word { number });
-            word.store(words[number], Ordering::SeqCst);
+        for number in 0..WORDS as u8 {
+            let word = Word { number };
+            self.word(word).store(words[word.index()], Ordering::SeqCst);
         }
         self.lists.clear(rt);
         self.alone.store(0, Ordering::SeqCst);
@@ -74,14 +74,15 @@ impl Board {
     }
 
     pub fn word(&self, word: Word) -> &AtomicU8 {
-        self.words.get(word.number).unwrap()
+        self.words.get(word.index()).unwrap()
     }
 
     /// What the words are.
     pub fn words(&self) -> [u8; WORDS] {
         let mut words = [0; WORDS];
-        for number in 0..WORDS {
-            words[number] = self.word(Word { number }).load(Ordering::SeqCst);
+        for number in 0..WORDS as u8 {
+            let word = Word { number };
+            words[word.index()] = self.word(word).load(Ordering::SeqCst);
         }
         words
     }

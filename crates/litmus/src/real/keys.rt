@@ -22,10 +22,10 @@ impl LotKeys {
     pub fn of(test: &Test) -> LotKeys {
         let mut keys = LotKeys { numbers: [0; KEYS] };
         let mut next = 0usize;
-        for number in 0..KEYS {
-            let bucket = test.bucket(Key { number });
-            let key = first_at(next, SIZE / KEYS * bucket.number);
-            keys.numbers[number] = key;
+        for number in 0..KEYS as u8 {
+            let own = Key { number };
+            let key = first_at(next, SIZE / KEYS * test.bucket(own).index());
+            keys.numbers[own.index()] = key;
             next = key.saturating_add(1);
         }
         keys
@@ -33,14 +33,15 @@ impl LotKeys {
 
     /// The lot's key for this one.
     pub fn number(&self, key: Key) -> usize {
-        self.numbers[key.number]
+        self.numbers[key.index()]
     }
 
     /// The key of the test that has this one on the lot.
     pub fn key(&self, number: usize) -> Option<Key> {
-        for index in 0..KEYS {
-            if self.numbers[index] == number {
-                return Some(Key { number: index });
+        for index in 0..KEYS as u8 {
+            let key = Key { number: index };
+            if self.number(key) == number {
+                return Some(key);
             }
         }
         None

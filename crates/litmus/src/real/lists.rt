@@ -22,17 +22,17 @@ impl Lists {
 
     /// Nobody waits any more.
     pub fn clear<R: Wait>(&self, rt: &R) {
-        for number in 0..KEYS {
+        for number in 0..KEYS as u8 {
             self.set(rt, Key { number }, Queue::new());
         }
     }
 
     pub fn get<R: Wait>(&self, rt: &R, key: Key) -> Queue {
-        *self.queues[key.number].lock(rt)
+        *self.queues[key.index()].lock(rt)
     }
 
     fn set<R: Wait>(&self, rt: &R, key: Key, queue: Queue) {
-        *self.queues[key.number].lock(rt) = queue;
+        *self.queues[key.index()].lock(rt) = queue;
     }
 
     /// The thread is last in the list. Says whether there was room, as there is for all threads of

@@ -204,7 +204,7 @@ impl<P: ThreadParkerT> Stage<P> {
     }
 
     fn unpark_all<R: Wait>(&self, rt: &R) {
-        for number in 0..KEYS {
+        for number in 0..KEYS as u8 {
             let key = self.keys.number(Key { number });
             unpark_all(rt, &self.lot, key, UnparkToken(0));
         }

@@ -81,13 +81,9 @@ impl Block {
 
 impl<'t> Parser<'t> {
     /// Opens a block, whose brace was read behind the head of its statement.
-    pub(super) fn open(&mut self, block: Block) -> Result<(), Wrong> {
-        self.end_statement()?;
-        self.blocks.push(Open {
-            block,
-            statement: self.draft.statement,
-        })?;
-        Ok(())
+    pub(super) fn open(&mut self, block: Block) {
+        self.end_statement();
+        self.push_block(block);
     }
 
     /// Closes the last block, whose brace was read.
@@ -97,20 +93,18 @@ impl<'t> Parser<'t> {
         };
         self.draft.statement = open.statement;
         match open.block {
-            Block::Thread { end } | Block::Else { end } => {
-                self.draft.place(end);
-                Ok(())
-            }
+            Block::Thread { end } | Block::Else { end } => self.draft.place(end),
             Block::Macro(expansion) => self.close_macro(expansion),
-            Block::If { otherwise, end } => self.close_if(otherwise, end),
+            Block::If { otherwise, end } => return self.close_if(otherwise, end),
             Block::Loop(rounds) => self.close_loop(rounds),
-            Block::Validate(park, valid) => self.close_validate(park, valid),
-            Block::BeforeSleep(park) => self.sleep(park),
+            Block::Validate(park, valid) => return self.close_validate(park, valid),
+            Block::BeforeSleep(park) => return self.sleep(park),
             Block::TimedOut(park) => self.give_up(park),
-            Block::Filter(filter) => self.close_filter(filter),
-            Block::Moves(requeue) => self.token_or_callback(Waking::Requeue(requeue)),
+            Block::Filter(filter) => return self.close_filter(filter),
+            Block::Moves(requeue) => return self.token_or_callback(Waking::Requeue(requeue)),
             Block::Callback(waking, token) => self.close_callback(waking, token),
         }
+        Ok(())
     }
 
     fn close_if(&mut self, otherwise: Label, end: Label) -> Result<(), Wrong> {
@@ -119,42 +113,43 @@ impl<'t> Parser<'t> {
             self.draft.place(end);
             return Ok(());
         }
-        self.draft.jump(end)?;
+        self.draft.jump(end);
         self.draft.place(otherwise);
-        self.begin_statement()?;
+        self.begin_statement();
         self.cursor.next();
         if self.cursor.take("if") {
             return self.open_if(end);
         }
         self.cursor.open_brace()?;
-        self.open(Block::Else { end })
+        self.open(Block::Else { end });
+        Ok(())
     }
 
     /// What stands behind the word `if`.
     pub(super) fn open_if(&mut self, end: Label) -> Result<(), Wrong> {
-        let otherwise = self.draft.label()?;
+        let otherwise = self.draft.label();
         let condition = self.expression()?;
-        self.draft.jump_unless(condition, otherwise)?;
+        self.draft.jump_unless(condition, otherwise);
         self.cursor.open_brace()?;
-        self.open(Block::If { otherwise, end })
-    }
-
-    fn close_loop(&mut self, rounds: Loop) -> Result<(), Wrong> {
-        self.draft.place(rounds.next);
-        if !self.draft.has_step_from(rounds.place) {
-            self.draft.emit(Instruction::Pass)?;
-        }
-        self.draft.jump(rounds.again)?;
-        self.draft.place(rounds.end);
+        self.open(Block::If { otherwise, end });
         Ok(())
     }
 
+    fn close_loop(&mut self, rounds: Loop) {
+        self.draft.place(rounds.next);
+        if !self.draft.has_step_from(rounds.place) {
+            self.draft.emit(Instruction::Pass);
+        }
+        self.draft.jump(rounds.again);
+        self.draft.place(rounds.end);
+    }
+
     // A local that a macro declared is 0 when the macro is called again.
-    fn close_macro(&mut self, expansion: Expansion) -> Result<(), Wrong> {
+    fn close_macro(&mut self, expansion: Expansion) {
         self.draft.place(expansion.end);
         for index in self.names.scope.own..self.names.bindings.len() {
             if let Some(Meaning::Local(local)) = self.names.meaning_at(index) {
-                self.draft.set(local, Operand::Constant(0))?;
+                self.draft.set(local, Operand::Constant(0));
                 self.draft.locals.release(local);
             }
         }
@@ -162,6 +157,5 @@ impl<'t> Parser<'t> {
         self.names.bindings.truncate(first);
         self.names.scope = expansion.outer;
         self.cursor.at = expansion.back;
-        Ok(())
     }
 }

@@ -1,7 +1,7 @@
 //! The code of a thread while it is written.
 
 use super::effect::Effect;
-use super::error::{Fault, Wrong, too_many};
+use super::error::{Fault, Wrong};
 use super::flow::{Flow, Place};
 use super::locals::{LocalSet, Locals};
 use crate::code::{Code, Instruction, Key, LOCALS, Local, Operand, Operation};
@@ -15,9 +15,7 @@ const INSTRUCTIONS: usize = 65535;
 
 const ZERO: Operand = Operand::Constant(0);
 
-pub(super) fn too_long() -> Wrong {
-    too_many(INSTRUCTIONS, "instructions in a thread")
-}
+pub(super) const TOO_LONG: Fault = Fault::TooMany(INSTRUCTIONS, "instructions in a thread");
 
 /// A place in code, which may be found only later.
 #[derive(Clone, Copy)]
@@ -33,7 +31,8 @@ struct Line {
     statement: usize,
 }
 
-/// Code that is being written.
+/// Code that is being written. The first thing that goes wrong with it is kept until somebody asks,
+/// and what is written behind that is worth nothing.
 #[derive(Drop)]
 pub(super) struct Draft<'t> {
     lines: Vec<Line>,
@@ -44,6 +43,9 @@ pub(super) struct Draft<'t> {
 
     /// The statement from which instructions come now.
     pub(super) statement: usize,
+
+    // What went wrong first, if something did.
+    fault: Option<Fault>,
 }
 
 impl<'t> Draft<'t> {
@@ -53,6 +55,22 @@ impl<'t> Draft<'t> {
             labels: Vec::new(alloc),
             locals: Locals::new(),
             statement: 0,
+            fault: None,
+        }
+    }
+
+    /// Something is wrong with the code.
+    pub(super) fn fail(&mut self, fault: Fault) {
+        if self.fault.is_none() {
+            self.fault = Some(fault);
+        }
+    }
+
+    /// Whether something went wrong: it counts as wrong at the next token.
+    pub(super) fn check(&self) -> Result<(), Wrong> {
+        match self.fault {
+            Some(fault) => Err(fault.here()),
+            None => Ok(()),
         }
     }
 
@@ -60,34 +78,32 @@ impl<'t> Draft<'t> {
         self.lines.len()
     }
 
-    pub(super) fn emit(&mut self, instruction: Instruction) -> Result<(), Wrong> {
-        self.emit_to(None, instruction)
+    pub(super) fn emit(&mut self, instruction: Instruction) {
+        self.emit_to(None, instruction);
     }
 
     /// Emits an instruction that may go on at the label.
-    pub(super) fn emit_to(
-        &mut self,
-        target: Option<Label>,
-        instruction: Instruction,
-    ) -> Result<(), Wrong> {
-        if self.lines.len() >= INSTRUCTIONS {
-            return Err(too_long());
-        }
-        self.lines.push(Line {
+    pub(super) fn emit_to(&mut self, target: Option<Label>, instruction: Instruction) {
+        let line = Line {
             instruction,
             target,
             statement: self.statement,
-        })?;
-        Ok(())
+        };
+        if self.lines.len() >= INSTRUCTIONS {
+            self.fail(TOO_LONG);
+        } else if self.lines.push(line).is_err() {
+            self.fail(Fault::NoMemory);
+        }
     }
 
-    pub(super) fn label(&mut self) -> Result<Label, Wrong> {
+    pub(super) fn label(&mut self) -> Label {
         let number = self.labels.len();
         if number >= INSTRUCTIONS {
-            return Err(too_long());
+            self.fail(TOO_LONG);
+        } else if self.labels.push(usize::MAX).is_err() {
+            self.fail(Fault::NoMemory);
         }
-        self.labels.push(usize::MAX)?;
-        Ok(Label { number })
+        Label { number }
     }
 
     /// The label stands for what comes next.
@@ -123,22 +139,25 @@ impl<'t> Draft<'t> {
 
 impl<'t> Draft<'t> {
     /// Takes a local for this name. A temporary has the name "".
-    pub(super) fn local(&mut self, name: &'t str) -> Result<Local, Wrong> {
+    pub(super) fn local(&mut self, name: &'t str) -> Local {
         match self.locals.take(name) {
-            Some(local) => Ok(local),
-            None => Err(too_many(LOCALS, "locals in a thread")),
+            Some(local) => local,
+            None => {
+                self.fail(Fault::TooMany(LOCALS, "locals in a thread"));
+                Local { number: 0 }
+            }
         }
     }
 
-    pub(super) fn temporary(&mut self) -> Result<Local, Wrong> {
+    pub(super) fn temporary(&mut self) -> Local {
         self.local("")
     }
 
     /// A temporary that begins with this number.
-    pub(super) fn counter(&mut self, number: u8) -> Result<Local, Wrong> {
-        let local = self.temporary()?;
-        self.set(local, Operand::Constant(number))?;
-        Ok(local)
+    pub(super) fn counter(&mut self, number: u8) -> Local {
+        let local = self.temporary();
+        self.set(local, Operand::Constant(number));
+        local
     }
 
     /// A temporary is not needed any more.
@@ -150,33 +169,33 @@ impl<'t> Draft<'t> {
         }
     }
 
-    pub(super) fn jump(&mut self, label: Label) -> Result<(), Wrong> {
-        self.emit_to(Some(label), Instruction::Jump { target: 0 })
+    pub(super) fn jump(&mut self, label: Label) {
+        self.emit_to(Some(label), Instruction::Jump { target: 0 });
     }
 
     /// Goes on at the label if the number is 0.
-    pub(super) fn jump_unless(&mut self, operand: Operand, label: Label) -> Result<(), Wrong> {
+    pub(super) fn jump_unless(&mut self, operand: Operand, label: Label) {
         self.release(operand);
         let target = 0;
         match operand {
             Operand::Constant(0) => self.jump(label),
-            Operand::Constant(_) => Ok(()),
+            Operand::Constant(_) => {}
             Operand::Local(_) => {
-                self.emit_to(Some(label), Instruction::JumpUnless { operand, target })
+                self.emit_to(Some(label), Instruction::JumpUnless { operand, target });
             }
         }
     }
 
     /// The local becomes the number.
-    pub(super) fn set(&mut self, to: Local, operand: Operand) -> Result<(), Wrong> {
+    pub(super) fn set(&mut self, to: Local, operand: Operand) {
         self.release(operand);
-        if let Operand::Local(from) = operand
-            && self.locals.is_temporary(from)
-            && self.set_instead(from, to)
-        {
-            return Ok(());
+        let is_set = match operand {
+            Operand::Local(from) => self.locals.is_temporary(from) && self.set_instead(from, to),
+            Operand::Constant(_) => false,
+        };
+        if !is_set {
+            self.emit(set(to, operand));
         }
-        self.emit(set(to, operand))
     }
 
     // Lets the last instruction set another local, if it sets this one. Says whether it does.
@@ -197,54 +216,55 @@ impl<'t> Draft<'t> {
         operation: Operation,
         first: Operand,
         second: Operand,
-    ) -> Result<Operand, Wrong> {
-        if let (Operand::Constant(a), Operand::Constant(b)) = (first, second) {
-            return match operation.make(a, b) {
-                Some(number) => Ok(Operand::Constant(number)),
-                None => Err(Fault::NotAByte.here()),
-            };
+    ) -> Operand {
+        let (Operand::Constant(a), Operand::Constant(b)) = (first, second) else {
+            return self.computed_later(operation, first, second);
+        };
+        let made = operation.make(a, b);
+        if made.is_none() {
+            self.fail(Fault::NotAByte);
         }
+        Operand::Constant(made.unwrap_or(0))
+    }
+
+    // A temporary that becomes what the operation makes of two numbers.
+    fn computed_later(&mut self, operation: Operation, first: Operand, second: Operand) -> Operand {
         self.release(first);
         self.release(second);
-        let to = self.temporary()?;
+        let to = self.temporary();
         self.emit(Instruction::Compute {
             to,
             operation,
             first,
             second,
-        })?;
-        Ok(Operand::Local(to))
+        });
+        Operand::Local(to)
     }
 
     /// The local becomes what the operation makes of it and a number.
-    pub(super) fn change(
-        &mut self,
-        to: Local,
-        operation: Operation,
-        second: Operand,
-    ) -> Result<(), Wrong> {
+    pub(super) fn change(&mut self, to: Local, operation: Operation, second: Operand) {
         self.emit(Instruction::Compute {
             to,
             operation,
             first: Operand::Local(to),
             second,
-        })
+        });
     }
 
-    pub(super) fn lock(&mut self, key: Key, other: Key) -> Result<(), Wrong> {
-        self.emit(Instruction::Lock { key, other })
+    pub(super) fn lock(&mut self, key: Key, other: Key) {
+        self.emit(Instruction::Lock { key, other });
     }
 
     /// How many wait on the key, whose bucket is locked.
-    pub(super) fn waiting(&mut self, key: Key) -> Result<Operand, Wrong> {
-        let to = self.temporary()?;
-        self.emit(Instruction::Count { to, key })?;
-        Ok(Operand::Local(to))
+    pub(super) fn waiting(&mut self, key: Key) -> Operand {
+        let to = self.temporary();
+        self.emit(Instruction::Count { to, key });
+        Operand::Local(to)
     }
 
     /// Whether more than this number wait on the key.
-    pub(super) fn more_than(&mut self, number: Operand, key: Key) -> Result<Operand, Wrong> {
-        let waiting = self.waiting(key)?;
+    pub(super) fn more_than(&mut self, number: Operand, key: Key) -> Operand {
+        let waiting = self.waiting(key);
         self.compute(Operation::Below, number, waiting)
     }
 }
@@ -266,23 +286,30 @@ pub(super) struct Finished {
     pub(super) statements: Vec<usize>,
 }
 
-// Adds that these locals become 0.
-fn clear(instructions: &mut Vec<Instruction>, locals: LocalSet) -> Result<(), Wrong> {
-    for number in 0..LOCALS {
-        let to = Local { number };
-        if locals.contains(to) {
-            instructions.push(set(to, ZERO))?;
-        }
-    }
-    Ok(())
+// Instructions that are done, and the statement that each comes from.
+#[derive(Drop)]
+struct Done {
+    instructions: Vec<Instruction>,
+    statements: Vec<usize>,
 }
 
-// Adds the statement until there are so many.
-fn fill(statements: &mut Vec<usize>, len: usize, statement: usize) -> Result<(), Wrong> {
-    for _ in statements.len()..len {
-        statements.push(statement)?;
+impl Done {
+    fn push(&mut self, instruction: Instruction, statement: usize) -> Result<(), Wrong> {
+        self.instructions.push(instruction)?;
+        self.statements.push(statement)?;
+        Ok(())
     }
-    Ok(())
+
+    // Adds that these locals become 0.
+    fn clear(&mut self, locals: LocalSet, statement: usize) -> Result<(), Wrong> {
+        for number in 0..LOCALS as u8 {
+            let to = Local { number };
+            if locals.contains(to) {
+                self.push(set(to, ZERO), statement)?;
+            }
+        }
+        Ok(())
+    }
 }
 
 impl Draft<'_> {
@@ -290,25 +317,44 @@ impl Draft<'_> {
     /// instructions that do nothing.
     pub(super) fn finish(&self, alloc: Global) -> Result<Finished, Wrong> {
         let flow = Flow::of(self.places(alloc)?);
-        let mut instructions = Vec::new(alloc);
-        let mut statements = Vec::new(alloc);
+        let done = self.done(alloc, &flow)?;
+        match Code::new(done.instructions) {
+            Some(code) => Ok(Finished {
+                code,
+                statements: done.statements,
+            }),
+            None => Err(TOO_LONG.here()),
+        }
+    }
+
+    fn done(&self, alloc: Global, flow: &Flow) -> Result<Done, Wrong> {
+        let mut done = Done {
+            instructions: Vec::new(alloc),
+            statements: Vec::new(alloc),
+        };
         let mut statement = 0;
         for (place, line) in self.lines.iter().enumerate() {
-            if flow.is_needless(place) {
-                continue;
+            if !flow.is_needless(place) {
+                statement = line.statement;
+                self.finish_line(flow, place, *line, &mut done)?;
             }
-            statement = line.statement;
-            clear(&mut instructions, flow.at(place).cleared_before)?;
-            instructions.push(self.targeted(&flow, place, *line)?)?;
-            clear(&mut instructions, flow.at(place).cleared_behind)?;
-            fill(&mut statements, instructions.len(), statement)?;
         }
-        clear(&mut instructions, flow.at(self.lines.len()).cleared_before)?;
-        fill(&mut statements, instructions.len(), statement)?;
-        match Code::new(instructions) {
-            Some(code) => Ok(Finished { code, statements }),
-            None => Err(too_long()),
-        }
+        done.clear(flow.at(self.lines.len()).cleared_before, statement)?;
+        Ok(done)
+    }
+
+    // Adds what comes of the line at this place.
+    fn finish_line(
+        &self,
+        flow: &Flow,
+        place: usize,
+        line: Line,
+        done: &mut Done,
+    ) -> Result<(), Wrong> {
+        let here = flow.at(place);
+        done.clear(here.cleared_before, line.statement)?;
+        done.push(self.targeted(flow, place, line)?, line.statement)?;
+        done.clear(here.cleared_behind, line.statement)
     }
 
     // What the instructions do, and the end.
@@ -345,7 +391,7 @@ impl Draft<'_> {
         let next = place.saturating_add(1);
         let target = self.target_of(line).unwrap_or(next);
         let Ok(index) = u16::try_from(flow.index(target)) else {
-            return Err(too_long());
+            return Err(TOO_LONG.here());
         };
         let mut instruction = line.instruction;
         instruction.go_to(index);

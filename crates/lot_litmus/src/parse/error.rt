@@ -1,10 +1,10 @@
-//! What is wrong with a text.
+//! This module has the errors of a text.
 
 use std::alloc::{AllocError, AllocFailed};
 use thiserror::Error;
 
-/// Why a text is no test.
-#[derive(Debug, Drop, Error, PartialEq, Eq)]
+/// A `ParseError` says why no test could be made from a text.
+#[derive(Debug, Drop, Error)]
 pub enum ParseError {
     /// The text is wrong at this place. Lines and columns count from 1.
     #[error("line {line}, column {column}: {problem}")]
@@ -14,68 +14,68 @@ pub enum ParseError {
         problem: Problem,
     },
 
-    /// A number was to be replaced that the text does not name.
+    /// A number was given for a name that no `let` line has.
     #[error("no `let` names \"{name}\"")]
     NoSuchNumber {
         name: String,
     },
 
-    /// A request for memory was refused.
+    /// There was not enough memory.
     #[error("no memory")]
     NoMemory,
 }
 
-/// What is wrong at a place.
-#[derive(Debug, Drop, Error, PartialEq, Eq)]
+/// A `Problem` says what is wrong at a place.
+#[derive(Debug, Drop, Error)]
 pub enum Problem {
-    /// Something else was expected. What was found is quoted.
+    /// Something else was expected than what was found, which is quoted.
     #[error("expected {expected}, found {found}")]
     Expected {
         expected: &'static str,
         found: String,
     },
 
-    /// A name that nothing has.
+    /// Nothing has this name.
     #[error("nothing here has the name \"{name}\"")]
     Unknown {
         name: String,
     },
 
-    /// A name that cannot be given again.
+    /// Something has this name already.
     #[error("\"{name}\" means something already")]
     Taken {
         name: String,
     },
 
-    /// A character that stands for nothing.
+    /// No word, number or sign begins with this character.
     #[error("no word, number or sign begins with {character}")]
     Character {
         character: String,
     },
 
-    /// A number that is no byte.
+    /// A number is not a byte.
     #[error("a number is from 0 to 255")]
     NotAByte,
 
-    /// Too many of something.
+    /// There are too many of something.
     #[error("more than {most} {what}")]
     TooMany {
         most: usize,
         what: &'static str,
     },
 
-    /// Braces that do not match.
+    /// A brace is not closed.
     #[error("no `}}` closes this")]
     Unclosed,
 
-    /// A macro with the wrong number of arguments.
+    /// A macro is called with the wrong number of arguments.
     #[error("the macro takes {wanted} arguments and is given {given}")]
     Arguments {
         wanted: usize,
         given: usize,
     },
 
-    /// A statement that cannot stand where it does.
+    /// A statement breaks this rule about where it may be.
     #[error("{rule}")]
     Misplaced {
         rule: &'static str,

@@ -1,6 +1,6 @@
 //! Expressions.
 
-use super::error::{Wrong, blamed_on, expected, misplaced};
+use super::error::{Fault, Wrong, blamed_on, expected};
 use super::names::Meaning;
 use super::parser::Parser;
 use crate::code::{Instruction, Operand, Operation};
@@ -213,28 +213,25 @@ impl<'t> Parser<'t> {
         } else {
             return Ok(());
         };
-        reading.values.push(blamed_on(made, last.token)?)?;
+        blamed_on(self.draft.check(), last.token)?;
+        reading.values.push(made)?;
         Ok(())
     }
 
-    fn turned(&mut self, value: Value) -> Result<Value, Wrong> {
+    fn turned(&mut self, value: Value) -> Value {
         if value.sense == Sense::Number && matches!(value.operand, Operand::Constant(_)) {
-            return Err(misplaced("`!` is for what is true or not: write 255 - N for bits"));
+            let rule = "`!` is for what is true or not: write 255 - N for bits";
+            self.draft.fail(Fault::Misplaced(rule));
         }
         let zero = Operand::Constant(0);
-        let operand = self.draft.compute(Operation::Equal, value.operand, zero)?;
+        let operand = self.draft.compute(Operation::Equal, value.operand, zero);
         let sense = Sense::Truth;
-        Ok(Value { operand, sense })
+        Value { operand, sense }
     }
 
-    fn combined(
-        &mut self,
-        operator: Operator,
-        first: Value,
-        second: Value,
-    ) -> Result<Value, Wrong> {
+    fn combined(&mut self, operator: Operator, first: Value, second: Value) -> Value {
         let (a, b) = match operator.form {
-            Form::Truth => (self.truth(first)?, self.truth(second)?),
+            Form::Truth => (self.truth(first), self.truth(second)),
             Form::Turned => (second.operand, first.operand),
             _ => (first.operand, second.operand),
         };
@@ -242,15 +239,15 @@ impl<'t> Parser<'t> {
             Form::Number => Sense::Number,
             _ => Sense::Truth,
         };
-        let operand = self.draft.compute(operator.operation, a, b)?;
-        Ok(Value { operand, sense })
+        let operand = self.draft.compute(operator.operation, a, b);
+        Value { operand, sense }
     }
 
     // 1 if the number is not 0.
-    fn truth(&mut self, value: Value) -> Result<Operand, Wrong> {
+    fn truth(&mut self, value: Value) -> Operand {
         let zero = Operand::Constant(0);
         match value.sense {
-            Sense::Truth => Ok(value.operand),
+            Sense::Truth => value.operand,
             Sense::Number => self.draft.compute(Operation::Unequal, value.operand, zero),
         }
     }
@@ -265,8 +262,9 @@ impl<'t> Parser<'t> {
             Meaning::Number(number) => Ok(Operand::Constant(number)),
             Meaning::Local(local) => Ok(Operand::Local(local)),
             Meaning::Word(word) => {
-                let to = self.draft.temporary()?;
-                self.draft.emit(Instruction::Read { to, word })?;
+                let to = self.draft.temporary();
+                self.draft.emit(Instruction::Read { to, word });
+                self.draft.check()?;
                 Ok(Operand::Local(to))
             }
             _ => Err(expected(EXPECTED).at(token)),

@@ -87,7 +87,7 @@ impl<'t> Locals<'t> {
             .find(Use::Before, Some(name))
             .or(self.find(Use::Never, None))
             .or(self.find(Use::Before, None))?;
-        self.slots[local.number] = Slot {
+        self.slots[local.index()] = Slot {
             usage: Use::Now,
             name,
         };
@@ -95,8 +95,8 @@ impl<'t> Locals<'t> {
     }
 
     fn find(&self, usage: Use, name: Option<&str>) -> Option<Local> {
-        for number in 0..LOCALS {
-            let slot = self.slots[number];
+        for number in 0..LOCALS as u8 {
+            let slot = self.slots[number as usize];
             if slot.usage == usage && (name.is_none() || name == Some(slot.name)) {
                 return Some(Local { number });
             }
@@ -105,11 +105,11 @@ impl<'t> Locals<'t> {
     }
 
     pub(super) fn release(&mut self, local: Local) {
-        self.slots[local.number].usage = Use::Before;
+        self.slots[local.index()].usage = Use::Before;
     }
 
     pub(super) fn is_temporary(&self, local: Local) -> bool {
-        self.slots[local.number].name.is_empty()
+        self.slots[local.index()].name.is_empty()
     }
 
     /// The last name of the local with this number.

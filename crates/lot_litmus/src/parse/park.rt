@@ -51,15 +51,16 @@ impl<'t> Parser<'t> {
         let park = Park {
             key,
             timing: Timing::Endless,
-            late: self.draft.label()?,
-            invalid: self.draft.label()?,
-            end: self.draft.label()?,
-            last: self.last_local()?,
+            late: self.draft.label(),
+            invalid: self.draft.label(),
+            end: self.draft.label(),
+            last: self.last_local(),
         };
         if self.cursor.opens("validate")? {
-            self.draft.lock(key, key)?;
-            let valid = self.declare_as("valid", 0)?;
-            return self.open(Block::Validate(park, valid));
+            self.draft.lock(key, key);
+            let valid = self.declare_as("valid", 0);
+            self.open(Block::Validate(park, valid));
+            return Ok(());
         }
         let validation = self.condition(key)?;
         self.enter_queue(park, validation)
@@ -74,7 +75,7 @@ impl<'t> Parser<'t> {
         false
     }
 
-    fn last_local(&mut self) -> Result<Local, Wrong> {
+    fn last_local(&mut self) -> Local {
         if self.names("last") {
             self.declare("last")
         } else {
@@ -92,7 +93,7 @@ impl<'t> Parser<'t> {
             return Ok(seen);
         }
         let place = self.draft.len();
-        self.draft.lock(key, key)?;
+        self.draft.lock(key, key);
         let operand = self.expression()?;
         if !self.draft.has_step_from(place.saturating_add(1)) {
             self.draft.remove(place);
@@ -148,68 +149,70 @@ impl<'t> Parser<'t> {
             timing,
             target: 0,
         };
-        self.draft.emit_to(Some(park.invalid), park_itself)?;
+        self.draft.emit_to(Some(park.invalid), park_itself);
         self.draft.release(token);
         self.draft.release(validation.operand());
         let park = Park { timing, ..park };
         if self.cursor.opens("before_sleep")? {
-            return self.open(Block::BeforeSleep(park));
+            self.open(Block::BeforeSleep(park));
+            return Ok(());
         }
         self.sleep(park)
     }
 
     /// The sleep, and what comes of it.
     pub(super) fn sleep(&mut self, park: Park) -> Result<(), Wrong> {
-        let (to, last) = (self.token_local(park)?, park.last);
+        let (to, last) = (self.token_local(park), park.last);
         let late = match park.timing {
             Timing::Endless => None,
             Timing::Timed => Some(park.late),
         };
         let target = 0;
         self.draft
-            .emit_to(late, Instruction::Sleep { to, last, target })?;
+            .emit_to(late, Instruction::Sleep { to, last, target });
         if to != last {
             self.draft.release(Operand::Local(to));
         }
-        self.set_outcome("result", 0)?;
-        self.draft.jump(park.end)?;
+        self.set_outcome("result", 0);
+        self.draft.jump(park.end);
         self.draft.place(park.late);
         if park.timing == Timing::Endless {
-            return self.end_park(park);
+            self.end_park(park);
+        } else if self.cursor.opens("timed_out")? {
+            self.open(Block::TimedOut(park));
+        } else {
+            self.give_up(park);
         }
-        if self.cursor.opens("timed_out")? {
-            return self.open(Block::TimedOut(park));
-        }
-        self.give_up(park)
+        Ok(())
     }
 
     // The local that the sleep sets to the token.
-    fn token_local(&mut self, park: Park) -> Result<Local, Wrong> {
-        match self.outcome("token")? {
-            Some(local) => Ok(local),
+    fn token_local(&mut self, park: Park) -> Local {
+        match self.outcome("token") {
+            Some(local) => local,
             // Only one of the two is set.
-            None if self.draft.locals.is_temporary(park.last) => Ok(park.last),
+            None if self.draft.locals.is_temporary(park.last) => park.last,
             None => self.draft.temporary(),
         }
     }
 
     /// The deadline has passed, and what was to be run then was run.
-    pub(super) fn give_up(&mut self, park: Park) -> Result<(), Wrong> {
-        self.draft.emit(Instruction::GiveUp)?;
-        self.set_outcome("result", 2)?;
-        self.set_outcome("token", 0)?;
-        self.draft.jump(park.end)?;
-        self.end_park(park)
+    pub(super) fn give_up(&mut self, park: Park) {
+        self.draft.emit(Instruction::GiveUp);
+        self.set_outcome("result", 2);
+        self.set_outcome("token", 0);
+        self.draft.jump(park.end);
+        self.end_park(park);
     }
 
-    fn end_park(&mut self, park: Park) -> Result<(), Wrong> {
+    fn end_park(&mut self, park: Park) {
         self.draft.release(Operand::Local(park.last));
         self.forget("last");
         self.draft.place(park.invalid);
-        self.set_outcome("result", 1)?;
-        self.set_outcome("token", 0)?;
+        self.set_outcome("result", 1);
+        self.set_outcome("token", 0);
         self.draft.place(park.end);
-        self.end_statement()
+        self.end_statement();
     }
 }
 

@@ -1,112 +1,115 @@
-//! What a text says.
+//! This module has what `parse` makes of a text.
 
 use crate::code::{Code, Key};
 use crate::test::Test;
 
-/// A test, and the names and lines of its text.
+/// A `Parsed` is a test, with the names and lines of its text.
 #[derive(Drop)]
 pub struct Parsed {
     pub name: String,
     pub test: Test,
 
-    /// The numbers that have names, as they stood in the test.
+    /// The numbers of the `let` lines, as they were when the test was made.
     pub numbers: Vec<NamedNumber>,
 
-    /// The names of the words and of the keys, by their numbers.
+    /// The names of the words and of the keys, in the order of their numbers.
     pub words: Vec<String>,
     pub keys: Vec<String>,
 
     /// The statements of the text, in the order in which they were read.
     pub statements: Vec<Statement>,
 
-    /// The threads, by their numbers. The last one looks at the ends, for `forall` and `never`;
-    /// between it and the others may be some that have no name and do nothing.
+    /// The threads, in the order of their numbers. The last one checks `forall` and `never` after
+    /// the others have ended. In front of it there may be threads without a name, which do nothing.
     pub threads: Vec<ThreadText>,
 
-    /// What each `exists` looks for.
+    /// One looker for each `exists`.
     pub lookers: Vec<Looker>,
 
-    /// What is to come of the test.
+    /// What the `expect` lines say.
     pub expectations: Vec<Expectation>,
 }
 
-/// A number by name.
+/// A `NamedNumber` is the number of a `let` line.
 #[derive(Drop)]
 pub struct NamedNumber {
     pub name: String,
     pub number: u8,
 }
 
-/// A statement of the text.
+/// A `Statement` is a statement of the text, and its place.
 #[derive(Drop)]
 pub struct Statement {
-    /// Its line, from 1, and the column at which it begins.
+    /// Its line, which counts from 1, and the column at which it begins.
     pub line: usize,
     pub column: usize,
 
-    /// What it says, without its blocks.
+    /// Its text, without its blocks.
     pub text: String,
 }
 
-/// The names and lines of a thread.
+/// A `ThreadText` has the names and lines of a thread.
 #[derive(Drop)]
 pub struct ThreadText {
     pub name: String,
 
-    /// Its own number among the threads of this name, and how many they are.
+    /// Its number among the threads of this name, and how many of these there are.
     pub copy: u8,
     pub copies: u8,
 
-    /// For each of its instructions the index of the statement that it comes from.
+    /// For each of its instructions, the index of the statement from which the instruction was
+    /// made.
     pub statements: Vec<usize>,
 
-    /// The names of its locals, by their numbers. What has no name is "".
+    /// The names of its locals, in the order of their numbers. A local without a name has "".
     pub locals: Vec<String>,
 }
 
-/// A thread that shows that an end is as an `exists` says: in the place of the last thread of the
-/// test, it has an assertion that fails at such an end.
+/// A `Looker` is the code of a thread that checks an `exists`.
+///
+/// If this code replaces that of the last thread of the test, its assertion fails after all other
+/// threads have ended in a way for which the `exists` holds.
 #[derive(Drop)]
 pub struct Looker {
     pub code: Code,
 
-    /// The statement.
+    /// The index of the statement.
     pub statement: usize,
 }
 
-/// What is to come of a test.
+/// An `Expectation` is what an `expect` line says about the test.
 #[derive(Drop)]
 pub struct Expectation {
-    /// Its line, from 1.
+    /// Its line, which counts from 1.
     pub line: usize,
     pub verdict: Verdict,
 
-    /// The values of a number by name for which it is to come, or none if it is to come once, with
-    /// the numbers as they stand.
+    /// The values of a number by name for which the verdict is expected. If it is `None`, the
+    /// verdict is expected once, with the numbers as they are.
     pub sizes: Option<Sizes>,
 }
 
-/// The end of a search.
+/// A `Verdict` is the expected result of a search.
 #[derive(Drop)]
 pub enum Verdict {
     Safe,
 
-    /// Somebody cannot go on: this one, if the text says so.
+    /// Some thread waits for ever. If the line names a thread and a key, it is this one.
     Stuck(Option<Sleeper>),
 
-    /// There is a fault: at this line, if the text says so.
+    /// There is a fault, at this line if the text names one.
     Fails(Option<usize>),
 }
 
-/// A thread that waits on a key.
+/// A `Sleeper` is a thread that waits on a key.
 #[derive(Drop)]
 pub struct Sleeper {
-    /// The name of the thread, or of threads of which one waits.
+    /// The name of the thread, or of several threads, one of which waits.
     pub thread: String,
     pub key: Key,
 }
 
-/// Values of a number by name.
+/// A `Sizes` has the values of a number by name.
 #[derive(Drop)]
 pub struct Sizes {
     pub name: String,

@@ -3,7 +3,7 @@
 use super::block::{Block, Open};
 use super::cursor::{Cursor, Span};
 use super::draft::Draft;
-use super::error::{Wrong, expected, misplaced};
+use super::error::{Fault, Wrong, expected, misplaced};
 use super::names::{Meaning, Names};
 use super::parsed::Statement;
 use super::token::Token;
@@ -69,20 +69,24 @@ impl<'t> Parser<'t> {
     }
 
     pub(super) fn bucket(&self, key: Key) -> Key {
-        self.buckets[key.number]
+        self.buckets[key.index()]
     }
 
     /// A thread with this text and number begins.
-    pub(super) fn begin_thread(&mut self, text: Span, number: u8) -> Result<(), Wrong> {
+    pub(super) fn begin_thread(&mut self, text: Span, number: u8) {
         self.draft = Draft::new(self.alloc);
         self.names.begin_thread(text, number);
         self.cursor.at = text.from;
-        let end = self.draft.label()?;
-        self.blocks.push(Open {
-            block: Block::Thread { end },
-            statement: 0,
-        })?;
-        Ok(())
+        let end = self.draft.label();
+        self.push_block(Block::Thread { end });
+    }
+
+    /// A block begins, which belongs to the statement that is read.
+    pub(super) fn push_block(&mut self, block: Block) {
+        let statement = self.draft.statement;
+        if self.blocks.push(Open { block, statement }).is_err() {
+            self.draft.fail(Fault::NoMemory);
+        }
     }
 }
 
@@ -92,44 +96,50 @@ impl<'t> Parser<'t> {
         self.cursor.has(self.names.scope.text, name)
     }
 
-    pub(super) fn declare(&mut self, name: &'t str) -> Result<Local, Wrong> {
-        let local = self.draft.local(name)?;
-        self.names.bind(name, Meaning::Local(local))?;
-        Ok(local)
+    pub(super) fn declare(&mut self, name: &'t str) -> Local {
+        let local = self.draft.local(name);
+        if self.names.bind(name, Meaning::Local(local)).is_err() {
+            self.draft.fail(Fault::NoMemory);
+        }
+        local
     }
 
     /// Declares a local that begins with this number.
-    pub(super) fn declare_as(&mut self, name: &'t str, number: u8) -> Result<Local, Wrong> {
-        let local = self.declare(name)?;
-        self.draft.set(local, Operand::Constant(number))?;
-        Ok(local)
+    pub(super) fn declare_as(&mut self, name: &'t str, number: u8) -> Local {
+        let local = self.declare(name);
+        self.draft.set(local, Operand::Constant(number));
+        local
     }
 
     /// Declares a local that the text may name. It begins with 0.
-    pub(super) fn declare_if_named(&mut self, name: &'t str) -> Result<Option<Local>, Wrong> {
-        if !self.names(name) {
-            return Ok(None);
+    pub(super) fn declare_if_named(&mut self, name: &'t str) -> Option<Local> {
+        if self.names(name) {
+            Some(self.declare_as(name, 0))
+        } else {
+            None
         }
-        Ok(Some(self.declare_as(name, 0)?))
     }
 
     /// The local of this name that a statement sets, if the text names it.
-    pub(super) fn outcome(&mut self, name: &'t str) -> Result<Option<Local>, Wrong> {
+    pub(super) fn outcome(&mut self, name: &'t str) -> Option<Local> {
         if !self.names(name) {
-            return Ok(None);
+            return None;
         }
         match self.names.lookup(name) {
-            Some(Meaning::Local(local)) => Ok(Some(local)),
-            None => Ok(Some(self.declare(name)?)),
-            Some(_) => Err(misplaced("a name that this statement sets is that of no local")),
+            Some(Meaning::Local(local)) => Some(local),
+            None => Some(self.declare(name)),
+            Some(_) => {
+                let rule = "a name that this statement sets is that of no local";
+                self.draft.fail(Fault::Misplaced(rule));
+                None
+            }
         }
     }
 
     /// The local of this name becomes the number, if the text names it.
-    pub(super) fn set_outcome(&mut self, name: &'t str, number: u8) -> Result<(), Wrong> {
-        match self.outcome(name)? {
-            Some(to) => self.draft.set(to, Operand::Constant(number)),
-            None => Ok(()),
+    pub(super) fn set_outcome(&mut self, name: &'t str, number: u8) {
+        if let Some(to) = self.outcome(name) {
+            self.draft.set(to, Operand::Constant(number));
         }
     }
 

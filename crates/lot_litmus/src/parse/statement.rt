@@ -20,30 +20,37 @@ const UPDATES: [(&str, Operation); 6] = [
 
 impl<'t> Parser<'t> {
     /// From here on instructions come from the statement that begins with the next token.
-    pub(super) fn begin_statement(&mut self) -> Result<(), Wrong> {
+    pub(super) fn begin_statement(&mut self) {
         let token = self.cursor.peek();
         let (line, column) = (token.line, token.column);
         for (index, known) in self.statements.iter().enumerate() {
             if known.line == line && known.column == column {
                 self.draft.statement = index;
-                return Ok(());
+                return;
             }
         }
         self.draft.statement = self.statements.len();
         let text = String::new(self.alloc);
-        self.statements.push(Statement { line, column, text })?;
-        Ok(())
+        if self
+            .statements
+            .push(Statement { line, column, text })
+            .is_err()
+        {
+            self.draft.fail(Fault::NoMemory);
+        }
     }
 
     /// The statement has been read, or its head. What stands on its first line is kept.
-    pub(super) fn end_statement(&mut self) -> Result<(), Wrong> {
+    pub(super) fn end_statement(&mut self) {
         if let Some(statement) = self.statements.get_mut(self.draft.statement)
             && statement.text.is_empty()
         {
             let last = self.cursor.last_on(statement.line);
-            statement.text = String::from_str(self.alloc, last.since(statement.column))?;
+            match String::from_str(self.alloc, last.since(statement.column)) {
+                Ok(text) => statement.text = text,
+                Err(_) => self.draft.fail(Fault::NoMemory),
+            }
         }
-        Ok(())
     }
 
     /// Reads a statement, or the end of a block.
@@ -52,7 +59,7 @@ impl<'t> Parser<'t> {
             return self.close();
         }
         self.cursor.expect_break()?;
-        self.begin_statement()?;
+        self.begin_statement();
         let token = self.cursor.peek();
         match token.kind {
             Kind::Name => self.assign_or_call(),
@@ -71,7 +78,7 @@ impl<'t> Parser<'t> {
             return Ok(false);
         };
         self.draft.release(old);
-        self.end_statement()?;
+        self.end_statement();
         Ok(true)
     }
 
@@ -79,7 +86,7 @@ impl<'t> Parser<'t> {
     fn keyword_statement(&mut self, word: &str) -> Result<(), Wrong> {
         match word {
             "if" => {
-                let end = self.draft.label()?;
+                let end = self.draft.label();
                 self.open_if(end)
             }
             "while" | "loop" => self.open_loop(word),
@@ -87,7 +94,8 @@ impl<'t> Parser<'t> {
             "return" => self.return_statement(),
             "await" | "assert" | "enter" | "leave" => {
                 let instruction = self.simple_statement(word)?;
-                self.emit_last(instruction)
+                self.emit_last(instruction);
+                Ok(())
             }
             "park" => self.park(),
             "unpark_one" | "unpark_all" => self.unpark(word),
@@ -99,9 +107,9 @@ impl<'t> Parser<'t> {
     }
 
     /// Ends the statement with this instruction.
-    pub(super) fn emit_last(&mut self, instruction: Instruction) -> Result<(), Wrong> {
-        self.draft.emit(instruction)?;
-        self.end_statement()
+    pub(super) fn emit_last(&mut self, instruction: Instruction) {
+        self.draft.emit(instruction);
+        self.end_statement();
     }
 
     fn simple_statement(&mut self, word: &str) -> Result<Instruction, Wrong> {
@@ -147,18 +155,19 @@ impl<'t> Parser<'t> {
     // `while` or `loop`.
     fn open_loop(&mut self, word: &str) -> Result<(), Wrong> {
         let rounds = Loop {
-            again: self.draft.label()?,
+            again: self.draft.label(),
             place: self.draft.len(),
-            next: self.draft.label()?,
-            end: self.draft.label()?,
+            next: self.draft.label(),
+            end: self.draft.label(),
         };
         self.draft.place(rounds.again);
         if word == "while" {
             let condition = self.expression()?;
-            self.draft.jump_unless(condition, rounds.end)?;
+            self.draft.jump_unless(condition, rounds.end);
         }
         self.cursor.open_brace()?;
-        self.open(Block::Loop(rounds))
+        self.open(Block::Loop(rounds));
+        Ok(())
     }
 
     // `break` or `continue`, in a loop with nothing between that is left at its end alone.
@@ -167,12 +176,13 @@ impl<'t> Parser<'t> {
             match open.block {
                 Block::If { .. } | Block::Else { .. } => {}
                 Block::Loop(rounds) => {
-                    self.end_statement()?;
-                    return self.draft.jump(if word == "break" {
+                    self.end_statement();
+                    self.draft.jump(if word == "break" {
                         rounds.end
                     } else {
                         rounds.next
                     });
+                    return Ok(());
                 }
                 _ => break,
             }
@@ -191,8 +201,9 @@ impl<'t> Parser<'t> {
                 block if block.is_run_by_lot() => break,
                 _ => continue,
             };
-            self.end_statement()?;
-            return self.draft.jump(end);
+            self.end_statement();
+            self.draft.jump(end);
+            return Ok(());
         }
         Err(
             self.cursor
@@ -224,13 +235,13 @@ impl<'t> Parser<'t> {
         let word = self.word()?;
         let operand = self.expression()?;
         self.draft.release(operand);
-        let to = self.draft.temporary()?;
+        let to = self.draft.temporary();
         self.draft.emit(Instruction::Update {
             to,
             word,
             operation,
             operand,
-        })?;
+        });
         Ok(Operand::Local(to))
     }
 
@@ -241,13 +252,13 @@ impl<'t> Parser<'t> {
         let new = self.expression()?;
         self.draft.release(expected);
         self.draft.release(new);
-        let to = self.draft.temporary()?;
+        let to = self.draft.temporary();
         self.draft.emit(Instruction::CompareExchange {
             to,
             word,
             expected,
             new,
-        })?;
+        });
         Ok(Operand::Local(to))
     }
 
@@ -256,16 +267,16 @@ impl<'t> Parser<'t> {
         self.cursor.next();
         let key = self.key()?;
         let Some(locked) = self.section() else {
-            self.draft.lock(key, key)?;
-            let waiting = self.draft.waiting(key)?;
-            self.draft.emit(Instruction::Unlock)?;
+            self.draft.lock(key, key);
+            let waiting = self.draft.waiting(key);
+            self.draft.emit(Instruction::Unlock);
             return Ok(waiting);
         };
         for other in locked {
             if let Some(other) = other
                 && self.bucket(other) == self.bucket(key)
             {
-                return self.draft.waiting(key);
+                return Ok(self.draft.waiting(key));
             }
         }
         let rule = "the bucket of this key is not known to be locked here";
@@ -305,15 +316,17 @@ impl<'t> Parser<'t> {
         match meaning {
             Some(Meaning::Word(word)) => {
                 self.draft.release(operand);
-                self.draft.emit(Instruction::Write { word, operand })?;
+                self.draft.emit(Instruction::Write { word, operand });
             }
-            Some(Meaning::Local(local)) => self.draft.set(local, operand)?,
+            Some(Meaning::Local(local)) => self.draft.set(local, operand),
             _ => {
-                let local = blamed_on(self.declare(name), token)?;
-                self.draft.set(local, operand)?;
+                let local = self.declare(name);
+                blamed_on(self.draft.check(), token)?;
+                self.draft.set(local, operand);
             }
         }
-        self.end_statement()
+        self.end_statement();
+        Ok(())
     }
 
     // Goes on in the text of a macro, of which the name was read.
@@ -325,11 +338,11 @@ impl<'t> Parser<'t> {
         self.arguments(called)?;
         let expansion = Expansion {
             body: called.body.from,
-            end: self.draft.label()?,
+            end: self.draft.label(),
             back: self.cursor.at,
             outer: self.names.scope,
         };
-        self.open(Block::Macro(expansion))?;
+        self.open(Block::Macro(expansion));
         self.names.scope = Scope {
             text: called.body,
             first,

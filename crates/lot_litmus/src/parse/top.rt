@@ -1,7 +1,7 @@
 //! What stands outside of threads.
 
 use super::cursor::Span;
-use super::draft::{Draft, Finished, too_long};
+use super::draft::{Draft, Finished, TOO_LONG};
 use super::error::{Fault, Wrong, expected, too_many};
 use super::locals::Locals;
 use super::names::{Macro, Meaning, is_known};
@@ -165,7 +165,12 @@ impl<'t> Reader<'t> {
         self.parsed.test.words[number] = self.parser.constant()?;
         let text = self.string(name)?;
         self.parsed.words.push(text)?;
-        self.parser.names.bind(name, Meaning::Word(Word { number }))
+        self.parser.names.bind(
+            name,
+            Meaning::Word(Word {
+                number: number as u8,
+            }),
+        )
     }
 
     fn declare_key(&mut self) -> Result<(), Wrong> {
@@ -183,7 +188,12 @@ impl<'t> Reader<'t> {
         }
         let text = self.string(name)?;
         self.parsed.keys.push(text)?;
-        self.parser.names.bind(name, Meaning::Key(Key { number }))
+        self.parser.names.bind(
+            name,
+            Meaning::Key(Key {
+                number: number as u8,
+            }),
+        )
     }
 
     fn declare_thread(&mut self) -> Result<(), Wrong> {
@@ -199,7 +209,7 @@ impl<'t> Reader<'t> {
             return Err(too_many(WORKERS, "threads").at(token));
         }
         for copy in 0..copies {
-            self.parser.begin_thread(text, copy)?;
+            self.parser.begin_thread(text, copy);
             self.parser.read_thread()?;
             self.add_thread(name, copy, copies)?;
             self.parser.names.end_thread();
@@ -341,8 +351,9 @@ impl<'t> Parser<'t> {
                 return Ok(());
             }
             self.statement()?;
+            self.draft.check()?;
         }
-        Err(too_long())
+        Err(TOO_LONG.here())
     }
 
     // Reads the name of a number.
@@ -361,17 +372,18 @@ impl<'t> Parser<'t> {
     // temporaries.
     fn assert_at_ends(&mut self, claim: Claim) -> Result<(), Wrong> {
         self.draft.locals = Locals::new();
-        self.begin_statement()?;
+        self.begin_statement();
         self.cursor.next();
         if self.draft.len() == 0 {
-            self.draft.emit(Instruction::AwaitOthers)?;
+            self.draft.emit(Instruction::AwaitOthers);
         }
         let mut operand = self.expression()?;
         if claim == Claim::Never {
             let zero = Operand::Constant(0);
-            operand = self.draft.compute(Operation::Equal, operand, zero)?;
+            operand = self.draft.compute(Operation::Equal, operand, zero);
         }
         self.draft.release(operand);
-        self.emit_last(Instruction::Assert { operand })
+        self.emit_last(Instruction::Assert { operand });
+        self.draft.check()
     }
 }

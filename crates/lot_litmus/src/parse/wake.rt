@@ -46,8 +46,9 @@ impl<'t> Parser<'t> {
     pub(super) fn unpark(&mut self, word: &str) -> Result<(), Wrong> {
         let key = self.begin_section()?;
         if word == "unpark_one" && self.cursor.take("{") {
-            self.draft.lock(key, key)?;
-            return self.open_callback(Waking::One(key));
+            self.draft.lock(key, key);
+            self.open_callback(Waking::One(key));
+            return Ok(());
         }
         let token = self.token()?;
         self.draft.release(token);
@@ -55,53 +56,53 @@ impl<'t> Parser<'t> {
             Instruction::UnparkOne { key, token }
         } else {
             Instruction::UnparkAll { key, token }
-        })
+        });
+        Ok(())
     }
 
     /// What stands behind the block of a filter or the way of a requeue.
     pub(super) fn token_or_callback(&mut self, waking: Waking) -> Result<(), Wrong> {
         if self.cursor.opens("callback")? {
-            return self.open_callback(waking);
+            self.open_callback(waking);
+            return Ok(());
         }
         let token = self.token()?;
-        self.end_statement()?;
-        self.wake(waking, token)?;
+        self.end_statement();
+        self.wake(waking, token);
         self.draft.release(token);
         Ok(())
     }
 
-    fn open_callback(&mut self, waking: Waking) -> Result<(), Wrong> {
+    fn open_callback(&mut self, waking: Waking) {
         match waking {
-            Waking::One(key) => self.tell_one(key)?,
-            Waking::Filter(filter) => self.tell_filter(filter)?,
-            Waking::Requeue(requeue) => self.tell_requeue(requeue)?,
+            Waking::One(key) => self.tell_one(key),
+            Waking::Filter(filter) => self.tell_filter(filter),
+            Waking::Requeue(requeue) => self.tell_requeue(requeue),
         }
-        let token = self.declare_as("token", 0)?;
-        self.open(Block::Callback(waking, token))
+        let token = self.declare_as("token", 0);
+        self.open(Block::Callback(waking, token));
     }
 
-    fn tell_one(&mut self, key: Key) -> Result<(), Wrong> {
-        if let Some(local) = self.declare_if_named("unparked_threads")? {
-            let unparked = self.draft.more_than(Operand::Constant(0), key)?;
-            self.draft.set(local, unparked)?;
+    fn tell_one(&mut self, key: Key) {
+        if let Some(local) = self.declare_if_named("unparked_threads") {
+            let unparked = self.draft.more_than(Operand::Constant(0), key);
+            self.draft.set(local, unparked);
         }
-        if let Some(local) = self.declare_if_named("have_more")? {
-            let more = self.draft.more_than(Operand::Constant(1), key)?;
-            self.draft.set(local, more)?;
+        if let Some(local) = self.declare_if_named("have_more") {
+            let more = self.draft.more_than(Operand::Constant(1), key);
+            self.draft.set(local, more);
         }
-        Ok(())
     }
 
-    pub(super) fn close_callback(&mut self, waking: Waking, token: Local) -> Result<(), Wrong> {
-        self.wake(waking, Operand::Local(token))?;
+    pub(super) fn close_callback(&mut self, waking: Waking, token: Local) {
+        self.wake(waking, Operand::Local(token));
         for name in ["token", "unparked_threads", "requeued_threads", "have_more"] {
             self.forget(name);
         }
-        Ok(())
     }
 
     // Unparks, with this token.
-    fn wake(&mut self, waking: Waking, token: Operand) -> Result<(), Wrong> {
+    fn wake(&mut self, waking: Waking, token: Operand) {
         match waking {
             Waking::One(key) => self.draft.emit(Instruction::UnparkOne { key, token }),
             Waking::Filter(filter) => self.end_filter(filter, token),
@@ -114,9 +115,9 @@ impl<'t> Parser<'t> {
     pub(super) fn filter(&mut self) -> Result<(), Wrong> {
         let key = self.begin_section()?;
         self.cursor.open_brace()?;
-        self.draft.lock(key, key)?;
-        let filter = self.begin_filter(key)?;
-        let waiter = self.declare("waiter")?;
+        self.draft.lock(key, key);
+        let filter = self.begin_filter(key);
+        let waiter = self.declare("waiter");
         self.draft.place(filter.look);
         let look = Instruction::Look {
             to: waiter,
@@ -124,33 +125,37 @@ impl<'t> Parser<'t> {
             index: Operand::Local(filter.index),
             target: 0,
         };
-        self.draft.emit_to(Some(filter.end), look)?;
-        self.open(Block::Filter(filter))
+        self.draft.emit_to(Some(filter.end), look);
+        self.open(Block::Filter(filter));
+        Ok(())
     }
 
-    fn begin_filter(&mut self, key: Key) -> Result<Filter, Wrong> {
+    fn begin_filter(&mut self, key: Key) -> Filter {
         let unparked = if self.names("unparked_threads") || self.names("have_more") {
-            Some(self.declare_as("unparked_threads", 0)?)
+            Some(self.declare_as("unparked_threads", 0))
         } else {
             None
         };
-        Ok(Filter {
+        Filter {
             key,
-            index: self.draft.counter(0)?,
-            bit: self.draft.counter(1)?,
-            chosen: self.draft.counter(0)?,
+            index: self.draft.counter(0),
+            bit: self.draft.counter(1),
+            chosen: self.draft.counter(0),
             unparked,
-            look: self.draft.label()?,
-            next: self.draft.label()?,
-            end: self.draft.label()?,
-        })
+            look: self.draft.label(),
+            next: self.draft.label(),
+            end: self.draft.label(),
+        }
     }
 
     /// `unpark`, `skip` or `stop`, in a filter with nothing between that is left at its end alone.
     pub(super) fn decide(&mut self, word: &str) -> Result<(), Wrong> {
         for open in self.blocks.iter().rev() {
             match open.block {
-                Block::Filter(filter) => return self.decide_in(filter, word),
+                Block::Filter(filter) => {
+                    self.decide_in(filter, word);
+                    return Ok(());
+                }
                 Block::If { .. } | Block::Else { .. } | Block::Loop(_) => {}
                 _ => break,
             }
@@ -159,29 +164,29 @@ impl<'t> Parser<'t> {
         Err(self.cursor.misplaced(rule))
     }
 
-    fn decide_in(&mut self, filter: Filter, word: &str) -> Result<(), Wrong> {
-        self.end_statement()?;
+    fn decide_in(&mut self, filter: Filter, word: &str) {
+        self.end_statement();
         if word == "stop" {
             return self.draft.jump(filter.end);
         }
         if word == "unpark" {
             let bit = Operand::Local(filter.bit);
-            self.draft.change(filter.chosen, Operation::Or, bit)?;
+            self.draft.change(filter.chosen, Operation::Or, bit);
             if let Some(unparked) = filter.unparked {
                 self.draft
-                    .change(unparked, Operation::Add, Operand::Constant(1))?;
+                    .change(unparked, Operation::Add, Operand::Constant(1));
             }
         }
-        self.draft.jump(filter.next)
+        self.draft.jump(filter.next);
     }
 
     pub(super) fn close_filter(&mut self, filter: Filter) -> Result<(), Wrong> {
         let (bit, index) = (Operand::Local(filter.bit), Operand::Local(filter.index));
         self.draft.place(filter.next);
-        self.draft.change(filter.bit, Operation::Add, bit)?;
+        self.draft.change(filter.bit, Operation::Add, bit);
         self.draft
-            .change(filter.index, Operation::Add, Operand::Constant(1))?;
-        self.draft.jump(filter.look)?;
+            .change(filter.index, Operation::Add, Operand::Constant(1));
+        self.draft.jump(filter.look);
         self.draft.place(filter.end);
         self.draft.release(bit);
         self.draft.release(index);
@@ -189,25 +194,23 @@ impl<'t> Parser<'t> {
         self.token_or_callback(Waking::Filter(filter))
     }
 
-    fn tell_filter(&mut self, filter: Filter) -> Result<(), Wrong> {
+    fn tell_filter(&mut self, filter: Filter) {
         if let Some(unparked) = filter.unparked
-            && let Some(local) = self.declare_if_named("have_more")?
+            && let Some(local) = self.declare_if_named("have_more")
         {
-            let more = self.draft.more_than(Operand::Local(unparked), filter.key)?;
-            self.draft.set(local, more)?;
+            let more = self.draft.more_than(Operand::Local(unparked), filter.key);
+            self.draft.set(local, more);
         }
-        Ok(())
     }
 
-    fn end_filter(&mut self, filter: Filter, token: Operand) -> Result<(), Wrong> {
+    fn end_filter(&mut self, filter: Filter, token: Operand) {
         let chosen = Operand::Local(filter.chosen);
         self.draft.emit(Instruction::UnparkFilter {
             key: filter.key,
             chosen,
             token,
-        })?;
+        });
         self.draft.release(chosen);
         self.forget("unparked_threads");
-        Ok(())
     }
 }

@@ -9,7 +9,8 @@ pub returns-in-Nobody : goal.returns-in-Nobody
 returns-in-Nobody c = λ waiters short. parted-none waiters ∙ sym (ap (λ moves. split_by (requeue_of moves) waiters) c.in-Nobody.is)
 
 pub returns-in-OneUnparkedRestMoved : goal.returns-in-OneUnparkedRestMoved
-returns-in-OneUnparkedRestMoved c = λ waiters short. parted-rest_moved waiters short ∙ sym (ap (λ moves. split_by (requeue_of moves) waiters) c.in-OneUnparkedRestMoved.is)
+returns-in-OneUnparkedRestMoved c = λ waiters short. parted-rest_moved waiters short
+    ∙ sym (ap (λ moves. split_by (requeue_of moves) waiters) c.in-OneUnparkedRestMoved.is)
 
 pub returns-in-AllMoved : goal.returns-in-AllMoved
 returns-in-AllMoved c = λ waiters short. parted-all_moved waiters short ∙ sym (ap (λ moves. split_by (requeue_of moves) waiters) c.in-AllMoved.is)

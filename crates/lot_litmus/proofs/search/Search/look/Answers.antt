@@ -16,4 +16,4 @@ returns-in_ok-push_leads-in-Leads c =
     (subst (HasLooked c.args.test.now c.args.self.now.states.items c.look_at.new.self.states.items
     (length c.args.self.now.leads.items)) c.in-Leads.is
     (subst (λ index. HasLooked c.args.test.now c.args.self.now.states.items c.look_at.new.self.states.items index
-    c.in_ok-leads.field-0) (search (rules, c.len-index.ensures)) looks)))
+    c.in_ok-leads.field-0) (search (rules, c.len.ensures, c.in-Ok.is)) looks)))

@@ -32,12 +32,12 @@ returns-in-Rests c =
     local_step-is (with_progress (configuration_of c.loop.self) c.args.thread.number c.loop.progress)
     (configuration_of c.set_progress.new.self) c.loop.progress
     (slice_get c.args.code.now.instructions.items c.loop.progress.at) c.in-Some.instruction
-    (locally_of c.do_locally.result) c.set_progress.ensures (sym c.at.ensures ∙ c.in-Some.is)
+    (locally_of c.do_locally.result c.do_locally.new.progress) c.set_progress.ensures (sym c.at.ensures ∙ c.in-Some.is)
     c.do_locally.ensures in
     ap Goes c.set_progress.ensures
     ∙ settled-rests local_bound c.loop.counter c.args.code.now.instructions.items (configuration_of c.loop.self)
     c.args.thread.number c.loop.progress (rw local_bound-is c.loop-test.true)
-    (does ∙ ap locally_of c.in-Rests.is)
+    (does ∙ ap (λ does. locally_of does c.do_locally.new.progress) c.in-Rests.is)
     ∙ c.loop.invariant
 
 pub returns-in-Errs : goal.returns-in-Errs
@@ -46,11 +46,11 @@ returns-in-Errs c =
     local_step-is (with_progress (configuration_of c.loop.self) c.args.thread.number c.loop.progress)
     (configuration_of c.set_progress.new.self) c.loop.progress
     (slice_get c.args.code.now.instructions.items c.loop.progress.at) c.in-Some.instruction
-    (locally_of c.do_locally.result) c.set_progress.ensures (sym c.at.ensures ∙ c.in-Some.is)
+    (locally_of c.do_locally.result c.do_locally.new.progress) c.set_progress.ensures (sym c.at.ensures ∙ c.in-Some.is)
     c.do_locally.ensures in
     settled-errs local_bound c.loop.counter c.args.code.now.instructions.items (configuration_of c.loop.self)
     c.args.thread.number c.loop.progress c.in-Errs.fault (rw local_bound-is c.loop-test.true)
-    (does ∙ ap locally_of c.in-Errs.is)
+    (does ∙ ap (λ does. locally_of does c.do_locally.new.progress) c.in-Errs.is)
     ∙ c.loop.invariant
 
 pub loop-preserved : goal.loop-preserved
@@ -59,13 +59,13 @@ loop-preserved c =
     local_step-is (with_progress (configuration_of c.loop.self) c.args.thread.number c.loop.progress)
     (configuration_of c.set_progress.new.self) c.loop.progress
     (slice_get c.args.code.now.instructions.items c.loop.progress.at) c.in-Some.instruction
-    (locally_of c.do_locally.result) c.set_progress.ensures (sym c.at.ensures ∙ c.in-Some.is)
+    (locally_of c.do_locally.result c.do_locally.new.progress) c.set_progress.ensures (sym c.at.ensures ∙ c.in-Some.is)
     c.do_locally.ensures in
     ap (λ d. settled (local_bound - (c.loop.counter + 1)) c.args.code.now.instructions.items d c.args.thread.number
-    c.in-Advances.next) c.set_progress.ensures
+    c.do_locally.new.progress) c.set_progress.ensures
     ∙ settled-advances local_bound c.loop.counter c.args.code.now.instructions.items (configuration_of c.loop.self)
-    c.args.thread.number c.loop.progress c.in-Advances.next (rw local_bound-is c.loop-test.true)
-    (does ∙ ap locally_of c.in-Advances.is)
+    c.args.thread.number c.loop.progress c.do_locally.new.progress (rw local_bound-is c.loop-test.true)
+    (does ∙ ap (λ does. locally_of does c.do_locally.new.progress) c.in-Advances.is)
     ∙ c.loop.invariant
 
 pub returns : goal.returns
