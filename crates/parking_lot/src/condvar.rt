@@ -16,10 +16,10 @@
 //!   wakes them. Otherwise it wakes them at once.
 //! - A thread whose deadline passes after it was moved has had its notify, so it did not time out.
 //!
-//! No thread is forgotten. A thread that waits holds the mutex when it notes itself, and unlocks it
-//! after that. Another thread may have changed the condition under the mutex before that, and then
-//! the first thread saw the change; or it changes the condition later, and then its notify sees
-//! `sleepers`.
+//! No thread is forgotten. A thread that waits checks the condition, notes itself in `sleepers`,
+//! and unlocks the mutex, in this order and with the mutex locked. Another thread changes the
+//! condition under the mutex, before or after that. If it was before, the first thread saw the
+//! change. If it was after, the notify of the other thread sees `sleepers`.
 
 ghost use Rattle.std.specs.Prelude.{◌≡◌, false};
 ghost use Rattle.std.specs.Iterator.Runs.{CallKeepsClosure};

@@ -17,8 +17,8 @@ pub trait Release<G>: Drop {
 ///
 /// Each lock has its own name for its guards, such as `MutexGuard`.
 ///
-/// What a guard holds need not be `Drop`. So a drop of the guard that did not hand it to
-/// `Release::release` would not compile.
+/// The type of what a guard holds need not implement `Drop`, so the compiler does not let the guard
+/// drop it. The guard has to hand it to `Release::release`.
 pub struct Guard<G, L: Release<G>> {
     held: G,
     lock: L,

@@ -3,7 +3,7 @@
 //! A program makes one `Lot`, in which threads wait, and creates each lock with it:
 //!
 //! ```
-//! /// Takes a seat. If none is free, it ends by `return`.
+//! /// Takes a seat, and returns whether one was free.
 //! pub fn take_seat<R: Wait + Clock>(rt: &R, free: &Mutex<'_, u32>) -> bool {
 //!     let mut free = free.lock(rt);
 //!     if *free == 0 {
@@ -14,8 +14,9 @@
 //! }
 //! ```
 //!
-//! A call that may block or wake takes the runtime, `rt`, unless it takes a guard, which has it.
-//! `docs/GUIDE.md` has more examples, and `docs/THEOREMS.md` says what is proved of these locks.
+//! A call that may block or wake takes the runtime, `rt`. A call that takes a guard uses the
+//! guard's. `docs/GUIDE.md` has more examples, and `docs/THEOREMS.md` says what is proved of these
+//! locks.
 //!
 //! # Calls with a deadline
 //!
@@ -35,9 +36,9 @@
 //! - `Lot`: upstream has one lot for the whole program, which is created at its first use.
 //! - Every `new` of a lock takes the lot and returns a `Result`. Upstream's are `const fn`.
 //! - `Mutex`: upstream's is one byte beside the value. A lock finds the lot by itself, and an
-//!   unlock is fair about every half millisecond. A thread that waits looks at the byte ten times
-//!   before it parks. Here a look is an exchange, which takes the word away from the processor of
-//!   the holder, so a thread yields ten times and looks once after that.
+//!   unlock is fair about every half millisecond. A thread that waits reads the byte ten times
+//!   before it parks. Here a thread can only try to lock. A try is an exchange, which takes the
+//!   word away from the processor of the holder, so a thread yields ten times and tries once.
 //! - `MutexGuard::unlock_fair`: upstream hands the mutex over by leaving it locked. Here a counter
 //!   reserves it.
 //! - `MutexGuard::leak`: upstream's needs no memory.
@@ -55,17 +56,17 @@
 //!   program, and every closure is given a `Begun`. `Once::wait` is std's.
 //! - `ReentrantMutex`: upstream's takes the thread as the owner, which it finds by a thread local.
 //!   It can be shared if `T: Send`, since only the thread that holds it reaches the value, so that
-//!   a `RefCell` in it is safe. Here the value has to be safe to share by itself, and the mutex
-//!   keeps threads apart over several steps.
+//!   a `RefCell` in it is safe. Here the value has to be `Sync`, and the mutex keeps other threads
+//!   away while its owner does several steps.
 //! - `Lens`: upstream narrows a guard by a closure that returns a reference into the value. A guard
 //!   that kept such a reference would borrow from itself here.
 //! - `OnceLock`, `LazyLock`: upstream has neither; std and the crate `once_cell` do. `LazyLock` has
 //!   no `Deref`, because its value may have to be waited for. std's `LazyLock::into_inner` returns
 //!   the closure if there is no value.
-//! - `Barrier`: upstream has none. At std's, any thread may wait by a shared reference, and more
-//!   threads than it counts make further rounds.
-//! - `Semaphore`: upstream has none. tokio's can be closed, a thread does not overtake those that
-//!   wait, and more than `MAX_PERMITS` permits are a panic. `SemaphorePermit::permits` is
+//! - `Barrier`: upstream has none. std's can be used by any thread that has a shared reference, and
+//!   if more threads wait than it counts, they make further rounds.
+//! - `Semaphore`: upstream has none. tokio has one that can be closed. No thread overtakes those
+//!   that wait there, and more than `MAX_PERMITS` permits panic. `SemaphorePermit::permits` is
 //!   `num_permits` there.
 #![tactic(auto)]
 

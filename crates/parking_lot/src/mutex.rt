@@ -88,9 +88,10 @@ impl Fairness for InOrder {
 /// };
 /// ```
 ///
-/// A thread that arrives may lock it before a thread that was just woken. So it serves many calls a
-/// second, but one thread may wait long. `MutexGuard::unlock_fair` gives the mutex to the thread
-/// that has waited longest, and a `FairMutex` always does.
+/// A thread that arrives may lock the mutex before a thread that was just woken. This makes the
+/// mutex fast, because it does not stay idle until the woken thread runs, but a thread may wait
+/// long. `MutexGuard::unlock_fair` gives the mutex to the thread that has waited longest, and a
+/// `FairMutex` always does.
 pub type Mutex<'l, T> = MutexIn<'l, T, Barging>;
 
 /// A `FairMutex` protects a value as a `Mutex` does, and serves threads in the order in which they

@@ -27,7 +27,7 @@ use std::sync::atomic::{AtomicBool, Ordering};
 use std::time::Clock;
 use std::{fmt, sync};
 
-/// A `Begun` is the right to run the closure of a `Once`; that closure is given it.
+/// A `Begun` is the right to run the closure of a `Once`. The closure gets it as its argument.
 ///
 /// Only `Once::new` makes one, and it can be neither cloned nor copied. So a `Once` that ran a
 /// second closure would have nothing to give it.

@@ -103,8 +103,8 @@ const KEPT: usize = !(KEPT_ONCE - 1);
 /// ```
 ///
 /// While a writer waits, new readers wait behind it. So a thread that already reads must not call
-/// `read` again; it calls `read_recursive`. A writer that arrives may get the lock before a woken
-/// thread, unless a guard's `unlock_fair` woke that one.
+/// `read` again; it calls `read_recursive`. A writer that arrives may get the lock before a thread
+/// that was just woken, unless that thread was woken by the `unlock_fair` of a guard.
 ///
 /// There is a third way to hold the lock: an upgradable read. One thread at a time has it, beside
 /// other readers, and can go on to write, with nobody having written in between.

@@ -168,7 +168,7 @@ impl<'l> Semaphore<'l> {
 
     /// Adds the given number of permits, and unparks threads that may have them.
     ///
-    /// What would go beyond `usize::MAX` is lost.
+    /// Permits beyond `usize::MAX` are lost.
     #[inline]
     pub fn add_permits<R: Wait>(&self, rt: &R, permits: usize) {
         if permits != 0 {

@@ -10,8 +10,10 @@ use std::time::Clock;
 
 const USAGE_STATUS: u8 = 2;
 
-/// Runs the command that the arguments name. Any other words, none or too many are answered by the
-/// usage line on the error output and the status 2.
+/// Runs the command that the arguments name.
+///
+/// If there is not exactly one argument, or it is no command, the program prints its usage on the
+/// error output and ends with status 2.
 pub fn run<
     R: Env + Input + Print + Eprint + AllocGlobal + Threads + Wait + Clock + Copy + Send + 'static,
 >(rt: &R) -> ExitCode {

@@ -5,7 +5,7 @@
 
 use std::fmt::Write;
 
-/// An answer. The first `#` of its form stands for the first number, and another one for the second.
+/// An answer. The first `#` of its form stands for the first number, and another for the second.
 #[derive(Copy, Clone)]
 pub struct Told {
     pub form: &'static str,

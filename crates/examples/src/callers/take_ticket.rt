@@ -12,7 +12,7 @@ pub fn look<'a, 'r, 'l, R: Wait + Clock>(
     left.lock(rt)
 }
 
-/// Takes a ticket, and waits so long for one. Answers whether it has one.
+/// Takes a ticket if there is one in time, and returns whether it has taken one.
 pub fn take_ticket<R: Wait + Clock>(
     rt: &R,
     left: &Mutex<'_, u32>,

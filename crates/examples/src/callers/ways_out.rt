@@ -17,7 +17,7 @@ pub fn add<R: Wait + Clock>(
     Ok(())
 }
 
-/// Takes a seat. If none is free, it ends by `return`.
+/// Takes a seat, and returns whether one was free.
 pub fn take_seat<R: Wait + Clock>(rt: &R, free: &Mutex<'_, u32>) -> bool {
     let mut free = free.lock(rt);
     if *free == 0 {

@@ -1,4 +1,4 @@
-//! This module chooses whom a thread wakes when it releases the lock.
+//! This module releases the lock, and chooses whom the thread that released it wakes.
 
 use super::waiting::{IS_KEPT, WRITES};
 use super::{DRAINS, KEPT_ONCE, PARKED, RwLock, UPGRADING, WRITER};

@@ -1,6 +1,6 @@
-//! The machine of docs/THEOREMS.md, as slow and plain as it is told there: who waits, in the order in
-//! which they came, what each number is doing, what the threads have recorded, and how many buckets
-//! a table has.
+//! The machine of docs/THEOREMS.md, as slow and plain as it is told there: who waits, in the order
+//! in which they came, what each number is doing, what the threads have recorded, and how many
+//! buckets a table has.
 //!
 //! It knows no bucket, no node and no place, and no lot.
 
@@ -257,8 +257,8 @@ impl Plain {
         answer
     }
 
-    /// Takes the threads off their lists that an unpark takes, but leaves them their statuses. Those
-    /// who are moved come behind the others.
+    /// Takes the threads off their lists that an unpark takes, but leaves them their statuses.
+    /// Those who are moved come behind the others.
     pub fn unpark(&mut self, line: &str, taken: &mut Vec<usize>) -> Told {
         let mut moved = Vec::new(self.alloc);
         let left = self.part(line, taken, &mut moved);

@@ -1,5 +1,5 @@
-//! The machine of a fair mutex and its condition variable, as plain as docs/THEOREMS.md tells it. It
-//! knows no lot, and moves threads one by one.
+//! The machine of a fair mutex and its condition variable, as plain as docs/THEOREMS.md tells it.
+//! It knows no lot, and moves threads one by one.
 
 use super::pairs::{add, beside, put, take};
 use crate::told::{Told, said, told_of, write_list};

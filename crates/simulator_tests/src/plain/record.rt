@@ -12,8 +12,8 @@ use std::alloc::Global;
 pub struct PlainRecord {
     plain: Plain,
 
-    // For each entry that is set aside its thread, and nothing beside it: one for the end of a park,
-    // and with a timeout one for its deadline.
+    // For each entry that is set aside its thread, and nothing beside it: one for the end of a
+    // park, and with a timeout one for its deadline.
     aside: Vec<(usize, usize)>,
 
     pub entries: usize,
