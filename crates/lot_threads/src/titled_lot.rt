@@ -1,10 +1,9 @@
 //! This module has a lot whose keys have titles, for locks whose own tables tell who waits.
 
 ghost use Rattle.std.specs.Prelude.{◌≡◌, ◌≢◌, ◌↔◌, ◌<◌, ◌≤◌, [], replicate, Contains, Err, IfErr, IfOk, IfSome, IsErrOf};
-ghost use Rattle.atomic_table.specs.Seated.{TableId};
 ghost use Rattle.lot_machine.specs.declared.step.Answer.{Answer};
 ghost use Rattle.lot_machine.specs.declared.step.Step.{Step};
-ghost use Rattle.lot_history.specs.Witness.{Extends, IsStill, events_of, limit_of, max_threads_of, seen_by};
+ghost use Rattle.lot_history.specs.Witness.{Extends, IsStill, events_of, id_of, limit_of, max_threads_of, seen_by};
 ghost use Rattle.lot_threads.specs.Dealers.{IsDealt};
 ghost use Rattle.lot_threads.specs.Idle.{IsIdle, StaysIdle};
 ghost use Rattle.lot_threads.specs.Members.{Begins, IsDataOf, IsListed, Stays, member_of};
@@ -117,11 +116,9 @@ impl<P: ThreadParkerT> TitledLot<P> {
 
     /// Deals the next key with its title, or returns `None` if all are dealt.
     ///
-    /// The title is for the table of a lock, which the caller names as the ghost argument `home`.
     /// No key is dealt twice. It takes the lock of the titles.
     pub fn deal<R: Wait>(&self, rt: &R) -> Option<(usize, Title)>
-        ghost home: { TableId }
-        ensures { IfSome result (λ dealt. IsDealt self.now home dealt.0 dealt.1) }
+        ensures { IfSome result (λ dealt. IsDealt self.now (id_of self.now) dealt.0 dealt.1) }
     {
         let mut held = self.dealer.lock(rt);
         let dealt = held.value.deal(self.shared.history(), self.shared.limit());

@@ -8,7 +8,7 @@ use std::ops::{Deref, DerefMut};
 /// `Release` says how a lock is released.
 ///
 /// `G` is what a thread holds while it has the lock.
-pub trait Release<G>: Drop {
+pub trait Release<G> {
     /// Releases the lock, and wakes threads that may have it next, if any wait.
     fn release(self, held: G);
 }

@@ -68,11 +68,14 @@
 //! - `Semaphore`: upstream has none. tokio has one that can be closed. No thread overtakes those
 //!   that wait there, and more than `MAX_PERMITS` permits panic. `SemaphorePermit::permits` is
 //!   `num_permits` there.
+//! - `TitledMutex`: upstream has none. Its threads wait in a `TitledLot`, and each call that waits
+//!   may lock the bucket of its key once more than a `Mutex` does.
 #![tactic(auto)]
 
 pub mod barrier;
 pub mod condvar;
 pub mod guard;
+pub mod latch;
 pub mod lazy_lock;
 pub mod lens;
 pub mod lot;
@@ -82,6 +85,7 @@ pub mod once_lock;
 pub mod reentrant_mutex;
 pub mod rw_lock;
 pub mod semaphore;
+pub mod titled_mutex;
 mod wait_queue;
 
 pub use barrier::{Barrier, BarrierWaitResult, Parties, Party};
@@ -90,9 +94,11 @@ pub use guard::Guard;
 pub use lazy_lock::LazyLock;
 pub use lens::{Lens, MappedGuard};
 pub use lot::Lot;
+pub use lot_threads::{TitledLot, WordParker};
 pub use mutex::{FairMutex, FairMutexGuard, Mutex, MutexGuard};
 pub use once::{Begun, Once};
 pub use once_lock::OnceLock;
 pub use reentrant_mutex::{Owner, ReentrantMutex, ReentrantMutexGuard};
 pub use rw_lock::{RwLock, RwLockReadGuard, RwLockUpgradableReadGuard, RwLockWriteGuard};
 pub use semaphore::{Semaphore, SemaphorePermit};
+pub use titled_mutex::{TitledLocked, TitledMutex, TitledMutexGuard};

@@ -1,0 +1,7 @@
+pub mod LatchCounts
+pub mod LatchBoard
+pub mod LatchTitles
+pub mod LatchTries
+pub mod LatchKeys
+pub mod LatchHolds
+pub mod TitledMutexLemmas

@@ -1,0 +1,10 @@
+use Rattle.std.proofs.Common.{refl}
+use Rattle.parking_lot.specs.declared.latch.Content.TheVariants.{Title}
+use Rattle.parking_lot.specs.LatchKey.{without_key}
+use Rattle.parking_lot.proofs.LatchKeys.{in_front}
+use Rattle.parking_lot.proofs.latch.Latch.carry.Goals as goal
+
+pub exchange-requires-clause-slot : goal.exchange-requires-clause-slot
+exchange-requires-clause-slot g c =
+    let took = c.if-not-take_slot.ensures.took refl in
+    (Title took.title, in_front (without_key c.take_slot.new.hand.seat.me) _ 1 (Title took.title) _ took.is)

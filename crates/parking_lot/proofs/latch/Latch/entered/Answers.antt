@@ -1,0 +1,40 @@
+use Rattle.std.proofs.Common.{rules, ◌+◌, ◌*◌, ◌==◌, ℕ, [], ◌∷◌, List, Option, None, Some, true, false, ap, ◌∙◌, refl, arith}
+use mathlib.Core.Option.{none}
+use prog.Atomic.{either}
+use Rattle.atomic_table.specs.Table.{step, Me, rest}
+use Rattle.parking_lot.specs.declared.latch.Content.{Content}
+use Rattle.parking_lot.specs.declared.latch.Content.TheVariants.{Out, Value, Title}
+use Rattle.parking_lot.specs.declared.latch.view.View.{View}
+use Rattle.parking_lot.specs.LatchKey.{without_key}
+use Rattle.parking_lot.specs.Latch.{numbers_of}
+use Rattle.parking_lot.specs.LatchView.{view, outside, inside}
+use Rattle.parking_lot.proofs.LatchKeys.{at_key, put_in_front}
+use Rattle.parking_lot.proofs.latch.Latch.entered.Goals as goal
+use Rattle.parking_lot.specs.LatchSteps.{newest, told_in, EnteredTells}
+use Rattle.parking_lot.proofs.LatchCounts.{newest_is}
+use Rattle.parking_lot.proofs.LatchTitles.{enters, entered_tells}
+
+pub store-requires : goal.store-requires
+store-requires g c =
+    let told = g.M.Tells.told in
+    let fits = g.M.Tells.fits in
+    let key = c.args.self.now.table.shared.key in
+    let id = c.put_title.new.hand.seat.id in
+    let title = c.args.title in
+    let me = without_key c.args.hand.now.seat.me in
+    let numbers = numbers_of c.args.hand.now in (
+      c.put_title.ensures.latch.table,
+      search rules,
+      at_key told fits key _ 2 id _ (view false me.0.waits (Some numbers), (1, Title title) ∷ []) 0 (λ _. 3) (λ _. 3)
+          (λ _. EnteredTells told) (λ n. step n 0 3 0 none) c.args.self.now.sized.1 c.put_title.ensures.latch.carried
+          (put_in_front me _ _ 1 Out (Title title) _ c.put_title.ensures.back c.requires.carries)
+          (enters told (fits key) id me.0.waits numbers c.args.number title c.requires.waits c.requires.new_one c.requires.fits
+          c.requires.tells),
+    )
+
+pub returns-clause-waits : goal.returns-clause-waits
+returns-clause-waits g c =
+    let told = g.M.Tells.told in
+    let me = without_key c.args.hand.now.seat.me in
+    let back = put_in_front me _ _ 1 Out (Title c.args.title) _ c.put_title.ensures.back c.requires.carries in
+    entered_tells told _ _ _ _ (numbers_of c.args.hand.now) c.args.number c.store.ensures.2.told back c.requires.tells

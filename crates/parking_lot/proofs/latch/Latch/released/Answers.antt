@@ -1,0 +1,36 @@
+use Rattle.std.proofs.Common.{rules, ◌+◌, ◌*◌, ◌==◌, ℕ, [], ◌∷◌, List, Option, None, Some, true, false, ap, ◌∙◌, refl, arith}
+use mathlib.Core.Option.{none}
+use prog.Atomic.{either}
+use Rattle.atomic_table.specs.Table.{step, Me, rest}
+use Rattle.parking_lot.specs.declared.latch.Content.{Content}
+use Rattle.parking_lot.specs.declared.latch.Content.TheVariants.{Out, Value, Title}
+use Rattle.parking_lot.specs.declared.latch.view.View.{View}
+use Rattle.parking_lot.specs.LatchKey.{without_key}
+use Rattle.parking_lot.specs.Latch.{numbers_of}
+use Rattle.parking_lot.specs.LatchView.{view, outside, inside}
+use Rattle.parking_lot.proofs.LatchKeys.{at_key, put_in_front}
+use Rattle.parking_lot.proofs.latch.Latch.released.Goals as goal
+use Rattle.parking_lot.specs.LatchSteps.{ReleasedTells}
+use Rattle.parking_lot.proofs.LatchTitles.{releases_all}
+
+pub store-requires : goal.store-requires
+store-requires g c =
+    let told = g.M.Tells.told in
+    let fits = g.M.Tells.fits in
+    let key = c.args.self.now.table.shared.key in
+    let id = c.put_title.new.hand.seat.id in
+    let title = c.args.title in
+    let me = without_key c.args.hand.now.seat.me in
+    let numbers = numbers_of c.args.hand.now in
+    let bit = c.told_bit.ensures in
+    let new = c.told_bit.result in
+    let value = c.requires.carries.0 in (
+      c.put_title.ensures.latch.table,
+      search rules,
+      at_key told fits key _ 2 id _ (view true me.0.waits (Some numbers), (1, Title title) ∷ (0, Value value) ∷ []) 0
+          (λ _. new) (λ _. new) (λ _. ReleasedTells) (λ n. step n 0 new 0 none) c.args.self.now.sized.1
+          c.put_title.ensures.latch.carried
+          (put_in_front me _ _ 1 Out (Title title) _ c.put_title.ensures.back c.requires.carries.1)
+          (releases_all told (fits key) id me.0.waits numbers title value bit.0 new bit.1 bit.2
+          (λ e. c.requires.more (bit.3 e)) c.requires.fits c.requires.others c.requires.gone),
+    )

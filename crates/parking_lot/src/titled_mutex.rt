@@ -1,0 +1,265 @@
+//! This module has a mutex of which it is proved that no wake-up is lost.
+//!
+//! # The protocol
+//!
+//! One word says how the mutex is: 0 is free and 1 is held. In 2, which is free, and 3, which is
+//! held, somebody may wait. In 7 the mutex is held, somebody may wait, and the title of the key,
+//! which tells who waits, is out with a thread. Otherwise the title lies in the mutex. A thread
+//! takes the title out only in the critical section of the key, and puts it back before the section
+//! ends.
+//!
+//! - A thread that arrives makes 0 into 1, or 2 into 3.
+//! - If it cannot, it makes 1 into 3, takes the title in a section of the key, enters the list, puts
+//!   the title back, and sleeps. A thread that was woken tries again like any other.
+//! - A thread that has the mutex after it waited gives its number up before it goes on, in a section
+//!   of the key if somebody may wait.
+//! - An unlock makes 1 into 0. If somebody may wait, it takes the title in a section of the key,
+//!   unparks the first thread of the list, and puts the title back as it makes the word 2, or 0 if
+//!   nobody is left in the list.
+//! - A thread whose deadline has passed opens the section of the key. If the mutex is free, it takes
+//!   the mutex. In either case it leaves the list. If an unpark took it before, it was woken: it
+//!   tries to take the mutex, and gives up only while another thread holds the mutex.
+//!
+//! Between any two steps of all threads `mutexes_forget_nobody` holds: who is in the list is told by
+//! the word, and if the mutex is free then, some thread waits that is not in the list. That thread
+//! was woken, and tries next.
+
+ghost use Rattle.std.specs.Prelude.{IfSome};
+ghost use Rattle.lot_threads.specs.Titled.{told_by};
+ghost use Rattle.parking_lot.specs.Latch.{key_of};
+ghost use Rattle.parking_lot.specs.TitledMutexes.{FitsQueue, Holds, HoldsEmpty, IsQueueOf, Rests};
+
+mod waiting;
+
+use crate::guard::{Guard, Release};
+use crate::latch::{Hand, Latch, Tells};
+use crate::lot::{instant_after, is_past, stand_back};
+use crate::titled_mutex::waiting::FREE;
+use lot_threads::{LotError, Title, TitledLot, Witness, WordParker};
+use std::alloc::Global;
+use std::sync::Wait;
+use std::time::{Clock, Duration, Instant};
+
+/// A `QueueKey` says in proofs of which key and of which lot a title is. Nothing reads it.
+#[derive(Drop)]
+pub struct QueueKey {
+    key: usize,
+    home: Witness,
+}
+
+impl Tells for Title {
+    type Key = QueueKey;
+
+    ghost told = { λ title. told_by title };
+
+    ghost fits = { λ queue title. FitsQueue queue title };
+}
+
+/// A `TitledMutex` protects a value, so that only one thread at a time can use it, and it is proved
+/// that no thread that waits for it is forgotten.
+///
+/// Use it like a `Mutex`. It waits in a `TitledLot`, which deals each such mutex a key. Two threads
+/// that meet cost it more than a `Mutex`: see `docs/MEASUREMENTS.md`.
+///
+/// If a guard is forgotten by `mem::forget`, the mutex stays locked.
+#[derive(Drop)]
+pub struct TitledMutex<'l, T: Drop> {
+    lot: &'l TitledLot<WordParker>,
+    latch: Latch<T, Title>,
+    key: usize,
+    alloc: Global,
+    ghost of_lot: { IsQueueOf lot.now key (key_of latch) },
+}
+
+/// A `TitledMutexGuard` gives access to the value of a `TitledMutex`, and unlocks the mutex when it
+/// is dropped.
+///
+/// The drop is one exchange if nobody may wait. Otherwise it is a critical section of the key.
+pub type TitledMutexGuard<'a, 'r, 'l, T, R> = Guard<Box<T>, TitledLocked<'a, 'r, 'l, T, R>>;
+
+/// `TitledLocked` is what a guard remembers of its mutex.
+///
+/// It has no `Drop`, so the mutex is unlocked if the guard is dropped, and not without it.
+pub struct TitledLocked<'a, 'r, 'l, T: Drop, R: Wait> {
+    mutex: &'a TitledMutex<'l, T>,
+    rt: &'r R,
+    hand: Hand<T, Title>,
+    ghost own: { HoldsEmpty mutex.now.latch hand },
+}
+
+impl<T: Drop, R: Wait> Release<Box<T>> for TitledLocked<'_, '_, '_, T, R> {
+    #[inline]
+    fn release(self, held: Box<T>) {
+        let TitledLocked {
+            mutex,
+            rt,
+            mut hand,
+        } = self;
+        mutex.latch.put_value(&mut hand, held);
+        if mutex.latch.release(&mut hand) {
+            hand.leave();
+        } else {
+            mutex.release_slow(rt, hand);
+        }
+    }
+}
+
+impl<'l, T: Drop> TitledMutex<'l, T> {
+    /// Creates a mutex that nobody holds, around the given value.
+    ///
+    /// It takes the next key of the lot, and allocates a block for the value, one for the word and
+    /// one for two slots. No other call allocates, but for the registration of a thread that has to
+    /// wait, which may make the table of the lot larger.
+    ///
+    /// # Errors
+    ///
+    /// Returns `Full` if all keys of the lot that have titles are dealt, and `NoMemory` if there is
+    /// not enough memory. The value is dropped then.
+    pub fn new<R: Wait>(
+        rt: &R,
+        alloc: Global,
+        lot: &'l TitledLot<WordParker>,
+        value: T,
+    ) -> Result<TitledMutex<'l, T>, LotError> {
+        let value = Box::new(alloc, value)?;
+        let (key, title) = lot.deal(rt).ok_or(LotError::Full)?;
+        let queue = QueueKey {
+            key,
+            home: lot.witness(),
+        };
+        let latch = Latch::new(alloc, value, title, &queue)?;
+        Ok(TitledMutex {
+            lot,
+            latch,
+            key,
+            alloc,
+        })
+    }
+
+    /// Locks the mutex, and waits while another thread holds it.
+    ///
+    /// A thread that already holds the mutex waits for ever.
+    #[inline]
+    pub fn lock<'a, 'r, R: Wait>(&'a self, rt: &'r R) -> TitledMutexGuard<'a, 'r, 'l, T, R> {
+        let hand = self.hold(rt);
+        self.guard(rt, hand)
+    }
+
+    /// Locks the mutex if it is free; otherwise returns `None` at once.
+    pub fn try_lock<'a, 'r, R: Wait>(
+        &'a self,
+        rt: &'r R,
+    ) -> Option<TitledMutexGuard<'a, 'r, 'l, T, R>> {
+        let mut hand = self.latch.arrive();
+        if self.try_take(&mut hand) {
+            return Some(self.guard(rt, hand));
+        }
+        hand.leave();
+        None
+    }
+
+    /// Locks the mutex as `lock` does, but returns `None` if it cannot do so within the duration.
+    pub fn lock_for<'a, 'r, R: Wait + Clock>(
+        &'a self,
+        rt: &'r R,
+        duration: Duration,
+    ) -> Option<TitledMutexGuard<'a, 'r, 'l, T, R>> {
+        match instant_after(rt, duration) {
+            Ok(Some(deadline)) => self.lock_until(rt, deadline),
+            Ok(None) => Some(self.lock(rt)),
+            Err(_) => self.try_lock(rt),
+        }
+    }
+
+    /// Locks the mutex as `lock` does, but returns `None` if it cannot do so before the deadline.
+    pub fn lock_until<'a, 'r, R: Wait + Clock>(
+        &'a self,
+        rt: &'r R,
+        deadline: Instant,
+    ) -> Option<TitledMutexGuard<'a, 'r, 'l, T, R>> {
+        let hand = self.hold_until(rt, deadline)?;
+        Some(self.guard(rt, hand))
+    }
+
+    /// Returns whether a thread holds the mutex.
+    pub fn is_locked(&self) -> bool {
+        self.latch.word() % 2 == 1
+    }
+
+    // The guard of a thread that holds the mutex.
+    #[inline]
+    fn guard<'a, 'r, R: Wait>(
+        &'a self,
+        rt: &'r R,
+        holder: Hand<T, Title>,
+    ) -> TitledMutexGuard<'a, 'r, 'l, T, R>
+        requires { Holds self.now.latch holder }
+    {
+        let mut hand = holder;
+        let value = self.latch.take_value(&mut hand);
+        Guard::new(
+            value,
+            TitledLocked {
+                mutex: self,
+                rt,
+                hand,
+            },
+        )
+    }
+
+    // A thread that holds the mutex.
+    #[inline]
+    fn hold<R: Wait>(&self, rt: &R) -> Hand<T, Title>
+        ensures { Holds self.now.latch result }
+    {
+        let mut hand = self.latch.arrive();
+        if self.latch.acquire(&mut hand, FREE) {
+            return hand;
+        }
+        self.hold_slow(rt, hand)
+    }
+
+    // The same for a thread that found the mutex held, or others waiting.
+    #[cold]
+    #[inline(never)]
+    fn hold_slow<R: Wait>(&self, rt: &R, arrived: Hand<T, Title>) -> Hand<T, Title>
+        requires { Rests self.now.latch arrived }
+        ensures { Holds self.now.latch result }
+    {
+        let mut hand = arrived;
+        for _ in rt.forever() {
+            stand_back();
+            if self.try_take(&mut hand) {
+                return hand;
+            }
+            if let Ok(thread) = self.lot.thread_data(rt, self.alloc) {
+                return self.wait(rt, hand, thread);
+            }
+        }
+        unreachable!()
+    }
+
+    // A thread that holds the mutex, or none where the deadline passed.
+    fn hold_until<R: Wait + Clock>(&self, rt: &R, deadline: Instant) -> Option<Hand<T, Title>>
+        ensures { IfSome result (Holds self.now.latch) }
+    {
+        let mut hand = self.latch.arrive();
+        if self.try_take(&mut hand) {
+            return Some(hand);
+        }
+        for _ in rt.forever() {
+            stand_back();
+            if self.try_take(&mut hand) {
+                return Some(hand);
+            }
+            if is_past(rt, Some(deadline)) {
+                hand.leave();
+                return None;
+            }
+            if let Ok(thread) = self.lot.thread_data(rt, self.alloc) {
+                return self.wait_until(rt, hand, thread, deadline);
+            }
+        }
+        unreachable!()
+    }
+}
