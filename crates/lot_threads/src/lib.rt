@@ -36,8 +36,8 @@
 //! - `WordParker`, `ThreadParker`, `YieldParker`: they are upstream's `ThreadParker` of `linux.rs`,
 //!   `unix.rs` and `generic.rs`. Upstream's parkers hand nothing over, so `Letter` has no
 //!   counterpart.
-//! - `Member`, `Visitor`, `CriticalSection`, `TitledLot` with its sections and titles, and the calls
-//!   whose names end in `_within` have no counterpart. Only upstream's documentation says which
+//! - `Member`, `Visitor`, `CriticalSection`, `TitledLot` with its sections and titles, and the
+//!   calls whose names end in `_within` have no counterpart. Only upstream's documentation says which
 //!   closures run while a queue is locked.
 #![tactic(auto)]
 

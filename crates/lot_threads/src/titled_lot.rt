@@ -30,10 +30,10 @@ use std::time::{Clock, Instant};
 
 /// A `TitledLot` is a parking lot whose keys below a limit have titles, which tell who waits.
 ///
-/// A lock takes a key with its title by `deal`, and keeps the title in a table of its own. To change
-/// the list of the key, it opens the critical section of the key, takes the title out of its table,
+/// A lock takes a key with its title by `deal`, and keeps the title in a table of its own. To
+/// change the list of the key, it opens the critical section of the key, takes the title out of its table,
 /// makes a step of the section with the title, puts the title back, and closes the section. So
-/// between any two steps the table of the lock tells who is in the list.
+/// whenever no section is open, the lock's table tells who is in the list.
 ///
 /// In everything else it is like a `ParkingLot`. In contracts it is the history of its calls.
 #[derive(Drop)]
@@ -257,8 +257,7 @@ impl<P: ThreadParkerT> TitledLot<P> {
         Ok((back, token))
     }
 
-    /// Returns the title again, once it is known that the thread of this data is not in the list of
-    /// which the title tells.
+    /// Returns the title unchanged, and shows that the thread of this data is not in its list.
     ///
     /// A lock calls it before it forgets that the thread waited. It costs five loads.
     pub fn confirm_out(&self, thread_data: &mut ThreadData, key: usize, title: Title) -> Title

@@ -29,7 +29,7 @@ use std::sync::Wait;
 /// `TitledLot::open` returns one. A step takes the title of the key, and returns the title, which
 /// tells who is in the list after the step, and a `ClosingSection`, in which the bucket is still
 /// locked. So a lock can take its title out of its own table after `open`, and put it back before
-/// `close`, and no other thread finds the title gone.
+/// `close`, and no other section finds the title gone.
 ///
 /// The owner of a section must not call the lot, nor wait for a thread that does. A section has no
 /// `Drop`: it ends in a step or in `close`. In contracts it has two fields, the history of its lot
@@ -59,7 +59,7 @@ pub struct ClosingSection<'a, P: ThreadParkerT> {
     handle: Option<P::UnparkHandle>,
 }
 
-/// An `Entered` is a registered thread that is in the list of a key of a `TitledLot`.
+/// An `Entered` is a registered thread that entered the list of a key of a `TitledLot`.
 ///
 /// `TitledSection::enter` makes one of the thread's data. It has no `Drop`: it ends in
 /// `TitledLot::wait`, or in `wait_until` or `TitledSection::leave`, which return the data again. In
@@ -96,7 +96,7 @@ impl Entered {
         self.number
     }
 
-    /// Returns the key in whose list the thread is.
+    /// Returns the key whose list the thread entered.
     pub fn key(&self) -> usize
         ensures { result ≡ self.now.key }
     {
@@ -169,8 +169,7 @@ impl<'a, P: ThreadParkerT> TitledSection<'a, P> {
 
     /// Unparks the first thread in the list of the key, if there is one, with this token.
     ///
-    /// The result says how many were unparked, none or one, and whether others are left: it is what
-    /// the title told. The thread is woken when the section is closed. The call allocates nothing.
+    /// The result says whether one was unparked and whether others are left, as the title told. The thread is woken when the section is closed. The call allocates nothing.
     pub fn unpark_one<R: Wait>(
         self,
         rt: &R,

@@ -9,7 +9,7 @@ use Rattle.parking_lot.specs.declared.latch.Content.{Content}
 use Rattle.parking_lot.specs.declared.latch.Content.TheVariants.{Value, Title}
 use Rattle.parking_lot.specs.declared.latch.view.View.{View}
 use Rattle.parking_lot.specs.LatchView.{resting}
-use Rattle.parking_lot.specs.LatchKey.{without_key, UnderKey, TellsUnderKey}
+use Rattle.lot_word_lock.specs.WordKey.{without_key, UnderKey, TellsUnderKey}
 use Rattle.parking_lot.specs.LatchRule.{Orderly}
 use Rattle.parking_lot.proofs.LatchTries.{opens}
 
@@ -57,23 +57,6 @@ module _ {S V K : Type 0} (rule : K → State S V → Type 0) (key : K) where
           told = subst (λ (k : K). tells k st (without_key m) (g (get_or s.words i 0))
               (next.0, carried_after m.1 next.1)) (sym same) next.4;
         },
-      )
-
-  pub lift_enters : (n i : ℕ) (v : V) (tells : K → Step S → Me S V → ℕ → Me S V → Type 0) (st : Step S)
-      → Enters (rule key) n i (λ r w. tells key st (v, []) r (w, []))
-      → Enters (UnderKey rule key) n i (λ r w. TellsUnderKey tells st ((key, v), []) r (w, []))
-  lift_enters n i v tells st enters s o slots wide =
-      let next = enters record { words = s.words; homes = s.homes; views = map (λ (carried : K × V). carried.1) s.views }
-      o.rest slots wide in
-      let view : K × V = (key, next.0) in (
-        view,
-        record {
-          carried = λ j other at. ⊎_elim (λ t. o.carried j other t) (λ t. ap (λ (v : K × V). v.0) (sym t))
-              (at_snoc s.views view other j at);
-          rest = subst (λ (vs : List V). rule key record { words = s.words; homes = s.homes; views = vs })
-              (sym (map-append (λ (carried : K × V). carried.1) s.views (view ∷ []))) next.1;
-        },
-        record { carried = refl; told = next.2 },
       )
 
 module _ {T M K : Type 0} (told : M → List ℕ) (fits : K → M → Type 0) (key : K) where

@@ -7,7 +7,7 @@ use Rattle.parking_lot.specs.declared.latch.Content.TheVariants.{Out, Value, Tit
 use Rattle.parking_lot.specs.declared.latch.view.View.{View}
 use Rattle.parking_lot.specs.declared.latch.Latch.{Latch}
 use Rattle.parking_lot.specs.declared.latch.Hand.{Hand}
-use Rattle.parking_lot.specs.LatchKey.{without_key}
+use Rattle.lot_word_lock.specs.WordKey.{without_key}
 use Rattle.parking_lot.specs.LatchView.{view, inside}
 
 abbrev pub numbers_in : Option (List ℕ) → List ℕ

@@ -1,10 +1,10 @@
 -- What the contracts of the locks say.
 pub mod Guards
 pub mod Locks
--- Then the table of a titled mutex, in the order of reading: what a thread knows, the key that it carries, the rule that
--- holds between any two steps, what each step tells, hands as contracts see them, and what follows from the rule.
+-- Then the table of a titled mutex, in the order of reading: what a thread knows beside the key that it carries, as a
+-- word lock's callers do (`WordKey` of lot_word_lock); the rule that holds between any two steps; what each step tells;
+-- hands as contracts see them; and what follows from the rule.
 pub mod LatchView
-pub mod LatchKey
 pub mod LatchRule
 pub mod LatchSteps
 pub mod Latch

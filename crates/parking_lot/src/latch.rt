@@ -1,9 +1,14 @@
-//! This module has a latch, which is the table of a mutex.
+//! This module has a latch: the word of a mutex, its value, and the title of its queue, all in one
+//! table.
+//!
+//! The word is 0 while the latch is free, and 1 while it is held. 2 and 3 say the same, and that
+//! somebody may wait. 7 says that the latch is held, that somebody may wait, and that the title is
+//! out with a thread. The queue is elsewhere: the latch knows of it what the title tells.
 
 ghost use Rattle.std.specs.Prelude.{◌≡◌, ◌⊎◌, ◌≤◌, ◌*◌, ℕ, List, [], ◌∷◌, ◌++◌, Contains, IfOk, IfSome, IfNone, IsTrue, IsFalse, None, Some};
 ghost use Rattle.atomic_table.specs.Table.{State, rest};
 ghost use Rattle.parking_lot.specs.LatchView.{view, resting, outside, inside};
-ghost use Rattle.parking_lot.specs.LatchKey.{without_keys};
+ghost use Rattle.lot_word_lock.specs.WordKey.{without_keys};
 ghost use Rattle.parking_lot.specs.LatchRule.{NoRepeats};
 ghost use Rattle.parking_lot.specs.LatchSteps.{TookTitle, behind};
 ghost use Rattle.parking_lot.specs.LatchLaws.{IsExclusive, ForgetsNobody};
@@ -91,7 +96,7 @@ pub struct Hand<T: Drop, M: Tells> {
 impl<T: Drop, M: Tells> Hand<T, M> {
     ghost use Rattle.parking_lot.specs.Latch.{seat_of};
 
-    /// Ends a hand that is at rest and has no slot.
+    /// Ends a hand that neither holds, waits nor has a slot.
     pub fn leave(self)
         requires { seat_of self ≡ (resting, []) }
     {
@@ -126,7 +131,7 @@ impl<T: Drop, M: Tells> Latch<T, M> {
         }
     }
 
-    /// Creates a hand of this latch, which is at rest.
+    /// Creates a hand that neither holds this latch nor waits.
     #[inline]
     pub fn arrive(&self) -> Hand<T, M>
         ensures latch { IsHandOf self.now result }
@@ -262,8 +267,8 @@ impl<T: Drop, M: Tells> Latch<T, M> {
 
     /// Puts the title back after the thread has left the queue, or was found out of it.
     ///
-    /// The title tells of nobody new, and not of the thread. `more` may be false only if it tells of
-    /// nobody. The thread may hold the latch.
+    /// The title tells of nobody new, and not of the thread. `more` may be false only if it tells
+    /// of nobody. The thread may hold the latch.
     pub fn left(&self, hand: &mut Hand<T, M>, title: M, more: bool)
         requires latch { IsHandOf self.now hand.old }
         requires carries { IsCarrying hand.old }
@@ -282,8 +287,8 @@ impl<T: Drop, M: Tells> Latch<T, M> {
             .store::<Left>(&mut hand.seat, WORD, HELD + told_bit(more));
     }
 
-    /// Puts the title back and frees the latch, after the first who waited was taken from the queue,
-    /// if anybody waited.
+    /// Puts the title back and frees the latch, after the first who waited was taken from the
+    /// queue, if anybody waited.
     ///
     /// The title tells of the others. `more` may be false only if there are none.
     pub fn released(&self, hand: &mut Hand<T, M>, title: M, more: bool)
@@ -310,7 +315,10 @@ impl<T: Drop, M: Tells> Latch<T, M> {
         requires same { M.told title ≡ numbers_of hand.old }
         ensures latch { IsHandOf self.now hand.new }
         ensures returned { seat_of hand.new
-            ≡ (view (seat_of hand.old).0.holds (waits_of hand.old) None, rest (seat_of hand.old).1) }
+            ≡ (
+              view (seat_of hand.old).0.holds (waits_of hand.old) None,
+              rest (seat_of hand.old).1,
+            ) }
     {
         self.put_title(hand, title);
         self.table
@@ -381,17 +389,17 @@ fn told_bit(more: bool) -> u64
     if more { TOLD } else { 0 }
 }
 
-/// At most one thread holds a latch, since the rule that the table of every latch keeps says so.
+/// States that at most one thread holds a latch, by the rule that the table of every latch keeps.
 ///
-/// The state is one without the key that each thread carries.
+/// The state leaves out the key that each thread carries.
 pub fn latches_are_exclusive<T: Drop, M: Tells>()
     ensures { (key : M.Key) → (state : State (Content T M) (M.Key × View))
         → ⟦<Order as TableRule<Content<T, M>, (M::Key, View), M::Key>>⟧.holds key state
         → IsExclusive (without_keys state) }
 {}
 
-/// Whoever waits for a latch is told by its word, and if the latch is free, somebody is on the way,
-/// since the rule that the table of every latch keeps says so.
+/// States that if the title names anybody, the word says so, and if the latch is free then, somebody
+/// is on the way. It follows from the rule that the table of every latch keeps.
 pub fn latches_forget_nobody<T: Drop, M: Tells>()
     ensures { (key : M.Key) → (state : State (Content T M) (M.Key × View))
         → ⟦<Order as TableRule<Content<T, M>, (M::Key, View), M::Key>>⟧.holds key state

@@ -1,4 +1,4 @@
-//! This module has a mutex of which it is proved that no wake-up is lost.
+//! This module has a mutex that is proved to forget no waiting thread.
 //!
 //! # The protocol
 //!
@@ -9,20 +9,20 @@
 //! ends.
 //!
 //! - A thread that arrives makes 0 into 1, or 2 into 3.
-//! - If it cannot, it makes 1 into 3, takes the title in a section of the key, enters the list, puts
-//!   the title back, and sleeps. A thread that was woken tries again like any other.
-//! - A thread that has the mutex after it waited gives its number up before it goes on, in a section
-//!   of the key if somebody may wait.
+//! - If it cannot, it opens the section of the key, makes 1 into 3, takes the title, enters the
+//!   list, puts the title back, and sleeps. A thread that was woken tries again like any other.
+//! - A thread that has the mutex after it waited gives its number up before it goes on. If somebody
+//!   may wait, it does so in a section of the key.
 //! - An unlock makes 1 into 0. If somebody may wait, it takes the title in a section of the key,
 //!   unparks the first thread of the list, and puts the title back as it makes the word 2, or 0 if
 //!   nobody is left in the list.
-//! - A thread whose deadline has passed opens the section of the key. If the mutex is free, it takes
-//!   the mutex. In either case it leaves the list. If an unpark took it before, it was woken: it
-//!   tries to take the mutex, and gives up only while another thread holds the mutex.
+//! - A thread whose deadline has passed takes the mutex if it is free, and in either case leaves the
+//!   list in a section of the key. If an unpark took it before, it was woken: it tries to take the
+//!   mutex, and gives up only while another thread holds the mutex.
 //!
-//! Between any two steps of all threads `mutexes_forget_nobody` holds: who is in the list is told by
-//! the word, and if the mutex is free then, some thread waits that is not in the list. That thread
-//! was woken, and tries next.
+//! It is proved that the laws of `latch` hold between any two steps of all threads. By
+//! `latches_forget_nobody`, the word tells of who is in the list, and if the mutex is free then,
+//! some thread waits that is not in the list. That thread was unparked before.
 
 ghost use Rattle.std.specs.Prelude.{IfSome};
 ghost use Rattle.lot_threads.specs.Titled.{told_by};
@@ -40,7 +40,7 @@ use std::alloc::Global;
 use std::sync::Wait;
 use std::time::{Clock, Duration, Instant};
 
-/// A `QueueKey` says in proofs of which key and of which lot a title is. Nothing reads it.
+/// In proofs, a `QueueKey` names the key and the lot of a title. Nothing reads it.
 #[derive(Drop)]
 pub struct QueueKey {
     key: usize,
@@ -58,8 +58,8 @@ impl Tells for Title {
 /// A `TitledMutex` protects a value, so that only one thread at a time can use it, and it is proved
 /// that no thread that waits for it is forgotten.
 ///
-/// Use it like a `Mutex`. It waits in a `TitledLot`, which deals each such mutex a key. Two threads
-/// that meet cost it more than a `Mutex`: see `docs/MEASUREMENTS.md`.
+/// Use it like a `Mutex`. Its threads wait in a `TitledLot`, which deals each such mutex a key. It
+/// is slower than a `Mutex` when threads compete.
 ///
 /// If a guard is forgotten by `mem::forget`, the mutex stays locked.
 #[derive(Drop)]
@@ -79,7 +79,7 @@ pub type TitledMutexGuard<'a, 'r, 'l, T, R> = Guard<Box<T>, TitledLocked<'a, 'r,
 
 /// `TitledLocked` is what a guard remembers of its mutex.
 ///
-/// It has no `Drop`, so the mutex is unlocked if the guard is dropped, and not without it.
+/// It has no `Drop`: only dropping the guard unlocks the mutex.
 pub struct TitledLocked<'a, 'r, 'l, T: Drop, R: Wait> {
     mutex: &'a TitledMutex<'l, T>,
     rt: &'r R,

@@ -4,7 +4,7 @@
 //! no step can read the key.
 
 ghost use Rattle.parking_lot.specs.LatchView.{resting};
-ghost use Rattle.parking_lot.specs.LatchKey.{UnderKey, TellsUnderKey};
+ghost use Rattle.lot_word_lock.specs.WordKey.{UnderKey, TellsUnderKey};
 ghost use Rattle.parking_lot.specs.LatchRule.{Orderly};
 ghost use Rattle.parking_lot.specs.LatchSteps.{ArriveTells, AcquireTells, ReleaseTells, MarkTells, CarryTells, EnteredTells, LeftTells, ReleasedTells, ReturnedTells, DropWaitTells};
 

@@ -294,7 +294,10 @@ impl<T: Drop> TitledMutex<'_, T> {
             ≡ (view (seat_of hand.old).0.holds None None, rest (seat_of hand.old).1)) }
         ensures own { IfSome result (IsThreadOf self.now.lot.now late.number) }
         ensures woken { IfSome result (λ back. seat_of hand.new
-            ≡ (view (seat_of hand.old).0.holds (Some late.number) None, rest (seat_of hand.old).1)) }
+            ≡ (
+              view (seat_of hand.old).0.holds (Some late.number) None,
+              rest (seat_of hand.old).1,
+            )) }
     {
         let (left, title, section) = section.leave(late, title);
         match left {

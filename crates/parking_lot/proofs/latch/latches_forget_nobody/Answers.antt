@@ -1,4 +1,4 @@
-use Rattle.parking_lot.specs.LatchKey.{without_keys}
+use Rattle.lot_word_lock.specs.WordKey.{without_keys}
 use Rattle.parking_lot.proofs.LatchHolds.{forgets_nobody}
 use Rattle.parking_lot.proofs.latch.latches_forget_nobody.Goals as goal
 

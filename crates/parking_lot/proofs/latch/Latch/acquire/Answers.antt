@@ -7,7 +7,7 @@ use Rattle.parking_lot.specs.declared.latch.Content.TheVariants.{Value}
 use Rattle.parking_lot.specs.declared.latch.view.View.{View}
 use Rattle.parking_lot.specs.LatchView.{outside, inside}
 use Rattle.parking_lot.specs.LatchSteps.{AcquireTells}
-use Rattle.parking_lot.specs.LatchKey.{without_key}
+use Rattle.lot_word_lock.specs.WordKey.{without_key}
 use Rattle.parking_lot.proofs.LatchTries.{acquires, acquired}
 use Rattle.parking_lot.proofs.LatchKeys.{at_key}
 use Rattle.parking_lot.proofs.latch.Latch.acquire.Goals as goal

@@ -5,7 +5,7 @@ use Rattle.parking_lot.specs.LatchView.{resting}
 use Rattle.parking_lot.specs.LatchRule.{Orderly}
 use Rattle.parking_lot.specs.LatchSteps.{ArriveTells}
 use Rattle.parking_lot.proofs.LatchTries.{arrives}
-use Rattle.parking_lot.proofs.LatchKeys.{lift_enters}
+use Rattle.lot_word_lock.proofs.WordKeyLemmas.{lift_enters}
 use Rattle.parking_lot.proofs.latch.Latch.arrive.Goals as goal
 
 pub load_new_seat-requires : goal.load_new_seat-requires

@@ -1,6 +1,6 @@
 use Rattle.std.proofs.Common.{refl}
 use Rattle.parking_lot.specs.declared.latch.Content.TheVariants.{Title}
-use Rattle.parking_lot.specs.LatchKey.{without_key}
+use Rattle.lot_word_lock.specs.WordKey.{without_key}
 use Rattle.parking_lot.proofs.LatchKeys.{in_front}
 use Rattle.parking_lot.proofs.latch.Latch.carry.Goals as goal
 

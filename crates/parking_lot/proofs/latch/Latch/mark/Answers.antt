@@ -5,7 +5,7 @@ use Rattle.atomic_table.specs.Table.{step, Me, rest}
 use Rattle.parking_lot.specs.declared.latch.Content.{Content}
 use Rattle.parking_lot.specs.declared.latch.Content.TheVariants.{Value, Title}
 use Rattle.parking_lot.specs.declared.latch.view.View.{View}
-use Rattle.parking_lot.specs.LatchKey.{without_key}
+use Rattle.lot_word_lock.specs.WordKey.{without_key}
 use Rattle.parking_lot.specs.LatchView.{view, outside, inside}
 use Rattle.parking_lot.proofs.LatchKeys.{at_key}
 use Rattle.parking_lot.proofs.latch.Latch.mark.Goals as goal
