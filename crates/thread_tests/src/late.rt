@@ -111,7 +111,7 @@ fn a_park_lasts_until_its_deadline(rt: HostRuntime) {
         thread
         raise begun
         before_sleep: move 1 2 -> 1
-        park 1 50 -> timed_out 2 last
+        park 1 500 -> timed_out 2 last
         raise ended
         caller
         await begun

@@ -29,6 +29,8 @@ mod sections;
 #[cfg(test)]
 mod sizes;
 #[cfg(test)]
+mod titled_lots;
+#[cfg(test)]
 mod titles;
 #[cfg(test)]
 mod waiters;
