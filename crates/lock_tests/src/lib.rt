@@ -36,4 +36,6 @@ mod semaphore;
 #[cfg(test)]
 mod stage;
 #[cfg(test)]
+mod titled_mutex;
+#[cfg(test)]
 mod values;
