@@ -37,8 +37,8 @@
 //!   `unix.rs` and `generic.rs`. Upstream's parkers hand nothing over, so `Letter` has no
 //!   counterpart.
 //! - `Member`, `Visitor`, `CriticalSection`, `TitledLot` with its sections and titles, and the
-//!   calls whose names end in `_within` have no counterpart. Only upstream's documentation says which
-//!   closures run while a queue is locked.
+//!   calls whose names end in `_within` have no counterpart. Only upstream's documentation says
+//!   which closures run while a queue is locked.
 #![tactic(auto)]
 
 mod cell;

@@ -31,9 +31,9 @@ use std::time::{Clock, Instant};
 /// A `TitledLot` is a parking lot whose keys below a limit have titles, which tell who waits.
 ///
 /// A lock takes a key with its title by `deal`, and keeps the title in a table of its own. To
-/// change the list of the key, it opens the critical section of the key, takes the title out of its table,
-/// makes a step of the section with the title, puts the title back, and closes the section. So
-/// whenever no section is open, the lock's table tells who is in the list.
+/// change the list of the key, it opens the critical section of the key, takes the title out of
+/// its table, makes a step of the section with the title, puts the title back, and closes the
+/// section. So whenever no section is open, the lock's table tells who is in the list.
 ///
 /// In everything else it is like a `ParkingLot`. In contracts it is the history of its calls.
 #[derive(Drop)]

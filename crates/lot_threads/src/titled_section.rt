@@ -169,7 +169,8 @@ impl<'a, P: ThreadParkerT> TitledSection<'a, P> {
 
     /// Unparks the first thread in the list of the key, if there is one, with this token.
     ///
-    /// The result says whether one was unparked and whether others are left, as the title told. The thread is woken when the section is closed. The call allocates nothing.
+    /// The result says whether one was unparked and whether others are left, as the title told. The
+    /// thread is woken when the section is closed. The call allocates nothing.
     pub fn unpark_one<R: Wait>(
         self,
         rt: &R,

@@ -398,8 +398,8 @@ pub fn latches_are_exclusive<T: Drop, M: Tells>()
         → IsExclusive (without_keys state) }
 {}
 
-/// States that if the title names anybody, the word says so, and if the latch is free then, somebody
-/// is on the way. It follows from the rule that the table of every latch keeps.
+/// States that if the title names anybody, the word says so, and if the latch is free then,
+/// somebody is on the way. It follows from the rule that the table of every latch keeps.
 pub fn latches_forget_nobody<T: Drop, M: Tells>()
     ensures { (key : M.Key) → (state : State (Content T M) (M.Key × View))
         → ⟦<Order as TableRule<Content<T, M>, (M::Key, View), M::Key>>⟧.holds key state

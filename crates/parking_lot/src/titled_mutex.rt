@@ -16,9 +16,9 @@
 //! - An unlock makes 1 into 0. If somebody may wait, it takes the title in a section of the key,
 //!   unparks the first thread of the list, and puts the title back as it makes the word 2, or 0 if
 //!   nobody is left in the list.
-//! - A thread whose deadline has passed takes the mutex if it is free, and in either case leaves the
-//!   list in a section of the key. If an unpark took it before, it was woken: it tries to take the
-//!   mutex, and gives up only while another thread holds the mutex.
+//! - A thread whose deadline has passed takes the mutex if it is free, and in either case leaves
+//!   the list in a section of the key. If an unpark took it before, it was woken: it tries to take
+//!   the mutex, and gives up only while another thread holds the mutex.
 //!
 //! It is proved that the laws of `latch` hold between any two steps of all threads. By
 //! `latches_forget_nobody`, the word tells of who is in the list, and if the mutex is free then,
