@@ -7,7 +7,7 @@ use Rattle.std.proofs.lemmas.Option.{same_Some}
 use Rattle.std.specs.Option.{option_copied_mut}
 use mathlib.Core.Option.{some-ne-none}
 use Rattle.atomic_table.specs.Table.{Me}
-use Rattle.atomic_table.specs.Table.{opening, Allows}
+use Rattle.atomic_table.specs.Table.{opening}
 use Rattle.atomic_table.proofs.Lists.{at_snoc}
 use Rattle.lot_word_lock.specs.declared.word_lock.view.View.{View}
 use Rattle.lot_word_lock.specs.declared.word_lock.view.View.TheVariants.{Holding}
@@ -49,14 +49,6 @@ module _ {T : Type 0} (fits : T → Type 0) where
     each_seat = λ j u e. ⊎_elim (λ t. absurd (some-ne-none u (sym t)))
         (λ t. subst (SeatOk (replicate 24 0) []) t (λ pos. absurd (omega arith))) (at_snoc [] resting u j e);
   }
-
-  -- a step of a seat, where the view and the number of slots are known by equations
-  pub at_view : (n n' id : ℕ) (m m' : Me (Option T) View) (i : ℕ) (f : ℕ → ℕ)
-      (then : ℕ → Me (Option T) View → ℕ → Me (Option T) View → Type 0) → n ≡ n' → m ≡ m'
-      → Allows (Orderly fits) n' id m' i f (then n' m') → Allows (Orderly fits) n id m i f (then n m)
-  at_view n n' id m m' i f then slots view allows =
-      subst (λ (k : ℕ). Allows (Orderly fits) k id m i f (then k m)) (sym slots)
-      (subst (λ (x : Me (Option T) View). Allows (Orderly fits) n' id x i f (then n' x)) (sym view) allows)
 
 pub seat_is : {T : Type 0} (m : Me (Option T) View) (v : View) (c : List (ℕ × Option T)) → m.0 ≡ v → m.1 ≡ c
     → m ≡ (v, c)

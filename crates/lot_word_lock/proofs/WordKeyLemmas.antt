@@ -9,7 +9,7 @@ use Rattle.lot_word_lock.specs.declared.word_lock.view.View.{View}
 use Rattle.lot_word_lock.specs.WordView.{resting}
 use Rattle.lot_word_lock.specs.WordKey.{without_key, UnderKey, TellsUnderKey}
 use Rattle.lot_word_lock.specs.WordRule.{Orderly}
-use Rattle.lot_word_lock.proofs.WordKeeps.{at_view, opens}
+use Rattle.lot_word_lock.proofs.WordKeeps.{opens}
 
 module _ {S V K : Type 0} (rule : K → State S V → Type 0) (key : K) where
   lift : (n id : ℕ) (m : Me S (K × V)) (i : ℕ) (f g : ℕ → ℕ) (tells : K → Step S → Me S V → ℕ → Me S V → Type 0)
@@ -40,6 +40,25 @@ module _ {S V K : Type 0} (rule : K → State S V → Type 0) (key : K) where
         },
       )
 
+  -- a step, where the key, the view and the number of slots are known by equations
+  pub step_under_key : (n n' id : ℕ) (m : Me S (K × V)) (m' : Me S V) (i : ℕ) (f g : ℕ → ℕ)
+      (tells : K → Step S → Me S V → ℕ → Me S V → Type 0) (st : ℕ → Step S) → n ≡ n' → m.0.0 ≡ key → without_key m ≡ m'
+      → Allows (rule key) n' id m' i f (λ r. tells key (st n') m' (g r))
+      → Allows (UnderKey rule key) n id m i f (λ r. TellsUnderKey tells (st n) m (g r))
+  step_under_key n n' id m m' i f g tells st slots same view allows =
+      lift n id m i f g tells (st n) same
+      (subst (λ (k : ℕ). Allows (rule key) k id (without_key m) i f (λ r. tells key (st k) (without_key m) (g r)))
+      (sym slots)
+      (subst (λ (x : Me S V). Allows (rule key) n' id x i f (λ r. tells key (st n') x (g r))) (sym view) allows))
+
+  pub opens_under_key : (words : List ℕ) (slots : List S) (view : V) → rule key (opening words slots view)
+      → UnderKey rule key (opening words slots (key, view))
+  opens_under_key words slots view opens = record {
+    carried = λ id other at. ⊎_elim (λ t. absurd (some-ne-none other (sym t))) (λ t. ap (λ (v : K × V). v.0) (sym t))
+        (at_snoc [] (key, view) other id at);
+    rest = opens;
+  }
+
   pub lift_enters : (n i : ℕ) (v : V) (tells : K → Step S → Me S V → ℕ → Me S V → Type 0) (st : Step S)
       → Enters (rule key) n i (λ r w. tells key st (v, []) r (w, []))
       → Enters (UnderKey rule key) n i (λ r w. TellsUnderKey tells st ((key, v), []) r (w, []))
@@ -63,11 +82,8 @@ module _ {T K : Type 0} (fits : K → T → Type 0) (key : K) where
   Keyed = UnderKey (λ (k : K). Orderly (fits k)) key
 
   pub opens_keyed : (value : T) → fits key value → Keyed (opening (replicate 24 0) (Some value ∷ []) (key, resting))
-  opens_keyed value fit = record {
-    carried = λ id view at. ⊎_elim (λ t. absurd (some-ne-none view (sym t))) (λ t. ap (λ (v : K × View). v.0) (sym t))
-        (at_snoc [] (key, resting) view id at);
-    rest = opens (fits key) value fit;
-  }
+  opens_keyed value fit = opens_under_key (λ (k : K). Orderly (fits k)) key (replicate 24 0) (Some value ∷ []) resting
+      (opens (fits key) value fit)
 
   -- a step of a caller, where the key, the view and the number of slots are known by equations
   pub at_key : (n n' id : ℕ) (m : Me (Option T) (K × View)) (m' : Me (Option T) View) (i : ℕ) (f g : ℕ → ℕ)
@@ -75,6 +91,4 @@ module _ {T K : Type 0} (fits : K → T → Type 0) (key : K) where
       → n ≡ n' → m.0.0 ≡ key → without_key m ≡ m'
       → Allows (Orderly (fits key)) n' id m' i f (λ r. tells key (st n') m' (g r))
       → Allows Keyed n id m i f (λ r. TellsUnderKey tells (st n) m (g r))
-  at_key n n' id m m' i f g tells st slots same view allows =
-      lift (λ (k : K). Orderly (fits k)) key n id m i f g tells (st n) same
-      (at_view (fits key) n n' id (without_key m) m' i f (λ k x r. tells key (st k) x (g r)) slots view allows)
+  at_key = step_under_key (λ (k : K). Orderly (fits k)) key

@@ -8,8 +8,10 @@ use Rattle.atomic_table.specs.Table.{State, Me, Act, Valid, carried_after, stepp
 use Rattle.atomic_table.proofs.Lists.{set_again, set_else}
 use Rattle.parking_lot.specs.declared.latch.Content.{Content}
 use Rattle.parking_lot.specs.declared.latch.view.View.{View}
-use Rattle.parking_lot.specs.LatchRule.{total, holds_it, carries_it, WaitsAs, SomeSeat, NoRepeats, Homes, IsOut, HasValue, HasTitle, Orderly}
-use Rattle.parking_lot.proofs.LatchCounts.{total-set, one_term, Known, empty_unless}
+use Rattle.lot_word_lock.specs.WordPlaces.{total}
+use Rattle.lot_word_lock.proofs.WordCounts.{total-set, one_term}
+use Rattle.parking_lot.specs.LatchRule.{holds_it, carries_it, WaitsAs, SomeSeat, NoRepeats, Homes, IsOut, HasValue, HasTitle, Orderly}
+use Rattle.parking_lot.proofs.LatchCounts.{Known, empty_unless}
 
 abbrev pub St : Type 0 → Type 0 → Type 0
 St T M = State (Content T M) View

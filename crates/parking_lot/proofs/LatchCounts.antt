@@ -8,46 +8,15 @@ use lib.ListN.{get_elem?}
 use Rattle.std.proofs.lemmas.List.Elements.{Contains-append_left, Contains-push, Contains-push_cases}
 use Rattle.atomic_table.proofs.Lists.{at_set, at_longer, set_here, set_else}
 use Rattle.parking_lot.specs.declared.latch.view.View.{View}
-use Rattle.parking_lot.specs.LatchRule.{total, holds_it, carries_it, one_if_some, WaitsAs, SomeSeat, NoRepeats}
+use Rattle.lot_word_lock.specs.WordPlaces.{total}
+use Rattle.lot_word_lock.proofs.WordCounts.{one_term}
+use Rattle.parking_lot.specs.LatchRule.{carries_it, one_if_some, WaitsAs, SomeSeat, NoRepeats}
 use Rattle.parking_lot.specs.LatchSteps.{newest}
 
-module _ {A : Type 0} where
-  module _ (f : A → ℕ) where
-    pub total-append : (l m : List A) → total f (l ++ m) ≡ total f l + total f m
-    total-append [] m = omega arith
-    total-append (x ∷ xs) m = omega (arith, total-append xs m)
-
-    pub total-set : (l : List A) (j : ℕ) (v w : A) → get_elem? l j ≡ some v
-        → total f (set l j w) + f v ≡ total f l + f w
-    total-set [] j v w e = absurd (some-ne-none v (sym e))
-    total-set (x ∷ xs) zero v w e = omega (arith, ap f (some-injective x v e))
-    total-set (x ∷ xs) (suc j) v w e = omega (arith, total-set xs j v w e)
-
-    pub one_term : (l : List A) (j : ℕ) (v : A) → get_elem? l j ≡ some v → f v ≤ total f l
-    one_term [] j v e = absurd (some-ne-none v (sym e))
-    one_term (x ∷ xs) zero v e = omega (arith, ap f (some-injective x v e))
-    one_term (x ∷ xs) (suc j) v e = omega (arith, one_term xs j v e)
-
-    -- two of the terms of a sum
-    pub two_terms : (l : List A) (j k : ℕ) (v u : A) → k ≢ j → get_elem? l j ≡ some v → get_elem? l k ≡ some u
-        → f v + f u ≤ total f l
-    two_terms [] j k v u n e d = absurd (some-ne-none v (sym e))
-    two_terms (x ∷ xs) zero zero v u n e d = absurd (n refl)
-    two_terms (x ∷ xs) zero (suc k) v u n e d = omega (arith, ap f (some-injective x v e), one_term xs k u d)
-    two_terms (x ∷ xs) (suc j) zero v u n e d = omega (arith, ap f (some-injective x u d), one_term xs j v e)
-    two_terms (x ∷ xs) (suc j) (suc k) v u n e d = omega (arith, two_terms xs j k v u (λ h. n (ap suc h)) e d)
-
-    -- a sum that is not 0 has a term that is not 0
-    pub some_term : (l : List A) → 0 < total f l → (j : ℕ) × (u : A) × (get_elem? l j ≡ some u) × (0 < f u)
-    some_term [] h = absurd (omega arith)
-    some_term (x ∷ xs) h = dite (ℕ_discrete (f x) 0)
-        (λ none. let t = some_term xs (omega arith) in (suc t.0, t.1, t.2, t.3))
-        (λ more. (0, x, refl, omega arith))
-
-  pub in_range : (l : List A) (i : ℕ) (a : A) → get_elem? l i ≡ some a → i < length l
-  in_range [] i a e = absurd (some-ne-none a (sym e))
-  in_range (x ∷ xs) zero a e = omega arith
-  in_range (x ∷ xs) (suc i) a e = omega (arith, in_range xs i a e)
+in_range : {A : Type 0} (l : List A) (i : ℕ) (a : A) → get_elem? l i ≡ some a → i < length l
+in_range [] i a e = absurd (some-ne-none a (sym e))
+in_range (x ∷ xs) zero a e = omega arith
+in_range (x ∷ xs) (suc i) a e = omega (arith, in_range xs i a e)
 
 pub None_not_Some : {A : Type 0} (a : A) → None ≡ Some a → ⊥
 None_not_Some a e = cc

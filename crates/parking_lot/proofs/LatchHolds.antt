@@ -8,9 +8,10 @@ use lib.ListN.{get_elem?}
 use Rattle.parking_lot.specs.declared.latch.Content.{Content}
 use Rattle.parking_lot.specs.declared.latch.Content.TheVariants.{Title}
 use Rattle.parking_lot.specs.declared.latch.view.View.{View}
-use Rattle.parking_lot.specs.LatchRule.{total, holds_it, carries_it, NoRepeats, Orderly}
+use Rattle.lot_word_lock.specs.WordPlaces.{total}
+use Rattle.lot_word_lock.proofs.WordCounts.{two_terms, some_term}
+use Rattle.parking_lot.specs.LatchRule.{holds_it, carries_it, NoRepeats, Orderly}
 use Rattle.parking_lot.specs.LatchLaws.{SomeHolder, HasHome, IsExclusive, ForgetsNobody}
-use Rattle.parking_lot.proofs.LatchCounts.{two_terms, some_term}
 use Rattle.parking_lot.proofs.LatchBoard.{St, held_by}
 
 true_if : (b : Bool) → 0 < cond b 1 0 → b ≡ true

@@ -16,10 +16,12 @@ use Rattle.parking_lot.specs.declared.latch.Content.{Content}
 use Rattle.parking_lot.specs.declared.latch.Content.TheVariants.{Value, Title}
 use Rattle.parking_lot.specs.declared.latch.view.View.{View}
 use Rattle.parking_lot.specs.LatchView.{view, resting, outside}
-use Rattle.parking_lot.specs.LatchRule.{total, holds_it, carries_it, WaitsAs, SomeSeat, NoRepeats, HasTitle, Homes, Orderly}
+use Rattle.lot_word_lock.specs.WordPlaces.{total}
+use Rattle.lot_word_lock.proofs.WordCounts.{total-set}
+use Rattle.parking_lot.specs.LatchRule.{holds_it, carries_it, WaitsAs, SomeSeat, NoRepeats, HasTitle, Homes, Orderly}
 use Rattle.parking_lot.specs.LatchSteps.{newest, behind, told_in, TookTitle, CarryTells, EnteredTells, LeftTells, ReleasedTells, ReturnedTells}
 use Rattle.std.proofs.lemmas.Option.{same_Some}
-use Rattle.parking_lot.proofs.LatchCounts.{known_none, known_kept, total-set, waits_here, waits_kept, nothing_in, None_not_Some}
+use Rattle.parking_lot.proofs.LatchCounts.{known_none, known_kept, waits_here, waits_kept, nothing_in, None_not_Some}
 use Rattle.parking_lot.proofs.LatchCounts.{Contains-first, Contains-behind, NoRepeats-push, newest_is}
 use Rattle.parking_lot.proofs.LatchBoard.{St, rebuilt, unmoved, Goes, title_else, value_else, out_else, held_by, carried_by}
 

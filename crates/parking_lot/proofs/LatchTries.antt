@@ -13,9 +13,11 @@ use Rattle.parking_lot.specs.declared.latch.Content.{Content}
 use Rattle.parking_lot.specs.declared.latch.Content.TheVariants.{Value, Title}
 use Rattle.parking_lot.specs.declared.latch.view.View.{View}
 use Rattle.parking_lot.specs.LatchView.{view, resting, outside, inside}
-use Rattle.parking_lot.specs.LatchRule.{total, holds_it, carries_it, WaitsAs, Homes, Orderly}
+use Rattle.lot_word_lock.specs.WordPlaces.{total}
+use Rattle.lot_word_lock.proofs.WordCounts.{total-append, total-set}
+use Rattle.parking_lot.specs.LatchRule.{holds_it, carries_it, WaitsAs, Homes, Orderly}
 use Rattle.parking_lot.specs.LatchSteps.{ArriveTells, AcquireTells, ReleaseTells, MarkTells, DropWaitTells}
-use Rattle.parking_lot.proofs.LatchCounts.{total-append, total-set, None_not_Some, known_none, known_kept, waits_kept, waits_longer, nothing_in}
+use Rattle.parking_lot.proofs.LatchCounts.{None_not_Some, known_none, known_kept, waits_kept, waits_longer, nothing_in}
 use Rattle.parking_lot.proofs.LatchBoard.{St, rebuilt, unmoved, Goes, title_else, nobody_waits}
 
 -- a thread that had no slot before it took the latch has slot 0 alone

@@ -7,13 +7,10 @@ use mathlib.Core.Option.{some, none}
 use mathlib.Core.Option as maybe
 use lib.ListN.{get_elem?}
 use Rattle.atomic_table.specs.Table.{State}
+use Rattle.lot_word_lock.specs.WordPlaces.{total}
 use Rattle.parking_lot.specs.declared.latch.Content.{Content}
 use Rattle.parking_lot.specs.declared.latch.Content.TheVariants.{Value, Title}
 use Rattle.parking_lot.specs.declared.latch.view.View.{View}
-
-abbrev pub total : {A : Type 0} → (A → ℕ) → List A → ℕ
-total f [] = 0
-total f (x ∷ xs) = f x + total f xs
 
 abbrev pub one_if_some : Option (List ℕ) → ℕ
 one_if_some None = 0

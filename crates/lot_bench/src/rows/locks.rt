@@ -3,12 +3,14 @@
 
 ghost use Rattle.std.specs.Prelude.{⊤};
 
+use crate::fault::Fault;
 use crate::queue::{Notice, Queue};
 use crate::rows::row::Row;
 use lot_base::word_lock::{Fits, WordLock};
-use lot_threads::NoMemory;
 use parking_lot::mutex::{Fairness, MutexIn};
-use parking_lot::{Condvar, FairMutex, Lot, Mutex, Once, RwLock, Semaphore};
+use parking_lot::{
+    Condvar, FairMutex, Lot, Mutex, Once, RwLock, Semaphore, TitledLot, TitledMutex, WordParker,
+};
 use std::alloc::Global;
 use std::sync;
 use std::sync::Wait;
@@ -24,6 +26,7 @@ const MULTIPLIER: u64 = 0x9E37_79B9_7F4A_7C15;
 pub struct Locks<'l> {
     pub mutex: Mutex<'l, Tally>,
     pub fair_mutex: FairMutex<'l, Tally>,
+    pub titled_mutex: TitledMutex<'l, Tally>,
     pub rw_lock: RwLock<'l, Tally>,
     pub condvar: Condvar<'l>,
     pub once: Once<'l>,
@@ -36,10 +39,16 @@ pub struct Locks<'l> {
 }
 
 impl<'l> Locks<'l> {
-    pub fn new(lot: &'l Lot, alloc: Global) -> Result<Locks<'l>, NoMemory> {
+    pub fn new<R: Wait>(
+        rt: &R,
+        alloc: Global,
+        lot: &'l Lot,
+        titled_lot: &'l TitledLot<WordParker>,
+    ) -> Result<Locks<'l>, Fault> {
         Ok(Locks {
             mutex: Mutex::new(lot, Tally::new())?,
             fair_mutex: FairMutex::new(lot, Tally::new())?,
+            titled_mutex: TitledMutex::new(rt, alloc, titled_lot, Tally::new())?,
             rw_lock: RwLock::new(lot, Tally::new())?,
             condvar: Condvar::new(lot)?,
             once: Once::new(lot)?,
@@ -138,6 +147,13 @@ impl TallyRwLock for sync::RwLock<Tally> {
 }
 
 impl<F: Fairness> TallyLock for MutexIn<'_, Tally, F> {
+    #[inline]
+    fn count_one<R: Wait + Clock>(&self, rt: &R, turns: usize) -> u64 {
+        self.lock(rt).count_one(turns)
+    }
+}
+
+impl TallyLock for TitledMutex<'_, Tally> {
     #[inline]
     fn count_one<R: Wait + Clock>(&self, rt: &R, turns: usize) -> u64 {
         self.lock(rt).count_one(turns)

@@ -7,7 +7,7 @@ use crate::rows::tables::register_all;
 use crate::rows::thousand::thousand_threads;
 use crate::rows::word_mutex::WordMutex;
 use lot_threads::{MAX_THREADS, ParkingLot, ThreadParkerT};
-use parking_lot::Lot;
+use parking_lot::{Lot, TitledLot, WordParker};
 use std::alloc::Global;
 use std::sync::atomic::AtomicU64;
 use std::sync::{Barrier, Wait};
@@ -77,14 +77,16 @@ where
     time_on(rt, alloc, row, &lot)
 }
 
-// The locks have a lot of their own.
+// The locks have lots of their own.
 fn time_on<P, R>(rt: &R, alloc: Global, row: &Row, lot: &ParkingLot<P>) -> Option<u64>
 where
     P: ThreadParkerT + Send + Sync,
     R: Threads + Wait + Clock + Sync,
 {
-    let locks_lot = Lot::new(alloc, row.threads.checked_add(1)?).ok()?;
-    time_with(rt, alloc, row, lot, &locks_lot)
+    let threads = row.threads.checked_add(1)?;
+    let locks_lot = Lot::new(alloc, threads).ok()?;
+    let titled_lot = TitledLot::new(alloc, threads, 1).ok()?;
+    time_with(rt, alloc, row, lot, &locks_lot, &titled_lot)
 }
 
 fn time_with<P, R>(
@@ -93,12 +95,13 @@ fn time_with<P, R>(
     row: &Row,
     lot: &ParkingLot<P>,
     locks_lot: &Lot,
+    titled_lot: &TitledLot<WordParker>,
 ) -> Option<u64>
 where
     P: ThreadParkerT + Send + Sync,
     R: Threads + Wait + Clock + Sync,
 {
-    let locks = Locks::new(locks_lot, alloc).ok()?;
+    let locks = Locks::new(rt, alloc, locks_lot, titled_lot).ok()?;
     let scene = Scene {
         row,
         lot,

@@ -44,6 +44,10 @@ sync_mutex_four            sync_mutex      7 1    4     0    3000 1200000  96000
 sync_mutex_sixteen         sync_mutex      7 1   16     0    3000 4800000 38400000 100
 sync_mutex_two_longer      sync_mutex      7 1    2     0    3000  600000  4800000 100 50
 sync_mutex_four_longer     sync_mutex      7 1    4     0    3000 1200000  9600000 100 50
+titled_alone               titled          7 1    1     0    3000  300000  2400000 100
+titled_two                 titled          7 1    2     0    3000  600000  4800000 100
+titled_four                titled          7 1    4     0    3000 1200000  9600000 100
+titled_sixteen             titled          7 1   16     0    3000 4800000 38400000 100
 sync_read_alone            sync_rw_lock    7 1    1     0    3000  300000        0   0  0 100
 sync_read_two              sync_rw_lock    7 1    2     0    3000  600000        0   0  0 100
 sync_read_four             sync_rw_lock    7 1    4     0    3000 1200000        0   0  0 100
@@ -84,6 +88,7 @@ pub enum Deed {
     StdRwLock,
     SyncMutex,
     SyncRwLock,
+    Titled,
     Fair,
     Condvar,
     CondvarHeld,
@@ -138,6 +143,7 @@ impl Deed {
             "std_rw_lock" => Deed::StdRwLock,
             "sync_mutex" => Deed::SyncMutex,
             "sync_rw_lock" => Deed::SyncRwLock,
+            "titled" => Deed::Titled,
             "fair" => Deed::Fair,
             "condvar" => Deed::Condvar,
             "condvar_held" => Deed::CondvarHeld,

@@ -114,6 +114,7 @@ impl<P: ThreadParkerT> Scene<'_, '_, P> {
             Deed::StdRwLock => count_and_read(rt, &locks.std_rw_lock, row),
             Deed::SyncMutex => count_under(rt, &locks.mutex, row),
             Deed::SyncRwLock => count_and_read(rt, &locks.rw_lock, row),
+            Deed::Titled => count_under(rt, &locks.titled_mutex, row),
             Deed::Fair => count_under(rt, &locks.fair_mutex, row),
             Deed::Condvar => locks.counts_by_turns(rt, place, row.calls, false),
             Deed::CondvarHeld => locks.counts_by_turns(rt, place, row.calls, true),

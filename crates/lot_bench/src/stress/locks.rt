@@ -1,7 +1,9 @@
 //! `lot_bench stress locks`: threads that count under locks, in orders that are drawn.
 
 mod deeds;
+mod meeting;
 mod shared;
+mod titled;
 
 use crate::fault::Fault;
 use crate::queue::{Notice, Queue, Things};
@@ -57,7 +59,7 @@ pub fn run<R: Print + Eprint + Threads + Wait + Clock + Sync>(
     let mut counted = 0usize;
     for round in 0..rounds {
         let seed = first_seed.wrapping_add(round);
-        match play(rt, alloc, PLACES[seed as usize % 4], Players::Several(seed)) {
+        match play_all(rt, alloc, seed) {
             Ok(more) => counted = counted.wrapping_add(more),
             Err(fault) => {
                 let _ = eprintln!(rt; "a round failed: lot_bench stress locks 1 {seed}");
@@ -67,6 +69,21 @@ pub fn run<R: Print + Eprint + Threads + Wait + Clock + Sync>(
     }
     println!(rt; "locks: {rounds} rounds as they should be, {counted} counts in them")?;
     Ok(())
+}
+
+// Plays a round with the locks that threads choose from, one with a titled mutex, and one in which
+// threads meet. Answers how often they counted.
+fn play_all<R: Threads + Wait + Clock + Sync>(
+    rt: &R,
+    alloc: Global,
+    seed: u64,
+) -> Result<usize, Fault> {
+    let places = PLACES[seed as usize % 4];
+    let chosen = play(rt, alloc, places, Players::Several(seed))?;
+    let threads = THREADS[seed as usize % 3];
+    let titled = titled::play(rt, alloc, places, threads, seed)?;
+    let met = meeting::play(rt, alloc, places, threads, seed)?;
+    Ok(chosen.wrapping_add(titled).wrapping_add(met))
 }
 
 // Who uses the locks of a round.

@@ -1,0 +1,151 @@
+//! What threads do that meet at a barrier, with a `Once` for each round and a reentrant mutex.
+
+use super::deeds::Patience;
+use crate::fault::Fault;
+use parking_lot::{Barrier, Lot, Once, Owner, Parties, Party, ReentrantMutex};
+use std::alloc::Global;
+use std::sync::Wait;
+use std::sync::atomic::{AtomicU64, AtomicUsize, Ordering};
+use std::thread;
+use std::thread::Threads;
+use std::time::Clock;
+
+// How often the threads meet.
+const MEETINGS: usize = 1_000;
+
+// What the threads share: a `Once` for each meeting, how many of those have run, a count that is
+// not added to in one step, and how many threads have led a meeting.
+#[derive(Drop)]
+struct Meeting<'l> {
+    onces: Vec<Once<'l>>,
+    ran: AtomicUsize,
+    mutex: ReentrantMutex<'l, AtomicUsize>,
+    led: AtomicUsize,
+    seed: AtomicU64,
+}
+
+/// Lets so many threads meet again and again, in a lot with so many places, and answers how often
+/// they counted.
+pub(super) fn play<R: Threads + Wait + Clock + Sync>(
+    rt: &R,
+    alloc: Global,
+    places: usize,
+    threads: usize,
+    seed: u64,
+) -> Result<usize, Fault> {
+    let lot = Lot::new(alloc, places)?;
+    play_on(rt, alloc, &lot, threads, seed)
+}
+
+fn play_on<R: Threads + Wait + Clock + Sync>(
+    rt: &R,
+    alloc: Global,
+    lot: &Lot,
+    threads: usize,
+    seed: u64,
+) -> Result<usize, Fault> {
+    let meeting = Meeting::new(alloc, lot, seed)?;
+    let mut barrier = Barrier::new(lot, threads)?;
+    let counted = meeting.hold(rt, alloc, barrier.parties())?;
+    meeting.judge(rt, counted)
+}
+
+impl<'l> Meeting<'l> {
+    fn new(alloc: Global, lot: &'l Lot, seed: u64) -> Result<Meeting<'l>, Fault> {
+        let mut onces = Vec::new(alloc);
+        for _ in 0..MEETINGS {
+            onces.push(Once::new(lot)?)?;
+        }
+        Ok(Meeting {
+            onces,
+            ran: AtomicUsize::new(0),
+            mutex: ReentrantMutex::new(lot, AtomicUsize::new(0))?,
+            led: AtomicUsize::new(0),
+            seed: AtomicU64::new(seed),
+        })
+    }
+
+    // Answers how often all threads counted, or nothing if one of them found something wrong.
+    fn hold<R: Threads + Wait + Clock + Sync>(
+        &self,
+        rt: &R,
+        alloc: Global,
+        left: Parties<'_, '_>,
+    ) -> Result<Option<usize>, Fault> {
+        let mut parties = Vec::new(alloc);
+        for party in left {
+            parties.push(party)?;
+        }
+        let take_part = |mut party: Party<'_, '_>| self.take_part(rt, &mut party);
+        let mut sum = Some(0usize);
+        for counted in thread::map_vec(rt, parties, &take_part)? {
+            sum = added(sum, counted);
+        }
+        Ok(sum)
+    }
+
+    // Even if it finds something wrong it comes to each meeting, where others wait for it.
+    fn take_part<R: Wait + Clock>(&self, rt: &R, party: &mut Party<'_, '_>) -> Option<usize> {
+        let owner = self.mutex.owner();
+        let mut draws = self.seed.fetch_add(1, Ordering::SeqCst);
+        let mut counted = Some(0usize);
+        for (before, once) in self.onces.iter().enumerate() {
+            let has_run = self.has_run(rt, once, before);
+            let more = self.count_one(rt, &owner, Patience::drawn(rt, &mut draws));
+            counted = added(counted, if has_run { more } else { None });
+            if party.wait(rt).is_leader() {
+                self.led.fetch_add(1, Ordering::SeqCst);
+            }
+        }
+        counted
+    }
+
+    // Whether this `Once` has run when its call returns, and no other since those before it.
+    fn has_run<R: Wait + Clock>(&self, rt: &R, once: &Once<'_>, before: usize) -> bool {
+        once.call_once(rt, |_begun| {
+            thread::yield_now();
+            self.ran.fetch_add(1, Ordering::SeqCst);
+        });
+        self.ran.load(Ordering::SeqCst) == before.wrapping_add(1)
+    }
+
+    // Counts if it gets the mutex in time, under two guards. The clock may not have been read.
+    fn count_one<R: Wait + Clock>(
+        &self,
+        rt: &R,
+        owner: &Owner<'l>,
+        patience: Option<Patience>,
+    ) -> Option<usize> {
+        let found = match patience? {
+            Patience::Over => self.mutex.try_lock(rt, owner),
+            Patience::Until(deadline) => self.mutex.lock_until(rt, owner, deadline),
+            Patience::Endless => Some(self.mutex.lock(rt, owner)),
+        };
+        let Some(outer) = found else {
+            return Some(0);
+        };
+        let before = outer.load(Ordering::SeqCst);
+        let inner = self.mutex.try_lock(rt, owner)?;
+        thread::yield_now();
+        inner.store(before.wrapping_add(1), Ordering::SeqCst);
+        Some(1)
+    }
+
+    // Whether as much was counted as the threads say, and each meeting had one leader.
+    fn judge<R: Wait + Clock>(&self, rt: &R, counted: Option<usize>) -> Result<usize, Fault> {
+        let sum = self
+            .mutex
+            .lock(rt, &self.mutex.owner())
+            .load(Ordering::SeqCst);
+        let led = self.led.load(Ordering::SeqCst);
+        if counted == Some(sum) && led == MEETINGS {
+            Ok(sum)
+        } else {
+            Err(Fault::Wrong("a meeting"))
+        }
+    }
+}
+
+fn added(sum: Option<usize>, more: Option<usize>) -> Option<usize> {
+    Some(sum?.wrapping_add(more?))
+}
