@@ -11,7 +11,7 @@ use std::thread::Threads;
 use std::time::Clock;
 
 // How often the threads meet.
-const MEETINGS: usize = 1_000;
+const MEETINGS: usize = 200;
 
 // What the threads share: a `Once` for each meeting, how many of those have run, a count that is
 // not added to in one step, and how many threads have led a meeting.
