@@ -318,9 +318,10 @@ impl<L: Payload> WordParker<L> {
         ensures { IfSome result (IsUnparked
             (L.fits self.now.table.shared.key.home) self.now.table.shared.key.number) }
     {
-        if time_left(rt, timeout).is_some()
-            && let Some(unparked) = self.take_soon(rt)
-        {
+        if time_left(rt, timeout).is_none() {
+            return self.take(rt);
+        }
+        if let Some(unparked) = self.take_soon(rt) {
             return Some(unparked);
         }
         for _ in rt.forever() {
