@@ -2,7 +2,7 @@
 
 use super::deeds::Patience;
 use crate::fault::Fault;
-use parking_lot::{Barrier, Lot, Once, Owner, Parties, Party, ReentrantMutex};
+use parking_lot::{Barrier, Lot, Once, Parties, Party, ReentrantMutex};
 use std::alloc::Global;
 use std::sync::Wait;
 use std::sync::atomic::{AtomicU64, AtomicUsize, Ordering};
@@ -86,12 +86,11 @@ impl<'l> Meeting<'l> {
 
     // Even if it finds something wrong it comes to each meeting, where others wait for it.
     fn take_part<R: Wait + Clock>(&self, rt: &R, party: &mut Party<'_, '_>) -> Option<usize> {
-        let owner = self.mutex.owner();
         let mut draws = self.seed.fetch_add(1, Ordering::SeqCst);
         let mut counted = Some(0usize);
         for (before, once) in self.onces.iter().enumerate() {
             let has_run = self.has_run(rt, once, before);
-            let more = self.count_one(rt, &owner, Patience::drawn(rt, &mut draws));
+            let more = self.count_one(rt, Patience::drawn(rt, &mut draws));
             counted = added(counted, if has_run { more } else { None });
             if party.wait(rt).is_leader() {
                 self.led.fetch_add(1, Ordering::SeqCst);
@@ -110,22 +109,18 @@ impl<'l> Meeting<'l> {
     }
 
     // Counts if it gets the mutex in time, under two guards. The clock may not have been read.
-    fn count_one<R: Wait + Clock>(
-        &self,
-        rt: &R,
-        owner: &Owner<'l>,
-        patience: Option<Patience>,
-    ) -> Option<usize> {
+    fn count_one<R: Wait + Clock>(&self, rt: &R, patience: Option<Patience>) -> Option<usize> {
+        let owner = self.mutex.owner();
         let found = match patience? {
-            Patience::Over => self.mutex.try_lock(rt, owner),
-            Patience::Until(deadline) => self.mutex.lock_until(rt, owner, deadline),
-            Patience::Endless => Some(self.mutex.lock(rt, owner)),
+            Patience::Over => self.mutex.try_lock(rt, &owner),
+            Patience::Until(deadline) => self.mutex.lock_until(rt, &owner, deadline),
+            Patience::Endless => Some(self.mutex.lock(rt, &owner)),
         };
         let Some(outer) = found else {
             return Some(0);
         };
         let before = outer.load(Ordering::SeqCst);
-        let inner = self.mutex.try_lock(rt, owner)?;
+        let inner = self.mutex.try_lock(rt, &owner)?;
         thread::yield_now();
         inner.store(before.wrapping_add(1), Ordering::SeqCst);
         Some(1)
