@@ -5,3 +5,4 @@ pub mod LatchTries
 pub mod LatchKeys
 pub mod LatchHolds
 pub mod TitledMutexLemmas
+pub mod OnceLemmas

@@ -1,6 +1,9 @@
 -- What the contracts of the locks say.
 pub mod Guards
 pub mod Locks
+-- Then the word of a `Once`: its rule, with the law, and what clauses say of it.
+pub mod OnceRule
+pub mod Onces
 -- Then the table of a titled mutex, in the order of reading: what a thread knows beside the key that it carries, as a
 -- word lock's callers do (`WordKey` of lot_word_lock); the rule that holds between any two steps; what each step tells;
 -- hands as contracts see them; and what follows from the rule.

@@ -85,6 +85,11 @@ impl Lot {
         Owner::new(self, self.next_owner.fetch_add(1, Ordering::SeqCst))
     }
 
+    // Where the lot, its locks and its threads get their memory.
+    pub(crate) fn alloc(&self) -> Global {
+        self.alloc
+    }
+
     // A key that no other lock of the lot has.
     pub(crate) fn key(&self) -> usize {
         self.next_key.fetch_add(1, Ordering::SeqCst)

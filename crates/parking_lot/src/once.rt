@@ -2,37 +2,33 @@
 //!
 //! # The protocol
 //!
-//! `right` has the right to run the closure until a thread takes it out. `ran` says that the
-//! closure has run. `queue` has the threads that wait for that.
+//! `beginning` has one word, which is 0 until a thread changes it to 1. That thread has the right
+//! to run its closure. `ran` says that the closure has run. `queue` has the threads that wait for
+//! that.
 //!
-//! - The thread that takes the right out runs its closure, sets `ran`, and **then** wakes the
-//!   queue.
+//! - The thread that has the right runs its closure, sets `ran`, and **then** wakes the queue.
 //! - Every other thread waits in the queue until `ran` is set.
-//!
-//! `right` is in a std mutex, of which only `try_lock` is called. A thread that finds it held need
-//! not try again, because its holder takes the right or has found it gone.
 //!
 //! No thread is forgotten. A thread stays in the queue only if it found `ran` not set. `ran` is set
 //! later, and after that all threads are woken. All accesses are `SeqCst`.
 //!
-//! At most one closure runs, by its type: a closure consumes a `Begun`, and there is one for each
-//! `Once`.
+//! At most one closure runs, which is proved: a closure consumes a `Begun` of its `Once`, and by
+//! the law `onces_begin_once` there is at most one.
+
+ghost use Rattle.parking_lot.specs.Onces.{IsBegunOf};
+
+mod beginning;
 
 use crate::lot::Lot;
+use crate::once::beginning::Beginning;
 use crate::wait_queue::WaitQueue;
+pub use beginning::{AtMostOne, Begun, onces_begin_once};
 use lot_threads::NoMemory;
+use std::fmt;
 use std::fmt::{Debug, Formatter};
 use std::sync::Wait;
 use std::sync::atomic::{AtomicBool, Ordering};
 use std::time::Clock;
-use std::{fmt, sync};
-
-/// A `Begun` is the right to run the closure of a `Once`. The closure gets it as its argument.
-///
-/// Only `Once::new` makes one, and it can be neither cloned nor copied. So a `Once` that ran a
-/// second closure would have nothing to give it.
-#[derive(Drop)]
-pub struct Begun(());
 
 /// A `Once` runs one closure, although many threads may ask for it.
 ///
@@ -45,7 +41,7 @@ pub struct Begun(());
 pub struct Once<'l> {
     queue: WaitQueue<'l>,
     ran: AtomicBool,
-    right: sync::Mutex<Option<Begun>>,
+    beginning: Beginning,
 }
 
 impl<'l> Once<'l> {
@@ -53,12 +49,12 @@ impl<'l> Once<'l> {
     ///
     /// # Errors
     ///
-    /// Returns `NoMemory` if there is not enough memory. This version allocates nothing.
+    /// Returns `NoMemory` if there is not enough memory. It allocates one word.
     pub fn new(lot: &'l Lot) -> Result<Once<'l>, NoMemory> {
         Ok(Once {
             queue: WaitQueue::new(lot),
             ran: AtomicBool::new(false),
-            right: sync::Mutex::new(Some(Begun(()))),
+            beginning: Beginning::new(lot.alloc())?,
         })
     }
 
@@ -71,7 +67,7 @@ impl<'l> Once<'l> {
     /// A closure that calls the same `Once` waits for ever.
     #[inline]
     pub fn call_once<R: Wait + Clock, F: FnOnce(Begun) + Drop>(&self, rt: &R, f: F)
-        requires { (begun : Begun) → F.pre f begun }
+        requires { (begun : Begun) → IsBegunOf self.now begun → F.pre f begun }
     {
         if !self.is_completed() {
             self.call(rt, f);
@@ -93,9 +89,9 @@ impl<'l> Once<'l> {
 
     #[cold]
     fn call<R: Wait + Clock, F: FnOnce(Begun) + Drop>(&self, rt: &R, f: F)
-        requires { (begun : Begun) → F.pre f begun }
+        requires { (begun : Begun) → IsBegunOf self.now begun → F.pre f begun }
     {
-        match self.begin() {
+        match self.beginning.begin() {
             Some(begun) => {
                 f(begun);
                 self.ran.store(true, Ordering::SeqCst);
@@ -103,10 +99,6 @@ impl<'l> Once<'l> {
             }
             None => self.wait(rt),
         }
-    }
-
-    fn begin(&self) -> Option<Begun> {
-        self.right.try_lock()?.take()
     }
 }
 

@@ -1,7 +1,10 @@
 //! What one thread does with the lot, again and again.
 
 use crate::rows::turns::unparks;
-use lot_threads::{DEFAULT_PARK_TOKEN, Member, ParkResult, ParkingLot, ThreadParkerT};
+use lot_threads::{
+    DEFAULT_PARK_TOKEN, DEFAULT_UNPARK_TOKEN, Member, ParkResult, ParkingLot, ThreadParkerT,
+    unpark_one,
+};
 use parking_lot::{Once, Semaphore};
 use std::sync::Wait;
 use std::sync::atomic::{AtomicU64, Ordering};
@@ -11,7 +14,8 @@ use std::time::{Clock, Instant};
 pub fn nothing() {}
 
 /// Unparks one on a key, and on the keys behind it by such steps, where nobody waits. False says
-/// that somebody did.
+/// that somebody did. Its closure is that of no other row, so that the unpark becomes a part of the
+/// loop, as in a program that unparks at one place.
 pub fn unparks_nobody<P: ThreadParkerT, R: Wait>(
     rt: &R,
     lot: &ParkingLot<P>,
@@ -21,7 +25,8 @@ pub fn unparks_nobody<P: ThreadParkerT, R: Wait>(
 ) -> bool {
     let (mut key, mut unparked) = (first, 0usize);
     for _ in 0..calls {
-        unparked = unparked.wrapping_add(unparks(rt, lot, key));
+        let found = unpark_one(rt, lot, key, |_| DEFAULT_UNPARK_TOKEN);
+        unparked = unparked.wrapping_add(found.unparked_threads);
         key = key.wrapping_add(step);
     }
     unparked == 0
