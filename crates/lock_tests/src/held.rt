@@ -5,25 +5,27 @@
 //! meanwhile), `unlock_fair`, `unlock`. Of one that writes: `set N`, `add N`, `take N`, `slowly`
 //! (adds 1 in two writes, and lets others run between).
 
-use crate::stage::{BETWEEN, hold, let_go};
+use crate::stage::{BETWEEN, let_go};
 use std::ops::{Deref, DerefMut};
 use std::sync::Wait;
 use std::thread;
 use test_support::words::Words;
 
+/// A call that takes a guard.
+#[derive(Clone, Copy)]
+pub enum GuardCall {
+    // It asks the lock, and the guard comes back at once.
+    IsLocked,
+    Bump,
+    Unlocked,
+    UnlockFair,
+}
+
 /// The calls that guards of each kind have.
-pub trait Held: Deref<Target = usize> + Drop {
-    /// Whether the lock of the guard is locked, as its guard has it.
-    fn is_locked<R: Wait>(&self, rt: &R) -> bool;
-
-    /// The guard, once others could have gone first.
-    fn bump(self) -> Self;
-
-    /// The guard, once it was unlocked for a while, and whether a try got the lock then.
-    fn unlocked<R: Wait>(self, rt: &R) -> (Self, bool);
-
-    /// Unlocks in the way that keeps the lock for whoever waits.
-    fn unlock_fair(self);
+pub trait Held: Sized + Deref<Target = usize> + Drop {
+    /// Does the call. It answers the guard, if that is left, and what comes out: whether the lock
+    /// of the guard is locked, as its guard has it, or whether a try got the lock meanwhile.
+    fn pass<R: Wait>(self, rt: &R, call: GuardCall) -> (Option<Self>, bool);
 }
 
 /// What comes out of a call of a guard that a thread may hold.
@@ -39,34 +41,20 @@ pub fn use_held<G: Held, R: Wait>(
             Some(*last)
         }
         "still" => Some(usize::from(**held.as_ref()? == *last)),
-        "is_locked" => Some(usize::from(held.as_ref()?.is_locked(rt))),
         "unlock" => Some(usize::from(let_go(held))),
-        "unlock_fair" => Some(usize::from(let_go_fair(held))),
-        "bump" | "unlocked" => pass(rt, held, call),
+        "unlock_fair" => Some(usize::from(pass(rt, held, GuardCall::UnlockFair) == Some(true))),
+        "is_locked" => Some(usize::from(pass(rt, held, GuardCall::IsLocked)?)),
+        "bump" => Some(usize::from(pass(rt, held, GuardCall::Bump)?)),
+        "unlocked" => Some(usize::from(pass(rt, held, GuardCall::Unlocked)?)),
         _ => None,
     }
 }
 
-// Has a thread let go what it holds, in the fair way, and tells whether it held it.
-fn let_go_fair<G: Held>(held: &mut Option<G>) -> bool {
-    match held.take() {
-        Some(guard) => {
-            guard.unlock_fair();
-            true
-        }
-        None => false,
-    }
-}
-
-// Lets others have the lock for a while.
-fn pass<G: Held, R: Wait>(rt: &R, held: &mut Option<G>, call: &str) -> Option<usize> {
-    let guard = held.take()?;
-    let (guard, found) = match call {
-        "bump" => (guard.bump(), true),
-        _ => guard.unlocked(rt),
-    };
-    hold(held, guard);
-    Some(usize::from(found))
+// Does the call with what the thread holds, if it holds it.
+fn pass<G: Held, R: Wait>(rt: &R, held: &mut Option<G>, call: GuardCall) -> Option<bool> {
+    let (guard, found) = held.take()?.pass(rt, call);
+    *held = guard;
+    Some(found)
 }
 
 /// The same of a guard that writes.

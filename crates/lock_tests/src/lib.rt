@@ -2,7 +2,7 @@
 //! `parking_lot` and `lock_api` that were written anew, and they expect what those do. Where the
 //! answer here is another one, the test says so. Nearly all are scripts: what threads do with one
 //! lock of each kind, line by line, and how each call has to end. The first line of a script has
-//! the name that the test has there. `player` tells the words.
+//! the name that the test has there. `player` and `test_support::player` tell the words.
 //!
 //! No clause of a contract says that a lock keeps others out, that whoever waits is woken, or that
 //! an addition is not lost: these tests do. One that waits for ever, or a thread that is not woken,

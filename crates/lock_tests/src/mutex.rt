@@ -8,25 +8,27 @@
 //!   for who waits), `leak` (which writes 2).
 
 use crate::condvar::use_condvar;
-use crate::held::{Held, use_held, use_writing};
-use crate::player::{Hand, Kind, Row, Stage, play_each, play_lines, play_on};
-use crate::stage::{Actor, Counts, Host, Patience, ROOM, ROOMS, has, keep, new_lot};
+use crate::held::{GuardCall, Held, use_held, use_writing};
+use crate::player::{Kind, Valued, expect_played, play_each, play_valued};
+use crate::stage::{Actor, Host, Patience, ROOM, ROOMS, has, keep, new_lot};
 use parking_lot::mutex::{Fairness, MutexGuardIn, MutexIn};
 use parking_lot::{Condvar, Lot};
 use std::alloc::AllocGlobal;
 use std::sync::Wait;
 use std::time::Clock;
+use test_support::counts::Counts;
+use test_support::player::{Hand, Script, Stage, play_lines};
 use test_support::words::Words;
 
 type OneMutex<F> = MutexIn<'static, usize, F>;
 
 pub type Guard<'x, F, R> = MutexGuardIn<'x, 'x, 'static, usize, R, F>;
 
-/// Plays a row on new mutexes, which are fair or not.
-pub fn play<F: Fairness + Sync, R: Host>(rt: &R, row: &Row<'_>) {
-    let (lot, other) = (new_lot(rt, row.room), new_lot(rt, row.room));
+/// Plays a script on new mutexes, which are fair or not.
+pub fn play<F: Fairness + Sync, R: Host>(rt: &R, room: usize, script: &Script<'_>) {
+    let (lot, other) = (new_lot(rt, room), new_lot(rt, room));
     let stage: MutexStage<F> = MutexStage::new(rt, lot, other);
-    play_on(rt, stage, row);
+    play_valued(rt, stage, script);
 }
 
 #[derive(Drop)]
@@ -53,12 +55,18 @@ impl<F: Fairness> MutexStage<F> {
     }
 }
 
-impl<F: Fairness> Stage for MutexStage<F> {
+impl<F: Fairness> Valued for MutexStage<F> {
     fn begin(&mut self, value: usize) {
         *self.mutex.get_mut() = value;
     }
 
-    fn play_place<'x, R: Actor>(&'x self, rt: &'x R, row: &Row<'_>, place: usize) {
+    fn end(self) -> usize {
+        self.mutex.into_inner()
+    }
+}
+
+impl<F: Fairness, R: Actor> Stage<R> for MutexStage<F> {
+    fn play_place<'x>(&'x self, rt: &'x R, script: &Script<'_>, place: usize) {
         let mut hand = MutexHand {
             rt,
             stage: self,
@@ -66,11 +74,8 @@ impl<F: Fairness> Stage for MutexStage<F> {
             guard: None,
             last: 0,
         };
-        play_lines(rt, &self.counts, &mut hand, row, place);
-    }
-
-    fn end(self) -> usize {
-        self.mutex.into_inner()
+        let other = play_lines(rt, &self.counts, &mut hand, script, place);
+        expect_played(rt, other, script);
     }
 }
 
@@ -155,21 +160,20 @@ fn use_guard<F: Fairness, R: Wait + Clock + AllocGlobal>(
 }
 
 impl<'x, F: Fairness, R: Wait + Clock> Held for Guard<'x, F, R> {
-    fn is_locked<H: Wait>(&self, rt: &H) -> bool {
-        MutexGuardIn::mutex(self).is_locked(rt)
-    }
-
-    fn bump(self) -> Self {
-        MutexGuardIn::bump(self)
-    }
-
-    fn unlocked<H: Wait>(self, rt: &H) -> (Self, bool) {
+    fn pass<H: Wait>(self, rt: &H, call: GuardCall) -> (Option<Self>, bool) {
         let mutex = MutexGuardIn::mutex(&self);
-        MutexGuardIn::unlocked(self, || has(mutex.try_lock(rt)))
-    }
-
-    fn unlock_fair(self) {
-        MutexGuardIn::unlock_fair(self);
+        match call {
+            GuardCall::IsLocked => (Some(self), mutex.is_locked(rt)),
+            GuardCall::Bump => (Some(MutexGuardIn::bump(self)), true),
+            GuardCall::Unlocked => {
+                let (guard, found) = MutexGuardIn::unlocked(self, || has(mutex.try_lock(rt)));
+                (Some(guard), found)
+            }
+            GuardCall::UnlockFair => {
+                MutexGuardIn::unlock_fair(self);
+                (None, true)
+            }
+        }
     }
 }
 

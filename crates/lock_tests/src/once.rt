@@ -5,24 +5,26 @@
 //! - `cell`: `get` (0 is none), `set N`, `wait`, `get_or_init N` (its closure raises `came`),
 //!   `get_or_try_init N` (which fails where that is 0).
 
-use crate::player::{Hand, Kind, Row, Stage, play_each, play_lines, play_on};
-use crate::stage::{Actor, Counts, Host, ROOMS, new_lot, number_or_one};
+use crate::player::{Kind, expect_played, play_each, play_locks};
+use crate::stage::{Actor, Host, ROOMS, new_lot};
 use parking_lot::{Once, OnceLock};
 use std::sync::Wait;
 use std::sync::atomic::{AtomicUsize, Ordering};
 use std::time::Clock;
+use test_support::counts::Counts;
+use test_support::player::{Hand, Script, Stage, play_lines};
 use test_support::waits::comes_to;
 use test_support::words::Words;
 
-/// Plays a row on a new stage.
-pub fn play<R: Host>(rt: &R, row: &Row<'_>) {
-    let lot = new_lot(rt, row.room);
+/// Plays a script on a new once and a new cell.
+pub fn play<R: Host>(rt: &R, room: usize, script: &Script<'_>) {
+    let lot = new_lot(rt, room);
     let stage = OnceStage {
         once: Once::new(lot).expect(rt, "a once"),
         cell: OnceLock::new(lot).expect(rt, "a cell"),
         counts: Counts::new(),
     };
-    play_on(rt, stage, row);
+    play_locks(rt, &stage, script);
 }
 
 #[derive(Drop)]
@@ -32,16 +34,11 @@ struct OnceStage {
     counts: Counts,
 }
 
-impl Stage for OnceStage {
-    fn begin(&mut self, _value: usize) {}
-
-    fn play_place<'x, R: Actor>(&'x self, rt: &'x R, row: &Row<'_>, place: usize) {
+impl<R: Actor> Stage<R> for OnceStage {
+    fn play_place<'x>(&'x self, rt: &'x R, script: &Script<'_>, place: usize) {
         let mut hand = OnceHand { rt, stage: self };
-        play_lines(rt, &self.counts, &mut hand, row, place);
-    }
-
-    fn end(self) -> usize {
-        self.cell.into_inner().unwrap_or(0)
+        let other = play_lines(rt, &self.counts, &mut hand, script, place);
+        expect_played(rt, other, script);
     }
 }
 
@@ -56,7 +53,7 @@ impl<R: Wait + Clock> Hand for OnceHand<'_, R> {
         let stage = self.stage;
         match first {
             "once" => use_once(self.rt, &stage.once, &stage.counts, words),
-            "cell" => use_cell(self.rt, &stage.cell, &stage.counts.came, words),
+            "cell" => use_cell(self.rt, &stage.cell, stage.counts.named("came"), words),
             _ => None,
         }
     }
@@ -77,10 +74,10 @@ fn use_once<R: Wait + Clock>(
         "call_once" => {
             let least = words.number()?;
             once.call_once(rt, |_begun| {
-                counts.came.fetch_add(1, Ordering::SeqCst);
-                comes_to(&counts.done, least);
+                counts.named("came").fetch_add(1, Ordering::SeqCst);
+                comes_to(counts.named("done"), least);
             });
-            Some(counts.came.load(Ordering::SeqCst))
+            Some(counts.named("came").load(Ordering::SeqCst))
         }
         _ => None,
     }
@@ -93,7 +90,7 @@ fn use_cell<R: Wait + Clock>(
     words: &mut Words<'_>,
 ) -> Option<usize> {
     let call = words.word()?;
-    let number = number_or_one(words);
+    let number = words.number_or_one();
     match call {
         "get" => Some(number_in(cell.get())),
         "wait" => Some(*cell.wait(rt)),

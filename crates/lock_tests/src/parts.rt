@@ -1,7 +1,7 @@
 //! Guards of a part of a value. Upstream has no test of them.
 
 use crate::stage::{Host, ROOM, expect, has, new_lot};
-use parking_lot::{Guard, Lens, Lot, Mutex, RwLock};
+use parking_lot::{Guard, Lens, Mutex, RwLock};
 use std::ops::{Deref, DerefMut};
 
 type Pair = (usize, usize);
@@ -76,22 +76,14 @@ fn part_to_write<R: Host>(rt: &R, lock: &RwLock<'static, Pair>) {
     expect(rt, second_of(lock.read(rt)) == 3, "it was written");
 }
 
-fn parts_of_a_mutex<R: Host>(rt: &R, lot: &'static Lot) {
-    let mutex = Mutex::new(lot, (1, 2)).expect(rt, "a mutex");
-    part_of_a_mutex(rt, &mutex);
-    chosen_part_of_a_mutex(rt, &mutex);
-}
-
-fn parts_of_a_lock<R: Host>(rt: &R, lot: &'static Lot) {
-    let lock = RwLock::new(lot, (1, 2)).expect(rt, "a lock");
-    part_to_read(rt, &lock);
-    part_to_write(rt, &lock);
-}
-
 fn parts_of_each<R: Host>(rt: &R) {
     let lot = new_lot(rt, ROOM);
-    parts_of_a_mutex(rt, lot);
-    parts_of_a_lock(rt, lot);
+    let mutex = Mutex::new(lot, (1, 2)).expect(rt, "a mutex");
+    let lock = RwLock::new(lot, (1, 2)).expect(rt, "a lock");
+    part_of_a_mutex(rt, &mutex);
+    chosen_part_of_a_mutex(rt, &mutex);
+    part_to_read(rt, &lock);
+    part_to_write(rt, &lock);
 }
 
 #[test]

@@ -3,9 +3,9 @@
 //! that is lost, or taken twice, leaves a length that is not 0, or a thread that waits for ever.
 
 use crate::mutex::play;
-use crate::player::Row;
 use crate::stage::{Host, ROOM};
 use parking_lot::mutex::Barging;
+use test_support::player::Script;
 
 // A row's numbers: producers, consumers, the length at the end, that length but one, and the
 // messages of each producer and of each consumer.
@@ -36,14 +36,13 @@ thread $1
 repeat $5 mutex lock ; condvar wait_while_for long is 0 ; guard take 1 ; guard unlock ; \
 other_condvar notify_all_after $3 -> any";
 
-fn play_rows<R: Host>(rt: &R, script: &str, rows: &[[usize; 6]]) {
+fn play_rows<R: Host>(rt: &R, text: &str, rows: &[[usize; 6]]) {
     for values in rows {
-        let row = Row {
-            script,
+        let script = Script {
+            text,
             values: values.as_slice(),
-            room: ROOM,
         };
-        play::<Barging, R>(rt, &row);
+        play::<Barging, R>(rt, ROOM, &script);
     }
 }
 

@@ -6,24 +6,26 @@
 //! `held` while it has it, and waits for `done`), `refused` (whether each way to lock it is
 //! refused, since another owner has it).
 
-use crate::player::{Hand, Kind, Row, Stage, play_each, play_lines, play_on};
-use crate::stage::{Actor, Counts, Host, ROOMS, expect, has, new_lot};
+use crate::player::{Kind, Valued, expect_played, play_each, play_valued};
+use crate::stage::{Actor, Host, ROOMS, expect, has, new_lot};
 use parking_lot::ReentrantMutex;
 use std::process::Abort;
 use std::sync::Wait;
 use std::sync::atomic::{AtomicUsize, Ordering};
 use std::time::{Clock, Duration, Instant};
+use test_support::counts::Counts;
+use test_support::player::{Hand, Script, Stage, play_lines};
 use test_support::waits::comes_to;
 use test_support::words::Words;
 
 type Counter = ReentrantMutex<'static, AtomicUsize>;
 
-/// Plays a row on a new stage.
-pub fn play<R: Host>(rt: &R, row: &Row<'_>) {
+/// Plays a script on a new mutex.
+pub fn play<R: Host>(rt: &R, room: usize, script: &Script<'_>) {
     let value = AtomicUsize::new(0);
-    let mutex = ReentrantMutex::new(new_lot(rt, row.room), value).expect(rt, "a mutex");
+    let mutex = ReentrantMutex::new(new_lot(rt, room), value).expect(rt, "a mutex");
     let counts = Counts::new();
-    play_on(rt, OneMutex { mutex, counts }, row);
+    play_valued(rt, OneMutex { mutex, counts }, script);
 }
 
 #[derive(Drop)]
@@ -32,18 +34,21 @@ struct OneMutex {
     counts: Counts,
 }
 
-impl Stage for OneMutex {
+impl Valued for OneMutex {
     fn begin(&mut self, value: usize) {
         *self.mutex.get_mut() = AtomicUsize::new(value);
     }
 
-    fn play_place<'x, R: Actor>(&'x self, rt: &'x R, row: &Row<'_>, place: usize) {
-        let mut hand = Owners { rt, stage: self };
-        play_lines(rt, &self.counts, &mut hand, row, place);
-    }
-
     fn end(self) -> usize {
         value_of(&self.mutex.into_inner())
+    }
+}
+
+impl<R: Actor> Stage<R> for OneMutex {
+    fn play_place<'x>(&'x self, rt: &'x R, script: &Script<'_>, place: usize) {
+        let mut hand = Owners { rt, stage: self };
+        let other = play_lines(rt, &self.counts, &mut hand, script, place);
+        expect_played(rt, other, script);
     }
 }
 
@@ -73,7 +78,7 @@ fn use_reentrant<R: Wait + Clock + Abort>(
             lock_thrice(rt, mutex);
             !mutex.is_locked()
         }
-        "nested" => add_nested(rt, mutex, &counts.held),
+        "nested" => add_nested(rt, mutex, counts.named("held")),
         "look" => return Some(look(rt, mutex)),
         "tries" => gets_it_in_each_way(rt, mutex, counts),
         "refused" => is_refused(rt, mutex),
@@ -129,8 +134,8 @@ fn gets_it_in_each_way<R: Wait + Clock + Abort>(rt: &R, mutex: &Counter, counts:
     let first = mutex.try_lock(rt, &owner);
     let has_it_for = has(mutex.lock_for(rt, &owner, time));
     let has_it_until = has(mutex.lock_until(rt, &owner, deadline));
-    counts.held.fetch_add(1, Ordering::SeqCst);
-    let is_done = comes_to(&counts.done, 1);
+    counts.named("held").fetch_add(1, Ordering::SeqCst);
+    let is_done = comes_to(counts.named("done"), 1);
     let has_it_again = has(mutex.try_lock(rt, &owner));
     has(first) && has_it_for && has_it_until && is_done && has_it_again
 }

@@ -9,14 +9,16 @@
 //! - `upgradable`: `upgrade`, `try_upgrade`, `upgrade_for TIME`, `upgrade_until TIME` (whether the
 //!   thread writes now), `downgrade`. `writer`: `downgrade`, `downgrade_to_upgradable`.
 
-use crate::held::{Held, use_held, use_writing};
-use crate::player::{Hand, Kind, Row, Stage, play_each, play_lines, play_on};
+use crate::held::{GuardCall, Held, use_held, use_writing};
+use crate::player::{Kind, Valued, expect_played, play_each, play_valued};
 use crate::stage::{
-    Actor, BETWEEN, Counts, Host, Patience, ROOM, ROOMS, has, hold, keep, let_go, new_lot, value_in,
+    Actor, BETWEEN, Host, Patience, ROOM, ROOMS, has, hold, keep, let_go, new_lot, value_in,
 };
 use parking_lot::{RwLock, RwLockReadGuard, RwLockUpgradableReadGuard, RwLockWriteGuard};
 use std::sync::Wait;
 use std::time::Clock;
+use test_support::counts::Counts;
+use test_support::player::{Hand, Script, Stage, play_lines};
 use test_support::words::Words;
 
 type Lock = RwLock<'static, usize>;
@@ -27,11 +29,11 @@ type Upgradable<'x, R> = RwLockUpgradableReadGuard<'x, 'x, 'static, usize, R>;
 
 type Writer<'x, R> = RwLockWriteGuard<'x, 'x, 'static, usize, R>;
 
-/// Plays a row on a new stage.
-pub fn play<R: Host>(rt: &R, row: &Row<'_>) {
-    let lock = RwLock::new(new_lot(rt, row.room), 0).expect(rt, "a lock");
+/// Plays a script on a new lock.
+pub fn play<R: Host>(rt: &R, room: usize, script: &Script<'_>) {
+    let lock = RwLock::new(new_lot(rt, room), 0).expect(rt, "a lock");
     let counts = Counts::new();
-    play_on(rt, OneLock { lock, counts }, row);
+    play_valued(rt, OneLock { lock, counts }, script);
 }
 
 #[derive(Drop)]
@@ -40,12 +42,18 @@ struct OneLock {
     counts: Counts,
 }
 
-impl Stage for OneLock {
+impl Valued for OneLock {
     fn begin(&mut self, value: usize) {
         *self.lock.get_mut() = value;
     }
 
-    fn play_place<'x, R: Actor>(&'x self, rt: &'x R, row: &Row<'_>, place: usize) {
+    fn end(self) -> usize {
+        self.lock.into_inner()
+    }
+}
+
+impl<R: Actor> Stage<R> for OneLock {
+    fn play_place<'x>(&'x self, rt: &'x R, script: &Script<'_>, place: usize) {
         let mut guards = Guards {
             rt,
             lock: &self.lock,
@@ -54,11 +62,8 @@ impl Stage for OneLock {
             writer: None,
             last: 0,
         };
-        play_lines(rt, &self.counts, &mut guards, row, place);
-    }
-
-    fn end(self) -> usize {
-        self.lock.into_inner()
+        let other = play_lines(rt, &self.counts, &mut guards, script, place);
+        expect_played(rt, other, script);
     }
 }
 
@@ -289,40 +294,38 @@ fn use_writer<R: Wait + Clock>(
 }
 
 impl<'x, R: Wait + Clock> Held for Reader<'x, R> {
-    fn is_locked<H: Wait>(&self, rt: &H) -> bool {
-        RwLockReadGuard::rwlock(self).is_locked(rt)
-    }
-
-    fn bump(self) -> Self {
-        RwLockReadGuard::bump(self)
-    }
-
-    fn unlocked<H: Wait>(self, rt: &H) -> (Self, bool) {
+    fn pass<H: Wait>(self, rt: &H, call: GuardCall) -> (Option<Self>, bool) {
         let lock = RwLockReadGuard::rwlock(&self);
-        RwLockReadGuard::unlocked(self, || has(lock.try_write(rt)))
-    }
-
-    fn unlock_fair(self) {
-        RwLockReadGuard::unlock_fair(self);
+        match call {
+            GuardCall::IsLocked => (Some(self), lock.is_locked(rt)),
+            GuardCall::Bump => (Some(RwLockReadGuard::bump(self)), true),
+            GuardCall::Unlocked => {
+                let (guard, found) = RwLockReadGuard::unlocked(self, || has(lock.try_write(rt)));
+                (Some(guard), found)
+            }
+            GuardCall::UnlockFair => {
+                RwLockReadGuard::unlock_fair(self);
+                (None, true)
+            }
+        }
     }
 }
 
 impl<'x, R: Wait + Clock> Held for Writer<'x, R> {
-    fn is_locked<H: Wait>(&self, rt: &H) -> bool {
-        RwLockWriteGuard::rwlock(self).is_locked_exclusive(rt)
-    }
-
-    fn bump(self) -> Self {
-        RwLockWriteGuard::bump(self)
-    }
-
-    fn unlocked<H: Wait>(self, rt: &H) -> (Self, bool) {
+    fn pass<H: Wait>(self, rt: &H, call: GuardCall) -> (Option<Self>, bool) {
         let lock = RwLockWriteGuard::rwlock(&self);
-        RwLockWriteGuard::unlocked(self, || has(lock.try_read(rt)))
-    }
-
-    fn unlock_fair(self) {
-        RwLockWriteGuard::unlock_fair(self);
+        match call {
+            GuardCall::IsLocked => (Some(self), lock.is_locked_exclusive(rt)),
+            GuardCall::Bump => (Some(RwLockWriteGuard::bump(self)), true),
+            GuardCall::Unlocked => {
+                let (guard, found) = RwLockWriteGuard::unlocked(self, || has(lock.try_read(rt)));
+                (Some(guard), found)
+            }
+            GuardCall::UnlockFair => {
+                RwLockWriteGuard::unlock_fair(self);
+                (None, true)
+            }
+        }
     }
 }
 

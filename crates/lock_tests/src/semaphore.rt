@@ -6,24 +6,24 @@
 //! - `permit`: `permits`, `split N` (whether there are so many; they are given back), `forget`,
 //!   `drop`.
 
-use crate::player::{Hand, Kind, Row, Stage, play_each, play_lines, play_on};
-use crate::stage::{
-    Actor, Counts, Host, Patience, ROOM, ROOMS, has, keep, let_go, new_lot, number_or_one,
-};
+use crate::player::{Kind, expect_played, play_each, play_locks};
+use crate::stage::{Actor, Host, Patience, ROOM, ROOMS, has, keep, let_go, new_lot};
 use parking_lot::{Semaphore, SemaphorePermit};
 use std::sync::Wait;
 use std::time::Clock;
+use test_support::counts::Counts;
+use test_support::player::{Hand, Script, Stage, play_lines};
 use test_support::words::Words;
 
 type Permit<'x, R> = SemaphorePermit<'x, 'x, 'static, R>;
 
 const PERMITS: usize = 3;
 
-/// Plays a row on a new stage.
-pub fn play<R: Host>(rt: &R, row: &Row<'_>) {
-    let semaphore = Semaphore::new(new_lot(rt, row.room), PERMITS).expect(rt, "a semaphore");
+/// Plays a script on a new semaphore.
+pub fn play<R: Host>(rt: &R, room: usize, script: &Script<'_>) {
+    let semaphore = Semaphore::new(new_lot(rt, room), PERMITS).expect(rt, "a semaphore");
     let counts = Counts::new();
-    play_on(rt, Permits { semaphore, counts }, row);
+    play_locks(rt, &Permits { semaphore, counts }, script);
 }
 
 #[derive(Drop)]
@@ -32,20 +32,15 @@ struct Permits {
     counts: Counts,
 }
 
-impl Stage for Permits {
-    fn begin(&mut self, _value: usize) {}
-
-    fn play_place<'x, R: Actor>(&'x self, rt: &'x R, row: &Row<'_>, place: usize) {
+impl<R: Actor> Stage<R> for Permits {
+    fn play_place<'x>(&'x self, rt: &'x R, script: &Script<'_>, place: usize) {
         let mut taker = Taker {
             rt,
             semaphore: &self.semaphore,
             permit: None,
         };
-        play_lines(rt, &self.counts, &mut taker, row, place);
-    }
-
-    fn end(self) -> usize {
-        self.semaphore.available_permits()
+        let other = play_lines(rt, &self.counts, &mut taker, script, place);
+        expect_played(rt, other, script);
     }
 }
 
@@ -74,7 +69,7 @@ fn use_semaphore<'x, R: Wait + Clock>(
     words: &mut Words<'_>,
 ) -> Option<usize> {
     let (name, patience) = Patience::of(rt, words.word()?, words)?;
-    let number = number_or_one(words);
+    let number = words.number_or_one();
     match name {
         "available_permits" => return Some(semaphore.available_permits()),
         "add_permits" => semaphore.add_permits(rt, number),
@@ -118,7 +113,7 @@ fn acquire_many<'x, R: Wait + Clock>(
 
 fn use_permit<R: Wait>(held: &mut Option<Permit<'_, R>>, words: &mut Words<'_>) -> Option<usize> {
     let call = words.word()?;
-    let number = number_or_one(words);
+    let number = words.number_or_one();
     match call {
         "permits" => Some(held.as_ref()?.permits()),
         "split" => Some(usize::from(has(held.as_mut()?.split(number)))),

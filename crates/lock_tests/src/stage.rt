@@ -1,15 +1,13 @@
-//! What scripts and tests of each kind of lock share: lots, what threads tell each other, what one
-//! holds, and words that several locks have.
+//! What scripts and tests of each kind of lock share: lots, what a thread holds, and words that
+//! several locks have.
 
 use parking_lot::Lot;
 use std::alloc::AllocGlobal;
 use std::ops::Deref;
 use std::process::Abort;
 use std::sync::Wait;
-use std::sync::atomic::{AtomicUsize, Ordering};
 use std::thread::Threads;
 use std::time::{Clock, Duration, Instant};
-use test_support::waits::comes_to;
 use test_support::words::Words;
 
 /// What a runtime can do that a test takes.
@@ -35,50 +33,6 @@ pub const BETWEEN: usize = usize::MAX;
 /// one would have to be proved to drop each of its parts.
 pub fn new_lot<R: Abort + AllocGlobal>(rt: &R, room: usize) -> &'static Lot {
     Lot::for_ever(rt.alloc(), room).expect(rt, "a lot")
-}
-
-/// What the threads of a script tell each other.
-#[derive(Drop)]
-pub struct Counts {
-    pub came: AtomicUsize,
-    pub held: AtomicUsize,
-    pub done: AtomicUsize,
-}
-
-impl Counts {
-    pub fn new() -> Counts {
-        Counts {
-            came: AtomicUsize::new(0),
-            held: AtomicUsize::new(0),
-            done: AtomicUsize::new(0),
-        }
-    }
-
-    fn named(&self, words: &mut Words<'_>) -> Option<&AtomicUsize> {
-        match words.word()? {
-            "came" => Some(&self.came),
-            "held" => Some(&self.held),
-            "done" => Some(&self.done),
-            _ => None,
-        }
-    }
-
-    /// What comes out of a call that has to do with a count.
-    pub fn call(&self, call: &str, words: &mut Words<'_>) -> Option<usize> {
-        let count = self.named(words)?;
-        let number = number_or_one(words);
-        match call {
-            "raise" => Some(
-                count
-                    .fetch_add(number, Ordering::SeqCst)
-                    .wrapping_add(number),
-            ),
-            "lower" => Some(count.fetch_sub(number, Ordering::SeqCst)),
-            "await" => Some(usize::from(comes_to(count, number))),
-            "tell" => Some(count.load(Ordering::SeqCst)),
-            _ => None,
-        }
-    }
 }
 
 // An assertion costs a proof a second or more wherever it stands, and a call of this a tenth.
@@ -143,16 +97,6 @@ impl Patience {
 /// The value that a guard shows, which is let go.
 pub fn value_in<G: Deref<Target = usize> + Drop>(guard: G) -> usize {
     *guard
-}
-
-/// The next word if it is a number, and else 1.
-pub fn number_or_one(words: &mut Words<'_>) -> usize {
-    let mut ahead = *words;
-    let Some(number) = ahead.number() else {
-        return 1;
-    };
-    *words = ahead;
-    number
 }
 
 // The time that the next word names. The first three pass while a test runs.

@@ -3,9 +3,8 @@
 //! The functions have no clauses. So the proof of a test carries nothing that it does not need.
 
 use lot_threads::{
-    FilterOp, LotError, Member, NoMemory, ParkResult, ParkToken, ParkingLot, RequeueOp,
-    ThreadParkerT, UnparkResult, UnparkToken, unpark_all, unpark_chosen, unpark_one,
-    unpark_requeue,
+    FilterOp, LotError, Member, ParkResult, ParkToken, ParkingLot, RequeueOp, ThreadParkerT,
+    UnparkResult, UnparkToken, unpark_all, unpark_chosen, unpark_one, unpark_requeue,
 };
 use std::alloc::Global;
 use std::sync::Wait;
@@ -44,8 +43,8 @@ pub fn new_lot<P: ThreadParkerT>(alloc: Global, threads: usize) -> Result<Parkin
     ParkingLot::new(alloc, threads)
 }
 
-/// Registers the given number of threads.
-pub fn register_all<'a, P: ThreadParkerT, R: Wait>(
+// Registers the given number of threads.
+fn register_all<'a, P: ThreadParkerT, R: Wait>(
     rt: &R,
     alloc: Global,
     lot: &'a ParkingLot<P>,
@@ -73,16 +72,6 @@ pub fn come_and_go<P: ThreadParkerT, R: Wait>(
         guest.retire(rt);
     }
     true
-}
-
-/// Returns the numbers of the threads that wait on the key.
-pub fn waiting<P: ThreadParkerT, R: Wait>(
-    rt: &R,
-    alloc: Global,
-    lot: &ParkingLot<P>,
-    key: usize,
-) -> Result<Vec<usize>, NoMemory> {
-    lot.list(rt, alloc, key)
 }
 
 /// Parks on the key, and calls the closure before the thread sleeps.

@@ -1,6 +1,5 @@
 //! This module waits for what other threads do. Each wait gives up after very many turns.
 
-use crate::calls::waiting;
 use lot_threads::{ParkingLot, ThreadParkerT};
 use std::alloc::Global;
 use std::sync::Wait;
@@ -35,7 +34,7 @@ pub fn are_waiting<P: ThreadParkerT, R: Wait>(
     key: usize,
     threads: usize,
 ) -> bool {
-    match waiting(rt, alloc, lot, key) {
+    match lot.list(rt, alloc, key) {
         Ok(numbers) => numbers.len() == threads,
         Err(_) => false,
     }

@@ -6,7 +6,9 @@
 pub struct Words<'t> {
     rest: &'t str,
     values: &'t [usize],
-    mine: usize,
+
+    // The number of the thread that reads them, or of the round in which they are read.
+    own: usize,
 }
 
 impl<'t> Words<'t> {
@@ -18,8 +20,14 @@ impl<'t> Words<'t> {
         Words {
             rest: text,
             values,
-            mine,
+            own: mine,
         }
+    }
+
+    /// Returns the same words, as they are read in a round with this number, for which `round`
+    /// stands in them.
+    pub fn in_round(self, round: usize) -> Words<'t> {
+        Words { own: round, ..self }
     }
 
     /// Takes the next word, or returns `None` if there is none.
@@ -40,7 +48,7 @@ impl<'t> Words<'t> {
     pub fn number(&mut self) -> Option<usize> {
         match self.word()? {
             "greatest" => Some(usize::MAX),
-            "mine" => Some(self.mine),
+            "mine" | "round" => Some(self.own),
             word => match word.parse::<usize>() {
                 Ok(number) => Some(number),
                 Err(_) => self.value(word),
@@ -55,6 +63,16 @@ impl<'t> Words<'t> {
         } else {
             self.number()
         }
+    }
+
+    /// Takes the next word as a number if it is one, and else returns 1.
+    pub fn number_or_one(&mut self) -> usize {
+        let mut ahead = *self;
+        let Some(number) = ahead.number() else {
+            return 1;
+        };
+        *self = ahead;
+        number
     }
 
     /// Takes the next word if it is the wanted one, and returns whether it is.
