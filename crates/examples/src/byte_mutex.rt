@@ -92,7 +92,7 @@ impl ByteMutex {
                 return held;
             }
 
-            // The thread parks only while whoever unlocks will look for waiters.
+            // Mark the byte: only then does whoever unlocks look for waiters.
             self.exchange(LOCKED, LOCKED_WITH_WAITERS);
             let result = member.park(
                 rt,

@@ -93,7 +93,7 @@ const KEPT: usize = !(KEPT_ONCE - 1);
 /// An `RwLock` protects a value that many threads may read at once, or one may write.
 ///
 /// ```
-/// /// Notes a number, and tells the greatest so far. Others read beside it as soon as it is noted.
+/// /// Notes a number, and tells the greatest so far. Others may read as soon as it is noted.
 /// pub fn note<R: Wait + Clock>(rt: &R, greatest: &RwLock<'_, u32>, number: u32) -> u32 {
 ///     let mut writing = greatest.write(rt);
 ///     *writing = number.max(*writing);

@@ -4,7 +4,7 @@ use parking_lot::{RwLock, RwLockWriteGuard};
 use std::sync::Wait;
 use std::time::Clock;
 
-/// Notes a number, and tells the greatest so far. Others read beside it as soon as it is noted.
+/// Notes a number, and tells the greatest so far. Others may read as soon as it is noted.
 pub fn note<R: Wait + Clock>(rt: &R, greatest: &RwLock<'_, u32>, number: u32) -> u32 {
     let mut writing = greatest.write(rt);
     *writing = number.max(*writing);
