@@ -1,6 +1,6 @@
 -- A thread settles, one local instruction at a time.
-use Rattle.std.proofs.Common.{◌≡◌, ℕ, suc, ◌+◌, ◌-◌, ◌<◌, List, sym, ap, ◌∙◌, arith}
-use Rattle.std.specs.Prelude.{slice_get, Option, Some}
+use Rattle.std.proofs.Common.{◌≡◌, ℕ, zero, suc, ◌+◌, ◌-◌, ◌<◌, List, refl, sym, ap, ◌∙◌, set-set, arith}
+use Rattle.std.specs.Prelude.{slice_get}
 use Rattle.lot_litmus.specs.declared.code.Instruction.{Instruction}
 use Rattle.lot_litmus.specs.declared.state.Progress.{Progress}
 use Rattle.lot_litmus.specs.declared.test.Fault.{Fault}
@@ -30,14 +30,17 @@ pub settled-errs : (most i : ℕ) (code : List Instruction) (c : Configuration) 
     → Fails fault ≡ settled (most - i) code c thread p
 settled-errs most i code c thread p fault below is = sym (settled-here most i code c thread p (Errs fault) below is)
 
+-- where a thread had come before it came here does not matter
+settled-again : (more : ℕ) (code : List Instruction) (c : Configuration) (thread : ℕ) (p q : Progress)
+    → settled more code (with_progress c thread p) thread q ≡ settled more code c thread q
+settled-again zero code c thread p q = refl
+settled-again (suc more) code c thread p q =
+    ap (λ (d : Configuration). settled_by (settled more code d thread) (Goes d) (local_step d q (slice_get code q.at)))
+    (ap (λ (threads : List Progress). record c { threads = threads }) (set-set c.threads thread p q))
+
 pub settled-advances : (most i : ℕ) (code : List Instruction) (c : Configuration) (thread : ℕ) (p q : Progress)
     → i < most → local_step (with_progress c thread p) p (slice_get code p.at) ≡ Advances q
-    → settled (most - (i + 1)) code (with_progress c thread p) thread q ≡ settled (most - i) code c thread p
-settled-advances most i code c thread p q below is = sym (settled-here most i code c thread p (Advances q) below is)
-
--- what was done locally is what the instruction does
-pub local_step-is : (c d : Configuration) (p : Progress) (found : Option Instruction) (instruction : Instruction)
-    (does : Locally) → d ≡ c → found ≡ Some instruction → does ≡ local_step d p (Some instruction)
-    → local_step c p found ≡ does
-local_step-is c d p found instruction does same here is =
-    ap (local_step c p) here ∙ sym (ap (λ e. local_step e p (Some instruction)) same) ∙ sym is
+    → settled (most - (i + 1)) code c thread q ≡ settled (most - i) code c thread p
+settled-advances most i code c thread p q below is =
+    sym (settled-again (most - (i + 1)) code c thread p q)
+    ∙ sym (settled-here most i code c thread p (Advances q) below is)

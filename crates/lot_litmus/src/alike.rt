@@ -1,6 +1,7 @@
 //! Threads that do the same, whose places are exchanged where that makes two states one.
 
-use crate::code::{Code, Instruction, KEYS, Operand, Operation, THREADS, Thread};
+use crate::code::{Code, Instruction, KEYS, Key, Operand, Operation, THREADS, Thread};
+use crate::queue::Queue;
 use crate::state::State;
 use crate::test::Test;
 
@@ -23,20 +24,32 @@ impl Alike {
 
     /// The state with threads that do the same in one order, whichever they had.
     pub(crate) fn sorted(&self, state: &State) -> State {
-        let mut sorted = *state;
-        for number in 0..THREADS as u8 {
-            self.sort_behind(&mut sorted, Thread { number });
-        }
-        sorted
+        state.renumbered(&self.order(state))
     }
 
-    // Lets the least of this thread and those of higher numbers have its place.
-    fn sort_behind(&self, state: &mut State, thread: Thread) {
-        for number in thread.number + 1..THREADS as u8 {
-            let other = Thread { number };
-            let are_alike = self.first[thread.index()] == self.first[other.index()];
-            if are_alike && state.rank(other) < state.rank(thread) {
-                state.exchange(thread, other);
+    // Which thread comes to each place, so that those that do the same are in one order.
+    fn order(&self, state: &State) -> [Thread; THREADS] {
+        let mut order = EACH;
+        let mut ranks = state.ranks();
+        for number in 0..THREADS as u8 {
+            self.order_behind(&mut order, &mut ranks, Thread { number });
+        }
+        order
+    }
+
+    // Lets the least of those at this place and behind it come to the place.
+    fn order_behind(
+        &self,
+        order: &mut [Thread; THREADS],
+        ranks: &mut [u64; THREADS],
+        place: Thread,
+    ) {
+        for number in place.number + 1..THREADS as u8 {
+            let behind = Thread { number };
+            let are_alike = self.first[place.index()] == self.first[behind.index()];
+            if are_alike && ranks[behind.index()] < ranks[place.index()] {
+                order.swap(place.index(), behind.index());
+                ranks.swap(place.index(), behind.index());
             }
         }
     }
@@ -85,35 +98,55 @@ fn computed(instruction: Instruction) -> Instruction {
     instruction
 }
 
-/// By what threads that do the same are put in order.
-type Rank = (u64, u64, usize);
+// All threads, by their numbers.
+const EACH: [Thread; THREADS] = [
+    Thread { number: 0 },
+    Thread { number: 1 },
+    Thread { number: 2 },
+    Thread { number: 3 },
+    Thread { number: 4 },
+    Thread { number: 5 },
+];
 
 impl State {
-    // Whatever tells the thread from another in this state.
-    fn rank(&self, thread: Thread) -> Rank {
-        (
-            self.threads[thread.index()].hash(),
-            self.standing(thread).hash(),
-            self.place_in_queues(thread),
-        )
+    // For each thread a number of what tells it from another in this state.
+    fn ranks(&self) -> [u64; THREADS] {
+        let mut ranks = [0; THREADS];
+        for index in 0..THREADS {
+            ranks[index] = self.threads[index].hash() << 9 ^ self.standings[index].hash();
+        }
+        for number in 0..KEYS as u8 {
+            let key = Key { number };
+            self.queues[key.index()].rank_waiters(&mut ranks, key);
+        }
+        ranks
     }
 
-    // A number for each place in a queue, or 0 if it stands in none.
-    fn place_in_queues(&self, thread: Thread) -> usize {
-        for key in 0..KEYS {
-            if let Some(index) = self.queues[key].index_of(thread) {
-                return key * THREADS + index as usize + 1;
-            }
+    // The state in which these threads have come to the places of the list.
+    fn renumbered(&self, order: &[Thread; THREADS]) -> State {
+        let mut threads = self.threads;
+        let mut standings = self.standings;
+        let mut numbers = EACH;
+        for place in 0..THREADS {
+            let index = order[place].index();
+            threads[place] = self.threads[index];
+            standings[place] = self.standings[index];
+            numbers[index] = EACH[place];
         }
-        0
+        State {
+            words: self.words,
+            threads,
+            standings,
+            queues: self.renumbered_queues(&numbers),
+        }
     }
 
-    // Lets two threads change places.
-    fn exchange(&mut self, thread: Thread, other: Thread) {
-        self.threads.swap(thread.index(), other.index());
-        self.standings.swap(thread.index(), other.index());
+    // The queues in which each thread has another number.
+    fn renumbered_queues(&self, numbers: &[Thread; THREADS]) -> [Queue; KEYS] {
+        let mut queues = self.queues;
         for key in 0..KEYS {
-            self.queues[key] = self.queues[key].exchanged(thread, other);
+            queues[key] = queues[key].renumbered(numbers);
         }
+        queues
     }
 }

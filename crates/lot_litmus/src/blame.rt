@@ -12,14 +12,10 @@ const MOST_LOCAL: usize = 256;
 
 impl State {
     // How far the thread comes by local instructions, up to one that is a step or shows a fault.
-    fn local_end(mut self, code: &Code, thread: Thread, progress: Progress) -> Progress {
+    fn local_end(&self, code: &Code, thread: Thread, progress: Progress) -> Progress {
         let mut progress = progress;
         for _ in 0..MOST_LOCAL {
-            self.threads[thread.index()] = progress;
-            let Some(instruction) = code.at(progress.at) else {
-                return progress;
-            };
-            match self.do_locally(&mut progress, instruction) {
+            match self.go_locally(code, thread, &mut progress) {
                 Locally::Advances => (),
                 Locally::Rests | Locally::Errs(_) => return progress,
             }

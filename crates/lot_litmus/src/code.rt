@@ -82,18 +82,6 @@ impl Thread {
     {
         self.number as usize
     }
-
-    /// Returns the thread that this one is after the two given threads have exchanged their
-    /// numbers.
-    pub fn exchanged(self, thread: Thread, other: Thread) -> Thread {
-        if self == thread {
-            other
-        } else if self == other {
-            thread
-        } else {
-            self
-        }
-    }
 }
 
 /// An `Operand` is a number that an instruction uses.

@@ -23,6 +23,22 @@ impl Leads {
     }
 }
 
+impl Leads {
+    // Whether one of them leads to a state that is marked, or they lead nowhere.
+    fn give_hope(&self, marks: &[bool]) -> bool {
+        let mut gives = true;
+        for to in &self.to {
+            if let Some(index) = to {
+                if marks.get(*index as usize) == Some(&true) {
+                    return true;
+                }
+                gives = false;
+            }
+        }
+        gives
+    }
+}
+
 impl Search {
     /// Marks the states from which some steps lead to a state in which all threads have ended.
     ///
@@ -68,11 +84,22 @@ impl Search {
             → AreHopeful test.now self.now.states.items marks.new.items }
         ensures length { length marks.new.items ≡ length marks.old.items }
     {
-        if marks[index] || !self.is_hopeful(test, marks.as_slice(), index) {
+        if marks[index] || !self.may_be_hopeful(marks.as_slice(), index) {
+            return false;
+        }
+        if !self.is_hopeful(test, marks.as_slice(), index) {
             return false;
         }
         marks[index] = true;
         true
+    }
+
+    // Whether it is worth a look whether the state at the index is hopeful.
+    fn may_be_hopeful(&self, marks: &[bool], index: usize) -> bool {
+        match self.leads().get(index) {
+            Some(leads) => leads.give_hope(marks),
+            None => false,
+        }
     }
 
     // Whether the state at the index has ended, or a step leads from there to one that is marked.

@@ -1,12 +1,12 @@
 //! What local instructions do, which no other thread can come between.
 
-ghost use Rattle.std.specs.Prelude.{◌≡◌, ◌<◌, option_map, Option, Some, None};
-ghost use Rattle.lot_litmus.specs.Steps.{Advances, advanced, with_local, at_target, lets_in, all_pass, computed, looked, local_step};
-ghost use Rattle.lot_litmus.specs.View.{configuration_of, waiter_of};
+ghost use Rattle.std.specs.Prelude.{◌≡◌, ◌<◌, slice_set, Some};
+ghost use Rattle.lot_litmus.specs.Steps.{advanced, with_local, with_progress, at_target, lets_in, all_pass, local_step};
+ghost use Rattle.lot_litmus.specs.View.{configuration_of};
 ghost use Rattle.lot_litmus.specs.Performing.{locally_of};
+ghost use Rattle.lot_litmus.specs.declared.local.Locally.TheVariants.{Rests, Advances};
 
-use crate::code::{Access, Instruction, Local};
-use crate::queue::Entry;
+use crate::code::{Access, Instruction, Local, Thread};
 use crate::state::{Progress, State};
 use crate::test::Fault;
 
@@ -24,22 +24,11 @@ pub(crate) enum Locally {
 }
 
 impl Progress {
-    // Goes on behind the instruction, with what was made in the local, if it is a byte.
-    fn compute(&mut self, to: Local, made: Option<u8>) -> Locally
-        requires { self.old.at < 65535 }
-        ensures { locally_of result self.new ≡ computed self.old to made }
-    {
-        match made {
-            Some(number) => self.advance_with(to, number),
-            None => Locally::Errs(Fault::Overflow),
-        }
-    }
-
     // Goes on behind the instruction, with the number in the local.
     fn advance_with(&mut self, to: Local, number: u8) -> Locally
         requires { self.old.at < 65535 }
-        ensures { locally_of result self.new
-            ≡ Advances (advanced (with_local self.old to number)) }
+        ensures next { self.new ≡ advanced (with_local self.old to number) }
+        ensures goes { result ≡ Advances }
     {
         self.locals[to.index()] = number;
         self.at += 1;
@@ -48,7 +37,8 @@ impl Progress {
 
     // Goes on at the target.
     fn jump(&mut self, target: u16) -> Locally
-        ensures { locally_of result self.new ≡ Advances (at_target self.old target) }
+        ensures next { self.new ≡ at_target self.old target }
+        ensures goes { result ≡ Advances }
     {
         self.at = target;
         Locally::Advances
@@ -57,29 +47,18 @@ impl Progress {
     // Goes on behind the instruction.
     fn advance(&mut self) -> Locally
         requires { self.old.at < 65535 }
-        ensures { locally_of result self.new ≡ Advances (advanced self.old) }
+        ensures next { self.new ≡ advanced self.old }
+        ensures goes { result ≡ Advances }
     {
         self.at += 1;
         Locally::Advances
     }
 
-    // Goes on with the waiter's token in the local, or at the target.
-    fn look(&mut self, to: Local, entry: Option<Entry>, target: u16) -> Locally
-        requires { self.old.at < 65535 }
-        ensures { locally_of result self.new
-            ≡ looked self.old to target (option_map waiter_of entry) }
-    {
-        match entry {
-            Some(entry) => self.advance_with(to, entry.token),
-            None => self.jump(target),
-        }
-    }
-
     // Goes on in the critical section.
     fn enter(&mut self, access: Access) -> Locally
         requires { self.old.at < 65535 }
-        ensures { locally_of result self.new
-            ≡ Advances (advanced (record self.old { inside = Some access })) }
+        ensures next { self.new ≡ advanced (record self.old { inside = Some access }) }
+        ensures goes { result ≡ Advances }
     {
         self.inside = Some(access);
         self.advance()
@@ -100,10 +79,14 @@ impl Access {
 }
 
 impl State {
-    fn lets_in(&self, access: Access) -> bool
-        ensures { result ≡ all_pass (λ other. lets_in access other.inside) self.now.threads }
+    // Whether all let the thread in, which has come so far.
+    fn lets_in(&self, thread: Thread, progress: Progress, access: Access) -> bool
+        ensures { result ≡ all_pass (λ other. lets_in access other.inside)
+            (slice_set self.now.threads thread.number progress) }
     {
-        for other in self.threads {
+        let mut others = self.threads;
+        others[thread.index()] = progress;
+        for other in others {
             if !access.lets_in(other.inside) {
                 return false;
             }
@@ -112,10 +95,18 @@ impl State {
     }
 
     // Does the instruction, if it is a local one, with the thread that has come so far.
-    pub(crate) fn do_locally(&self, progress: &mut Progress, instruction: Instruction) -> Locally
+    #[inline(always)]
+    pub(crate) fn do_locally(
+        &self,
+        thread: Thread,
+        progress: &mut Progress,
+        instruction: Instruction,
+    ) -> Locally
         requires { progress.old.at < 65535 }
-        ensures { locally_of result progress.new
-            ≡ local_step (configuration_of self.now) progress.old (Some instruction) }
+        ensures does { locally_of result progress.new ≡ local_step
+            (with_progress (configuration_of self.now) thread.number progress.old) progress.old
+            (Some instruction) }
+        ensures rests { result ≡ Rests → progress.new ≡ progress.old }
     {
         match instruction {
             Instruction::Compute {
@@ -123,10 +114,10 @@ impl State {
                 operation,
                 first,
                 second,
-            } => {
-                let made = operation.make(progress.value(first), progress.value(second));
-                progress.compute(to, made)
-            }
+            } => match operation.make(progress.value(first), progress.value(second)) {
+                Some(number) => progress.advance_with(to, number),
+                None => Locally::Errs(Fault::Overflow),
+            },
             Instruction::Jump { target } => progress.jump(target),
             Instruction::JumpUnless { operand, target } => {
                 if progress.value(operand) == 0 {
@@ -143,7 +134,7 @@ impl State {
                 }
             }
             Instruction::Enter { access } => {
-                if self.lets_in(access) {
+                if self.lets_in(thread, *progress, access) {
                     progress.enter(access)
                 } else {
                     Locally::Errs(Fault::Exclusion)
@@ -157,10 +148,10 @@ impl State {
                 key,
                 index,
                 target,
-            } => {
-                let entry = self.queues[key.index()].get(progress.value(index) as usize);
-                progress.look(to, entry, target)
-            }
+            } => match self.queues[key.index()].get(progress.value(index) as usize) {
+                Some(entry) => progress.advance_with(to, entry.token),
+                None => progress.jump(target),
+            },
             _ => Locally::Rests,
         }
     }

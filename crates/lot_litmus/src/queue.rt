@@ -2,7 +2,7 @@
 
 ghost use Rattle.std.specs.Prelude.{◌≡◌, ◌+◌, ◌-◌, ◌<◌, ◌≤◌, ◌++◌, ◌∷◌, [], drop, length, slice_get, Some};
 
-use crate::code::{THREADS, Thread, Timing};
+use crate::code::{Key, THREADS, Thread, Timing};
 
 /// An `Entry` is a thread in a queue.
 #[derive(Clone, Copy)]
@@ -151,16 +151,6 @@ impl Queue {
         false
     }
 
-    /// Returns the index at which the thread waits, or `None` if it does not wait here.
-    pub fn index_of(&self, thread: Thread) -> Option<u8> {
-        for index in 0..self.length {
-            if self.entry(index).thread == thread {
-                return Some(index);
-            }
-        }
-        None
-    }
-
     /// Returns the queue without the thread. If the thread does not wait here, this is the whole
     /// queue.
     pub fn without(&self, thread: Thread) -> Queue
@@ -178,17 +168,26 @@ impl Queue {
         left
     }
 
-    /// Returns the queue in which two threads have exchanged their places.
-    pub fn exchanged(&self, thread: Thread, other: Thread) -> Queue {
-        let mut exchanged = Queue::new();
+    /// Returns the queue in which each thread has another number.
+    pub fn renumbered(&self, numbers: &[Thread; THREADS]) -> Queue {
+        let mut renumbered = Queue::new();
         for index in 0..self.length {
             let entry = self.entry(index);
-            exchanged.push(Entry {
-                thread: entry.thread.exchanged(thread, other),
+            renumbered.push(Entry {
+                thread: numbers[entry.thread.index()],
                 ..entry
             });
         }
-        exchanged
+        renumbered
+    }
+
+    /// Adds its place in this queue, which is that of the key, to the rank of each thread here.
+    pub fn rank_waiters(&self, ranks: &mut [u64; THREADS], key: Key) {
+        for index in 0..self.length {
+            let thread = self.entry(index).thread;
+            let place = key.number as u64 * 8 + index as u64 + 1;
+            ranks[thread.index()] = ranks[thread.index()] ^ place;
+        }
     }
 
     /// Divides the queue into three, each in order.

@@ -41,21 +41,33 @@ impl Progress {
         ensures { IsTrue result → self.now ≡ other.now }
     {
         self.at == other.at
-            && self.locals == other.locals
+            && are_same_bytes(&self.locals, &other.locals)
             && are_same_flags(&self.locked, &other.locked)
             && self.inside == other.inside
     }
 }
 
+// Whether all bytes are the same. There is no branch in the loop, so they are compared at once.
+#[inline(always)]
+fn are_same_bytes<const N: usize>(bytes: &[u8; N], others: &[u8; N]) -> bool
+    ensures { IsTrue result → bytes.now ≡ others.now }
+{
+    let mut are_same = true;
+    for index in 0..N {
+        are_same &= bytes[index] == others[index];
+    }
+    are_same
+}
+
+#[inline(always)]
 fn are_same_flags(flags: &[bool; KEYS], others: &[bool; KEYS]) -> bool
     ensures { IsTrue result → flags.now ≡ others.now }
 {
+    let mut are_same = true;
     for index in 0..KEYS {
-        if flags[index] != others[index] {
-            return false;
-        }
+        are_same &= flags[index] == others[index];
     }
-    true
+    are_same
 }
 
 fn are_same_threads(threads: &[Progress; THREADS], others: &[Progress; THREADS]) -> bool
@@ -98,7 +110,7 @@ impl State {
     pub fn is_same(&self, other: &State) -> bool
         ensures { IsTrue result → configuration_of self.now ≡ configuration_of other.now }
     {
-        if self.words != other.words {
+        if !are_same_bytes(&self.words, &other.words) {
             return false;
         }
         if !are_same_threads(&self.threads, &other.threads) {

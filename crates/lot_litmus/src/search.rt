@@ -157,10 +157,11 @@ impl Search {
             × HasLooked test.now self.old.states.items self.new.states.items index looked) }
     {
         let mut leads = Leads::NOWHERE;
+        let mut next = *self.states[index as usize].state();
         for number in 0..THREADS as u8 {
             let thread = Thread { number };
-            let mut next = *self.states[index as usize].state();
-            let to = match test.step_on(&mut next, thread) {
+            let from = self.states[index as usize].state();
+            let to = match test.step_from(from, &mut next, thread) {
                 After::Blocked => None,
                 After::Goes => {
                     let origin = Origin {

@@ -11,7 +11,7 @@ use std::mem;
 #[derive(Drop)]
 pub struct Seen {
     // Their number is 0 or a power of two.
-    places: Vec<Option<Noted>>,
+    places: Vec<Noted>,
     noted: usize,
 }
 
@@ -20,6 +20,18 @@ pub struct Seen {
 struct Noted {
     hash: u32,
     index: u32,
+}
+
+impl Noted {
+    // What is in a free place. No search has so many states.
+    const NOTHING: Noted = Noted {
+        hash: 0,
+        index: u32::MAX,
+    };
+
+    fn is_free(self) -> bool {
+        self.index == u32::MAX
+    }
 }
 
 impl Seen {
@@ -31,13 +43,13 @@ impl Seen {
         }
     }
 
-    /// Adds an index with its hash.
+    /// Adds an index with its hash. The index `u32::MAX` cannot be found again.
     ///
     /// # Errors
     ///
     /// Returns `AllocError` if there is not enough memory.
     pub fn note(&mut self, hash: u32, index: u32) -> Result<(), AllocError> {
-        if self.noted >= self.places.len() / 2 {
+        if self.noted >= self.places.len() / 4 * 3 {
             self.grow()?;
         }
         self.put(Noted { hash, index });
@@ -48,11 +60,11 @@ impl Seen {
     // Makes twice as many places.
     fn grow(&mut self) -> Result<(), AllocError> {
         let places = self.places.len().saturating_mul(2).max(LEAST_PLACES);
-        let larger = vec![in *self.places.allocator(); None; places]?;
+        let larger = vec![in *self.places.allocator(); Noted::NOTHING; places]?;
         let old = mem::replace(&mut self.places, larger);
-        for place in &old {
-            if let Some(noted) = place {
-                self.put(*noted);
+        for &noted in &old {
+            if !noted.is_free() {
+                self.put(noted);
             }
         }
         Ok(())
@@ -62,8 +74,10 @@ impl Seen {
     fn put(&mut self, noted: Noted) {
         let mut place = self.first_place(noted.hash);
         for _ in 0..self.places.len() {
-            if let Some(free @ None) = self.places.get_mut(place) {
-                *free = Some(noted);
+            if let Some(other) = self.places.get_mut(place)
+                && other.is_free()
+            {
+                *other = noted;
                 return;
             }
             place = self.next_place(place);
@@ -77,9 +91,12 @@ impl Seen {
     {
         let mut place = self.first_place(hash);
         for _ in 0..self.places.len() {
-            let Some(&Some(noted)) = self.places.get(place) else {
+            let Some(&noted) = self.places.get(place) else {
                 return None;
             };
+            if noted.is_free() {
+                return None;
+            }
             if noted.hash == hash && is_it(noted.index) {
                 return Some(noted.index);
             }

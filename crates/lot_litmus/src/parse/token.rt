@@ -24,10 +24,54 @@ pub(super) enum Before {
 }
 
 // The words that cannot be names.
-const KEYWORDS: &str = "test let word key beside macro thread forall never exists expect for in \
-    on if else while loop break continue return await assert enter shared leave count cas swap add \
-    sub and or xor park validate timeout before_sleep unpark_one unpark_all filter unpark skip \
-    stop requeue callback";
+const KEYWORDS: [&str; 46] = [
+    "test",
+    "let",
+    "word",
+    "key",
+    "beside",
+    "macro",
+    "thread",
+    "forall",
+    "never",
+    "exists",
+    "expect",
+    "for",
+    "in",
+    "on",
+    "if",
+    "else",
+    "while",
+    "loop",
+    "break",
+    "continue",
+    "return",
+    "await",
+    "assert",
+    "enter",
+    "shared",
+    "leave",
+    "count",
+    "cas",
+    "swap",
+    "add",
+    "sub",
+    "and",
+    "or",
+    "xor",
+    "park",
+    "validate",
+    "timeout",
+    "before_sleep",
+    "unpark_one",
+    "unpark_all",
+    "filter",
+    "unpark",
+    "skip",
+    "stop",
+    "requeue",
+    "callback",
+];
 
 // The signs. One that begins with another stands before it.
 const SIGNS: [&str; 21] = [
@@ -222,8 +266,8 @@ fn number_of(digits: &str) -> Result<Kind, Fault> {
 }
 
 fn word_of(word: &str) -> Kind {
-    for keyword in KEYWORDS.split(' ') {
-        if keyword == word {
+    for keyword in &KEYWORDS {
+        if *keyword == word {
             return Kind::Keyword;
         }
     }

@@ -8,5 +8,5 @@ pub returns-clause-hopeful : goal.returns-clause-hopeful
 returns-clause-hopeful c =
     λ is before. mark-hopeful c.args.test.now c.args.self.now c.args.marks.now.items c.args.index is before
     (ap (λ marks. is_hopeful c.args.test.now marks (slice_get c.args.self.now.states.items c.args.index)
-    (slice_get c.args.self.now.leads.items c.args.index)) (sym c.as_slice.ensures.value)
+    (slice_get c.args.self.now.leads.items c.args.index)) (sym c.as_slice-2.ensures.value)
     ∙ sym c.is_hopeful.ensures ∙ c.if-not-is_hopeful.false)

@@ -8,6 +8,6 @@ use Rattle.lot_litmus.proofs.test.Test.step.Goals as goal
 pub new-requires : goal.new-requires
 new-requires c =
     subst KeepsOutcome (sym c.step_on.ensures ∙ ap (λ after. after_of after c.step_on.new.state) c.in-Goes.is)
-    (stepped-keeps c.args.self.now (configuration_of c.state.result.now) c.args.thread.number
-    (subst (λ s. IsConsistent (machine_of s.queues s.standings)) (sym c.state.ensures.value)
-    c.state.ensures.consistent))
+    (stepped-keeps c.args.self.now (configuration_of c.state-2.result.now) c.args.thread.number
+    (subst (λ s. IsConsistent (machine_of s.queues s.standings)) (sym c.state-2.ensures.value)
+    c.state-2.ensures.consistent))
