@@ -4,5 +4,6 @@ pub mod LatchTitles
 pub mod LatchTries
 pub mod LatchKeys
 pub mod LatchHolds
+pub mod LatchEnds
 pub mod TitledMutexLemmas
 pub mod OnceLemmas

@@ -15,6 +15,8 @@
 //!   moves them to the key of the mutex and sets the `parked` of the mutex, so that its unlock
 //!   wakes them. Otherwise it wakes them at once.
 //! - A thread whose deadline passes after it was moved has had its notify, so it did not time out.
+//! - A thread that comes with a titled mutex is noted as one of another lot, so that no notify
+//!   moves anybody while it waits: the list of such a mutex changes only with its title.
 //!
 //! No thread is forgotten. A thread that waits checks the condition, notes itself in `sleepers`,
 //! and unlocks the mutex, in this order and with the mutex locked. Another thread changes the
@@ -26,6 +28,8 @@ ghost use Rattle.std.specs.Iterator.Runs.{CallKeepsClosure};
 ghost use Rattle.std.specs.Sync.Condvar.{AnsweredAt, StoppedAt};
 ghost use Rattle.parking_lot.specs.Guards.{mutex_of, value_of};
 ghost use Rattle.parking_lot.specs.Locks.{has_timed_out};
+
+mod titled;
 
 use crate::guard::Guard;
 use crate::lot::{Lot, instant_after, is_past};
@@ -77,7 +81,8 @@ impl WaitTimeoutResult {
 ///
 /// Threads may wait on one condition variable with several mutexes, and some of those may be fair.
 /// Each thread waits in the lot of the condition variable, so create both with the same lot: with
-/// two lots the notifies still work, but always wake at once.
+/// two lots the notifies still work, but always wake at once. So they do while threads wait with a
+/// `TitledMutex`, for which `wait_titled` and its like are.
 #[derive(Drop)]
 pub struct Condvar<'l> {
     lot: &'l Lot,
@@ -360,7 +365,8 @@ impl<'l> Condvar<'l> {
     {
         let mutex = guard.lock().mutex;
         let rt = guard.lock().rt;
-        let left = self.sleep(guard, deadline);
+        self.lot.number_both(rt, mutex.lot());
+        let left = self.sleep(rt, self.key_of(mutex), || drop(guard), deadline);
         let (turn, timed_out) = match left {
             Left::Notified(token) => (Turn::of(token), false),
             Left::TimedOut => (Turn::Comes, true),
@@ -370,24 +376,25 @@ impl<'l> Condvar<'l> {
         (mutex.guard(rt, held), WaitTimeoutResult { timed_out })
     }
 
-    // Lets the mutex go once the thread stands in the list, and sleeps.
-    fn sleep<'a, 'r, 'm, T, R: Wait + Clock, F: Fairness>(
+    // Sleeps, once it has unlocked the mutex of this key. It does so when it stands in the list.
+    fn sleep<R: Wait + Clock, U: FnOnce()>(
         &self,
-        guard: MutexGuardIn<'a, 'r, 'm, T, R, F>,
+        rt: &R,
+        comes_with: usize,
+        unlock: U,
         deadline: Option<Instant>,
-    ) -> Left {
-        let mutex = guard.lock().mutex;
-        let rt = guard.lock().rt;
+    ) -> Left
+        requires { U.pre unlock }
+    {
         let mut stood_on = self.key;
-        self.lot.number_both(rt, mutex.lot());
         let parked = self.lot.park(
             rt,
             self.key,
             || {
-                self.note_sleeper(mutex);
+                self.note_sleeper(comes_with);
                 true
             },
-            || drop(guard),
+            unlock,
             |key, is_last| {
                 stood_on = key;
                 if key == self.key && is_last {
@@ -433,13 +440,17 @@ impl<'l> Condvar<'l> {
         )
     }
 
-    // Says in a section that a thread comes to the list with this mutex.
-    fn note_sleeper<T, F: Fairness>(&self, mutex: &MutexIn<'_, T, F>) {
-        let comes_with = if mutex.lot().is_same(self.lot) {
+    // The key of the mutex, if its threads wait in the same lot.
+    fn key_of<T, F: Fairness>(&self, mutex: &MutexIn<'_, T, F>) -> usize {
+        if mutex.lot().is_same(self.lot) {
             mutex.key()
         } else {
             SEVERAL
-        };
+        }
+    }
+
+    // Says in a section that a thread comes to the list with the mutex of this key.
+    fn note_sleeper(&self, comes_with: usize) {
         if !self.sleepers.swap(true, Ordering::SeqCst) {
             self.met.store(comes_with, Ordering::SeqCst);
         } else if self.met.load(Ordering::SeqCst) != comes_with {

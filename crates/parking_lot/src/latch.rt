@@ -5,7 +5,7 @@
 //! somebody may wait. 7 says that the latch is held, that somebody may wait, and that the title is
 //! out with a thread. The queue is elsewhere: the latch knows of it what the title tells.
 
-ghost use Rattle.std.specs.Prelude.{◌≡◌, ◌⊎◌, ◌≤◌, ◌*◌, ℕ, List, [], ◌∷◌, ◌++◌, Contains, IfOk, IfSome, IfNone, IsTrue, IsFalse, None, Some};
+ghost use Rattle.std.specs.Prelude.{◌≡◌, ◌⊎◌, ◌≤◌, ◌*◌, ◌%◌, ℕ, List, [], ◌∷◌, ◌++◌, Contains, IfOk, IfSome, IfNone, IsSome, IsTrue, IsFalse, None, Some};
 ghost use Rattle.atomic_table.specs.Table.{State, rest};
 ghost use Rattle.parking_lot.specs.LatchView.{view, resting, outside, inside};
 ghost use Rattle.lot_word_lock.specs.WordKey.{without_keys};
@@ -340,6 +340,24 @@ impl<T: Drop, M: Tells> Latch<T, M> {
             .shared
             .compare_exchange::<DropWait>(&mut hand.seat, WORD, HELD, HELD)
             == HELD
+    }
+
+    /// Ends the latch, and returns its word and its value.
+    ///
+    /// There is no value only if a thread holds the latch still, and has the value.
+    pub fn close(self) -> (u64, Option<Box<T>>)
+        ensures { result.0 % 2 ≡ 0 → IsSome result.1 }
+    {
+        let Latch { table } = self;
+        let mut closed = table.close();
+        let word = closed.word(WORD);
+        let content = closed.take(VALUE);
+        drop(closed.take(TITLE));
+        closed.free();
+        match content {
+            Content::Value(value) => (word, Some(value)),
+            Content::Out | Content::Title(_) => (word, None),
+        }
     }
 
     // Takes slot 1 with the title, if the word is 3, and returns whether it was.

@@ -19,12 +19,14 @@
 //! - A thread whose deadline has passed takes the mutex if it is free, and in either case leaves
 //!   the list in a section of the key. If an unpark took it before, it was woken: it tries to take
 //!   the mutex, and gives up only while another thread holds the mutex.
+//! - A thread that waits on a condition variable is not in the list meanwhile. A notify wakes it,
+//!   and it locks the mutex like any other.
 //!
 //! It is proved that the laws of `latch` hold between any two steps of all threads. By
 //! `latches_forget_nobody`, the word tells of who is in the list, and if the mutex is free then,
 //! some thread waits that is not in the list. That thread was unparked before.
 
-ghost use Rattle.std.specs.Prelude.{IfSome};
+ghost use Rattle.std.specs.Prelude.{◌≡◌, IfErr, IfSome};
 ghost use Rattle.lot_threads.specs.Titled.{told_by};
 ghost use Rattle.parking_lot.specs.Latch.{key_of};
 ghost use Rattle.parking_lot.specs.TitledMutexes.{FitsQueue, Holds, HoldsEmpty, IsQueueOf, Rests};
@@ -34,9 +36,11 @@ mod waiting;
 use crate::guard::{Guard, Release};
 use crate::latch::{Hand, Latch, Tells};
 use crate::lot::{instant_after, is_past, stand_back};
-use crate::titled_mutex::waiting::FREE;
+use crate::titled_mutex::waiting::{FREE, HELD};
 use lot_threads::{LotError, Title, TitledLot, Witness, WordParker};
 use std::alloc::Global;
+use std::fmt;
+use std::fmt::{Debug, Formatter};
 use std::sync::Wait;
 use std::time::{Clock, Duration, Instant};
 
@@ -61,7 +65,8 @@ impl Tells for Title {
 /// Use it like a `Mutex`. Its threads wait in a `TitledLot`, which deals each such mutex a key. It
 /// is slower than a `Mutex` when threads compete.
 ///
-/// If a guard is forgotten by `mem::forget`, the mutex stays locked.
+/// If a guard is forgotten by `mem::forget`, the mutex stays locked. There is no `get_mut`, because
+/// nothing but a guard can lend the value: whoever has the whole mutex calls `lock`.
 #[derive(Drop)]
 pub struct TitledMutex<'l, T: Drop> {
     lot: &'l TitledLot<WordParker>,
@@ -81,8 +86,8 @@ pub type TitledMutexGuard<'a, 'r, 'l, T, R> = Guard<Box<T>, TitledLocked<'a, 'r,
 ///
 /// It has no `Drop`: only dropping the guard unlocks the mutex.
 pub struct TitledLocked<'a, 'r, 'l, T: Drop, R: Wait> {
-    mutex: &'a TitledMutex<'l, T>,
-    rt: &'r R,
+    pub(crate) mutex: &'a TitledMutex<'l, T>,
+    pub(crate) rt: &'r R,
     hand: Hand<T, Title>,
     ghost own: { HoldsEmpty mutex.now.latch hand },
 }
@@ -105,6 +110,8 @@ impl<T: Drop, R: Wait> Release<Box<T>> for TitledLocked<'_, '_, '_, T, R> {
 }
 
 impl<'l, T: Drop> TitledMutex<'l, T> {
+    ghost use Rattle.parking_lot.specs.Guards.{titled_mutex_of};
+
     /// Creates a mutex that nobody holds, around the given value.
     ///
     /// It takes the next key of the lot, and allocates a block for the value, one for the word and
@@ -140,7 +147,9 @@ impl<'l, T: Drop> TitledMutex<'l, T> {
     ///
     /// A thread that already holds the mutex waits for ever.
     #[inline]
-    pub fn lock<'a, 'r, R: Wait>(&'a self, rt: &'r R) -> TitledMutexGuard<'a, 'r, 'l, T, R> {
+    pub fn lock<'a, 'r, R: Wait>(&'a self, rt: &'r R) -> TitledMutexGuard<'a, 'r, 'l, T, R>
+        ensures { titled_mutex_of result ≡ self.now }
+    {
         let hand = self.hold(rt);
         self.guard(rt, hand)
     }
@@ -149,7 +158,9 @@ impl<'l, T: Drop> TitledMutex<'l, T> {
     pub fn try_lock<'a, 'r, R: Wait>(
         &'a self,
         rt: &'r R,
-    ) -> Option<TitledMutexGuard<'a, 'r, 'l, T, R>> {
+    ) -> Option<TitledMutexGuard<'a, 'r, 'l, T, R>>
+        ensures { IfSome result (λ guard. titled_mutex_of guard ≡ self.now) }
+    {
         let mut hand = self.latch.arrive();
         if self.try_take(&mut hand) {
             return Some(self.guard(rt, hand));
@@ -163,7 +174,9 @@ impl<'l, T: Drop> TitledMutex<'l, T> {
         &'a self,
         rt: &'r R,
         duration: Duration,
-    ) -> Option<TitledMutexGuard<'a, 'r, 'l, T, R>> {
+    ) -> Option<TitledMutexGuard<'a, 'r, 'l, T, R>>
+        ensures { IfSome result (λ guard. titled_mutex_of guard ≡ self.now) }
+    {
         match instant_after(rt, duration) {
             Ok(Some(deadline)) => self.lock_until(rt, deadline),
             Ok(None) => Some(self.lock(rt)),
@@ -176,7 +189,9 @@ impl<'l, T: Drop> TitledMutex<'l, T> {
         &'a self,
         rt: &'r R,
         deadline: Instant,
-    ) -> Option<TitledMutexGuard<'a, 'r, 'l, T, R>> {
+    ) -> Option<TitledMutexGuard<'a, 'r, 'l, T, R>>
+        ensures { IfSome result (λ guard. titled_mutex_of guard ≡ self.now) }
+    {
         let hand = self.hold_until(rt, deadline)?;
         Some(self.guard(rt, hand))
     }
@@ -184,6 +199,20 @@ impl<'l, T: Drop> TitledMutex<'l, T> {
     /// Returns whether a thread holds the mutex.
     pub fn is_locked(&self) -> bool {
         self.latch.word() % 2 == 1
+    }
+
+    /// Returns the value, and ends the mutex.
+    ///
+    /// It returns `None` only if a guard was forgotten or leaked, and the value with it.
+    pub fn into_inner(self) -> Option<T> {
+        let TitledMutex {
+            lot: _,
+            latch,
+            key: _,
+            alloc: _,
+        } = self;
+        let (_, value) = latch.close();
+        value.map(Box::into_inner)
     }
 
     // The guard of a thread that holds the mutex.
@@ -194,6 +223,7 @@ impl<'l, T: Drop> TitledMutex<'l, T> {
         holder: Hand<T, Title>,
     ) -> TitledMutexGuard<'a, 'r, 'l, T, R>
         requires { Holds self.now.latch holder }
+        ensures { titled_mutex_of result ≡ self.now }
     {
         let mut hand = holder;
         let value = self.latch.take_value(&mut hand);
@@ -261,5 +291,76 @@ impl<'l, T: Drop> TitledMutex<'l, T> {
             }
         }
         unreachable!()
+    }
+}
+
+impl<'a, 'r, 'l, T: Drop, R: Wait> TitledMutexGuard<'a, 'r, 'l, T, R> {
+    ghost use Rattle.parking_lot.specs.Guards.{titled_mutex_of};
+
+    /// Returns the mutex that the guard has locked.
+    pub fn mutex(guard: &Self) -> &'a TitledMutex<'l, T>
+        ensures { result.now ≡ titled_mutex_of guard.now }
+    {
+        guard.lock().mutex
+    }
+
+    /// Unlocks the mutex if a thread may wait for it, lets others run, and locks it again.
+    ///
+    /// The thread that has waited longest is woken. It gets the mutex if it is quicker than this
+    /// one. If nobody waits, the call does nothing.
+    pub fn bump(guard: Self) -> Self
+        ensures { titled_mutex_of result ≡ titled_mutex_of guard.entry }
+    {
+        let mutex = guard.lock().mutex;
+        let rt = guard.lock().rt;
+        if mutex.latch.word() == HELD {
+            return guard;
+        }
+        drop(guard);
+        stand_back();
+        mutex.lock(rt)
+    }
+
+    /// Unlocks the mutex, calls the closure, locks the mutex again, and returns the new guard with
+    /// what the closure returned.
+    pub fn unlocked<A, C: FnOnce() -> A>(guard: Self, call: C) -> (Self, A)
+        requires { C.pre call }
+        ensures mutex { titled_mutex_of result.0 ≡ titled_mutex_of guard.entry }
+        ensures called { C.post call result.1 }
+    {
+        let mutex = guard.lock().mutex;
+        let rt = guard.lock().rt;
+        drop(guard);
+        let answer = call();
+        (mutex.lock(rt), answer)
+    }
+
+    /// Returns a reference to the value that stays valid as long as the mutex, which is never
+    /// unlocked.
+    ///
+    /// The guard is moved to memory that is never freed.
+    ///
+    /// # Errors
+    ///
+    /// Returns the guard if there is not enough memory for it. The mutex is still locked then.
+    pub fn leak(guard: Self, alloc: Global) -> Result<&'a mut T, Self>
+    where
+        'r: 'a,
+        R: 'a,
+        ensures { IfErr result (λ back. titled_mutex_of back ≡ titled_mutex_of guard.entry) }
+    {
+        match Box::new(alloc, guard) {
+            Ok(kept) => {
+                let guard: &'a mut Self = Box::leak(kept);
+                Ok(&mut **guard)
+            }
+            Err(failed) => Err(failed.value),
+        }
+    }
+}
+
+impl<T: Drop> Debug for TitledMutex<'_, T> {
+    fn fmt<W: fmt::Write>(&self, f: &mut Formatter<W>) -> fmt::Result {
+        f.debug_struct("TitledMutex").finish_non_exhaustive()
     }
 }

@@ -20,6 +20,9 @@ use std::time::{Clock, Instant};
 // The word of a mutex that is free, where nobody waits.
 pub(super) const FREE: u64 = 0;
 
+// The word of one that is held, where nobody waits.
+pub(super) const HELD: u64 = 1;
+
 // The word of one that is free, where somebody may wait.
 const FREE_AND_TOLD: u64 = 2;
 
