@@ -36,6 +36,8 @@ mod semaphore;
 #[cfg(test)]
 mod stage;
 #[cfg(test)]
+mod titled_calls;
+#[cfg(test)]
 mod titled_mutex;
 #[cfg(test)]
 mod values;
