@@ -40,4 +40,6 @@ mod titled_calls;
 #[cfg(test)]
 mod titled_mutex;
 #[cfg(test)]
+mod titled_semaphore;
+#[cfg(test)]
 mod values;

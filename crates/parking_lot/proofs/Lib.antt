@@ -1,3 +1,4 @@
+pub mod SeatCounts
 pub mod LatchCounts
 pub mod LatchBoard
 pub mod LatchTitles
@@ -7,3 +8,9 @@ pub mod LatchHolds
 pub mod LatchEnds
 pub mod TitledMutexLemmas
 pub mod OnceLemmas
+pub mod StockBoard
+pub mod StockTries
+pub mod StockTitles
+pub mod StockKeys
+pub mod StockHolds
+pub mod TitledSemaphoreLemmas

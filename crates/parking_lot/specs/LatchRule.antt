@@ -27,8 +27,9 @@ carries_it seat = one_if_some seat.carries
 abbrev pub WaitsAs : ℕ → View → Type 0
 WaitsAs number seat = seat.waits ≡ Some number
 
-abbrev pub SomeSeat : List View → (View → Type 0) → Type 0
-SomeSeat views P = (id : ℕ) × (seat : View) × (get_elem? views id ≡ some seat) × P seat
+module _ {V : Type 0} where
+  abbrev pub SomeSeat : List V → (V → Type 0) → Type 0
+  SomeSeat views P = (id : ℕ) × (seat : V) × (get_elem? views id ≡ some seat) × P seat
 
 -- no number stands twice in the list
 abbrev pub NoRepeats : List ℕ → Type 0

@@ -12,5 +12,12 @@ pub mod LatchRule
 pub mod LatchSteps
 pub mod Latch
 pub mod LatchLaws
--- Last the titled mutex itself.
+-- Then the titled mutex itself.
 pub mod TitledMutexes
+-- Last the table of a titled semaphore, in the same order, and the semaphore itself.
+pub mod StockView
+pub mod StockRule
+pub mod StockSteps
+pub mod Stock
+pub mod StockLaws
+pub mod TitledSemaphores

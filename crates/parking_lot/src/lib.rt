@@ -70,6 +70,8 @@
 //!   `num_permits` there.
 //! - `TitledMutex`: upstream has none. Its threads wait in a `TitledLot`, and each call that waits
 //!   may lock the bucket of its key once more than a `Mutex` does.
+//! - `TitledSemaphore`: upstream has none. Its threads wait in a `TitledLot` too, and each of its
+//!   permits is acquired by itself.
 #![tactic(auto)]
 
 pub mod barrier;
@@ -85,7 +87,9 @@ pub mod once_lock;
 pub mod reentrant_mutex;
 pub mod rw_lock;
 pub mod semaphore;
+pub mod stock;
 pub mod titled_mutex;
+pub mod titled_semaphore;
 mod wait_queue;
 
 pub use barrier::{Barrier, BarrierWaitResult, Parties, Party};
@@ -102,3 +106,4 @@ pub use reentrant_mutex::{Owner, ReentrantMutex, ReentrantMutexGuard};
 pub use rw_lock::{RwLock, RwLockReadGuard, RwLockUpgradableReadGuard, RwLockWriteGuard};
 pub use semaphore::{Semaphore, SemaphorePermit};
 pub use titled_mutex::{TitledLocked, TitledMutex, TitledMutexGuard};
+pub use titled_semaphore::{TitledSemaphore, TitledSemaphorePermit};

@@ -47,8 +47,8 @@ use std::time::{Clock, Duration, Instant};
 /// In proofs, a `QueueKey` names the key and the lot of a title. Nothing reads it.
 #[derive(Drop)]
 pub struct QueueKey {
-    key: usize,
-    home: Witness,
+    pub(crate) key: usize,
+    pub(crate) home: Witness,
 }
 
 impl Tells for Title {

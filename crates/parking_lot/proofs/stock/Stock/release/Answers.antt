@@ -1,0 +1,24 @@
+use Rattle.std.proofs.Common.{rules, ◌+◌, ◌%◌, ◌==◌, [], None, refl}
+use mathlib.Core.Option.{none}
+use prog.Atomic.{either}
+use Rattle.atomic_table.specs.Table.{step, Me}
+use Rattle.parking_lot.specs.StockView.{having}
+use Rattle.parking_lot.specs.StockSteps.{ReleaseTells}
+use Rattle.parking_lot.proofs.StockKeys.{at_key}
+use Rattle.parking_lot.proofs.StockTries.{releases}
+use Rattle.parking_lot.proofs.stock.Stock.release.Goals as goal
+
+pub compare_exchange-requires : goal.compare_exchange-requires
+compare_exchange-requires g c =
+    let told = g.M.Tells.told in
+    let fits = g.M.Tells.fits in
+    let key = c.args.self.now.table.shared.key in
+    let word = c.args.word in
+    let new = (word + 4) % 18446744073709551616 in
+    let id = c.args.hand.now.seat.id in (
+      c.requires.stock.table,
+      search rules,
+      at_key told fits key _ 1 id _ (having 1 None, []) 0 (λ x. either (x == word) new x) (λ r. r)
+          (λ _. ReleaseTells) (λ n. step n 0 word new none) c.args.self.now.sized.1 c.requires.stock.carried
+          c.requires.holds (releases told (fits key.queue) key.permits id word new c.requires.nobody_to_wake refl),
+    )

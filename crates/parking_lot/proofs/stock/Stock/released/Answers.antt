@@ -1,0 +1,35 @@
+use Rattle.std.proofs.Common.{rules, ℕ, ◌+◌, ◌*◌, [], ◌∷◌, None, Some, refl, inl, arith}
+use mathlib.Core.Option.{none}
+use Rattle.atomic_table.specs.Table.{step, Me}
+use Rattle.lot_word_lock.specs.WordKey.{without_key}
+use Rattle.parking_lot.specs.Stock.{numbers_of}
+use Rattle.parking_lot.specs.StockView.{view}
+use Rattle.parking_lot.specs.StockSteps.{ReleasedTells}
+use Rattle.parking_lot.proofs.LatchKeys.{put_in_front}
+use Rattle.parking_lot.proofs.SeatCounts.{None_not_Some}
+use Rattle.parking_lot.proofs.StockKeys.{at_key}
+use Rattle.parking_lot.proofs.StockTitles.{leaves}
+use Rattle.parking_lot.proofs.stock.Stock.released.Goals as goal
+
+pub store-requires : goal.store-requires
+store-requires g c =
+    let told = g.M.Tells.told in
+    let fits = g.M.Tells.fits in
+    let key = c.args.self.now.table.shared.key in
+    let id = c.put_title.new.hand.seat.id in
+    let title = c.args.title in
+    let me = without_key c.args.hand.now.seat.me in
+    let numbers = numbers_of c.args.hand.now in
+    let bit = c.word_of.ensures in
+    let new = c.word_of.result in (
+      c.put_title.ensures.stock.table,
+      search rules,
+      at_key told fits key _ 1 id _ (view 1 None (Some numbers) 0, (0, Some title) ∷ []) 0
+          (λ _. new) (λ _. new) (λ _. ReleasedTells) (λ n. step n 0 new 0 none) c.args.self.now.sized.1
+          c.put_title.ensures.stock.carried
+          (put_in_front me _ _ 0 None (Some title) _ c.put_title.ensures.back c.requires.carries)
+          (leaves told (fits key.queue) key.permits id 1 0 None numbers 0 title 1 bit.0 new
+          (ReleasedTells (step 1 0 new 0 none) (view 1 None (Some numbers) 0, (0, Some title) ∷ []) new)
+          bit.1 bit.2 (λ e. c.requires.more (bit.3 e)) refl c.requires.fits (inl c.requires.others)
+          (λ n e. absurd (None_not_Some n e)) refl),
+    )

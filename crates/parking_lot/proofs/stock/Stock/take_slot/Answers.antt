@@ -1,0 +1,26 @@
+use Rattle.std.proofs.Common.{rules, ◌==◌, [], refl}
+use mathlib.Core.Option.{none}
+use prog.Atomic.{either}
+use Rattle.atomic_table.specs.Table.{step, Me}
+use Rattle.lot_word_lock.specs.WordKey.{without_key}
+use Rattle.parking_lot.specs.StockView.{having}
+use Rattle.parking_lot.specs.StockSteps.{CarryTells}
+use Rattle.parking_lot.proofs.StockKeys.{at_key}
+use Rattle.parking_lot.proofs.StockTitles.{carries}
+use Rattle.parking_lot.proofs.stock.Stock.take_slot.Goals as goal
+
+pub compare_exchange-requires : goal.compare_exchange-requires
+compare_exchange-requires g c =
+    let told = g.M.Tells.told in
+    let fits = g.M.Tells.fits in
+    let key = c.args.self.now.table.shared.key in
+    let word = c.args.word in
+    let id = c.args.hand.now.seat.id in
+    let me = without_key c.args.hand.now.seat.me in (
+      c.requires.stock.table,
+      search rules,
+      at_key told fits key _ 1 id _ (having me.0.holds me.0.waits, []) 0 (λ x. either (x == word) 2 x) (λ r. r)
+          (λ k. CarryTells told (fits k.queue)) (λ n. step n 0 word 2 none) c.args.self.now.sized.1
+          c.requires.stock.carried c.requires.without
+          (carries told (fits key.queue) key.permits id me.0.holds me.0.waits word c.requires.home),
+    )

@@ -1,0 +1,18 @@
+use Rattle.std.proofs.Common.{None}
+use Rattle.parking_lot.specs.Stock.{seat_of}
+use Rattle.parking_lot.proofs.TitledSemaphoreLemmas.{took}
+use Rattle.parking_lot.proofs.titled_semaphore.TitledSemaphore.take_until.Goals as goal
+
+pub returns-then-try_take : goal.returns-then-try_take
+returns-then-try_take g c = record {
+  of_stock = c.try_take.ensures.stock;
+  holds = took (seat_of c.arrive-hand.result) (seat_of c.try_take.new.hand) 0 None c.arrive-hand.ensures.rests
+      (c.try_take.ensures.holds c.if-try_take.true);
+}
+
+pub returns-then-try_take-2 : goal.returns-then-try_take-2
+returns-then-try_take-2 g c = record {
+  of_stock = c.try_take-in-loop.ensures.stock;
+  holds = took (seat_of c.loop.hand) (seat_of c.try_take-in-loop.new.hand) 0 None c.loop.invariant.rests.rests
+      (c.try_take-in-loop.ensures.holds c.if-try_take-2.true);
+}

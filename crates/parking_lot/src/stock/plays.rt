@@ -1,0 +1,78 @@
+//! This module has the rule of a stock's table, and what each step tells its thread.
+//!
+//! These types are for proofs alone. A seat carries the key of the stock beside its view, because
+//! no step can read the key.
+
+ghost use Rattle.parking_lot.specs.StockView.{resting};
+ghost use Rattle.lot_word_lock.specs.WordKey.{UnderKey, TellsUnderKey};
+ghost use Rattle.parking_lot.specs.StockRule.{Counted};
+ghost use Rattle.parking_lot.specs.StockSteps.{ArriveTells, AcquireTells, ReleaseTells, CarryTells, EnteredTells, ReturnedTells, LeftTells, ReleasedTells, DropWaitTells};
+
+use super::Supply;
+use super::view::View;
+use crate::latch::Tells;
+use atomic_table::{Play, TableRule};
+
+/// `Order` is the rule of the table: what holds of the word, the slot and all threads between any
+/// two steps.
+pub struct Order;
+
+impl<M: Tells> TableRule<Option<M>, (Supply<M::Key>, View), Supply<M::Key>> for Order {
+    ghost holds = { UnderKey (λ key. Counted M.told (M.fits key.queue) key.permits) };
+
+    ghost first = { λ key. (key, resting) };
+}
+
+pub(super) struct Arrive;
+
+impl<M: Tells> Play<Option<M>, (Supply<M::Key>, View)> for Arrive {
+    ghost then = { TellsUnderKey (λ _. ArriveTells) };
+}
+
+pub(super) struct Acquire;
+
+impl<M: Tells> Play<Option<M>, (Supply<M::Key>, View)> for Acquire {
+    ghost then = { TellsUnderKey (λ _. AcquireTells) };
+}
+
+pub(super) struct Release;
+
+impl<M: Tells> Play<Option<M>, (Supply<M::Key>, View)> for Release {
+    ghost then = { TellsUnderKey (λ _. ReleaseTells) };
+}
+
+pub(super) struct Carry;
+
+impl<M: Tells> Play<Option<M>, (Supply<M::Key>, View)> for Carry {
+    ghost then = { TellsUnderKey (λ key. CarryTells M.told (M.fits key.queue)) };
+}
+
+pub(super) struct Entered;
+
+impl<M: Tells> Play<Option<M>, (Supply<M::Key>, View)> for Entered {
+    ghost then = { TellsUnderKey (λ _. EnteredTells M.told) };
+}
+
+pub(super) struct Returned;
+
+impl<M: Tells> Play<Option<M>, (Supply<M::Key>, View)> for Returned {
+    ghost then = { TellsUnderKey (λ _. ReturnedTells) };
+}
+
+pub(super) struct Left;
+
+impl<M: Tells> Play<Option<M>, (Supply<M::Key>, View)> for Left {
+    ghost then = { TellsUnderKey (λ _. LeftTells) };
+}
+
+pub(super) struct Released;
+
+impl<M: Tells> Play<Option<M>, (Supply<M::Key>, View)> for Released {
+    ghost then = { TellsUnderKey (λ _. ReleasedTells) };
+}
+
+pub(super) struct DropWait;
+
+impl<M: Tells> Play<Option<M>, (Supply<M::Key>, View)> for DropWait {
+    ghost then = { TellsUnderKey (λ _. DropWaitTells) };
+}
