@@ -37,16 +37,12 @@ pub struct NamedNumber {
     pub number: u8,
 }
 
-/// A `Statement` is a statement of the text, and its place. A statement of a macro counts for each
-/// call.
+/// A `Statement` is a statement of the text, and its place.
 #[derive(Drop)]
 pub struct Statement {
     /// Its line, which counts from 1, and the column at which it begins.
     pub line: usize,
     pub column: usize,
-
-    /// If it stands in a macro, the line at which the thread calls that.
-    pub call: Option<usize>,
 
     /// Its text, without its blocks.
     pub text: String,

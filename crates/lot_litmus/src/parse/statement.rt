@@ -23,34 +23,21 @@ impl<'t> Parser<'t> {
     pub(super) fn begin_statement(&mut self) {
         let token = self.cursor.peek();
         let (line, column) = (token.line, token.column);
-        let call = self.call_line();
         for (index, known) in self.statements.iter().enumerate() {
-            if known.line == line && known.column == column && known.call == call {
+            if known.line == line && known.column == column {
                 self.draft.statement = index;
                 return;
             }
         }
         self.draft.statement = self.statements.len();
         let text = String::new(self.alloc);
-        let statement = Statement {
-            line,
-            column,
-            call,
-            text,
-        };
-        if self.statements.push(statement).is_err() {
+        if self
+            .statements
+            .push(Statement { line, column, text })
+            .is_err()
+        {
             self.draft.fail(Fault::NoMemory);
         }
-    }
-
-    // The line at which the thread calls the macro whose text is read.
-    fn call_line(&self) -> Option<usize> {
-        for open in &self.blocks {
-            if let Block::Macro(_) = open.block {
-                return Some(self.statements.get(open.statement)?.line);
-            }
-        }
-        None
     }
 
     /// The statement has been read, or its head. What stands on its first line is kept.
