@@ -5,54 +5,47 @@
 //! - `queue put_for MS`, `queue take_for MS`: puts 1, or takes a number, in so many milliseconds.
 //!   Tells whether it did.
 
-use crate::on_locks::perform;
-use examples::bounded_queue::BoundedQueue;
+use crate::player::perform;
+use crate::stage::Stage;
+use lot_threads::ThreadParkerT;
 use std::sync::Wait;
-use std::sync::atomic::{AtomicUsize, Ordering};
+use std::sync::atomic::Ordering;
 use std::time::{Clock, Duration};
 use test_support::words::Words;
 
-fn put_all<R: Wait + Clock>(rt: &R, queue: &BoundedQueue<'_, usize>, count: usize) {
-    for number in 1..=count {
-        queue.put(rt, number);
-    }
-}
-
-fn take_all<R: Wait + Clock>(
-    rt: &R,
-    queue: &BoundedQueue<'_, usize>,
-    sum: &AtomicUsize,
-    count: usize,
-) -> bool {
-    let mut in_order = true;
-    for number in 1..=count {
-        let taken = queue.take(rt);
-        sum.fetch_add(taken, Ordering::SeqCst);
-        in_order = taken == number && in_order;
-    }
-    in_order
-}
-
-pub fn use_queue<R: Wait + Clock>(
-    rt: &R,
-    queue: &BoundedQueue<'_, usize>,
-    sum: &AtomicUsize,
-    words: &mut Words<'_>,
-) -> Option<usize> {
-    let call = words.word()?;
-    let number = words.number()?;
-    let duration = Duration::from_millis(number as u64);
-    let is_well = match call {
-        "put" => {
-            put_all(rt, queue, number);
-            true
+impl<P: ThreadParkerT> Stage<'_, P> {
+    fn put_all<R: Wait + Clock>(&self, rt: &R, count: usize) {
+        for number in 1..=count {
+            self.queue.put(rt, number);
         }
-        "take" => take_all(rt, queue, sum, number),
-        "put_for" => queue.put_for(rt, 1, duration).is_ok(),
-        "take_for" => queue.take_for(rt, duration).is_some(),
-        _ => return None,
-    };
-    Some(usize::from(is_well))
+    }
+
+    fn take_all<R: Wait + Clock>(&self, rt: &R, count: usize) -> bool {
+        let mut in_order = true;
+        for number in 1..=count {
+            let taken = self.queue.take(rt);
+            self.first.fetch_add(taken, Ordering::SeqCst);
+            in_order = taken == number && in_order;
+        }
+        in_order
+    }
+
+    pub fn use_queue<R: Wait + Clock>(&self, rt: &R, words: &mut Words<'_>) -> Option<usize> {
+        let call = words.word()?;
+        let number = words.number()?;
+        let duration = Duration::from_millis(number as u64);
+        let is_well = match call {
+            "put" => {
+                self.put_all(rt, number);
+                true
+            }
+            "take" => self.take_all(rt, number),
+            "put_for" => self.queue.put_for(rt, 1, duration).is_ok(),
+            "take_for" => self.queue.take_for(rt, duration).is_some(),
+            _ => return None,
+        };
+        Some(usize::from(is_well))
+    }
 }
 
 // It refuses a `put` that waits while a place is free, or overwrites, a `take` in another order, or
@@ -62,12 +55,14 @@ pub fn use_queue<R: Wait + Clock>(
 fn consumers_take_what_producers_put_in_its_order(rt: HostRuntime) {
     perform(
         &rt,
+        rt.alloc(),
         &[1, 3, 3000],
         "thread
             repeat 2 queue put $0 ; queue take $0",
     );
     perform(
         &rt,
+        rt.alloc(),
         &[1, 3, 3000],
         "thread 3
             queue put 2000
@@ -86,6 +81,7 @@ fn consumers_take_what_producers_put_in_its_order(rt: HostRuntime) {
 fn a_wait_ends_by_a_change_or_after_its_time(rt: HostRuntime) {
     perform(
         &rt,
+        rt.alloc(),
         &[1],
         "thread
             queue take_for 5 -> 0

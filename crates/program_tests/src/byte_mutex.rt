@@ -13,17 +13,16 @@
 //! - `mutex free`: locks it, and tries it once more meanwhile. Tells whether it was free the first
 //!   time alone, and was handed to nobody.
 
-use crate::on_lot::{MUTEX_KEY, perform, perform_followed};
-use examples::byte_mutex::ByteMutex;
-use lot_threads::{Member, ParkingLot, ThreadParkerT};
-use std::alloc::AllocGlobal;
+use crate::player::{perform, perform_followed};
+use crate::stage::{MUTEX_KEY, Stage};
+use lot_threads::{Member, ThreadParkerT};
+use std::alloc::Global;
 use std::sync::Wait;
 use std::sync::atomic::Ordering;
 use std::thread;
 use std::time::Clock;
 use test_support::calls::{TOKEN, Way, unpark, wait};
 use test_support::clock::{from_now, is_past, now};
-use test_support::counts::Counts;
 use test_support::followed_parker::GATE;
 use test_support::waits::{come_by_turns, comes_to};
 use test_support::words::Words;
@@ -34,138 +33,105 @@ const LONG: u64 = 1_000;
 // So often two threads lock and unlock at once, or until the time is over.
 const OFTEN: usize = 5_000_000;
 
-fn count_both(counts: &Counts) -> bool {
-    let (one, other) = (counts.named("first"), counts.named("second"));
-    let first = one.load(Ordering::SeqCst);
-    let second = other.load(Ordering::SeqCst);
-    one.store(first.wrapping_add(1), Ordering::SeqCst);
-    thread::yield_now();
-    other.store(second.wrapping_add(1), Ordering::SeqCst);
-    first == second
-}
+impl<P: ThreadParkerT> Stage<'_, P> {
+    fn count_both(&self) -> bool {
+        let first = self.first.load(Ordering::SeqCst);
+        let second = self.second.load(Ordering::SeqCst);
+        self.first.store(first.wrapping_add(1), Ordering::SeqCst);
+        thread::yield_now();
+        self.second.store(second.wrapping_add(1), Ordering::SeqCst);
+        first == second
+    }
 
-fn lock_and_count<P: ThreadParkerT, R: Wait + Clock>(
-    rt: &R,
-    lot: &ParkingLot<P>,
-    mutex: &ByteMutex,
-    counts: &Counts,
-    member: &mut Member<'_, P>,
-) -> bool {
-    let held = mutex.lock(rt, member);
-    let were_equal = count_both(counts);
-    mutex.unlock(rt, lot, held);
-    were_equal
-}
+    fn lock_and_count<R: Wait + Clock>(&self, rt: &R, member: &mut Member<'_, P>) -> bool {
+        let held = self.mutex.lock(rt, member);
+        let were_equal = self.count_both();
+        self.mutex.unlock(rt, &self.lot, held);
+        were_equal
+    }
 
-fn lock_often<P: ThreadParkerT, R: Wait + Clock>(
-    rt: &R,
-    lot: &ParkingLot<P>,
-    mutex: &ByteMutex,
-    member: &mut Member<'_, P>,
-) -> Option<bool> {
-    let end = from_now(rt, LONG)?;
-    for _ in 0..OFTEN {
-        let held = mutex.lock(rt, member);
-        mutex.unlock(rt, lot, held);
-        if is_past(rt, end) {
-            break;
+    fn lock_often<R: Wait + Clock>(&self, rt: &R, member: &mut Member<'_, P>) -> Option<bool> {
+        let end = from_now(rt, LONG)?;
+        for _ in 0..OFTEN {
+            let held = self.mutex.lock(rt, member);
+            self.mutex.unlock(rt, &self.lot, held);
+            if is_past(rt, end) {
+                break;
+            }
+        }
+        Some(true)
+    }
+
+    fn hand_over<R: Wait>(&self, rt: &R, alloc: Global, threads: usize) -> bool {
+        let Some(held) = self.mutex.try_lock() else {
+            return false;
+        };
+        self.a.fetch_add(1, Ordering::SeqCst);
+        let came = come_by_turns(rt, alloc, &self.lot, MUTEX_KEY, threads);
+        let counted = self.first.load(Ordering::SeqCst);
+        let handed = self.mutex.unlock(rt, &self.lot, held);
+        self.a.fetch_add(1, Ordering::SeqCst);
+        came && counted == 0 && handed
+    }
+
+    fn hold<R: Wait + Clock>(&self, rt: &R, alloc: Global, member: &mut Member<'_, P>) -> bool {
+        let held = self.mutex.lock(rt, member);
+        self.b.fetch_add(1, Ordering::SeqCst);
+        let came = come_by_turns(rt, alloc, &self.lot, MUTEX_KEY, 1);
+        wait(rt, member, GATE, now(rt));
+        let is_over = comes_to(&self.a, 2);
+        self.mutex.unlock(rt, &self.lot, held);
+        came && is_over
+    }
+
+    fn relock<R: Wait + Clock>(&self, rt: &R, alloc: Global) -> bool {
+        let Some(held) = self.mutex.try_lock() else {
+            return false;
+        };
+        self.a.fetch_add(1, Ordering::SeqCst);
+        come_by_turns(rt, alloc, &self.lot, GATE, 1);
+        unpark(rt, &self.lot, Way::One, GATE, TOKEN);
+        self.mutex.unlock(rt, &self.lot, held);
+        if let Some(held) = self.mutex.try_lock() {
+            come_by_turns(rt, alloc, &self.lot, MUTEX_KEY, 1);
+            self.mutex.unlock(rt, &self.lot, held);
+        }
+        true
+    }
+
+    fn is_locked_once<R: Wait>(&self, rt: &R) -> bool {
+        let Some(held) = self.mutex.try_lock() else {
+            return false;
+        };
+        let again = self.mutex.try_lock();
+        let handed = self.mutex.unlock(rt, &self.lot, held);
+        match again {
+            None => !handed,
+            Some(other) => {
+                self.mutex.unlock(rt, &self.lot, other);
+                false
+            }
         }
     }
-    Some(true)
-}
 
-fn hand_over<P: ThreadParkerT, R: Wait + AllocGlobal>(
-    rt: &R,
-    lot: &ParkingLot<P>,
-    mutex: &ByteMutex,
-    counts: &Counts,
-    threads: usize,
-) -> bool {
-    let Some(held) = mutex.try_lock() else {
-        return false;
-    };
-    let told = counts.named("a");
-    told.fetch_add(1, Ordering::SeqCst);
-    let came = come_by_turns(rt, rt.alloc(), lot, MUTEX_KEY, threads);
-    let counted = counts.named("first").load(Ordering::SeqCst);
-    let handed = mutex.unlock(rt, lot, held);
-    told.fetch_add(1, Ordering::SeqCst);
-    came && counted == 0 && handed
-}
-
-fn hold<P: ThreadParkerT, R: Wait + Clock + AllocGlobal>(
-    rt: &R,
-    lot: &ParkingLot<P>,
-    mutex: &ByteMutex,
-    counts: &Counts,
-    member: &mut Member<'_, P>,
-) -> bool {
-    let held = mutex.lock(rt, member);
-    counts.named("b").fetch_add(1, Ordering::SeqCst);
-    let came = come_by_turns(rt, rt.alloc(), lot, MUTEX_KEY, 1);
-    wait(rt, member, GATE, now(rt));
-    let is_over = comes_to(counts.named("a"), 2);
-    mutex.unlock(rt, lot, held);
-    came && is_over
-}
-
-fn relock<P: ThreadParkerT, R: Wait + AllocGlobal>(
-    rt: &R,
-    lot: &ParkingLot<P>,
-    mutex: &ByteMutex,
-    counts: &Counts,
-) -> bool {
-    let Some(held) = mutex.try_lock() else {
-        return false;
-    };
-    counts.named("a").fetch_add(1, Ordering::SeqCst);
-    come_by_turns(rt, rt.alloc(), lot, GATE, 1);
-    unpark(rt, lot, Way::One, GATE, TOKEN);
-    mutex.unlock(rt, lot, held);
-    if let Some(held) = mutex.try_lock() {
-        come_by_turns(rt, rt.alloc(), lot, MUTEX_KEY, 1);
-        mutex.unlock(rt, lot, held);
+    pub fn use_mutex<R: Wait + Clock>(
+        &self,
+        rt: &R,
+        alloc: Global,
+        member: &mut Member<'_, P>,
+        words: &mut Words<'_>,
+    ) -> Option<usize> {
+        let is_well = match words.word()? {
+            "count" => self.lock_and_count(rt, member),
+            "lock_often" => self.lock_often(rt, member)?,
+            "hand_over" => self.hand_over(rt, alloc, words.number()?),
+            "hold" => self.hold(rt, alloc, member),
+            "relock" => self.relock(rt, alloc),
+            "free" => self.is_locked_once(rt),
+            _ => return None,
+        };
+        Some(usize::from(is_well))
     }
-    true
-}
-
-fn is_locked_once<P: ThreadParkerT, R: Wait>(
-    rt: &R,
-    lot: &ParkingLot<P>,
-    mutex: &ByteMutex,
-) -> bool {
-    let Some(held) = mutex.try_lock() else {
-        return false;
-    };
-    let again = mutex.try_lock();
-    let handed = mutex.unlock(rt, lot, held);
-    match again {
-        None => !handed,
-        Some(other) => {
-            mutex.unlock(rt, lot, other);
-            false
-        }
-    }
-}
-
-pub fn use_mutex<P: ThreadParkerT, R: Wait + Clock + AllocGlobal>(
-    rt: &R,
-    lot: &ParkingLot<P>,
-    mutex: &ByteMutex,
-    counts: &Counts,
-    member: &mut Member<'_, P>,
-    words: &mut Words<'_>,
-) -> Option<usize> {
-    let is_well = match words.word()? {
-        "count" => lock_and_count(rt, lot, mutex, counts, member),
-        "lock_often" => lock_often(rt, lot, mutex, member)?,
-        "hand_over" => hand_over(rt, lot, mutex, counts, words.number()?),
-        "hold" => hold(rt, lot, mutex, counts, member),
-        "relock" => relock(rt, lot, mutex, counts),
-        "free" => is_locked_once(rt, lot, mutex),
-        _ => return None,
-    };
-    Some(usize::from(is_well))
 }
 
 // It refuses a `lock` that does not wait, an `unlock` that wakes nobody, forgets the waiters who
@@ -174,7 +140,8 @@ pub fn use_mutex<P: ThreadParkerT, R: Wait + Clock + AllocGlobal>(
 fn waiters_are_handed_the_mutex_in_turn(rt: HostRuntime) {
     perform(
         &rt,
-        1,
+        rt.alloc(),
+        &[1],
         "thread 4
             await a 1
             repeat 1000 mutex count
@@ -193,7 +160,8 @@ fn waiters_are_handed_the_mutex_in_turn(rt: HostRuntime) {
 fn two_threads_lock_a_mutex_that_is_let_go_meanwhile(rt: HostRuntime) {
     perform(
         &rt,
-        1,
+        rt.alloc(),
+        &[1],
         "thread 2
             mutex lock_often",
     );
@@ -206,6 +174,7 @@ fn two_threads_lock_a_mutex_that_is_let_go_meanwhile(rt: HostRuntime) {
 fn who_comes_to_wait_beside_an_unlock_is_woken(rt: HostRuntime) {
     perform_followed(
         &rt,
+        rt.alloc(),
         "thread
             await a 1
             gate
@@ -215,6 +184,7 @@ fn who_comes_to_wait_beside_an_unlock_is_woken(rt: HostRuntime) {
     );
     perform_followed(
         &rt,
+        rt.alloc(),
         "thread
             await a 1
             mutex hold

@@ -5,67 +5,52 @@
 //! - `event exchange N`: of two threads with the numbers 0 and 1, sets the event N of the other,
 //!   and waits for its own.
 
-use crate::on_lot::perform;
-use examples::event::Event;
-use lot_threads::{Member, ParkingLot, ThreadParkerT};
+use crate::player::perform;
+use crate::stage::Stage;
+use lot_threads::{Member, ThreadParkerT};
 use std::sync::Wait;
 use std::time::{Clock, Instant};
 use test_support::clock::now;
 use test_support::words::Words;
 
-/// So many events two threads set for each other, by turns.
-pub const EVENTS: usize = 10_000;
+impl<P: ThreadParkerT> Stage<'_, P> {
+    fn see_it_set<R: Wait + Clock>(
+        &self,
+        rt: &R,
+        member: &mut Member<'_, P>,
+        timeout: Option<Instant>,
+    ) -> usize {
+        let is_set = self.event.wait(rt, member, timeout) && self.event.is_set();
+        usize::from(is_set)
+    }
 
-const FIRST_EVENT_KEY: usize = 100;
+    fn exchange_events<R: Wait + Clock>(
+        &self,
+        rt: &R,
+        member: &mut Member<'_, P>,
+        number: usize,
+    ) -> Option<usize> {
+        let first = number.wrapping_mul(2);
+        let mine = first.wrapping_add(member.number());
+        let theirs = first.wrapping_add(1).wrapping_sub(member.number());
+        self.events.get(theirs)?.set(rt, &self.lot);
+        self.events.get(mine)?.wait(rt, member, None);
+        Some(1)
+    }
 
-/// Events with a key of their own each.
-pub fn many_events() -> [Event; EVENTS] {
-    let mut key = FIRST_EVENT_KEY;
-    [(); EVENTS].map(|_| {
-        key = key.wrapping_add(1);
-        Event::new(key)
-    })
-}
-
-fn see_it_set<P: ThreadParkerT, R: Wait + Clock>(
-    rt: &R,
-    event: &Event,
-    member: &mut Member<'_, P>,
-    timeout: Option<Instant>,
-) -> usize {
-    let is_set = event.wait(rt, member, timeout) && event.is_set();
-    usize::from(is_set)
-}
-
-fn exchange_events<P: ThreadParkerT, R: Wait + Clock>(
-    rt: &R,
-    lot: &ParkingLot<P>,
-    events: &[Event],
-    member: &mut Member<'_, P>,
-    number: usize,
-) -> Option<usize> {
-    let first = number.wrapping_mul(2);
-    let mine = first.wrapping_add(member.number());
-    let theirs = first.wrapping_add(1).wrapping_sub(member.number());
-    events.get(theirs)?.set(rt, lot);
-    events.get(mine)?.wait(rt, member, None);
-    Some(1)
-}
-
-pub fn use_event<P: ThreadParkerT, R: Wait + Clock>(
-    rt: &R,
-    lot: &ParkingLot<P>,
-    event: &Event,
-    events: &[Event],
-    member: &mut Member<'_, P>,
-    words: &mut Words<'_>,
-) -> Option<usize> {
-    match words.word()? {
-        "wait" => Some(see_it_set(rt, event, member, None)),
-        "wait_until_now" => Some(see_it_set(rt, event, member, Some(now(rt)?))),
-        "set" => Some(event.set(rt, lot)),
-        "exchange" => exchange_events(rt, lot, events, member, words.number()?),
-        _ => None,
+    pub fn use_event<R: Wait + Clock>(
+        &self,
+        rt: &R,
+        member: &mut Member<'_, P>,
+        words: &mut Words<'_>,
+    ) -> Option<usize> {
+        match words.word()? {
+            "wait" => Some(self.see_it_set(rt, member, None)),
+            "wait_until_now" => Some(self.see_it_set(rt, member, Some(now(rt)?))),
+            "set" => Some(self.event.set(rt, &self.lot)),
+            "exchange" => self.exchange_events(rt, member, words.number()?),
+            _ => None,
+        }
     }
 }
 
@@ -75,7 +60,8 @@ pub fn use_event<P: ThreadParkerT, R: Wait + Clock>(
 fn the_event_wakes_every_thread(rt: HostRuntime) {
     perform(
         &rt,
-        1,
+        rt.alloc(),
+        &[1],
         "thread 3
             event wait
         thread
@@ -93,8 +79,9 @@ fn the_event_wakes_every_thread(rt: HostRuntime) {
 fn two_threads_set_events_for_each_other(rt: HostRuntime) {
     perform(
         &rt,
-        1,
+        rt.alloc(),
+        &[1],
         "thread 2
-            repeat 4999 event exchange round",
+            repeat 4999 event exchange $1",
     );
 }

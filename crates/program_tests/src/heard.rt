@@ -1,19 +1,21 @@
 //! A thread that wakes whom it has heard of.
 
-use crate::on_lot::perform;
-use crate::stage::Host;
+use crate::player::perform;
 use examples::heard::{new_mailbox, tell_and_wake};
 use lot_threads::{ParkingLot, ThreadParkerT, UnparkToken};
+use std::alloc::Global;
+use std::process::Abort;
+use std::sync::Wait;
+use std::thread::Threads;
 use test_support::followed_parker::GATE;
 
 /// The thread at the gate of which one thread told another, which then unparked one. It is the
 /// greatest number of all if nobody was unparked.
-pub fn woken_by_word<P, R>(rt: &R, lot: &ParkingLot<P>) -> usize
+pub fn woken_by_word<P, R>(rt: &R, alloc: Global, lot: &ParkingLot<P>) -> usize
 where
     P: ThreadParkerT + Send + Sync,
-    R: Host,
+    R: Threads + Wait + Abort + Sync,
 {
-    let alloc = rt.alloc();
     let mailbox = new_mailbox(alloc, lot, GATE).expect(rt, "memory");
     let (thread, answer) = tell_and_wake(rt, alloc, lot, &mailbox, GATE, UnparkToken(42));
     if answer.unparked_threads == 1 {
@@ -28,7 +30,8 @@ where
 fn a_thread_wakes_whom_it_has_heard_of(rt: HostRuntime) {
     perform(
         &rt,
-        1,
+        rt.alloc(),
+        &[1],
         "thread
             gate
         thread

@@ -1,6 +1,5 @@
 //! Tests of the examples, by their public calls alone. Those of threads are scripts: what threads
-//! do with the examples, line by line, and how each call has to end. `test_support::player`,
-//! `on_lot` and `on_locks` tell the words.
+//! do with the examples, line by line, and how each call has to end. `player` tells the words.
 #![tactic(auto)]
 
 #[cfg(test)]
@@ -14,9 +13,7 @@ mod event;
 #[cfg(test)]
 mod heard;
 #[cfg(test)]
-mod on_locks;
-#[cfg(test)]
-mod on_lot;
+mod player;
 #[cfg(test)]
 mod read_mostly_table;
 #[cfg(test)]

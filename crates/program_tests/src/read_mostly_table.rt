@@ -7,14 +7,13 @@
 //!   whether at each moment all values were one or the next, their halves were equal, no key but
 //!   one was without, and none became less.
 
-use crate::on_locks::{Pair, number_of, perform, twice};
-use examples::read_mostly_table::ReadMostlyTable;
-use std::alloc::AllocGlobal;
+use crate::player::perform;
+use crate::stage::{Pair, Stage, number_of, twice};
+use lot_threads::ThreadParkerT;
+use std::alloc::Global;
 use std::sync::Wait;
 use std::time::Clock;
 use test_support::words::Words;
-
-type Table = ReadMostlyTable<'static, Pair>;
 
 // Of four keys that are written, one is taken out meanwhile.
 const ALWAYS: usize = 3;
@@ -33,62 +32,62 @@ fn are_neighbours(entries: &[(u64, Pair)]) -> bool {
     are_equal && (newest <= oldest.wrapping_add(1) || newest <= oldest)
 }
 
-// Whether there are so many entries at least, and they are neighbours.
-fn has_neighbours<R: Wait + Clock + AllocGlobal>(
-    rt: &R,
-    table: &Table,
-    least: usize,
-) -> Option<bool> {
-    let entries = table.entries(rt, rt.alloc()).ok()?;
-    Some(least <= entries.len() && are_neighbours(&entries))
-}
-
-fn read_until<R: Wait + Clock + AllocGlobal>(
-    rt: &R,
-    table: &Table,
-    key: u64,
-    last: usize,
-) -> Option<bool> {
-    let mut seen = 0;
-    for _ in rt.forever() {
-        let least = if seen > 0 { ALWAYS } else { 0 };
-        if !has_neighbours(rt, table, least)? {
-            return Some(false);
-        }
-        let before = seen;
-        seen = match table.get(rt, key) {
-            Some(value) => value.one,
-            None => 0,
-        };
-        if seen < before || seen == last {
-            return Some(seen == last);
-        }
+impl<P: ThreadParkerT> Stage<'_, P> {
+    // Whether there are so many entries at least, and they are neighbours.
+    fn has_neighbours<R: Wait + Clock>(&self, rt: &R, alloc: Global, least: usize) -> Option<bool> {
+        let entries = self.table.entries(rt, alloc).ok()?;
+        Some(least <= entries.len() && are_neighbours(&entries))
     }
-    unreachable!()
-}
 
-pub fn use_table<R: Wait + Clock + AllocGlobal>(
-    rt: &R,
-    table: &Table,
-    words: &mut Words<'_>,
-) -> Option<usize> {
-    let call = words.word()?;
-    if call == "entries" {
-        return Some(table.entries(rt, rt.alloc()).ok()?.len());
+    fn read_until<R: Wait + Clock>(
+        &self,
+        rt: &R,
+        alloc: Global,
+        key: u64,
+        last: usize,
+    ) -> Option<bool> {
+        let mut seen = 0;
+        for _ in rt.forever() {
+            let least = if seen > 0 { ALWAYS } else { 0 };
+            if !self.has_neighbours(rt, alloc, least)? {
+                return Some(false);
+            }
+            let before = seen;
+            seen = match self.table.get(rt, key) {
+                Some(value) => value.one,
+                None => 0,
+            };
+            if seen < before || seen == last {
+                return Some(seen == last);
+            }
+        }
+        unreachable!()
     }
-    let key = words.number()? as u64;
-    match call {
-        "insert" => {
-            let value = twice(words.number()?);
-            Some(number_of(table.insert(rt, key, value).ok()?))
+
+    pub fn use_table<R: Wait + Clock>(
+        &self,
+        rt: &R,
+        alloc: Global,
+        words: &mut Words<'_>,
+    ) -> Option<usize> {
+        let call = words.word()?;
+        if call == "entries" {
+            return Some(self.table.entries(rt, alloc).ok()?.len());
         }
-        "get" => Some(number_of(table.get(rt, key))),
-        "remove" => Some(number_of(table.remove(rt, key))),
-        "read" => {
-            let last = words.number()?;
-            Some(usize::from(read_until(rt, table, key, last)?))
+        let key = words.number()? as u64;
+        match call {
+            "insert" => {
+                let value = twice(words.number()?);
+                Some(number_of(self.table.insert(rt, key, value).ok()?))
+            }
+            "get" => Some(number_of(self.table.get(rt, key))),
+            "remove" => Some(number_of(self.table.remove(rt, key))),
+            "read" => {
+                let last = words.number()?;
+                Some(usize::from(self.read_until(rt, alloc, key, last)?))
+            }
+            _ => None,
         }
-        _ => None,
     }
 }
 
@@ -98,13 +97,14 @@ pub fn use_table<R: Wait + Clock + AllocGlobal>(
 fn three_read_old_or_new_values_while_one_writes(rt: HostRuntime) {
     perform(
         &rt,
+        rt.alloc(),
         &[1],
         "thread 3
             table read 20 1000
         thread
-            repeat 1000 table remove 10 -> any ; table insert 30 round -> any ; \
-                table insert 10 round -> greatest ; table insert 40 round -> any ; \
-                table insert 20 round -> any",
+            repeat 1000 table remove 10 -> any ; table insert 30 $1 -> any ; \
+                table insert 10 $1 -> greatest ; table insert 40 $1 -> any ; \
+                table insert 20 $1 -> any",
     );
 }
 
@@ -114,6 +114,7 @@ fn three_read_old_or_new_values_while_one_writes(rt: HostRuntime) {
 fn a_table_has_what_was_put_in_last(rt: HostRuntime) {
     perform(
         &rt,
+        rt.alloc(),
         &[1],
         "thread
             table insert 3 1 -> greatest

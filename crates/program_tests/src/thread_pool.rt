@@ -6,16 +6,15 @@
 //!
 //! `other` instead of `pool` is another pool.
 
-use crate::on_locks::{Pair, number_of, perform, twice};
+use crate::player::perform;
+use crate::stage::{Pair, Stage, number_of, twice};
 use examples::thread_pool::{Done, ThreadPool, do_jobs};
-use parking_lot::Lot;
-use std::alloc::AllocGlobal;
+use lot_threads::ThreadParkerT;
+use std::alloc::Global;
 use std::sync::Wait;
 use std::thread::Threads;
 use std::time::Clock;
 use test_support::words::Words;
-
-type Pool = ThreadPool<'static, Pair>;
 
 const WORKERS: usize = 4;
 
@@ -32,47 +31,57 @@ fn are_done_once(done: &[Done<usize>]) -> bool {
     done.len() == JOBS && sums.iter().all(|sum| *sum == 1)
 }
 
-pub fn do_all_jobs<R: Threads + Wait + Clock + AllocGlobal + Sync>(
-    rt: &R,
-    lot: &Lot,
-) -> Option<usize> {
-    let done = do_jobs(rt, rt.alloc(), lot, WORKERS, &[(); JOBS], &|_: &()| 1usize);
-    match done {
-        Ok(done) => Some(usize::from(are_done_once(&done))),
-        Err(_) => None,
-    }
-}
-
-fn answer_all<R: Wait + Clock>(rt: &R, pool: &Pool, other: &Pool) -> bool {
-    for _ in rt.forever() {
-        let Some(job) = pool.take(rt) else {
-            return true;
-        };
-        if other.submit(rt, job).is_err() {
-            return false;
+impl<P: ThreadParkerT> Stage<'_, P> {
+    pub fn do_all_jobs<R: Threads + Wait + Clock + Sync>(
+        &self,
+        rt: &R,
+        alloc: Global,
+    ) -> Option<usize> {
+        let done = do_jobs(
+            rt,
+            alloc,
+            self.locks,
+            WORKERS,
+            &[(); JOBS],
+            &|_: &()| 1usize,
+        );
+        match done {
+            Ok(done) => Some(usize::from(are_done_once(&done))),
+            Err(_) => None,
         }
     }
-    unreachable!()
-}
 
-pub fn use_pool<R: Wait + Clock>(
-    rt: &R,
-    pool: &Pool,
-    other: &Pool,
-    words: &mut Words<'_>,
-) -> Option<usize> {
-    match words.word()? {
-        "submit" => {
-            let job = twice(words.number()?);
-            Some(usize::from(pool.submit(rt, job).is_ok()))
+    fn answer_all<R: Wait + Clock>(&self, rt: &R) -> bool {
+        for _ in rt.forever() {
+            let Some(job) = self.pool.take(rt) else {
+                return true;
+            };
+            if self.other_pool.submit(rt, job).is_err() {
+                return false;
+            }
         }
-        "take" => Some(number_of(pool.take(rt))),
-        "close" => {
-            pool.close(rt);
-            Some(1)
+        unreachable!()
+    }
+
+    pub fn use_pool<R: Wait + Clock>(
+        &self,
+        rt: &R,
+        pool: &ThreadPool<'_, Pair>,
+        words: &mut Words<'_>,
+    ) -> Option<usize> {
+        match words.word()? {
+            "submit" => {
+                let job = twice(words.number()?);
+                Some(usize::from(pool.submit(rt, job).is_ok()))
+            }
+            "take" => Some(number_of(pool.take(rt))),
+            "close" => {
+                pool.close(rt);
+                Some(1)
+            }
+            "answer" => Some(usize::from(self.answer_all(rt))),
+            _ => None,
         }
-        "answer" => Some(usize::from(answer_all(rt, pool, other))),
-        _ => None,
     }
 }
 
@@ -82,6 +91,7 @@ pub fn use_pool<R: Wait + Clock>(
 fn each_job_is_done_once_and_has_its_place(rt: HostRuntime) {
     perform(
         &rt,
+        rt.alloc(),
         &[1],
         "thread
             jobs",
@@ -94,6 +104,7 @@ fn each_job_is_done_once_and_has_its_place(rt: HostRuntime) {
 fn a_closed_pool_gives_what_is_left_and_wakes_all_who_sleep_on_it(rt: HostRuntime) {
     perform(
         &rt,
+        rt.alloc(),
         &[4],
         "thread
             pool submit 1 ; pool submit 2 ; pool submit 3 ; pool close ; pool submit 4 -> 0
@@ -101,6 +112,7 @@ fn a_closed_pool_gives_what_is_left_and_wakes_all_who_sleep_on_it(rt: HostRuntim
     );
     perform(
         &rt,
+        rt.alloc(),
         &[1],
         "thread 2
             raise a
@@ -112,6 +124,7 @@ fn a_closed_pool_gives_what_is_left_and_wakes_all_who_sleep_on_it(rt: HostRuntim
     );
     perform(
         &rt,
+        rt.alloc(),
         &[1],
         "thread 2
             await a 1
@@ -132,9 +145,10 @@ fn a_closed_pool_gives_what_is_left_and_wakes_all_who_sleep_on_it(rt: HostRuntim
 fn a_worker_that_sleeps_is_woken_by_the_job_that_comes(rt: HostRuntime) {
     perform(
         &rt,
+        rt.alloc(),
         &[1],
         "thread
-            repeat 10000 pool submit round ; other take -> round
+            repeat 10000 pool submit $1 ; other take -> $1
             pool close
         thread
             pool answer",

@@ -6,71 +6,52 @@
 //! - `semaphore release`: tells whether a thread waited for one.
 //! - `semaphore exchange`: frees a permit for the other thread, and takes one that it frees.
 
-use crate::on_lot::perform;
-use examples::thread_semaphore::ThreadSemaphore;
-use lot_threads::{Member, ParkingLot, ThreadParkerT};
+use crate::player::perform;
+use crate::stage::Stage;
+use lot_threads::{Member, ThreadParkerT};
 use std::sync::Wait;
 use std::sync::atomic::Ordering;
 use std::thread;
 use std::time::Clock;
-use test_support::counts::Counts;
 use test_support::words::Words;
 
-fn visit<P: ThreadParkerT, R: Wait + Clock>(
-    rt: &R,
-    lot: &ParkingLot<P>,
-    semaphore: &ThreadSemaphore,
-    counts: &Counts,
-    member: &mut Member<'_, P>,
-    most: usize,
-) -> bool {
-    let inside = counts.named("first");
-    let free = semaphore.acquire(rt, member);
-    let others = inside.fetch_add(1, Ordering::SeqCst);
-    thread::yield_now();
-    inside.fetch_sub(1, Ordering::SeqCst);
-    counts.named("second").fetch_add(1, Ordering::SeqCst);
-    semaphore.release(rt, lot);
-    others < most && free <= most
-}
+impl<P: ThreadParkerT> Stage<'_, P> {
+    fn visit<R: Wait + Clock>(&self, rt: &R, member: &mut Member<'_, P>, most: usize) -> bool {
+        let free = self.semaphore.acquire(rt, member);
+        let others = self.first.fetch_add(1, Ordering::SeqCst);
+        thread::yield_now();
+        self.first.fetch_sub(1, Ordering::SeqCst);
+        self.second.fetch_add(1, Ordering::SeqCst);
+        self.semaphore.release(rt, &self.lot);
+        others < most && free <= most
+    }
 
-fn exchange_permits<P: ThreadParkerT, R: Wait + Clock>(
-    rt: &R,
-    lot: &ParkingLot<P>,
-    both: (&ThreadSemaphore, &ThreadSemaphore),
-    member: &mut Member<'_, P>,
-) {
-    let (first, second) = both;
-    let (mine, theirs) = if member.number() == 0 {
-        (first, second)
-    } else {
-        (second, first)
-    };
-    theirs.release(rt, lot);
-    mine.acquire(rt, member);
-}
+    fn exchange_permits<R: Wait + Clock>(&self, rt: &R, member: &mut Member<'_, P>) {
+        let (mine, theirs) = if member.number() == 0 {
+            (&self.semaphore, &self.other_semaphore)
+        } else {
+            (&self.other_semaphore, &self.semaphore)
+        };
+        theirs.release(rt, &self.lot);
+        mine.acquire(rt, member);
+    }
 
-pub fn use_semaphore<P: ThreadParkerT, R: Wait + Clock>(
-    rt: &R,
-    lot: &ParkingLot<P>,
-    both: (&ThreadSemaphore, &ThreadSemaphore),
-    counts: &Counts,
-    member: &mut Member<'_, P>,
-    words: &mut Words<'_>,
-) -> Option<usize> {
-    let semaphore = both.0;
-    match words.word()? {
-        "visit" => {
-            let most = words.number()?;
-            Some(usize::from(visit(rt, lot, semaphore, counts, member, most)))
+    pub fn use_semaphore<R: Wait + Clock>(
+        &self,
+        rt: &R,
+        member: &mut Member<'_, P>,
+        words: &mut Words<'_>,
+    ) -> Option<usize> {
+        match words.word()? {
+            "visit" => Some(usize::from(self.visit(rt, member, words.number()?))),
+            "acquire" => Some(self.semaphore.acquire(rt, member)),
+            "release" => Some(usize::from(self.semaphore.release(rt, &self.lot))),
+            "exchange" => {
+                self.exchange_permits(rt, member);
+                Some(1)
+            }
+            _ => None,
         }
-        "acquire" => Some(semaphore.acquire(rt, member)),
-        "release" => Some(usize::from(semaphore.release(rt, lot))),
-        "exchange" => {
-            exchange_permits(rt, lot, both, member);
-            Some(1)
-        }
-        _ => None,
     }
 }
 
@@ -80,7 +61,8 @@ pub fn use_semaphore<P: ThreadParkerT, R: Wait + Clock>(
 fn as_many_threads_are_inside_as_there_are_permits(rt: HostRuntime) {
     perform(
         &rt,
-        2,
+        rt.alloc(),
+        &[2],
         "thread 4
             repeat 1000 semaphore visit 2
             raise a
@@ -98,7 +80,8 @@ fn as_many_threads_are_inside_as_there_are_permits(rt: HostRuntime) {
 fn each_release_wakes_a_thread_that_waits(rt: HostRuntime) {
     perform(
         &rt,
-        0,
+        rt.alloc(),
+        &[0],
         "thread 3
             semaphore acquire -> any
         thread
@@ -113,7 +96,8 @@ fn each_release_wakes_a_thread_that_waits(rt: HostRuntime) {
 fn two_threads_free_permits_for_each_other(rt: HostRuntime) {
     perform(
         &rt,
-        0,
+        rt.alloc(),
+        &[0],
         "thread 2
             repeat 50000 semaphore exchange",
     );

@@ -1,20 +1,24 @@
 //! A token that goes from one thread to another.
 
-use crate::on_lot::perform;
-use crate::stage::Host;
+use crate::player::perform;
 use examples::token::pass_token;
 use lot_threads::{Member, ParkingLot, ThreadParkerT, UnparkToken};
+use std::alloc::Global;
+use std::process::Abort;
+use std::sync::Wait;
+use std::thread::Threads;
+use std::time::Clock;
 
 const KEY: usize = 1;
 
 /// The token with which the one of two threads comes back, to which the other passes 42.
-pub fn token_passed<P, R>(rt: &R, lot: &ParkingLot<P>) -> usize
+pub fn token_passed<P, R>(rt: &R, alloc: Global, lot: &ParkingLot<P>) -> usize
 where
     P: ThreadParkerT + Send + Sync,
-    R: Host,
+    R: Threads + Wait + Clock + Abort + Sync,
 {
-    let sleeper = Member::register(rt, rt.alloc(), lot).expect(rt, "a number");
-    let waker = Member::register(rt, rt.alloc(), lot).expect(rt, "a number");
+    let sleeper = Member::register(rt, alloc, lot).expect(rt, "a number");
+    let waker = Member::register(rt, alloc, lot).expect(rt, "a number");
     let (given, sleeper, waker) = pass_token(rt, sleeper, waker, KEY, UnparkToken(42));
     drop(sleeper);
     drop(waker);
@@ -26,7 +30,8 @@ where
 fn one_thread_gets_the_token_of_the_other(rt: HostRuntime) {
     perform(
         &rt,
-        1,
+        rt.alloc(),
+        &[1],
         "thread
             token -> 42",
     );

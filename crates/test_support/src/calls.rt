@@ -43,8 +43,8 @@ pub fn new_lot<P: ThreadParkerT>(alloc: Global, threads: usize) -> Result<Parkin
     ParkingLot::new(alloc, threads)
 }
 
-// Registers the given number of threads.
-fn register_all<'a, P: ThreadParkerT, R: Wait>(
+/// Registers the given number of threads.
+pub fn register_all<'a, P: ThreadParkerT, R: Wait>(
     rt: &R,
     alloc: Global,
     lot: &'a ParkingLot<P>,
