@@ -8,7 +8,7 @@ ghost use Rattle.lot_history.specs.declared.view.Piece.TheVariants.{TitledLists}
 ghost use Rattle.lot_word_lock.specs.WordLock.{key_of};
 ghost use Rattle.lot_threads.specs.Rows.{EachAt, empty_lists, other_pieces};
 ghost use Rattle.lot_threads.specs.Idle.{IsIdle, StaysIdle};
-ghost use Rattle.lot_threads.specs.Cells.{AreRows, FitsCell, IsCellLock, IsLockAt, IsRow, home_of};
+ghost use Rattle.lot_threads.specs.Cells.{AreRows, FitsCell, IsCellLock, IsRow, home_of};
 
 use crate::told::refuse_two;
 use boxcar::slot::{OnceSlot, SlotRule};
@@ -87,14 +87,6 @@ pub(crate) fn put<R: Wait>(
     }
     held.value.cell = Some(cell);
     lock.unlock(held);
-}
-
-// The lock at this place of a row.
-pub(crate) fn lock_at(row: &[WordLock<Slot>], place: usize) -> &WordLock<Slot>
-    requires { place < length row.now }
-    ensures { IsLockAt place row.now result.now }
-{
-    &row[place]
 }
 
 // How many rows there may be: of 16 to 65,536 buckets.

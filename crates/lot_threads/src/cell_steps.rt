@@ -2,7 +2,7 @@
 //! history.
 
 ghost use denote.Ref.{Bor};
-ghost use Rattle.std.specs.Prelude.{◌≡◌, ◌∷◌, ◌<◌, ◌≤◌, ◌^◌, ℕ, [], true, length, Bool, All, IfErr, IfNone, IfSome, OnOk};
+ghost use Rattle.std.specs.Prelude.{◌≡◌, ◌∷◌, ◌<◌, ◌≤◌, ◌^◌, ℕ, [], length, Bool, All, IfErr, IfNone, IfSome, OnOk};
 ghost use Rattle.lot_base.specs.BucketState.{KeepsPlace};
 ghost use Rattle.lot_base.specs.Filter.{IsFilterCallable, IsFiltered, park_tokens};
 ghost use Rattle.lot_base.specs.Node.{fields};
@@ -17,7 +17,7 @@ ghost use Rattle.lot_history.specs.declared.view.Piece.TheVariants.{Thread};
 ghost use Rattle.lot_threads.specs.Cells.{Has, IsBelow, IsCell, IsCellFor, TakesFrom, lists_in};
 ghost use Rattle.lot_threads.specs.Idle.{IsIdle, StaysIdle};
 ghost use Rattle.lot_threads.specs.Members.{IsListed, entry_of};
-ghost use Rattle.lot_threads.specs.Within.{Enters, FindsPieces, IsUnparkWithin, MayCallBack, MayFilterWithin, MayTellTimeout, MayValidate, Refuses, TellsTimeout, UnparksOne, UnparksWithin};
+ghost use Rattle.lot_threads.specs.Within.{Enters, FindsPieces, IsUnparkWithin, MayFilterWithin, MayTellTimeout, MayValidate, Refuses, TellsTimeout, UnparksWithin};
 
 use crate::cell::Cell;
 use crate::critical_section::CriticalSection;

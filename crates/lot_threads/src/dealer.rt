@@ -2,7 +2,7 @@
 
 ghost use Rattle.std.specs.Prelude.{◌≡◌, ◌∷◌, ◌<◌, [], IfOk, IfSome};
 ghost use Rattle.atomic_table.specs.Seated.{TableId};
-ghost use Rattle.lot_history.specs.Witness.{IsPartOf, id_of, limit_of};
+ghost use Rattle.lot_history.specs.Witness.{id_of, limit_of};
 ghost use Rattle.lot_history.specs.declared.view.Piece.TheVariants.{Undealt};
 ghost use Rattle.lot_threads.specs.Cells.{Has};
 ghost use Rattle.lot_threads.specs.Dealers.{IsDealer, IsDealerLock, IsDealt};

@@ -6,7 +6,7 @@ ghost use Rattle.std.specs.Option.{is_some};
 ghost use Rattle.lot_machine.specs.Machine.{Waiter};
 ghost use Rattle.lot_base.specs.Waiting.{result_of, split_first};
 ghost use Rattle.lot_machine.specs.Records.{times_recorded};
-ghost use Rattle.lot_history.specs.Witness.{Extends, IsStill, events_of, limit_of, max_threads_of, seen_by};
+ghost use Rattle.lot_history.specs.Witness.{Extends, IsStill, limit_of, max_threads_of};
 ghost use Rattle.lot_threads.specs.Filters.{AreCallable, WereCalled};
 ghost use Rattle.lot_threads.specs.Members.{Begins, IsDataOf, IsParked, Stays, member_of};
 ghost use Rattle.lot_threads.specs.Requeues.{ChoseRequeue, MayRequeue};

@@ -1,6 +1,6 @@
 //! A section: what a call does while it has the bucket of a key locked.
 
-ghost use Rattle.std.specs.Prelude.{◌≡◌, ◌<◌, ◌≤◌, ◌∷◌, [], true, Bool, IfErr, IfNone, IfSome, IsFalse, IsTrue, OnOk, Some};
+ghost use Rattle.std.specs.Prelude.{◌≡◌, ◌<◌, ◌≤◌, ◌∷◌, [], Bool, IfErr, IfNone, IfSome, IsFalse, IsTrue, OnOk, Some};
 ghost use Rattle.std.proofs.Props.{props};
 ghost use Rattle.lot_base.specs.Node.{fields};
 ghost use Rattle.lot_machine.specs.declared.step.Answer.{Answer};

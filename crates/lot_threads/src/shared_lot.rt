@@ -1,56 +1,44 @@
 //! This module has the lot, which threads share by reference. It has the lot's buckets, and a
 //! parker for each thread.
 
-ghost use Rattle.std.specs.Prelude.{◌≡◌, ◌≢◌, ◌↔◌, ◌∷◌, ◌+◌, ◌<◌, ◌≤◌, ◌^◌, ℕ, List, [], true, false, length, replicate, All, Err, IsErrOf, Bool, IfErr, IfNone, IfOk, IfSome, IsOkAnd, None, OnOk, is_ok};
-ghost use Rattle.lot_base.specs.BucketState.{KeepsPlace};
+ghost use Rattle.std.specs.Prelude.{◌≡◌, ◌∷◌, ◌+◌, ◌<◌, ◌≤◌, ◌^◌, [], length, replicate, IfOk, IfSome, IsOkAnd, None};
 ghost use Rattle.lot_base.specs.Node.{fields};
-ghost use Rattle.lot_base.specs.NodeFields.{NodeFields};
-ghost use Rattle.lot_base.specs.NodeLists.{lists_of};
-ghost use Rattle.lot_base.specs.Place.{place_of};
-ghost use Rattle.lot_base.specs.Waiting.{result_of, split_first};
-ghost use Rattle.lot_base.specs.declared.token.UnparkResult.{UnparkResult};
 ghost use Rattle.lot_machine.specs.Numbers.{count_registered};
 ghost use Rattle.lot_machine.specs.declared.step.Answer.{Answer};
 ghost use Rattle.lot_machine.specs.declared.step.Step.{Step};
-ghost use Rattle.lot_history.specs.Witness.{events_of, id_of, limit_of, max_threads_of, pieces_of, seen_by, Adds, Extends, IsPartOf, IsStill, IsWitnessOf};
+ghost use Rattle.lot_history.specs.Witness.{id_of, limit_of, max_threads_of, Extends, IsPartOf, IsStill};
 ghost use Rattle.lot_history.specs.declared.view.Piece.TheVariants.{Thread, Undealt};
-ghost use Rattle.lot_threads.specs.Cells.{Has, HasRecords, IsBelow, IsCell, IsLockFor, IsRegistry, home_of, threads_in};
-ghost use Rattle.lot_threads.specs.Filters.{MayFilter, Unparks};
-ghost use Rattle.lot_threads.specs.Idle.{IsIdle, StaysIdle};
-ghost use Rattle.lot_threads.specs.Members.{IsListed, IsRegistered, Leaves, entry_of, entry_step, number_in};
+ghost use Rattle.lot_threads.specs.Cells.{Has, HasRecords, IsBelow, IsLockAt, IsLockFor, IsRegistry, IsRow, IsSlotAt, home_of};
+ghost use Rattle.lot_threads.specs.Idle.{IsIdle};
+ghost use Rattle.lot_threads.specs.Members.{IsRegistered, number_in};
 ghost use Rattle.lot_threads.specs.Rows.{EachAt};
 
 mod growth;
-mod hand_over;
 pub(crate) mod handles;
 mod park;
 mod requeue;
-mod rows;
 mod titled;
 mod unpark;
 
-use crate::cell::{Cell, RowSlot, new_rows};
+use crate::cell::{MOST_ROWS, RowSlot, Slot, new_rows};
 use crate::numbered_nodes::NumberedNodes;
 use crate::parker::ThreadParkerT;
 use crate::registry::{Registry, new_registry};
 use crate::told::cut_up;
+use lot_base::bucket::place;
 use lot_base::queue::Node;
 use lot_base::thread_parker::ParkerKey;
-use lot_base::token::{
-    FilterOp, LotError, NoMemory, ParkResult, ParkToken, UnparkResult, UnparkToken,
-};
+use lot_base::token::NoMemory;
 use lot_base::word_lock::WordLock;
 use lot_history::history::{History, Part, Witness};
-use lot_history::plays::Told;
 use lot_machine::numbers::{MAX_THREADS, Use};
 use lot_machine::size::INITIAL_BUCKETS;
 use lot_machine::status::Status;
-use lot_machine::step::{Answer, Op, Step};
+use lot_machine::step::{Answer, Step};
 use std::alloc::Global;
 use std::marker::Model;
 use std::sync::Wait;
 use std::sync::atomic::{AtomicUsize, Ordering};
-use std::time::{Clock, Instant};
 
 // What the lot keeps for one thread number from the first: its parker, and the key on which its
 // thread last waited with a timeout, after all moves.
@@ -183,6 +171,57 @@ impl<P: ThreadParkerT> SharedLot<P> {
         }
     }
 
+    // The place of the row of this index.
+    #[inline]
+    pub(super) fn row_slot(&self, index: usize) -> &RowSlot
+        requires { index < 13 }
+        ensures { IsSlotAt (id_of self.now) (max_threads_of self.now)
+            (limit_of self.now) index result.now }
+    {
+        &self.rows[index]
+    }
+
+    // The row of this index, if there is one and it was made.
+    #[inline]
+    pub(super) fn row(&self, index: usize) -> Option<&Vec<WordLock<Slot>>>
+        ensures { IfSome result (λ row. IsRow (id_of self.now) (max_threads_of self.now)
+            (limit_of self.now)
+            (2 ^ (index + 4)) row.now.items) }
+    {
+        if index >= MOST_ROWS {
+            return None;
+        }
+        self.row_slot(index).get()
+    }
+
+    // The row that is in use, or was as `current` was read. It was made before, but no contract
+    // tells so.
+    #[inline]
+    pub(super) fn row_in_use(&self) -> Option<&Vec<WordLock<Slot>>>
+        ensures { IfSome result (λ row. IsRow (id_of self.now) (max_threads_of self.now)
+            (limit_of self.now)
+            (length row.now.items) row.now.items) }
+    {
+        self.row(self.current.load(Ordering::SeqCst))
+    }
+
+    // The lock of the key's place in the row in use.
+    #[inline]
+    pub(crate) fn lock_of(&self, key: usize) -> Option<&WordLock<Slot>>
+        ensures { IfSome result (λ lock. IsLockFor self.now key lock.now) }
+    {
+        let row = self.row_in_use()?;
+        Some(lock_at(row, place(key, row.len())))
+    }
+
+    // Waits until the thread that changes the row is done, which has the numbers locked meanwhile.
+    #[cold]
+    #[inline(never)]
+    pub(crate) fn wait_for_change<R: Wait>(&self, rt: &R) {
+        let held = self.registry.lock(rt);
+        self.registry.unlock(held);
+    }
+
     // Registers the least free number, if there is one, and answers a new witness that told so, and
     // the number's node. The table may grow first.
     pub(crate) fn register<R: Wait>(
@@ -248,6 +287,14 @@ impl<P: ThreadParkerT> SharedLot<P> {
         held.value.retire(&self.history, me, node, thread, records);
         self.registry.unlock(held);
     }
+}
+
+// The lock at this place of a row.
+pub(crate) fn lock_at(row: &[WordLock<Slot>], place: usize) -> &WordLock<Slot>
+    requires { place < length row.now }
+    ensures { IsLockAt place row.now result.now }
+{
+    &row[place]
 }
 
 // A parker and a key word for each number below `max_threads`.

@@ -4,7 +4,6 @@
 ghost use Rattle.std.specs.Prelude.{◌≡◌, ◌∷◌, ◌++◌, ◌≤◌, [], length, not, true, Contains, List, IfErr, IfOk};
 ghost use Rattle.lot_base.specs.BucketState.{KeepsPlace};
 ghost use Rattle.lot_base.specs.Node.{fields};
-ghost use Rattle.lot_base.specs.NodeLists.{lists_of};
 ghost use Rattle.lot_base.specs.Waiting.{has_any, result_of, split_first};
 ghost use Rattle.lot_history.specs.Moves.{Moves};
 ghost use Rattle.lot_history.specs.Witness.{Adds, Extends, Found, IsStill, IsWitnessOf, deals_in, deals_of, events_of, id_of, limit_of, max_threads_of, pieces_of, seen_by};

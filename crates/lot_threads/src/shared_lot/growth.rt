@@ -4,7 +4,7 @@
 //! buckets. So the row in use was made and has its buckets, though no contract tells so: the code
 //! moves what is there.
 
-ghost use Rattle.std.specs.Prelude.{◌≡◌, ◌+◌, ◌*◌, ◌<◌, ◌≤◌, ◌^◌, length, IfOk, OnErr, OnOk};
+ghost use Rattle.std.specs.Prelude.{◌≡◌, ◌+◌, ◌*◌, ◌<◌, ◌≤◌, length, OnErr, OnOk};
 ghost use Rattle.lot_machine.specs.Size.{IsSizeFor, IsTrimmedSize};
 ghost use Rattle.lot_machine.specs.Numbers.{count_registered};
 ghost use Rattle.lot_machine.specs.declared.step.Answer.{Answer};
@@ -14,8 +14,8 @@ ghost use Rattle.lot_threads.specs.Cells.{IsFresh, IsRegistry, IsRow, size_in};
 ghost use Rattle.lot_threads.specs.Halves.{IsHalfSize};
 ghost use Rattle.lot_threads.specs.Idle.{IsIdle, StaysIdle};
 
-use super::SharedLot;
-use crate::cell::{Slot, lock_at, new_row, put, row_size, take_away};
+use super::{SharedLot, lock_at};
+use crate::cell::{Slot, new_row, put, row_size, take_away};
 use crate::halves::{join, split};
 use crate::parker::ThreadParkerT;
 use crate::registry::Registry;

@@ -4,21 +4,23 @@
 ghost use Rattle.std.specs.Prelude.{◌≡◌, ◌≢◌, ◌∷◌, ◌<◌, ℕ, [], Bool, IfNone, IfSome, None};
 ghost use Rattle.std.specs.Option.{is_some};
 ghost use Rattle.lot_base.specs.Node.{fields};
-ghost use Rattle.lot_history.specs.Witness.{events_of, id_of, max_threads_of, seen_by, limit_of};
+ghost use Rattle.lot_history.specs.Witness.{events_of, id_of, max_threads_of, seen_by, limit_of, Extends};
 ghost use Rattle.lot_history.specs.declared.view.Piece.TheVariants.{Thread};
-ghost use Rattle.lot_threads.specs.Cells.{Has};
+ghost use Rattle.lot_threads.specs.Cells.{Has, thread_taken};
 ghost use Rattle.lot_threads.specs.Idle.{IsIdle, StaysIdle};
 ghost use Rattle.lot_threads.specs.Within.{EndsWithin, MayTellTimeout, TellsTimeout};
+ghost use Rattle.lot_machine.specs.declared.step.Answer.{Answer};
+ghost use Rattle.lot_machine.specs.declared.step.Step.{Step};
 
 use super::SharedLot;
 use crate::critical_section::CriticalSection;
-use crate::parker::ThreadParkerT;
+use crate::parker::{Letter, ThreadParkerT};
 use crate::section::{Licence, Section};
 use lot_base::queue::Node;
 use lot_base::token::ParkResult;
 use lot_history::history::{Part, Witness};
 use lot_machine::status::Status;
-use lot_machine::step::Answer;
+use lot_machine::step::{Answer, Step};
 use std::sync::Wait;
 use std::time::{Clock, Instant};
 
@@ -60,6 +62,23 @@ impl<P: ThreadParkerT> SharedLot<P> {
         let (node, letter) = parker.park(rt);
         let thread = self.come_back(me, &node, letter);
         (ParkResult::Unparked(node.unpark_token), thread, node)
+    }
+
+    // A thread that was unparked comes back: opens the letter that came beside its node, and
+    // answers the thread's piece.
+    pub(crate) fn come_back(&self, me: &mut Witness, node: &Node, letter: Letter) -> Part
+        requires idle { IsIdle self.now me.old }
+        requires letter { Has (id_of self.now) (thread_taken (fields node.now) ∷ []) letter.part }
+        ensures idle { StaysIdle self.now me.old me.new }
+        ensures extends { Extends self.now me.old (Step.Return node.now.number)
+            (Answer.Unparked node.now.unpark_token) me.new }
+        ensures thread { Has (id_of self.now)
+            (Thread node.now.number Status.Running ∷ []) result }
+    {
+        let Letter { part } = letter;
+        self.history.take(me, part);
+        self.history.give_back(me, node.number, node.unpark_token);
+        self.history.give(me)
     }
 
     // The section in which a thread whose deadline has passed leaves the list in which it stands,

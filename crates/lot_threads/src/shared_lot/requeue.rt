@@ -16,8 +16,8 @@ ghost use Rattle.lot_threads.specs.Requeues.{IsRequeueWithin, MayRequeueWithin, 
 ghost use Rattle.lot_threads.specs.Sections.{AreLockedInOrder, IsKeyedLock};
 ghost use Rattle.lot_threads.specs.Within.{FindsPieces};
 
-use super::SharedLot;
-use crate::cell::{Cell, Slot, lock_at};
+use super::{SharedLot, lock_at};
+use crate::cell::{Cell, Slot};
 use crate::critical_section::CriticalSection;
 use crate::parker::ThreadParkerT;
 use crate::section::{Licence, Section};
@@ -29,7 +29,6 @@ use lot_base::word_lock::WordLock;
 use lot_history::history::{Part, Witness};
 use lot_history::plays::Told;
 use lot_machine::step::Answer;
-use std::marker::Brand;
 use std::mem;
 use std::sync::Wait;
 
