@@ -11,7 +11,7 @@
 //! line between them.
 
 use crate::stage::{Host, expect};
-use crate::{mutex, once, reentrant_mutex, rw_lock, semaphore};
+use crate::{collections, mutex, once, reentrant_mutex, rw_lock, semaphore};
 use parking_lot::mutex::{Barging, InOrder};
 use std::alloc::AllocGlobal;
 use std::process::Abort;
@@ -35,6 +35,9 @@ pub enum Kind {
     ReentrantMutex,
     Semaphore,
     Onces,
+
+    // Those of `examples`, which stand on locks.
+    Collections,
 }
 
 /// Expects that no line went otherwise than it says.
@@ -97,5 +100,6 @@ fn play<R: Host>(rt: &R, kind: Kind, room: usize, script: &Script<'_>) {
         Kind::ReentrantMutex => reentrant_mutex::play(rt, room, script),
         Kind::Semaphore => semaphore::play(rt, room, script),
         Kind::Onces => once::play(rt, room, script),
+        Kind::Collections => collections::play(rt, room, script),
     }
 }

@@ -1,6 +1,7 @@
-//! Tests of the threaded lot and its word locks by their public calls alone: what they do and
-//! answer, step by step, and what threads do to one another that meet in an order which no clause
-//! of a contract sees. Most are scenes, texts that `test_support::scene` plays. The comment of a
+//! Tests of the threaded lot, its word locks and the examples that stand on a lot by their public
+//! calls alone: what they do and answer, step by step, and what threads do to one another that meet
+//! in an order which no clause of a contract sees. Most are scenes, texts that
+//! `test_support::scene` plays, or scripts, which `test_support::player` plays. The comment of a
 //! test tells which wrong bodies it refuses, which every contract lets through.
 #![tactic(auto)]
 
@@ -11,7 +12,11 @@ mod crowds;
 #[cfg(test)]
 mod growths;
 #[cfg(test)]
+mod handed;
+#[cfg(test)]
 mod late;
+#[cfg(test)]
+mod locks;
 #[cfg(test)]
 mod noted;
 #[cfg(test)]
@@ -26,6 +31,8 @@ mod returning_parker;
 mod returns;
 #[cfg(test)]
 mod sections;
+#[cfg(test)]
+mod simulated;
 #[cfg(test)]
 mod sizes;
 #[cfg(test)]

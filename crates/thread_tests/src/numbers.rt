@@ -97,16 +97,14 @@ fn a_retired_number_is_given_again(rt: HostRuntime) {
     goes_well(&rt, scene, &[]);
 }
 
-// It refuses a registration that gives a number twice, and a retirement that frees none.
+// It refuses a retirement that frees no number, and a registration that then finds none.
 #[test]
 fn more_threads_than_numbers_take_turns(rt: HostRuntime) {
     let scene = "
         lot 4
         caller 12
         come
-        have_alone
         park 7 past -> timed_out 7 any
-        let_go
         retire
         raise zero
         caller

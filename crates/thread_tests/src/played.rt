@@ -1,6 +1,5 @@
 //! Scenes that are to go well. Few functions name a parker, since a proof pays for each that does.
 
-use crate::expect;
 use lot_threads::{ThreadParker, ThreadParkerT, WordParker, YieldParker};
 use std::process::Abort;
 use std::sync::Wait;
@@ -35,24 +34,4 @@ where
     goes_well_on_words(rt, text, values);
     goes_well_with::<ThreadParker, R>(rt, text, values);
     goes_well_with::<YieldParker, R>(rt, text, values);
-}
-
-// It refuses a player of scenes that passes over an outcome, a word or a line.
-#[test]
-fn a_scene_tells_the_line_that_goes_otherwise(rt: HostRuntime) {
-    let scenes = [
-        ("thread\nunpark one 7 42 -> 1", Some(2)),
-        ("thread\npark 7 past -> timed_out 8 last", Some(2)),
-        ("thread\npark 7 past -> unparked 42", Some(2)),
-        ("thread\n\nbefore_sleep: list 7 ->\npark 7 past", Some(4)),
-        ("thread\nlist 7 -> 1\nsleep 1", Some(2)),
-        ("thread\nsleep 1 1", Some(2)),
-        ("thread\nnowhere: raise a", Some(2)),
-        ("thread\nfly", Some(2)),
-        ("thread\n# fly\nis a 0", None),
-    ];
-    for (scene, fault) in scenes {
-        let found = play::<WordParker, _>(&rt, rt.alloc(), scene, &[]);
-        expect(&rt, found == fault, scene);
-    }
 }

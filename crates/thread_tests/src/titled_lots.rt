@@ -3,6 +3,7 @@
 ghost use Rattle.std.specs.Prelude.{◌≡◌};
 ghost use Rattle.lot_threads.specs.Titled.{IsEnteredIn, IsTitle};
 
+use crate::expect;
 use lot_threads::{
     Entered, ParkToken, ThreadData, Title, TitledLot, UnparkResult, UnparkToken, WordParker,
 };
@@ -68,58 +69,68 @@ fn leave<R: Wait>(
     }
 }
 
-#[test]
-fn threads_come_back_in_order_with_the_tokens_of_their_unparks(rt: HostRuntime) {
-    let lot = Lot::new(rt.alloc(), 2, 1).expect(&rt, "memory");
-    let (key, title) = lot.deal(&rt).expect(&rt, "a key");
-    let (first, title) = enter(&rt, rt.alloc(), &lot, key, title);
-    let (second, title) = enter(&rt, rt.alloc(), &lot, key, title);
-    let (found, title) = unpark(&rt, &lot, key, title, 7);
-    let (found_last, _title) = unpark(&rt, &lot, key, title, 8);
-    let (_first, token) = lot.wait(&rt, first);
-    let (_second, token_of_second) = lot.wait(&rt, second);
-    assert_eq!(rt;
-        (found.unparked_threads, found.have_more_threads),
-        (1, true)
-    );
-    assert_eq!(rt;
-        (found_last.unparked_threads, found_last.have_more_threads),
-        (1, false)
-    );
-    assert_eq!(rt; (token, token_of_second), (UnparkToken(7), UnparkToken(8)));
+// Two threads come back in order, with the tokens of their unparks.
+fn come_back_in_order<R: Abort + Wait>(rt: &R, alloc: Global, lot: &Lot, key: usize, title: Title)
+    requires title { IsTitle lot.now key title }
+{
+    let (first, title) = enter(rt, alloc, lot, key, title);
+    let (second, title) = enter(rt, alloc, lot, key, title);
+    let (found, title) = unpark(rt, lot, key, title, 7);
+    let are_more = found.unparked_threads == 1 && found.have_more_threads;
+    expect(rt, are_more, "one is unparked of two");
+    let (found, _title) = unpark(rt, lot, key, title, 8);
+    let is_last = found.unparked_threads == 1 && !found.have_more_threads;
+    expect(rt, is_last, "the last is unparked");
+    let (_first, token) = lot.wait(rt, first);
+    expect(rt, token == UnparkToken(7), "the first was unparked first");
+    let (_second, token) = lot.wait(rt, second);
+    expect(rt, token == UnparkToken(8), "the second was unparked then");
 }
 
-#[test]
-fn a_late_thread_that_was_unparked_comes_back(rt: HostRuntime) {
-    let lot = Lot::new(rt.alloc(), 1, 1).expect(&rt, "memory");
-    let (key, title) = lot.deal(&rt).expect(&rt, "a key");
-    let (entered, title) = enter(&rt, rt.alloc(), &lot, key, title);
-    let (_found, title) = unpark(&rt, &lot, key, title, 7);
-    let (_thread, last, _title) = leave(&rt, &lot, entered, title);
-    assert_eq!(rt; last, None);
+// A late thread that was unparked comes back.
+fn come_back_late<R: Abort + Wait>(rt: &R, alloc: Global, lot: &Lot, key: usize, title: Title)
+    requires title { IsTitle lot.now key title }
+{
+    let (entered, title) = enter(rt, alloc, lot, key, title);
+    let (_found, title) = unpark(rt, lot, key, title, 7);
+    let (_thread, last, _title) = leave(rt, lot, entered, title);
+    expect(rt, last.is_none(), "an unpark took it before");
 }
 
-#[test]
-fn a_wait_with_a_deadline_ends(rt: HostRuntime) {
-    let lot = Lot::new(rt.alloc(), 1, 1).expect(&rt, "memory");
-    let (key, title) = lot.deal(&rt).expect(&rt, "a key");
-    let (entered, title) = enter(&rt, rt.alloc(), &lot, key, title);
-    let past = Instant::now(&rt).expect(&rt, "a clock");
-    match lot.wait_until(&rt, entered, past) {
-        Ok((_thread, token)) => assert_eq!(rt; token, UnparkToken(9)),
+// A wait with a deadline that has passed ends.
+fn leave_late<R: Abort + Wait + Clock>(rt: &R, alloc: Global, lot: &Lot, key: usize, title: Title)
+    requires title { IsTitle lot.now key title }
+{
+    let (entered, title) = enter(rt, alloc, lot, key, title);
+    let past = Instant::now(rt).expect(rt, "a clock");
+    match lot.wait_until(rt, entered, past) {
+        Ok(_back) => expect(rt, false, "nobody unparks it"),
         Err(late) => {
-            let (_thread, last, _title) = leave(&rt, &lot, late, title);
-            assert_eq!(rt; last, Some(true));
+            let (_thread, last, _title) = leave(rt, lot, late, title);
+            expect(rt, last == Some(true), "it was the last");
         }
     }
 }
 
+// Each of three keys is dealt once.
+fn deal_each_key<R: Abort + Wait + Clock>(rt: &R, alloc: Global, lot: &Lot) {
+    let (first, title) = lot.deal(rt).expect(rt, "a key");
+    come_back_in_order(rt, alloc, lot, first, title);
+    let (second, title) = lot.deal(rt).expect(rt, "a key");
+    come_back_late(rt, alloc, lot, second, title);
+    let (third, title) = lot.deal(rt).expect(rt, "a key");
+    leave_late(rt, alloc, lot, third, title);
+    expect(rt, (first, second, third) == (0, 1, 2), "each key once");
+    expect(rt, lot.deal(rt).is_none(), "no key is left");
+}
+
 #[test]
-fn a_lot_deals_each_key_below_its_limit_once(rt: HostRuntime) {
-    let lot = Lot::new(rt.alloc(), 1, 2).expect(&rt, "memory");
-    let first = lot.deal(&rt).map(|dealt| dealt.0);
-    let second = lot.deal(&rt).map(|dealt| dealt.0);
-    let third = lot.deal(&rt).map(|dealt| dealt.0);
-    assert_eq!(rt; (first, second, third), (Some(0), Some(1), None));
-    assert_eq!(rt; (lot.max_threads(), lot.limit()), (1, 2));
+fn threads_come_back_by_titles_or_leave_with_them(rt: HostRuntime) {
+    let lot = Lot::new(rt.alloc(), 4, 3).expect(&rt, "memory");
+    deal_each_key(&rt, rt.alloc(), &lot);
+    expect(
+        &rt,
+        (lot.max_threads(), lot.limit()) == (4, 3),
+        "as it was made",
+    );
 }

@@ -1,7 +1,7 @@
 //! The examples without a lot of threads. Their contracts say what comes out; no clause says that
 //! anything does, rather than want of memory, nor what two threads record.
 
-use crate::stage::expect;
+use crate::expect;
 use examples::interleaving::interleave;
 use examples::recording::{record_two, replay};
 use examples::simulation::{two_tasks, wait_in_vain};
