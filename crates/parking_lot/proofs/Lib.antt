@@ -1,16 +1,2 @@
-pub mod SeatCounts
-pub mod LatchCounts
-pub mod LatchBoard
-pub mod LatchTitles
-pub mod LatchTries
-pub mod LatchKeys
-pub mod LatchHolds
-pub mod LatchEnds
+pub mod GateLemmas
 pub mod TitledMutexLemmas
-pub mod OnceLemmas
-pub mod StockBoard
-pub mod StockTries
-pub mod StockTitles
-pub mod StockKeys
-pub mod StockHolds
-pub mod TitledSemaphoreLemmas

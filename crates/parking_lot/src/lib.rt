@@ -76,8 +76,8 @@
 
 pub mod barrier;
 pub mod condvar;
+mod gate;
 pub mod guard;
-pub mod latch;
 pub mod lazy_lock;
 pub mod lens;
 pub mod lot;
@@ -87,7 +87,6 @@ pub mod once_lock;
 pub mod reentrant_mutex;
 pub mod rw_lock;
 pub mod semaphore;
-pub mod stock;
 pub mod titled_mutex;
 pub mod titled_semaphore;
 mod wait_queue;
@@ -97,6 +96,7 @@ pub use condvar::{Condvar, WaitTimeoutResult};
 pub use guard::Guard;
 pub use lazy_lock::LazyLock;
 pub use lens::{Lens, MappedGuard};
+pub use lock_words::stock;
 pub use lot::Lot;
 pub use lot_threads::{TitledLot, WordParker};
 pub use mutex::{FairMutex, FairMutexGuard, Mutex, MutexGuard};

@@ -17,12 +17,10 @@
 
 ghost use Rattle.parking_lot.specs.Onces.{IsBegunOf};
 
-mod beginning;
-
 use crate::lot::Lot;
-use crate::once::beginning::Beginning;
 use crate::wait_queue::WaitQueue;
-pub use beginning::{AtMostOne, Begun, onces_begin_once};
+use lock_words::beginning::Beginning;
+pub use lock_words::beginning::{AtMostOne, Begun, onces_begin_once};
 use lot_threads::NoMemory;
 use std::fmt;
 use std::fmt::{Debug, Formatter};

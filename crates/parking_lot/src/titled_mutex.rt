@@ -1,63 +1,31 @@
-//! This module has a mutex that is proved to forget no waiting thread.
+//! This module has a mutex that is proved to forget no waiting thread. It is a `gate` with one permit,
+//! which guards the value. The head of that module has the protocol.
 //!
-//! # The protocol
-//!
-//! One word says how the mutex is: 0 is free and 1 is held. In 2, which is free, and 3, which is
-//! held, somebody may wait. In 7 the mutex is held, somebody may wait, and the title of the key,
-//! which tells who waits, is out with a thread. Otherwise the title lies in the mutex. A thread
-//! takes the title out only in the critical section of the key, and puts it back before the section
-//! ends.
-//!
-//! - A thread that arrives makes 0 into 1, or 2 into 3.
-//! - If it cannot, it opens the section of the key, makes 1 into 3, takes the title, enters the
-//!   list, puts the title back, and sleeps. A thread that was woken tries again like any other.
-//! - A thread that has the mutex after it waited gives its number up before it goes on. If somebody
-//!   may wait, it does so in a section of the key.
-//! - An unlock makes 1 into 0. If somebody may wait, it takes the title in a section of the key,
-//!   unparks the first thread of the list, and puts the title back as it makes the word 2, or 0 if
-//!   nobody is left in the list.
-//! - A thread whose deadline has passed takes the mutex if it is free, and in either case leaves
-//!   the list in a section of the key. If an unpark took it before, it was woken: it tries to take
-//!   the mutex, and gives up only while another thread holds the mutex.
-//! - A thread that waits on a condition variable is not in the list meanwhile. A notify wakes it,
-//!   and it locks the mutex like any other.
-//!
-//! It is proved that the laws of `latch` hold between any two steps of all threads. By
-//! `latches_forget_nobody`, the word tells of who is in the list, and if the mutex is free then,
-//! some thread waits that is not in the list. That thread was unparked before.
+//! A thread that waits on a condition variable is not in the list of the gate meanwhile. A notify
+//! wakes it, and it locks the mutex like any other.
 
-ghost use Rattle.std.specs.Prelude.{◌≡◌, IfErr, IfSome};
-ghost use Rattle.lot_threads.specs.Titled.{told_by};
-ghost use Rattle.parking_lot.specs.Latch.{key_of};
-ghost use Rattle.parking_lot.specs.TitledMutexes.{FitsQueue, Holds, HoldsEmpty, IsQueueOf, Rests};
+ghost use Rattle.std.specs.Prelude.{◌≡◌, true, IfErr, IfSome};
+ghost use Rattle.lock_words.specs.Stock.{supply_of};
+ghost use Rattle.parking_lot.specs.Gates.{Holds};
+ghost use Rattle.parking_lot.specs.TitledMutexes.{HoldsEmpty};
 
-mod waiting;
-
+pub use crate::gate::QueueKey;
+use crate::gate::{Gate, QueueTitle};
 use crate::guard::{Guard, Release};
-use crate::latch::{Hand, Latch, Tells};
-use crate::lot::{instant_after, is_past, stand_back};
-use crate::titled_mutex::waiting::{FREE, HELD};
-use lot_threads::{LotError, Title, TitledLot, Witness, WordParker};
+use crate::lot::{instant_after, stand_back};
+use lock_words::stock::{Hand, PERMIT};
+use lot_threads::{LotError, TitledLot, WordParker};
 use std::alloc::Global;
 use std::fmt;
 use std::fmt::{Debug, Formatter};
 use std::sync::Wait;
 use std::time::{Clock, Duration, Instant};
 
-/// In proofs, a `QueueKey` names the key and the lot of a title. Nothing reads it.
-#[derive(Drop)]
-pub struct QueueKey {
-    pub(crate) key: usize,
-    pub(crate) home: Witness,
-}
+// The word of a mutex that is free, where nobody waits.
+const FREE: u64 = PERMIT;
 
-impl Tells for Title {
-    type Key = QueueKey;
-
-    ghost told = { λ title. told_by title };
-
-    ghost fits = { λ queue title. FitsQueue queue title };
-}
+// The word of one that is held, where nobody waits.
+const HELD: u64 = 0;
 
 /// A `TitledMutex` protects a value, so that only one thread at a time can use it, and it is proved
 /// that no thread that waits for it is forgotten.
@@ -69,11 +37,8 @@ impl Tells for Title {
 /// nothing but a guard can lend the value: whoever has the whole mutex calls `lock`.
 #[derive(Drop)]
 pub struct TitledMutex<'l, T: Drop> {
-    lot: &'l TitledLot<WordParker>,
-    latch: Latch<T, Title>,
-    key: usize,
-    alloc: Global,
-    ghost of_lot: { IsQueueOf lot.now key (key_of latch) },
+    gate: Gate<'l, T>,
+    ghost guarding: { (supply_of gate.stock).guards ≡ true },
 }
 
 /// A `TitledMutexGuard` gives access to the value of a `TitledMutex`, and unlocks the mutex when it
@@ -88,8 +53,8 @@ pub type TitledMutexGuard<'a, 'r, 'l, T, R> = Guard<Box<T>, TitledLocked<'a, 'r,
 pub struct TitledLocked<'a, 'r, 'l, T: Drop, R: Wait> {
     pub(crate) mutex: &'a TitledMutex<'l, T>,
     pub(crate) rt: &'r R,
-    hand: Hand<T, Title>,
-    ghost own: { HoldsEmpty mutex.now.latch hand },
+    hand: Hand<T, QueueTitle>,
+    ghost own: { HoldsEmpty mutex.now.gate.stock hand },
 }
 
 impl<T: Drop, R: Wait> Release<Box<T>> for TitledLocked<'_, '_, '_, T, R> {
@@ -100,11 +65,11 @@ impl<T: Drop, R: Wait> Release<Box<T>> for TitledLocked<'_, '_, '_, T, R> {
             rt,
             mut hand,
         } = self;
-        mutex.latch.put_value(&mut hand, held);
-        if mutex.latch.release(&mut hand) {
+        mutex.gate.stock.put_value(&mut hand, held);
+        if mutex.gate.stock.release(&mut hand, HELD) {
             hand.leave();
         } else {
-            mutex.release_slow(rt, hand);
+            mutex.gate.release(rt, hand);
         }
     }
 }
@@ -129,17 +94,8 @@ impl<'l, T: Drop> TitledMutex<'l, T> {
         value: T,
     ) -> Result<TitledMutex<'l, T>, LotError> {
         let value = Box::new(alloc, value)?;
-        let (key, title) = lot.deal(rt).ok_or(LotError::Full)?;
-        let queue = QueueKey {
-            key,
-            home: lot.witness(),
-        };
-        let latch = Latch::new(alloc, value, title, &queue)?;
         Ok(TitledMutex {
-            lot,
-            latch,
-            key,
-            alloc,
+            gate: Gate::guarding(rt, alloc, lot, value)?,
         })
     }
 
@@ -155,18 +111,17 @@ impl<'l, T: Drop> TitledMutex<'l, T> {
     }
 
     /// Locks the mutex if it is free; otherwise returns `None` at once.
+    ///
+    /// If it is free while another thread is in a critical section of the key, it waits for the end
+    /// of that.
     pub fn try_lock<'a, 'r, R: Wait>(
         &'a self,
         rt: &'r R,
     ) -> Option<TitledMutexGuard<'a, 'r, 'l, T, R>>
         ensures { IfSome result (λ guard. titled_mutex_of guard ≡ self.now) }
     {
-        let mut hand = self.latch.arrive();
-        if self.try_take(&mut hand) {
-            return Some(self.guard(rt, hand));
-        }
-        hand.leave();
-        None
+        let hand = self.gate.take_if_free(rt)?;
+        Some(self.guard(rt, hand))
     }
 
     /// Locks the mutex as `lock` does, but returns `None` if it cannot do so within the duration.
@@ -192,27 +147,21 @@ impl<'l, T: Drop> TitledMutex<'l, T> {
     ) -> Option<TitledMutexGuard<'a, 'r, 'l, T, R>>
         ensures { IfSome result (λ guard. titled_mutex_of guard ≡ self.now) }
     {
-        let hand = self.hold_until(rt, deadline)?;
+        let hand = self.gate.take_until(rt, deadline)?;
         Some(self.guard(rt, hand))
     }
 
     /// Returns whether a thread holds the mutex.
     pub fn is_locked(&self) -> bool {
-        self.latch.word() % 2 == 1
+        self.gate.word() < PERMIT
     }
 
     /// Returns the value, and ends the mutex.
     ///
     /// It returns `None` only if a guard was forgotten or leaked, and the value with it.
     pub fn into_inner(self) -> Option<T> {
-        let TitledMutex {
-            lot: _,
-            latch,
-            key: _,
-            alloc: _,
-        } = self;
-        let (_, value) = latch.close();
-        value.map(Box::into_inner)
+        let TitledMutex { gate } = self;
+        gate.close().map(Box::into_inner)
     }
 
     // The guard of a thread that holds the mutex.
@@ -220,13 +169,13 @@ impl<'l, T: Drop> TitledMutex<'l, T> {
     fn guard<'a, 'r, R: Wait>(
         &'a self,
         rt: &'r R,
-        holder: Hand<T, Title>,
+        holder: Hand<T, QueueTitle>,
     ) -> TitledMutexGuard<'a, 'r, 'l, T, R>
-        requires { Holds self.now.latch holder }
+        requires { Holds self.now.gate.stock holder }
         ensures { titled_mutex_of result ≡ self.now }
     {
         let mut hand = holder;
-        let value = self.latch.take_value(&mut hand);
+        let value = self.gate.stock.take_value(&mut hand);
         Guard::new(
             value,
             TitledLocked {
@@ -239,58 +188,14 @@ impl<'l, T: Drop> TitledMutex<'l, T> {
 
     // A thread that holds the mutex.
     #[inline]
-    fn hold<R: Wait>(&self, rt: &R) -> Hand<T, Title>
-        ensures { Holds self.now.latch result }
+    fn hold<R: Wait>(&self, rt: &R) -> Hand<T, QueueTitle>
+        ensures { Holds self.now.gate.stock result }
     {
-        let mut hand = self.latch.arrive();
-        if self.latch.acquire(&mut hand, FREE) {
+        let mut hand = self.gate.stock.arrive();
+        if self.gate.stock.acquire(&mut hand, FREE) {
             return hand;
         }
-        self.hold_slow(rt, hand)
-    }
-
-    // The same for a thread that found the mutex held, or others waiting.
-    #[cold]
-    #[inline(never)]
-    fn hold_slow<R: Wait>(&self, rt: &R, arrived: Hand<T, Title>) -> Hand<T, Title>
-        requires { Rests self.now.latch arrived }
-        ensures { Holds self.now.latch result }
-    {
-        let mut hand = arrived;
-        for _ in rt.forever() {
-            stand_back();
-            if self.try_take(&mut hand) {
-                return hand;
-            }
-            if let Ok(thread) = self.lot.thread_data(rt, self.alloc) {
-                return self.wait(rt, hand, thread);
-            }
-        }
-        unreachable!()
-    }
-
-    // A thread that holds the mutex, or none where the deadline passed.
-    fn hold_until<R: Wait + Clock>(&self, rt: &R, deadline: Instant) -> Option<Hand<T, Title>>
-        ensures { IfSome result (Holds self.now.latch) }
-    {
-        let mut hand = self.latch.arrive();
-        if self.try_take(&mut hand) {
-            return Some(hand);
-        }
-        for _ in rt.forever() {
-            stand_back();
-            if self.try_take(&mut hand) {
-                return Some(hand);
-            }
-            if is_past(rt, Some(deadline)) {
-                hand.leave();
-                return None;
-            }
-            if let Ok(thread) = self.lot.thread_data(rt, self.alloc) {
-                return self.wait_until(rt, hand, thread, deadline);
-            }
-        }
-        unreachable!()
+        self.gate.take_slow(rt, hand)
     }
 }
 
@@ -313,7 +218,7 @@ impl<'a, 'r, 'l, T: Drop, R: Wait> TitledMutexGuard<'a, 'r, 'l, T, R> {
     {
         let mutex = guard.lock().mutex;
         let rt = guard.lock().rt;
-        if mutex.latch.word() == HELD {
+        if mutex.gate.word() == HELD {
             return guard;
         }
         drop(guard);

@@ -1,43 +1,14 @@
-//! This module has a semaphore that is proved to lose no permit and to forget no waiting thread.
-//!
-//! # The protocol
-//!
-//! One word says how the semaphore is. It is four times the permits that are free, and 1 more if
-//! somebody may wait. It is 2 while the title of the key, which tells who waits, is out with a
-//! thread. Otherwise the title lies in the semaphore. A thread takes the title out only in the
-//! critical section of the key, and puts it back before the section ends. With the title it sets
-//! the free permits aside, so that the word stays 2 until they are back.
-//!
-//! - A thread that arrives takes a permit, by one exchange, if one is free.
-//! - If none is, it opens the section of the key, takes the title, enters the list, puts the title
-//!   back, and sleeps. A thread that was woken tries again like any other.
-//! - A thread that has a permit after it waited gives its number up before it goes on. If somebody
-//!   may wait, it does so in a section of the key, and **if permits are free there, it unparks the
-//!   first thread of the list**, because its own wake-up may have been the only one for them.
-//! - A thread that gives a permit back does so by one exchange, if nobody waits, or if a permit is
-//!   free already, since somebody is on the way then. Otherwise it takes the title in a section of
-//!   the key, unparks the first thread of the list, and puts the title back with the permit.
-//! - A thread whose deadline has passed leaves the list in a section of the key, and then does what
-//!   a woken thread does: it tries to take a permit. If none is free, it gives its number up as
-//!   above, and goes without.
-//!
-//! It is proved that the laws of `stock` hold between any two steps of all threads. By
-//! `stocks_conserve_permits`, the permits that are free and those that threads have are always as
-//! many as there were at first. By `stocks_forget_nobody`, the word tells of who is in the list,
-//! and if a permit is free then, some thread waits that is not in the list. That thread was
-//! unparked, or left at its deadline.
+//! This module has a semaphore that is proved to lose no permit and to forget no waiting thread. It
+//! is a `gate`, whose head has the protocol.
 
-ghost use Rattle.std.specs.Prelude.{◌≡◌, IfSome};
-ghost use Rattle.parking_lot.specs.Stock.{supply_of};
-ghost use Rattle.parking_lot.specs.TitledMutexes.{IsQueueOf};
-ghost use Rattle.parking_lot.specs.TitledSemaphores.{Holds, Rests};
+ghost use Rattle.std.specs.Prelude.{◌≡◌, false};
+ghost use Rattle.lock_words.specs.Stock.{supply_of};
+ghost use Rattle.parking_lot.specs.Gates.{Holds, HoldsBare};
 
-mod waiting;
-
-use crate::lot::{instant_after, is_past, stand_back};
-use crate::stock::{Hand, PERMIT, Stock, Supply};
-use crate::titled_mutex::QueueKey;
-use lot_threads::{LotError, Title, TitledLot, WordParker};
+use crate::gate::{Gate, QueueTitle};
+use crate::lot::instant_after;
+use lock_words::stock::{Hand, PERMIT};
+use lot_threads::{LotError, TitledLot, WordParker};
 use std::alloc::Global;
 use std::sync::Wait;
 use std::time::{Clock, Duration, Instant};
@@ -51,11 +22,8 @@ use std::time::{Clock, Duration, Instant};
 /// If a permit is forgotten by `mem::forget`, nobody can have it again.
 #[derive(Drop)]
 pub struct TitledSemaphore<'l> {
-    lot: &'l TitledLot<WordParker>,
-    stock: Stock<Title>,
-    key: usize,
-    alloc: Global,
-    ghost of_lot: { IsQueueOf lot.now key (supply_of stock).queue },
+    gate: Gate<'l, ()>,
+    ghost bare: { (supply_of gate.stock).guards ≡ false },
 }
 
 /// A `TitledSemaphorePermit` is one permit that a thread has, and gives it back when it is dropped.
@@ -65,8 +33,8 @@ pub struct TitledSemaphore<'l> {
 pub struct TitledSemaphorePermit<'a, 'r, 'l, R: Wait> {
     semaphore: &'a TitledSemaphore<'l>,
     rt: &'r R,
-    hand: Hand<Title>,
-    ghost own: { Holds semaphore.now.stock hand },
+    hand: Hand<(), QueueTitle>,
+    ghost own: { HoldsBare semaphore.now.gate.stock hand },
 }
 
 impl<R: Wait> Drop for TitledSemaphorePermit<'_, '_, '_, R> {
@@ -77,7 +45,7 @@ impl<R: Wait> Drop for TitledSemaphorePermit<'_, '_, '_, R> {
             rt,
             hand,
         } = self;
-        semaphore.release(rt, hand);
+        semaphore.gate.release(rt, hand);
     }
 }
 
@@ -98,40 +66,28 @@ impl<'l> TitledSemaphore<'l> {
         lot: &'l TitledLot<WordParker>,
         permits: u32,
     ) -> Result<TitledSemaphore<'l>, LotError> {
-        let (key, title) = lot.deal(rt).ok_or(LotError::Full)?;
-        let queue = QueueKey {
-            key,
-            home: lot.witness(),
-        };
-        let stock = Stock::new(alloc, title, &Supply { queue, permits })?;
         Ok(TitledSemaphore {
-            lot,
-            stock,
-            key,
-            alloc,
+            gate: Gate::new(rt, alloc, lot, permits)?,
         })
     }
 
     /// Takes a permit, and waits until one is free.
     #[inline]
     pub fn acquire<'a, 'r, R: Wait>(&'a self, rt: &'r R) -> TitledSemaphorePermit<'a, 'r, 'l, R> {
-        let hand = self.take(rt);
+        let hand = self.gate.take(rt);
         self.permit(rt, hand)
     }
 
     /// Takes a permit if one is free; otherwise returns `None` at once.
     ///
-    /// While another thread is in a critical section of the key, it waits for the end of that.
+    /// If one is free while another thread is in a critical section of the key, it waits for the
+    /// end of that.
     pub fn try_acquire<'a, 'r, R: Wait>(
         &'a self,
         rt: &'r R,
     ) -> Option<TitledSemaphorePermit<'a, 'r, 'l, R>> {
-        let mut hand = self.stock.arrive();
-        if self.try_take(rt, &mut hand) {
-            return Some(self.permit(rt, hand));
-        }
-        hand.leave();
-        None
+        let hand = self.gate.take_if_free(rt)?;
+        Some(self.permit(rt, hand))
     }
 
     /// Takes a permit as `acquire` does, but returns `None` if it cannot do so within the duration.
@@ -153,16 +109,13 @@ impl<'l> TitledSemaphore<'l> {
         rt: &'r R,
         deadline: Instant,
     ) -> Option<TitledSemaphorePermit<'a, 'r, 'l, R>> {
-        let hand = self.take_until(rt, deadline)?;
+        let hand = self.gate.take_until(rt, deadline)?;
         Some(self.permit(rt, hand))
     }
 
     /// Returns how many permits are free at this moment.
-    ///
-    /// While a thread is in a critical section of the key, it may have set the free permits aside,
-    /// and then none is free.
     pub fn available_permits(&self) -> usize {
-        (self.stock.word() / PERMIT) as usize
+        (self.gate.word() / PERMIT) as usize
     }
 
     // The permit of a thread that holds one.
@@ -170,70 +123,14 @@ impl<'l> TitledSemaphore<'l> {
     fn permit<'a, 'r, R: Wait>(
         &'a self,
         rt: &'r R,
-        holder: Hand<Title>,
+        holder: Hand<(), QueueTitle>,
     ) -> TitledSemaphorePermit<'a, 'r, 'l, R>
-        requires { Holds self.now.stock holder }
+        requires { Holds self.now.gate.stock holder }
     {
         TitledSemaphorePermit {
             semaphore: self,
             rt,
             hand: holder,
         }
-    }
-
-    // A thread that holds a permit.
-    #[inline]
-    fn take<R: Wait>(&self, rt: &R) -> Hand<Title>
-        ensures { Holds self.now.stock result }
-    {
-        let mut hand = self.stock.arrive();
-        if self.try_take(rt, &mut hand) {
-            return hand;
-        }
-        self.take_slow(rt, hand)
-    }
-
-    // The same for a thread that found no permit free.
-    #[cold]
-    #[inline(never)]
-    fn take_slow<R: Wait>(&self, rt: &R, arrived: Hand<Title>) -> Hand<Title>
-        requires { Rests self.now.stock arrived }
-        ensures { Holds self.now.stock result }
-    {
-        let mut hand = arrived;
-        for _ in rt.forever() {
-            stand_back();
-            if self.try_take(rt, &mut hand) {
-                return hand;
-            }
-            if let Ok(thread) = self.lot.thread_data(rt, self.alloc) {
-                return self.wait(rt, hand, thread);
-            }
-        }
-        unreachable!()
-    }
-
-    // A thread that holds a permit, or none where the deadline passed.
-    fn take_until<R: Wait + Clock>(&self, rt: &R, deadline: Instant) -> Option<Hand<Title>>
-        ensures { IfSome result (Holds self.now.stock) }
-    {
-        let mut hand = self.stock.arrive();
-        if self.try_take(rt, &mut hand) {
-            return Some(hand);
-        }
-        for _ in rt.forever() {
-            stand_back();
-            if self.try_take(rt, &mut hand) {
-                return Some(hand);
-            }
-            if is_past(rt, Some(deadline)) {
-                hand.leave();
-                return None;
-            }
-            if let Ok(thread) = self.lot.thread_data(rt, self.alloc) {
-                return self.wait_until(rt, hand, thread, deadline);
-            }
-        }
-        unreachable!()
     }
 }

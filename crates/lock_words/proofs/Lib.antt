@@ -1,0 +1,11 @@
+pub mod SeatCounts
+pub mod NumberLists
+pub mod Removals
+pub mod OnceLemmas
+pub mod StockBoard
+pub mod StockSlots
+pub mod StockTries
+pub mod StockTitles
+pub mod StockKeys
+pub mod StockHolds
+pub mod StockEnds

@@ -1,8 +1,0 @@
-use Rattle.parking_lot.specs.TitledMutexes.{Rests}
-use Rattle.parking_lot.proofs.titled_mutex.TitledMutex.hold_until.Given as goal
-
-abbrev pub invariant-loop : goal.invariant-loop
-invariant-loop g l = record {
-  iterator : (goal.iterator-loop g).can_next l.iterator' × (goal.iterator-loop g).is_finite l.iterator';
-  rests : Rests l.self.latch l.hand;
-}
