@@ -136,6 +136,17 @@ pub fn unpark_first<P: ThreadParkerT, R: Wait>(
     unpark_one(rt, lot, key, |_| token)
 }
 
+/// Unparks all waiters of the key, and answers how many.
+#[inline]
+pub fn unpark_all<P: ThreadParkerT, R: Wait>(
+    rt: &R,
+    lot: &ParkingLot<P>,
+    key: usize,
+    token: UnparkToken,
+) -> usize {
+    lot_threads::unpark_all(rt, lot, key, token)
+}
+
 /// Unparks those waiters of the key that the sieve lets through.
 pub fn unpark_through<P: ThreadParkerT, R: Wait>(
     rt: &R,

@@ -5,7 +5,6 @@ use lot_threads::{
     DEFAULT_PARK_TOKEN, DEFAULT_UNPARK_TOKEN, Member, ParkResult, ParkingLot, ThreadParkerT,
     unpark_one,
 };
-use parking_lot::{Once, Semaphore};
 use std::sync::Wait;
 use std::sync::atomic::{AtomicU64, Ordering};
 use std::time::{Clock, Instant};
@@ -84,26 +83,4 @@ pub fn unparks_itself_on_each<P: ThreadParkerT, R: Wait + Clock>(
         unparked = unparked.wrapping_add(usize::from(result.is_unparked()));
     }
     unparked == keys
-}
-
-/// Calls a once that is done, if only by the first call. False says that it called a closure again.
-pub fn calls_once<R: Wait + Clock>(rt: &R, once: &Once<'_>, calls: usize) -> bool {
-    once.call_once(rt, |_| ());
-    let mut called = 0usize;
-    for _ in 0..calls {
-        once.call_once(rt, |_| called = called.wrapping_add(1));
-    }
-    called == 0
-}
-
-/// Takes the one permit and gives it back. False says that it is not there then.
-pub fn takes_permits<'a, R: Wait + Clock>(
-    rt: &'a R,
-    semaphore: &'a Semaphore<'_>,
-    calls: usize,
-) -> bool {
-    for _ in 0..calls {
-        drop(semaphore.acquire(rt));
-    }
-    semaphore.available_permits() == 1
 }

@@ -1,94 +1,141 @@
-//! Threads that wait on one key, and one that leads them.
+//! Rows of threads that wait on one key, and one that wakes or moves them.
 
-use crate::calls::{register, retire};
+use crate::calls::{register, retire, unpark_all};
+use crate::rows::gathering::{Gathering, time_of_leader};
 use crate::rows::measure::nanoseconds_since;
-use crate::rows::scene::Scene;
-use crate::rows::turns::{OVER, comes_and_parks, comes_to};
-use lot_threads::{DEFAULT_UNPARK_TOKEN, RequeueOp, ThreadParkerT, unpark_all, unpark_requeue};
+use crate::rows::row::Row;
+use crate::rows::turns::{comes_and_parks, comes_to};
+use lot_threads::{DEFAULT_UNPARK_TOKEN, ParkingLot, RequeueOp, ThreadParkerT, unpark_requeue};
 use std::alloc::Global;
 use std::sync::Wait;
 use std::sync::atomic::Ordering;
-use std::thread;
-use std::time::{Clock, Duration, Instant};
+use std::thread::Threads;
+use std::time::{Clock, Instant};
 
 // Where they wait, and where they are moved to.
 const HERE: usize = 1;
 
 const THERE: usize = 2;
 
-// How many milliseconds the last who come have to fall asleep.
-const MILLISECONDS_TO_SLEEP: u64 = 20;
+/// Lets threads wait on a new lot, and does the deed with them.
+pub fn time_of<P, R>(rt: &R, alloc: Global, deed: &str, row: &Row) -> Option<u64>
+where
+    P: ThreadParkerT + Send + Sync,
+    R: Threads + Wait + Clock + Sync,
+{
+    let lot = ParkingLot::<P>::new(alloc, row.threads).ok()?;
+    time_on(rt, alloc, deed, row, &lot)
+}
 
-impl<P: ThreadParkerT> Scene<'_, '_, P> {
-    /// Parks in each run, until all is over. False says that the thread could not be registered.
-    pub fn waits<R: Wait + Clock>(&self, rt: &R, alloc: Global) -> bool {
-        let Ok(mut member) = register(rt, alloc, self.lot) else {
-            return false;
-        };
-        for _ in 0..self.row.runs {
-            comes_and_parks(rt, &mut member, HERE, &self.word, &self.parked);
-            self.awake.fetch_add(1, Ordering::SeqCst);
-        }
-        retire(rt, member);
-        true
-    }
-
-    /// Waits until all have come, and then some time. False says that they did not come.
-    pub fn have_come<R: Clock>(&self, rt: &R) -> bool {
-        let have_come = comes_to(&self.parked, self.row.threads);
-        thread::sleep(rt, Duration::from_millis(MILLISECONDS_TO_SLEEP));
-        have_come
-    }
-
-    /// Tells all to go, and wakes whoever waits still.
-    pub fn ends<R: Wait>(&self, rt: &R) {
-        self.word.store(OVER, Ordering::SeqCst);
-        unpark_all(rt, self.lot, HERE, DEFAULT_UNPARK_TOKEN);
-        unpark_all(rt, self.lot, THERE, DEFAULT_UNPARK_TOKEN);
-    }
-
-    /// Unparks all, and answers the time of the call, or until all run.
-    pub fn wakes_all<R: Wait + Clock>(&self, rt: &R, until_awake: bool) -> Option<u64> {
-        self.parked.store(0, Ordering::SeqCst);
-        self.awake.store(0, Ordering::SeqCst);
-        let start = Instant::now(rt).ok();
-        let unparked = unpark_all(rt, self.lot, HERE, DEFAULT_UNPARK_TOKEN);
-        let answered = nanoseconds_since(rt, start);
-        if unparked != self.row.threads || !comes_to(&self.awake, self.row.threads) {
-            return None;
-        }
-        if until_awake {
-            nanoseconds_since(rt, start)
+fn time_on<P, R>(rt: &R, alloc: Global, deed: &str, row: &Row, lot: &ParkingLot<P>) -> Option<u64>
+where
+    P: ThreadParkerT + Send + Sync,
+    R: Threads + Wait + Clock + Sync,
+{
+    let gathering = Gathering::new();
+    let act = |place: usize| {
+        if place == 0 {
+            lead(rt, alloc, deed, row, lot, &gathering)
         } else {
-            answered
+            wait(rt, alloc, row, lot, &gathering)
         }
-    }
+    };
+    time_of_leader(rt, alloc, row, &act)
+}
 
-    /// Moves all there and back in each call.
-    pub fn moves_all<R: Wait + Clock>(&self, rt: &R) -> Option<u64> {
-        let start = Instant::now(rt).ok();
-        let mut moved = 0usize;
-        for _ in 0..self.row.calls {
-            moved = moved.wrapping_add(self.moves(rt, HERE, THERE));
-            moved = moved.wrapping_add(self.moves(rt, THERE, HERE));
-        }
-        let spent = nanoseconds_since(rt, start);
-        if moved == self.row.threads.wrapping_mul(self.row.operations) {
-            spent
-        } else {
-            None
-        }
+// Parks in each run, until all is over. Nothing says that the thread could not be registered.
+fn wait<P: ThreadParkerT, R: Wait + Clock>(
+    rt: &R,
+    alloc: Global,
+    row: &Row,
+    lot: &ParkingLot<P>,
+    gathering: &Gathering,
+) -> Option<usize> {
+    let mut member = register(rt, alloc, lot).ok()?;
+    for _ in 0..row.runs {
+        comes_and_parks(rt, &mut member, HERE, &gathering.word, &gathering.come);
+        gathering.awake.fetch_add(1, Ordering::SeqCst);
     }
+    retire(rt, member);
+    Some(0)
+}
 
-    fn moves<R: Wait>(&self, rt: &R, from: usize, to: usize) -> usize {
-        let moved = unpark_requeue(
-            rt,
-            self.lot,
-            from,
-            to,
-            || RequeueOp::RequeueAll,
-            |_, _| DEFAULT_UNPARK_TOKEN,
-        );
-        moved.requeued_threads
+// Last it wakes whoever waits still.
+fn lead<P: ThreadParkerT, R: Wait + Clock>(
+    rt: &R,
+    alloc: Global,
+    deed: &str,
+    row: &Row,
+    lot: &ParkingLot<P>,
+    gathering: &Gathering,
+) -> Option<usize> {
+    let run = || match deed {
+        "call" => time_of_wake(rt, row, lot, gathering, false),
+        "awake" => time_of_wake(rt, row, lot, gathering, true),
+        _ => time_of_moves(rt, row, lot),
+    };
+    let median = gathering.median_of(rt, alloc, row, &run);
+    gathering.end();
+    unpark_all(rt, lot, HERE, DEFAULT_UNPARK_TOKEN);
+    unpark_all(rt, lot, THERE, DEFAULT_UNPARK_TOKEN);
+    median
+}
+
+// Unparks all, and answers the time of the call, or until all run.
+fn time_of_wake<P: ThreadParkerT, R: Wait + Clock>(
+    rt: &R,
+    row: &Row,
+    lot: &ParkingLot<P>,
+    gathering: &Gathering,
+    until_awake: bool,
+) -> Option<u64> {
+    gathering.count_anew();
+    let start = Instant::now(rt).ok();
+    let unparked = unpark_all(rt, lot, HERE, DEFAULT_UNPARK_TOKEN);
+    let answered = nanoseconds_since(rt, start);
+    if unparked != row.threads || !comes_to(&gathering.awake, row.threads) {
+        return None;
     }
+    if until_awake {
+        nanoseconds_since(rt, start)
+    } else {
+        answered
+    }
+}
+
+// Moves all there and back in each call.
+fn time_of_moves<P: ThreadParkerT, R: Wait + Clock>(
+    rt: &R,
+    row: &Row,
+    lot: &ParkingLot<P>,
+) -> Option<u64> {
+    let start = Instant::now(rt).ok();
+    let mut moved = 0usize;
+    for _ in 0..row.calls {
+        moved = moved.wrapping_add(move_all(rt, lot, HERE, THERE));
+        moved = moved.wrapping_add(move_all(rt, lot, THERE, HERE));
+    }
+    let spent = nanoseconds_since(rt, start);
+    if moved == row.threads.wrapping_mul(row.operations) {
+        spent
+    } else {
+        None
+    }
+}
+
+fn move_all<P: ThreadParkerT, R: Wait>(
+    rt: &R,
+    lot: &ParkingLot<P>,
+    from: usize,
+    to: usize,
+) -> usize {
+    let moved = unpark_requeue(
+        rt,
+        lot,
+        from,
+        to,
+        || RequeueOp::RequeueAll,
+        |_, _| DEFAULT_UNPARK_TOKEN,
+    );
+    moved.requeued_threads
 }

@@ -1,72 +1,19 @@
-//! What a thread does with a lock around a tally, again and again. It answers what was counted
-//! then.
+//! What threads do with a lock around a tally, again and again.
 
 ghost use Rattle.std.specs.Prelude.{⊤};
 
-use crate::fault::Fault;
-use crate::queue::{Notice, Queue};
+use crate::rows::measure::time_of_counts;
 use crate::rows::row::Row;
 use lot_base::word_lock::{Fits, WordLock};
 use parking_lot::mutex::{Fairness, MutexIn};
-use parking_lot::{
-    Condvar, FairMutex, Lot, Mutex, Once, RwLock, Semaphore, TitledLot, TitledMutex, WordParker,
-};
+use parking_lot::{RwLock, TitledMutex};
 use std::alloc::Global;
 use std::sync;
 use std::sync::Wait;
+use std::thread::Threads;
 use std::time::Clock;
 
-// How many things may be queued at once.
-const PLACES: u64 = 16;
-
 const MULTIPLIER: u64 = 0x9E37_79B9_7F4A_7C15;
-
-/// The locks that threads of a scene share. A row uses one of them.
-#[derive(Drop)]
-pub struct Locks<'l> {
-    pub mutex: Mutex<'l, Tally>,
-    pub fair_mutex: FairMutex<'l, Tally>,
-    pub titled_mutex: TitledMutex<'l, Tally>,
-    pub rw_lock: RwLock<'l, Tally>,
-    pub condvar: Condvar<'l>,
-    pub once: Once<'l>,
-    pub semaphore: Semaphore<'l>,
-    pub queue: Queue<'l>,
-    pub word_lock: WordLock<Tally>,
-    pub std_mutex: sync::Mutex<Tally>,
-    pub std_rw_lock: sync::RwLock<Tally>,
-    pub std_condvar: sync::Condvar,
-}
-
-impl<'l> Locks<'l> {
-    pub fn new<R: Wait>(
-        rt: &R,
-        alloc: Global,
-        lot: &'l Lot,
-        titled_lot: &'l TitledLot<WordParker>,
-    ) -> Result<Locks<'l>, Fault> {
-        Ok(Locks {
-            mutex: Mutex::new(lot, Tally::new())?,
-            fair_mutex: FairMutex::new(lot, Tally::new())?,
-            titled_mutex: TitledMutex::new(rt, alloc, titled_lot, Tally::new())?,
-            rw_lock: RwLock::new(lot, Tally::new())?,
-            condvar: Condvar::new(lot)?,
-            once: Once::new(lot)?,
-            semaphore: Semaphore::new(lot, 1)?,
-            queue: Queue::new(lot, PLACES)?,
-            word_lock: WordLock::new(alloc, Tally::new(), &())?,
-            std_mutex: sync::Mutex::new(Tally::new()),
-            std_rw_lock: sync::RwLock::new(Tally::new()),
-            std_condvar: sync::Condvar::new(),
-        })
-    }
-
-    /// Puts or takes so many things, and answers how many were taken then.
-    pub fn passes<R: Wait + Clock>(&self, rt: &R, place: usize, calls: usize) -> u64 {
-        self.queue.pass(rt, place, calls, Notice::Late);
-        self.queue.things.lock(rt).count
-    }
-}
 
 /// What the lock is around. It is as large as a bucket of a lot.
 #[derive(Drop)]
@@ -175,17 +122,17 @@ impl TallyRwLock for RwLock<'_, Tally> {
 }
 
 /// Counts as the row says, and answers what was counted by then.
-pub fn count_under<L: TallyLock, R: Wait + Clock>(rt: &R, lock: &L, row: &Row) -> u64 {
+pub fn count_under<L: TallyLock, R: Wait + Clock>(rt: &R, lock: &L, row: &Row) -> Option<u64> {
     let (counts, turns) = (row.counts, row.turns);
     let mut last = 0u64;
     for _ in 0..row.calls.wrapping_mul(counts) {
         last = lock.count_one(rt, turns);
     }
-    last
+    Some(last)
 }
 
-/// Counts and reads as the row says. It answers 0 if it read less than before.
-pub fn count_and_read<L: TallyRwLock, R: Wait + Clock>(rt: &R, lock: &L, row: &Row) -> u64 {
+/// Counts and reads as the row says. Nothing says that it read less than before.
+pub fn count_and_read<L: TallyRwLock, R: Wait + Clock>(rt: &R, lock: &L, row: &Row) -> Option<u64> {
     let (counts, turns, reads) = (row.counts, row.turns, row.reads);
     let (mut last, mut is_ordered) = (0u64, true);
     for _ in 0..row.calls {
@@ -198,5 +145,27 @@ pub fn count_and_read<L: TallyRwLock, R: Wait + Clock>(rt: &R, lock: &L, row: &R
             last = count;
         }
     }
-    if is_ordered { lock.count(rt) } else { 0 }
+    is_ordered.then_some(lock.count(rt))
+}
+
+/// Lets threads count under the lock as the row says.
+pub fn time_of_lock<L: TallyLock + Sync, R: Threads + Wait + Clock + Sync>(
+    rt: &R,
+    alloc: Global,
+    row: &Row,
+    lock: &L,
+) -> Option<u64> {
+    let count = |_place: usize| count_under(rt, lock, row);
+    time_of_counts(rt, alloc, row, &count)
+}
+
+/// Lets threads count and read under the lock as the row says.
+pub fn time_of_rw_lock<L: TallyRwLock + Sync, R: Threads + Wait + Clock + Sync>(
+    rt: &R,
+    alloc: Global,
+    row: &Row,
+    lock: &L,
+) -> Option<u64> {
+    let count = |_place: usize| count_and_read(rt, lock, row);
+    time_of_counts(rt, alloc, row, &count)
 }

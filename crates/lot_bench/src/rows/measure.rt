@@ -1,15 +1,9 @@
-//! What one operation of a row costs.
+//! What one operation of a row costs, of which the threads begin each run together.
 
-use crate::rows::locks::Locks;
-use crate::rows::row::{Deed, Row};
-use crate::rows::scene::Scene;
-use crate::rows::tables::register_all;
-use crate::rows::thousand::thousand_threads;
-use crate::rows::word_mutex::WordMutex;
-use lot_threads::{MAX_THREADS, ParkingLot, ThreadParkerT};
-use parking_lot::{Lot, TitledLot, WordParker};
+use crate::rows::row::Row;
+use crate::threads::sum_of;
 use std::alloc::Global;
-use std::sync::atomic::AtomicU64;
+use std::sync::atomic::{AtomicU64, Ordering};
 use std::sync::{Barrier, Wait};
 use std::thread::Threads;
 use std::time::{Clock, Instant};
@@ -50,86 +44,102 @@ impl Times {
     }
 }
 
-/// Hundredths of a nanosecond for each operation. `None` says that memory, a thread or the clock
-/// could not be had, or that a wait by turns or a call did not end as it should.
-pub fn measure<P, R>(rt: &R, alloc: Global, row: &Row) -> Option<u64>
-where
-    P: ThreadParkerT + Send + Sync + 'static,
-    P::UnparkHandle: 'static,
-    R: Threads + Wait + Clock + Copy + Send + Sync + 'static,
-{
-    let nanoseconds = match row.deed {
-        Deed::Thousand => thousand_threads::<P, R>(rt, alloc, row.threads)?,
-        _ => time_of::<P, R>(rt, alloc, row)?,
-    };
-    let hundredths = nanoseconds.checked_mul(100)?;
-    hundredths.checked_div(row.operations as u64)
+/// When the threads of a row began a run and ended it, and what they counted.
+#[derive(Drop)]
+pub struct Watch {
+    // Where threads wait until all of them begin a run.
+    begins: Barrier,
+    epoch: Option<Instant>,
+    // When the first thread began the run, and when the last ended it, in nanoseconds since then.
+    start: AtomicU64,
+    end: AtomicU64,
+    // What was counted under a lock, in all runs.
+    counted: AtomicU64,
+    // How many runs have ended.
+    ended: AtomicU64,
 }
 
-// The lot has room for the threads, for the others, and for the one who leads.
-fn time_of<P, R>(rt: &R, alloc: Global, row: &Row) -> Option<u64>
-where
-    P: ThreadParkerT + Send + Sync,
-    R: Threads + Wait + Clock + Sync,
-{
-    let room = row.threads.checked_add(row.others)?.checked_add(1)?;
-    let lot = ParkingLot::<P>::new(alloc, room.min(MAX_THREADS)).ok()?;
-    time_on(rt, alloc, row, &lot)
+impl Watch {
+    pub fn new<R: Clock>(rt: &R, row: &Row) -> Watch {
+        Watch {
+            begins: Barrier::new(row.threads),
+            epoch: Instant::now(rt).ok(),
+            start: AtomicU64::new(u64::MAX),
+            end: AtomicU64::new(0),
+            counted: AtomicU64::new(0),
+            ended: AtomicU64::new(0),
+        }
+    }
+
+    /// Waits until all threads begin the run, and answers when this one does.
+    pub fn begin<R: Wait + Clock>(&self, rt: &R) -> Option<u64> {
+        self.begins.wait(rt);
+        nanoseconds_since(rt, self.epoch)
+    }
+
+    /// Notes when a thread began its run, that it ended it now, and what was counted by then.
+    /// `None` says that the clock could not be read, or that nothing could be counted.
+    pub fn end<R: Clock>(&self, rt: &R, start: Option<u64>, counted: Option<u64>) -> Option<usize> {
+        let end = nanoseconds_since(rt, self.epoch);
+        self.start.fetch_min(start?, Ordering::SeqCst);
+        self.end.fetch_max(end?, Ordering::SeqCst);
+        self.counted.fetch_max(counted?, Ordering::SeqCst);
+        Some(0)
+    }
+
+    /// Whether this is the first run.
+    pub fn is_first(&self) -> bool {
+        self.ended.load(Ordering::SeqCst) == 0
+    }
+
+    // The time of a run from the first start to the last end.
+    fn take(&self) -> Option<u64> {
+        self.ended.fetch_add(1, Ordering::SeqCst);
+        let start = self.start.swap(u64::MAX, Ordering::SeqCst);
+        self.end.swap(0, Ordering::SeqCst).checked_sub(start)
+    }
 }
 
-// The locks have lots of their own.
-fn time_on<P, R>(rt: &R, alloc: Global, row: &Row, lot: &ParkingLot<P>) -> Option<u64>
-where
-    P: ThreadParkerT + Send + Sync,
-    R: Threads + Wait + Clock + Sync,
-{
-    let threads = row.threads.checked_add(1)?;
-    let locks_lot = Lot::new(alloc, threads).ok()?;
-    let titled_lot = TitledLot::new(alloc, threads, 1).ok()?;
-    time_with(rt, alloc, row, lot, &locks_lot, &titled_lot)
-}
-
-fn time_with<P, R>(
+/// Lets all threads act in each run, and answers the median time of a run. `None` says that a
+/// thread answered so, or that something else was counted than has to be.
+pub fn time_of_runs<R: Threads + Wait + Clock + Sync, F: Fn(usize) -> Option<usize> + Sync>(
     rt: &R,
     alloc: Global,
     row: &Row,
-    lot: &ParkingLot<P>,
-    locks_lot: &Lot,
-    titled_lot: &TitledLot<WordParker>,
+    watch: &Watch,
+    act: &F,
 ) -> Option<u64>
-where
-    P: ThreadParkerT + Send + Sync,
-    R: Threads + Wait + Clock + Sync,
+    requires { F.IsAlwaysCallable act.now }
 {
-    let locks = Locks::new(rt, alloc, locks_lot, titled_lot).ok()?;
-    let scene = Scene {
-        row,
-        lot,
-        locks: &locks,
-        word_mutex: WordMutex::new(),
-        begins: Barrier::new(row.threads),
-        runs: AtomicU64::new(0),
-        epoch: Instant::now(rt).ok(),
-        start: AtomicU64::new(0),
-        end: AtomicU64::new(0),
-        counted: AtomicU64::new(0),
-        word: AtomicU64::new(0),
-        parked: AtomicU64::new(0),
-        awake: AtomicU64::new(0),
-    };
-    time_in(rt, alloc, &scene)
+    let mut times = Times::new(alloc, row)?;
+    for _ in 0..row.all_runs() {
+        sum_of(rt, alloc, row.threads, act)?;
+        times.add(watch.take()?);
+    }
+    if watch.counted.load(Ordering::SeqCst) == row.counted as u64 {
+        times.median()
+    } else {
+        None
+    }
 }
 
-// The time of a run in a scene, while the others are registered if they do not come and go.
-fn time_in<P, R>(rt: &R, alloc: Global, scene: &Scene<'_, '_, P>) -> Option<u64>
-where
-    P: ThreadParkerT + Send + Sync,
-    R: Threads + Wait + Clock + Sync,
+/// Lets all threads count under a lock in each run, each by its place, and answers the median time
+/// of a run.
+pub fn time_of_counts<R: Threads + Wait + Clock + Sync, F: Fn(usize) -> Option<u64> + Sync>(
+    rt: &R,
+    alloc: Global,
+    row: &Row,
+    count: &F,
+) -> Option<u64>
+    requires { F.IsAlwaysCallable count.now }
 {
-    let row = scene.row;
-    if !row.is_led() {
-        register_all(rt, alloc, scene.lot, row.others)?;
-    }
-    let time = scene.time(rt, alloc);
-    if scene.has_counted() { time } else { None }
+    let watch = Watch::new(rt, row);
+    let act = |place: usize|
+        requires { F.IsAlwaysCallable count.now }
+    {
+        let start = watch.begin(rt);
+        let counted = count(place);
+        watch.end(rt, start, counted)
+    };
+    time_of_runs(rt, alloc, row, &watch, &act)
 }

@@ -1,9 +1,9 @@
 //! A thousand threads that start, park and end.
 
-use crate::calls::{register, retire};
+use crate::calls::{register, retire, unpark_all};
 use crate::rows::measure::nanoseconds_since;
 use crate::rows::turns::{comes_and_parks, comes_to};
-use lot_threads::{DEFAULT_UNPARK_TOKEN, ParkingLot, ThreadParkerT, unpark_all};
+use lot_threads::{DEFAULT_UNPARK_TOKEN, ParkingLot, ThreadParkerT};
 use std::alloc::Global;
 use std::sync::atomic::AtomicU64;
 use std::sync::{Arc, Wait};

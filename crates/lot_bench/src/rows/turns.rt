@@ -1,9 +1,10 @@
 //! Two threads that hand a turn to each other.
 
+use crate::calls::unpark_all;
 use crate::rows::alone::nothing;
 use lot_threads::{
     DEFAULT_PARK_TOKEN, DEFAULT_UNPARK_TOKEN, Member, ParkResult, ParkingLot, ThreadParkerT,
-    unpark_all, unpark_one,
+    unpark_one,
 };
 use std::sync::Wait;
 use std::sync::atomic::{AtomicU64, Ordering};
@@ -76,12 +77,12 @@ pub fn comes_and_parks<P: ThreadParkerT, R: Wait + Clock>(
 /// first. False says that a side gave up. A side is 0 or 1, and so is its key.
 pub fn takes_turns_strictly<P: ThreadParkerT, R: Wait + Clock>(
     rt: &R,
-    lot: &ParkingLot<P>,
     member: &mut Member<'_, P>,
     word: &AtomicU64,
     side: usize,
     rounds: usize,
 ) -> bool {
+    let lot = member.lot();
     for turn in 0..rounds.wrapping_mul(2) {
         let is_well = if turn % 2 == side {
             unparks_surely(rt, lot, word, side ^ 1)
@@ -118,12 +119,12 @@ fn unparks_surely<P: ThreadParkerT, R: Wait>(
 /// each round. False says that a side gave up.
 pub fn takes_turns_by_word<P: ThreadParkerT, R: Wait + Clock>(
     rt: &R,
-    lot: &ParkingLot<P>,
     member: &mut Member<'_, P>,
     word: &AtomicU64,
     side: usize,
     rounds: usize,
 ) -> bool {
+    let lot = member.lot();
     for _ in 0..rounds {
         let has_turn = awaits_turn(rt, member, word, side);
         let next = if has_turn { (side ^ 1) as u64 } else { OVER };

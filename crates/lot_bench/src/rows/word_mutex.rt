@@ -103,10 +103,10 @@ impl WordMutex {
     pub fn pairs<P: ThreadParkerT, R: Wait + Clock>(
         &self,
         rt: &R,
-        lot: &ParkingLot<P>,
         member: &mut Member<'_, P>,
         calls: usize,
     ) -> bool {
+        let lot = member.lot();
         let mut locked = 0usize;
         for _ in 0..calls {
             if self.lock(rt, member) {
@@ -121,11 +121,11 @@ impl WordMutex {
     pub fn counts<P: ThreadParkerT, R: Wait + Clock>(
         &self,
         rt: &R,
-        lot: &ParkingLot<P>,
         member: &mut Member<'_, P>,
         count: &AtomicU64,
         calls: usize,
     ) -> bool {
+        let lot = member.lot();
         for _ in 0..calls {
             if !self.lock(rt, member) {
                 return false;

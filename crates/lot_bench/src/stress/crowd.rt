@@ -1,12 +1,13 @@
 //! Twelve threads that park four times together and are unparked in each way, between marks.
 
-use crate::calls::{ALL, park, register, requeue, retire, unpark_first, unpark_through};
+use crate::calls::{
+    ALL, park, register, requeue, retire, unpark_all, unpark_first, unpark_through,
+};
 use crate::fault::Fault;
 use crate::stress::marks;
 use crate::threads::{comes_to, sum_of};
 use lot_threads::{
     DEFAULT_PARK_TOKEN, Member, ParkResult, ParkingLot, RequeueOp, ThreadParkerT, UnparkToken,
-    unpark_all,
 };
 use std::alloc::Global;
 use std::sync::Wait;

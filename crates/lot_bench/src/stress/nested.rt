@@ -5,6 +5,8 @@
 //! each answer is that of the exclusive lot, which has a proof. What threads do at the same time is
 //! not seen here.
 
+mod sides;
+mod twin;
 mod walk;
 
 use crate::calls::park;
@@ -13,7 +15,8 @@ use lot_threads::{MAX_THREADS, ParkingLot, WordParker};
 use std::alloc::Global;
 use std::sync::Wait;
 use std::time::{Clock, Instant};
-use walk::{Shape, Walk};
+use twin::{Shape, Twin};
+use walk::Walk;
 
 const FEW: Shape = (12, 3, 1_000, 1);
 
@@ -59,13 +62,14 @@ fn compare<R: Wait + Clock>(
     seed: u64,
     past: Instant,
 ) -> Result<(), Fault> {
-    let mut walk = Walk::new(alloc, lot, shape, seed, past)?;
+    let twin = Twin::new(alloc, shape, seed, past)?;
+    let mut walk = Walk::new(alloc, lot, twin)?;
     for _ in 0..shape.2 {
-        if walk.parks_left > 0 {
+        if walk.twin.parks_left > 0 {
             nest(rt, alloc, &mut walk, shape.0.saturating_add(1));
         }
     }
-    walk.judge()
+    walk.twin.judge()
 }
 
 // Lets a thread park. While it waits, other threads do the same once or twice, until there are no
@@ -79,11 +83,11 @@ fn nest<R: Wait + Clock>(rt: &R, alloc: Global, walk: &mut Walk<'_, WordParker>,
         return;
     };
     let number = thread.number();
-    let (entry, is_valid) = walk.enter(number);
+    let (entry, is_valid) = walk.twin.enter(number);
     let left = depth - 1;
     let ended = park(rt, &mut thread, entry, is_valid, || {
         nest(rt, alloc, walk, left);
-        if walk.goes_again() {
+        if walk.twin.goes_again() {
             nest(rt, alloc, walk, left);
         }
         walk.free(rt, number, entry);

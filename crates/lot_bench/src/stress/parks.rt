@@ -1,11 +1,12 @@
 //! `lot_bench stress parks`: one thread that parks so often that memory which its parks would keep
 //! shows in the size of the process.
 
-use crate::calls::{ALL, Ended, park, register, requeue, retire, unpark_first, unpark_through};
+use crate::calls::{
+    ALL, Ended, park, register, requeue, retire, unpark_all, unpark_first, unpark_through,
+};
 use crate::fault::Fault;
 use lot_threads::{
     DEFAULT_PARK_TOKEN, Member, ParkResult, ParkingLot, RequeueOp, ThreadParkerT, UnparkToken,
-    unpark_all,
 };
 use std::alloc::Global;
 use std::sync::Wait;

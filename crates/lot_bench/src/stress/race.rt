@@ -2,15 +2,13 @@
 //! while the tokens that were handed out are compared with those that were told.
 
 use crate::calls::{
-    Entry, park_if, register, register_into, requeue, retire, retire_all_but, unpark_first,
-    unpark_through, waiting_on,
+    Entry, park_if, register, register_into, requeue, retire, retire_all_but, unpark_all,
+    unpark_first, unpark_through, waiting_on,
 };
 use crate::fault::Fault;
 use crate::stress::draws::{draw, draw_op, draw_sieve, mixed};
 use crate::threads::{has_lasted, sum_of};
-use lot_threads::{
-    Member, ParkResult, ParkToken, ParkingLot, ThreadParkerT, UnparkToken, unpark_all,
-};
+use lot_threads::{Member, ParkResult, ParkToken, ParkingLot, ThreadParkerT, UnparkToken};
 use std::alloc::Global;
 use std::sync::Wait;
 use std::sync::atomic::{AtomicUsize, Ordering};

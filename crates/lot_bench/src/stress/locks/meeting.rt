@@ -1,6 +1,6 @@
 //! What threads do that meet at a barrier, with a `Once` for each round and a reentrant mutex.
 
-use super::deeds::Patience;
+use super::patience::Patience;
 use crate::fault::Fault;
 use parking_lot::{Barrier, Lot, Once, Parties, Party, ReentrantMutex};
 use std::alloc::Global;
@@ -14,12 +14,12 @@ use std::time::Clock;
 const MEETINGS: usize = 200;
 
 // What the threads share: a `Once` for each meeting, how many of those have run, a count that is
-// not added to in one step, and how many threads have led a meeting.
+// not added to in one step, how many threads have led a meeting, and the next thread's seed.
 #[derive(Drop)]
-struct Meeting<'l> {
-    onces: Vec<Once<'l>>,
+struct Meeting<'a, 'l> {
+    onces: &'a [Once<'l>],
     ran: AtomicUsize,
-    mutex: ReentrantMutex<'l, AtomicUsize>,
+    mutex: &'a ReentrantMutex<'l, AtomicUsize>,
     led: AtomicUsize,
     seed: AtomicU64,
 }
@@ -44,27 +44,35 @@ fn play_on<R: Threads + Wait + Clock + Sync>(
     threads: usize,
     seed: u64,
 ) -> Result<usize, Fault> {
-    let meeting = Meeting::new(alloc, lot, seed)?;
+    let mut onces = Vec::with_capacity(alloc, MEETINGS)?;
+    for _ in 0..MEETINGS {
+        onces.push(Once::new(lot)?)?;
+    }
+    play_with(rt, alloc, lot, &onces, threads, seed)
+}
+
+fn play_with<R: Threads + Wait + Clock + Sync>(
+    rt: &R,
+    alloc: Global,
+    lot: &Lot,
+    onces: &[Once<'_>],
+    threads: usize,
+    seed: u64,
+) -> Result<usize, Fault> {
+    let mutex = ReentrantMutex::new(lot, AtomicUsize::new(0))?;
+    let meeting = Meeting {
+        onces,
+        ran: AtomicUsize::new(0),
+        mutex: &mutex,
+        led: AtomicUsize::new(0),
+        seed: AtomicU64::new(seed),
+    };
     let mut barrier = Barrier::new(lot, threads)?;
     let counted = meeting.hold(rt, alloc, barrier.parties())?;
     meeting.judge(rt, counted)
 }
 
-impl<'l> Meeting<'l> {
-    fn new(alloc: Global, lot: &'l Lot, seed: u64) -> Result<Meeting<'l>, Fault> {
-        let mut onces = Vec::new(alloc);
-        for _ in 0..MEETINGS {
-            onces.push(Once::new(lot)?)?;
-        }
-        Ok(Meeting {
-            onces,
-            ran: AtomicUsize::new(0),
-            mutex: ReentrantMutex::new(lot, AtomicUsize::new(0))?,
-            led: AtomicUsize::new(0),
-            seed: AtomicU64::new(seed),
-        })
-    }
-
+impl Meeting<'_, '_> {
     // Answers how often all threads counted, or nothing if one of them found something wrong.
     fn hold<R: Threads + Wait + Clock + Sync>(
         &self,

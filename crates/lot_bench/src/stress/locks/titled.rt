@@ -1,19 +1,17 @@
-//! What threads do with a titled mutex.
+//! Threads that count under a titled mutex, and with permits of a titled semaphore.
 
-use super::OPERATIONS;
-use super::deeds::Patience;
+use super::patience::{Patience, count_together};
 use crate::fault::Fault;
-use crate::stress::draws::draw;
-use crate::threads::sum_of;
-use parking_lot::{TitledLot, TitledMutex, WordParker};
+use parking_lot::{TitledLot, TitledMutex, TitledSemaphore, WordParker};
 use std::alloc::Global;
 use std::sync::Wait;
+use std::sync::atomic::{AtomicUsize, Ordering};
 use std::thread;
 use std::thread::Threads;
 use std::time::Clock;
 
-/// Lets so many threads count under a new mutex, in a lot with so many places, and answers how
-/// often they did.
+/// Lets so many threads count under a new mutex and then with permits of a new semaphore, in a lot
+/// with so many places, and answers how often they did.
 pub(super) fn play<R: Threads + Wait + Clock + Sync>(
     rt: &R,
     alloc: Global,
@@ -21,11 +19,13 @@ pub(super) fn play<R: Threads + Wait + Clock + Sync>(
     threads: usize,
     seed: u64,
 ) -> Result<usize, Fault> {
-    let lot = TitledLot::new(alloc, places, 1)?;
-    play_on(rt, alloc, &lot, threads, seed)
+    let lot = TitledLot::new(alloc, places, 2)?;
+    let locked = lock(rt, alloc, &lot, threads, seed)?;
+    let permitted = acquire(rt, alloc, &lot, threads, seed)?;
+    Ok(locked.wrapping_add(permitted))
 }
 
-fn play_on<R: Threads + Wait + Clock + Sync>(
+fn lock<R: Threads + Wait + Clock + Sync>(
     rt: &R,
     alloc: Global,
     lot: &TitledLot<WordParker>,
@@ -33,28 +33,19 @@ fn play_on<R: Threads + Wait + Clock + Sync>(
     seed: u64,
 ) -> Result<usize, Fault> {
     let total = TitledMutex::new(rt, alloc, lot, 0usize)?;
-    let count = |index: usize| count_often(rt, &total, seed.wrapping_add(index as u64));
-    let counted = sum_of(rt, alloc, threads, &count);
+    let act = |number: u64, patience: Patience| Some(count_one(
+        rt,
+        &total,
+        patience,
+        number % 4 == 0,
+    ));
+    let counted = count_together(rt, alloc, threads, seed, &act);
     let sum = *total.lock(rt);
     if counted == Some(sum) {
         Ok(sum)
     } else {
         Err(Fault::Wrong("what a titled mutex is around"))
     }
-}
-
-fn count_often<R: Wait + Clock>(
-    rt: &R,
-    total: &TitledMutex<'_, usize>,
-    seed: u64,
-) -> Option<usize> {
-    let (mut draws, mut counted) = (seed, 0usize);
-    for _ in 0..OPERATIONS {
-        let patience = Patience::drawn(rt, &mut draws)?;
-        let yields = draw(&mut draws) % 4 == 0;
-        counted = counted.wrapping_add(count_one(rt, total, patience, yields));
-    }
-    Some(counted)
 }
 
 // Counts if it gets the mutex in time, and lets others run meanwhile if it is to.
@@ -78,4 +69,51 @@ fn count_one<R: Wait + Clock>(
     }
     *total = before.wrapping_add(1);
     1
+}
+
+// There are fewer permits than threads.
+fn acquire<R: Threads + Wait + Clock + Sync>(
+    rt: &R,
+    alloc: Global,
+    lot: &TitledLot<WordParker>,
+    threads: usize,
+    seed: u64,
+) -> Result<usize, Fault> {
+    let permits: u32 = if threads < 8 { 1 } else { 3 };
+    let semaphore = TitledSemaphore::new(rt, alloc, lot, permits)?;
+    let lent = AtomicUsize::new(0);
+    let act = |number: u64, patience: Patience| {
+        let before = count_lent(rt, &semaphore, &lent, patience, number % 4 == 0);
+        match before {
+            Some(before) => (before < permits as usize).then_some(1),
+            None => Some(0),
+        }
+    };
+    match count_together(rt, alloc, threads, seed, &act) {
+        Some(sum) if semaphore.available_permits() == permits as usize => Ok(sum),
+        _ => Err(Fault::Wrong("the permits of a titled semaphore")),
+    }
+}
+
+// Has a permit for a while if it gets one in time, and lets others run meanwhile if it is to.
+// Answers how many were lent before.
+fn count_lent<R: Wait + Clock>(
+    rt: &R,
+    semaphore: &TitledSemaphore<'_>,
+    lent: &AtomicUsize,
+    patience: Patience,
+    yields: bool,
+) -> Option<usize> {
+    let permit = match patience {
+        Patience::Over => semaphore.try_acquire(rt),
+        Patience::Until(deadline) => semaphore.acquire_until(rt, deadline),
+        Patience::Endless => Some(semaphore.acquire(rt)),
+    }?;
+    let before = lent.fetch_add(1, Ordering::SeqCst);
+    if yields {
+        thread::yield_now();
+    }
+    lent.fetch_sub(1, Ordering::SeqCst);
+    drop(permit);
+    Some(before)
 }

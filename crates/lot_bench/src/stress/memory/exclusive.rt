@@ -15,13 +15,17 @@ const THREADS: usize = 6;
 /// Steps of each kind but registrations, recordings and lists. Answers how many threads were woken.
 pub(super) fn do_steps(alloc: Global) -> Result<usize, Fault> {
     let mut lot = Lot::new(alloc, THREADS)?;
+    do_steps_in(alloc, &mut lot)
+}
+
+fn do_steps_in(alloc: Global, lot: &mut Lot) -> Result<usize, Fault> {
     for thread in 0..THREADS {
         lot.register()?;
         lot.acquire(thread, KEYS[0])?;
     }
     marks::begin(alloc);
-    let woken = wait_and_wake(alloc, &mut lot);
-    let left = leave(&mut lot);
+    let woken = wait_and_wake(alloc, lot);
+    let left = leave(lot);
     marks::end(alloc);
     left?;
     Ok(woken)

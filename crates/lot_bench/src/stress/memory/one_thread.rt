@@ -1,7 +1,7 @@
 //! Scenarios on the lot of threads, and on what is made, with one thread.
 
 use super::{MOST, Scenario, tell};
-use crate::calls::{park, register_into, register_often, retire_all_but};
+use crate::calls::{park, register_into, register_often, retire_all_but, unpark_all};
 use crate::fault::Fault;
 use crate::stress::marks;
 use crate::stress::parks::park_often;
@@ -9,7 +9,7 @@ use crate::stress::word_lock::Count;
 use lot_base::word_lock::WordLock;
 use lot_threads::{
     DEFAULT_PARK_TOKEN, LotError, MAX_THREADS, Member, ParkResult, ParkingLot, SpinWait,
-    ThreadParkerT, UnparkToken, thread_yield, unpark_all,
+    ThreadParkerT, UnparkToken, thread_yield,
 };
 use parking_lot::Lot;
 use std::alloc::Global;

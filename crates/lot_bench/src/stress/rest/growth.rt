@@ -1,9 +1,9 @@
 //! Threads that come to a table while it grows.
 
-use crate::calls::register;
+use crate::calls::{register, unpark_all};
 use crate::fault::Fault;
 use crate::threads::{comes_to, sum_of};
-use lot_threads::{DEFAULT_UNPARK_TOKEN, ParkingLot, ThreadParkerT, unpark_all, unpark_one};
+use lot_threads::{DEFAULT_UNPARK_TOKEN, ParkingLot, ThreadParkerT, unpark_one};
 use std::alloc::Global;
 use std::sync::Wait;
 use std::sync::atomic::{AtomicUsize, Ordering};
