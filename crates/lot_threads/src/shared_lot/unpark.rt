@@ -1,5 +1,5 @@
-//! Unparks, but for requeues, and lists: how nodes are taken, and how each is handed to its thread with
-//! a letter beside it.
+//! Unparks, but for requeues, and lists: how nodes are taken, and how each is handed to its thread
+//! with a letter beside it.
 
 ghost use Rattle.std.specs.Prelude.{◌≡◌, ◌∷◌, ◌<◌, ◌≤◌, [], length, map, min, All};
 ghost use Rattle.lot_machine.specs.declared.step.Answer.{Answer};
