@@ -71,16 +71,21 @@ any_number : (nodes : List NodeFields) → has_any nodes ≡ has_any (map (λ (n
 any_number [] = refl
 any_number (_ ∷ _) = refl
 
-module _ (key : ℕ) (old new : List NodeFields) (told : List ℕ) (was : told ≡ numbers_at old key) where
-  kept_at : (left : List NodeFields) → ChangesOnly old new key left → lists_of new key ≡ left
-  kept_at left lists = lists key ∙ with_value-same (lists_of old) key left key refl
+kept_at : (key : ℕ) (old new left : List NodeFields) → ChangesOnly old new key left → lists_of new key ≡ left
+kept_at key old new left lists = lists key ∙ with_value-same (lists_of old) key left key refl
 
+-- once all were taken
+pub told_none : (key : ℕ) (old new : List NodeFields) → ChangesOnly old new key [] → numbers_at new key ≡ []
+told_none key old new lists =
+    ap (λ (those : List NodeFields). map (λ (node : NodeFields). node.number) those) (kept_at key old new [] lists)
+
+module _ (key : ℕ) (old new : List NodeFields) (told : List ℕ) (was : told ≡ numbers_at old key) where
   -- once the first was taken
   pub told_next : ChangesOnly old new key (split_first (lists_of old key)).left
       → numbers_at new key ≡ without_next told
   told_next lists =
       ap (λ (those : List NodeFields). map (λ (node : NodeFields). node.number) those)
-      (kept_at (split_first (lists_of old key)).left lists)
+      (kept_at key old new (split_first (lists_of old key)).left lists)
       ∙ (ap (λ split. split.left) (split_first-map (λ (node : NodeFields). node.number) (lists_of old key))
       ∙ ap without_next (sym was))
 
@@ -97,7 +102,7 @@ module _ (key : ℕ) (old new : List NodeFields) (told : List ℕ) (was : told �
       → numbers_at new key ≡ without_one number told
   told_left number lists =
       ap (λ (those : List NodeFields). map (λ (node : NodeFields). node.number) those)
-      (kept_at (without_first (has_number number) (lists_of old key)) lists)
+      (kept_at key old new (without_first (has_number number) (lists_of old key)) lists)
       ∙ (without_first-map (λ (node : NodeFields). node.number) (has_number number) (λ each. each == number)
       (λ node. refl) (lists_of old key)
       ∙ ap (without_one number) (sym was))

@@ -1,6 +1,7 @@
 //! This module has the critical sections of keys that have titles.
 
-ghost use Rattle.std.specs.Prelude.{◌≡◌, ◌++◌, ◌∷◌, [], not, true, IfErr, IfOk};
+ghost use Rattle.std.specs.Prelude.{◌≡◌, ◌++◌, ◌∷◌, [], length, not, true, IfErr, IfOk};
+ghost use Rattle.lot_base.specs.NodeLists.{saturated};
 ghost use Rattle.lot_base.specs.Waiting.{has_any, result_of, split_first};
 ghost use Rattle.lot_machine.specs.declared.step.Answer.{Answer};
 ghost use Rattle.lot_machine.specs.declared.step.Op.{Op};
@@ -14,6 +15,7 @@ use crate::parker::ThreadParkerT;
 use crate::parking_lot::ThreadData;
 use crate::section::{Licence, Section};
 use crate::shared_lot::SharedLot;
+use crate::shared_lot::handles::Handles;
 use crate::title::Title;
 use lot_base::thread_parker::ParkerT;
 use lot_base::token::{ParkToken, UnparkResult, UnparkToken};
@@ -52,11 +54,18 @@ impl<'a, P: ThreadParkerT> Model for TitledSection<'a, P> {
 
 /// A `ClosingSection` is a critical section whose step was made.
 ///
-/// It has no `Drop`: it ends in `close`, which unlocks the bucket, and wakes the thread that the
-/// step unparked, if there is one.
+/// It has no `Drop`: it ends in `close`, which unlocks the bucket, and wakes the threads that the
+/// step unparked.
 pub struct ClosingSection<'a, P: ThreadParkerT> {
     section: Section<'a, P>,
-    handle: Option<P::UnparkHandle>,
+    to_wake: ToWake<P::UnparkHandle>,
+}
+
+// The threads that are still to be woken: one at most, or the first of all. It has no `Drop`: it
+// ends in `close`.
+enum ToWake<H> {
+    One(Option<H>),
+    All(Handles<H>),
 }
 
 /// An `Entered` is a registered thread that entered the list of a key of a `TitledLot`.
@@ -163,8 +172,8 @@ impl<'a, P: ThreadParkerT> TitledSection<'a, P> {
             records,
             witness,
         };
-        let handle = None;
-        (entered, title, ClosingSection { section, handle })
+        let to_wake = ToWake::One(None);
+        (entered, title, ClosingSection { section, to_wake })
     }
 
     /// Unparks the first thread in the list of the key, if there is one, with this token.
@@ -192,7 +201,37 @@ impl<'a, P: ThreadParkerT> TitledSection<'a, P> {
             licence,
         } = self;
         let (result, handle, title) = section.take_one_titled(rt, me, licence, title, token);
-        (result, title, ClosingSection { section, handle })
+        let to_wake = ToWake::One(handle);
+        (result, title, ClosingSection { section, to_wake })
+    }
+
+    /// Unparks all threads in the list of the key with this token, and returns how many it
+    /// unparked.
+    ///
+    /// The first eight threads are woken when the section is closed, and the others before that,
+    /// because there is room for eight handles. The call allocates nothing.
+    pub fn unpark_all<R: Wait>(
+        self,
+        rt: &R,
+        me: &mut Witness,
+        title: Title,
+        token: UnparkToken,
+    ) -> (usize, Title, ClosingSection<'a, P>)
+        requires idle { IsIdle self.history me.old }
+        requires title { IsTitle self.history self.key title }
+        ensures idle { StaysIdle self.entry.history me.old me.new }
+        ensures unparked { Extends self.entry.history me.old
+            (Step.Unpark (Op.All self.entry.key token)) (Answer.Count result.0) me.new }
+        ensures told { result.0 ≡ saturated (length (told_by title)) }
+        ensures title { Retells self.entry.history self.entry.key title [] result.1 }
+    {
+        let TitledSection {
+            mut section,
+            licence,
+        } = self;
+        let (count, handles, title) = section.take_all_titled(rt, me, licence, title, token);
+        let to_wake = ToWake::All(handles);
+        (count, title, ClosingSection { section, to_wake })
     }
 
     /// Takes a thread whose deadline has passed out of the list of the key, and returns its data
@@ -244,8 +283,8 @@ impl<'a, P: ThreadParkerT> TitledSection<'a, P> {
                     records,
                     witness,
                 };
-                let handle = None;
-                (Ok((left, last)), title, ClosingSection { section, handle })
+                let to_wake = ToWake::One(None);
+                (Ok((left, last)), title, ClosingSection { section, to_wake })
             }
             Err(title) => {
                 let entered = Entered {
@@ -255,8 +294,8 @@ impl<'a, P: ThreadParkerT> TitledSection<'a, P> {
                     records,
                     witness,
                 };
-                let handle = None;
-                (Err(entered), title, ClosingSection { section, handle })
+                let to_wake = ToWake::One(None);
+                (Err(entered), title, ClosingSection { section, to_wake })
             }
         }
     }
@@ -270,11 +309,14 @@ impl<'a, P: ThreadParkerT> TitledSection<'a, P> {
 }
 
 impl<P: ThreadParkerT> ClosingSection<'_, P> {
-    /// Unlocks the bucket, and wakes the thread that the step unparked, if there is one.
+    /// Unlocks the bucket, and wakes the threads that the step unparked.
     pub fn close(self) {
-        let ClosingSection { section, handle } = self;
+        let ClosingSection { section, to_wake } = self;
         let lot = section.lot;
         section.close();
-        lot.wake(handle);
+        match to_wake {
+            ToWake::One(handle) => lot.wake(handle),
+            ToWake::All(handles) => lot.wake_all(handles),
+        }
     }
 }

@@ -4,6 +4,7 @@
 ghost use Rattle.std.specs.Prelude.{◌≡◌, ◌∷◌, ◌++◌, ◌≤◌, [], length, not, true, Contains, List, IfErr, IfOk};
 ghost use Rattle.lot_base.specs.BucketState.{KeepsPlace};
 ghost use Rattle.lot_base.specs.Node.{fields};
+ghost use Rattle.lot_base.specs.NodeLists.{saturated};
 ghost use Rattle.lot_base.specs.Waiting.{has_any, result_of, split_first};
 ghost use Rattle.lot_history.specs.Moves.{Moves};
 ghost use Rattle.lot_history.specs.Witness.{Adds, Extends, Found, IsStill, IsWitnessOf, deals_in, deals_of, events_of, id_of, limit_of, max_threads_of, pieces_of, seen_by};
@@ -95,6 +96,40 @@ fn add_taken_titled(
 {
     let values = (taken, key, token, answer);
     add_titled::<Brand, (&Queue, usize, UnparkToken, UnparkResult)>(
+        history, me, licence, cell, key, &values,
+    )
+}
+
+// Adds an unpark of all of the key with its title, where the bucket is as the unpark left it. The
+// witness has the pieces of those that were taken then.
+fn add_all_titled(
+    history: &History,
+    me: &mut Witness,
+    licence: Licence,
+    cell: &mut Cell,
+    key: usize,
+    token: UnparkToken,
+    taken: &Queue,
+    count: usize,
+) -> Title
+    requires witness { IsWitnessOf history.now me.old }
+    requires moves { Moves (max_threads_of history.now)
+        (Is (Step.Unpark (Op.All key token)) (Answer.Count count)) (pieces_of me.old)
+        (lists_in (limit_of history.now) cell.old.bucket ∷ title_in key cell.old.bucket
+        ∷ threads_in taken.now) }
+    ensures still { IsStill history.now me.old me.new }
+    ensures extends { Extends history.now me.old (Step.Unpark (Op.All key token))
+        (Answer.Count count) me.new }
+    ensures found { Found history.now me.old me.new }
+    ensures pieces { pieces_of me.new ≡ threads_in taken.now }
+    ensures bucket { cell.new.bucket ≡ cell.old.bucket }
+    ensures part { Has (id_of history.now) (lists_in (limit_of history.now) cell.old.bucket ∷ [])
+        cell.new.part }
+    ensures title { Has (id_of history.now) (title_in key cell.old.bucket ∷ []) result.part }
+    ensures deals { deals_in result.part ≡ deals_of me.old }
+{
+    let values = (taken, key, token, count);
+    add_titled::<Brand, (&Queue, usize, UnparkToken, usize)>(
         history, me, licence, cell, key, &values,
     )
 }
@@ -192,6 +227,37 @@ pub(crate) fn take_one_titled_of(
     history.take(me, part);
     let title = add_taken_titled(history, me, licence, cell, key, token, &taken, result);
     (result, taken, title)
+}
+
+// Takes all waiters of the key out of their bucket, and tells so. The witness has the pieces of
+// those that were taken.
+pub(crate) fn take_all_titled_of(
+    history: &History,
+    me: &mut Witness,
+    licence: Licence,
+    cell: &mut Cell,
+    key: usize,
+    title: Title,
+    token: UnparkToken,
+) -> (usize, Queue, Title)
+    requires idle { IsIdle history.now me.old }
+    requires cell { IsCellFor history.now key cell.old }
+    requires title { IsTitle history.now key title }
+
+    ensures still { IsStill history.now me.old me.new }
+    ensures extends { Extends history.now me.old (Step.Unpark (Op.All key token))
+        (Answer.Count result.0) me.new }
+    ensures taken { TakesFrom history.now cell.old cell.new result.1 me.new }
+    ensures told { result.0 ≡ saturated (length (told_by title)) }
+    ensures title { Retells history.now key title [] result.2 }
+{
+    let (count, taken) = cell.bucket.take_all(key, token);
+    let part = mem::replace(&mut cell.part, Part::none());
+    history.take(me, part);
+    let Title { part } = title;
+    history.take(me, part);
+    let title = add_all_titled(history, me, licence, cell, key, token, &taken, count);
+    (count, taken, title)
 }
 
 // Puts a thread last in the list of its key, and tells so.

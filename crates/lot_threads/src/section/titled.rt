@@ -1,7 +1,8 @@
 //! What a section does to a bucket where its key has a title.
 
-ghost use Rattle.std.specs.Prelude.{◌≡◌, ◌∷◌, ◌++◌, [], not, true, IfErr, IfOk};
+ghost use Rattle.std.specs.Prelude.{◌≡◌, ◌∷◌, ◌++◌, [], length, not, true, IfErr, IfOk};
 ghost use Rattle.lot_base.specs.Node.{fields};
+ghost use Rattle.lot_base.specs.NodeLists.{saturated};
 ghost use Rattle.lot_base.specs.Waiting.{has_any, result_of, split_first};
 ghost use Rattle.lot_history.specs.Witness.{Extends, events_of, id_of, max_threads_of, seen_by};
 ghost use Rattle.lot_history.specs.declared.view.Piece.TheVariants.{Thread};
@@ -14,8 +15,11 @@ ghost use Rattle.lot_threads.specs.Titled.{IsTitle, Retells, told_by, without_ne
 
 use super::{Licence, Section};
 use crate::parker::ThreadParkerT;
+use crate::shared_lot::handles::Handles;
 use crate::title::Title;
-use crate::titled_steps::{enter_titled_in, leave_titled_in, take_one_titled_of};
+use crate::titled_steps::{
+    enter_titled_in, leave_titled_in, take_all_titled_of, take_one_titled_of,
+};
 use lot_base::queue::Node;
 use lot_base::token::{UnparkResult, UnparkToken};
 use lot_history::history::{Part, Witness};
@@ -59,6 +63,42 @@ impl<'a, P: ThreadParkerT> Section<'a, P> {
             token,
         );
         (result, lot.commit_one(rt, me, taken), title)
+    }
+
+    /// Unparks all threads of the key, with the key's title, and answers handles of the first of
+    /// them too.
+    pub(crate) fn take_all_titled<R: Wait>(
+        &mut self,
+        rt: &R,
+        me: &mut Witness,
+        licence: Licence,
+        title: Title,
+        token: UnparkToken,
+    ) -> (usize, Handles<P::UnparkHandle>, Title)
+        requires idle { IsIdle self.old.lot.now me.old }
+        requires title { IsTitle self.old.lot.now self.old.key title }
+        ensures lot { self.new.lot.now ≡ self.old.lot.now }
+        ensures key { self.new.key ≡ self.old.key }
+        ensures idle { StaysIdle self.old.lot.now me.old me.new }
+        ensures unparked { Extends self.old.lot.now me.old
+            (Step.Unpark (Op.All self.old.key token)) (Answer.Count result.0) me.new }
+        ensures told { result.0 ≡ saturated (length (told_by title)) }
+        ensures title { Retells self.old.lot.now self.old.key title [] result.2 }
+    {
+        let lot = self.lot;
+        let key = self.key;
+        let slot = self.claim.value_mut(self.lock).as_mut().unwrap();
+        let cell = slot.cell.as_mut().unwrap();
+        let (count, taken, title) = take_all_titled_of(
+            lot.history(),
+            me,
+            licence,
+            cell,
+            key,
+            title,
+            token,
+        );
+        (count, lot.commit(rt, me, taken), title)
     }
 
     /// Puts a thread last in the list of the key, with the key's title.

@@ -185,7 +185,7 @@ impl<P: ThreadParkerT> SharedLot<P> {
     }
 
     // Wakes the threads whose handles were kept.
-    pub(super) fn wake_all(&self, mut handles: Handles<P::UnparkHandle>) {
+    pub(crate) fn wake_all(&self, mut handles: Handles<P::UnparkHandle>) {
         // There is room for no more handles.
         for _ in 0..HANDLES {
             let Some(handle) = handles.take() else {
