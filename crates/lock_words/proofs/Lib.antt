@@ -9,3 +9,7 @@ pub mod StockTitles
 pub mod StockKeys
 pub mod StockHolds
 pub mod StockEnds
+pub mod PhaseBoard
+pub mod PhaseMoves
+pub mod PhaseKeys
+pub mod PhaseHolds

@@ -17,6 +17,23 @@ in_range (x ∷ xs) (suc i) a e = omega (arith, in_range xs i a e)
 pub None_not_Some : {A : Type 0} (a : A) → None ≡ Some a → ⊥
 None_not_Some a e = cc
 
+-- a seat of which this holds
+module _ {V : Type 0} (P : V → Type 0) where
+  pub seat_here : (vs : List V) (id : ℕ) (v w : V) → get_elem? vs id ≡ some v → P w → SomeSeat (set vs id w) P
+  seat_here vs id v w me is = (id, w, set_here vs id w (in_range vs id v me), is)
+
+  -- it is one still, if it is not the one that steps
+  pub seat_kept : (vs : List V) (id : ℕ) (v w : V) → get_elem? vs id ≡ some v → (P v → P w) → SomeSeat vs P
+      → SomeSeat (set vs id w) P
+  seat_kept vs id v w me mine c = dite (ℕ_discrete c.0 id)
+      (λ e.
+      let same : c.1 ≡ v = some-injective c.1 v (sym c.2 ∙ (ap (get_elem? vs) e ∙ me)) in
+      seat_here vs id v w me (mine (subst P same c.3)))
+      (λ ne. (c.0, c.1, set_else vs id c.0 w ne ∙ c.2, c.3))
+
+  pub seat_longer : (vs more : List V) → SomeSeat vs P → SomeSeat (vs ++ more) P
+  seat_longer vs more c = (c.0, c.1, at_longer vs more c.0 c.1 c.2, c.3)
+
 -- where `waits` says of a seat as which number it waits
 module _ {V : Type 0} (waits : V → Option ℕ) where
   abbrev pub Waiting : ℕ → V → Type 0
@@ -24,19 +41,15 @@ module _ {V : Type 0} (waits : V → Option ℕ) where
 
   pub waiting_here : (vs : List V) (id : ℕ) (v w : V) (n : ℕ) → get_elem? vs id ≡ some v → waits w ≡ Some n
       → SomeSeat (set vs id w) (Waiting n)
-  waiting_here vs id v w n me is = (id, w, set_here vs id w (in_range vs id v me), is)
+  waiting_here vs id v w n me is = seat_here (Waiting n) vs id v w me is
 
   -- a thread that waits still does, if it is not the one that steps
   pub waiting_kept : (vs : List V) (id : ℕ) (v w : V) (n : ℕ) → get_elem? vs id ≡ some v
       → (waits v ≡ Some n → waits w ≡ Some n) → SomeSeat vs (Waiting n) → SomeSeat (set vs id w) (Waiting n)
-  waiting_kept vs id v w n me mine c = dite (ℕ_discrete c.0 id)
-      (λ e.
-      let same : v ≡ c.1 = some-injective v c.1 (sym me ∙ (ap (get_elem? vs) (sym e) ∙ c.2)) in
-      waiting_here vs id v w n me (mine (ap waits same ∙ c.3)))
-      (λ ne. (c.0, c.1, set_else vs id c.0 w ne ∙ c.2, c.3))
+  waiting_kept vs id v w n me mine c = seat_kept (Waiting n) vs id v w me mine c
 
   pub waiting_longer : (vs more : List V) (n : ℕ) → SomeSeat vs (Waiting n) → SomeSeat (vs ++ more) (Waiting n)
-  waiting_longer vs more n c = (c.0, c.1, at_longer vs more c.0 c.1 c.2, c.3)
+  waiting_longer vs more n c = seat_longer (Waiting n) vs more c
 
 -- where `carries` says of a seat which numbers its title told
 module _ {V : Type 0} (carries : V → Option (List ℕ)) (Knows : V → List ℕ → Type 0) where

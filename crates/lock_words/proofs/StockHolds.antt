@@ -12,7 +12,7 @@ use Rattle.lock_words.specs.StockRule.{one_if_some, holds_it, carries_it, SomeSe
 use Rattle.lock_words.specs.StockLaws.{SomeHolder, HasHome, ConservesPermits, IsExclusive, TitleTells, ForgetsNobody}
 use Rattle.lock_words.proofs.StockBoard.{St}
 
-some_carried : (carries : Option (List ℕ)) → 0 < one_if_some carries → carries ≢ None
+pub some_carried : (carries : Option (List ℕ)) → 0 < one_if_some carries → carries ≢ None
 some_carried None h = absurd (omega arith)
 some_carried (Some ns) h = λ e. cc
 

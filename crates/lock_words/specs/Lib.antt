@@ -9,3 +9,8 @@ pub mod StockRule
 pub mod StockSteps
 pub mod Stock
 pub mod StockLaws
+-- Then that of a word with phases, in the same order.
+pub mod PhaseRule
+pub mod PhaseSteps
+pub mod Phases
+pub mod PhaseLaws
