@@ -21,9 +21,10 @@ use Rattle.lock_words.specs.declared.stock.Content.{Content}
 use Rattle.lock_words.specs.declared.stock.Hand.{Hand}
 use Rattle.lock_words.specs.declared.stock.Stock.{Stock}
 use Rattle.lock_words.specs.declared.stock.view.View.{View}
-use Rattle.parking_lot.specs.Gates.{FitsQueue, Holds, HoldsAs, HoldsBare, IsQueueOf, MayBe, MayWait}
-use Rattle.parking_lot.specs.declared.gate.QueueKey.{QueueKey}
-use Rattle.parking_lot.specs.declared.gate.QueueTitle.{QueueTitle}
+use Rattle.parking_lot.specs.Gates.{Holds, HoldsAs, HoldsBare, MayWait}
+use Rattle.parking_lot.specs.Queues.{FitsQueue, IsQueueOf, MayBe}
+use Rattle.parking_lot.specs.declared.queue_title.QueueKey.{QueueKey}
+use Rattle.parking_lot.specs.declared.queue_title.QueueTitle.{QueueTitle}
 use Rattle.lock_words.proofs.SeatCounts.{None_not_Some}
 
 -- a title of the key in the lot's history is one of the queue

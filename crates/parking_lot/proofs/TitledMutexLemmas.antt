@@ -9,8 +9,8 @@ use Rattle.lock_words.specs.declared.stock.Content.{Content}
 use Rattle.lock_words.specs.declared.stock.Content.TheVariants.{Out, Value}
 use Rattle.lock_words.specs.declared.stock.Hand.{Hand}
 use Rattle.lock_words.specs.declared.stock.Stock.{Stock}
-use Rattle.parking_lot.specs.declared.gate.QueueKey.{QueueKey}
-use Rattle.parking_lot.specs.declared.gate.QueueTitle.{QueueTitle}
+use Rattle.parking_lot.specs.declared.queue_title.QueueKey.{QueueKey}
+use Rattle.parking_lot.specs.declared.queue_title.QueueTitle.{QueueTitle}
 use Rattle.parking_lot.proofs.GateLemmas.{Seat}
 
 module _ {T : Type 0} where

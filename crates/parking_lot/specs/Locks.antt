@@ -1,8 +1,8 @@
 -- What clauses say of reentrant mutexes and their owners, of permits, of the parties of a barrier,
 -- and of what a wait answers.
 use Rattle.std.specs.Prelude.{ℕ, Bool}
-use Rattle.parking_lot.specs.declared.barrier.Barrier.{Barrier}
-use Rattle.parking_lot.specs.declared.barrier.Parties.{Parties}
+use Rattle.parking_lot.specs.declared.barrier.BarrierIn.{BarrierIn}
+use Rattle.parking_lot.specs.declared.barrier.PartiesIn.{PartiesIn}
 use Rattle.parking_lot.specs.declared.condvar.WaitTimeoutResult.{WaitTimeoutResult}
 use Rattle.parking_lot.specs.declared.lot.Lot.{Lot}
 use Rattle.parking_lot.specs.declared.reentrant_mutex.Owner.{Owner}
@@ -28,16 +28,17 @@ module _ {R : Type 0} where
   abbrev pub semaphore_of : SemaphorePermit R → Semaphore
   semaphore_of permit = permit.semaphore.now
 
--- how many threads meet at the barrier
-abbrev pub parties_of : Barrier → ℕ
-parties_of barrier = barrier.parties
+module _ {P : Type 0} where
+  -- how many threads meet at the barrier
+  abbrev pub parties_of : BarrierIn P → ℕ
+  parties_of barrier = barrier.parties
 
--- how many parties were not handed out yet, and of which barrier they are
-abbrev pub left_of : Parties → ℕ
-left_of parties = parties.left
+  -- how many parties were not handed out yet, and of which barrier they are
+  abbrev pub left_of : PartiesIn P → ℕ
+  left_of parties = parties.left
 
-abbrev pub barrier_of : Parties → Barrier
-barrier_of parties = parties.barrier.now
+  abbrev pub barrier_of : PartiesIn P → BarrierIn P
+  barrier_of parties = parties.barrier.now
 
 -- whether the time of a wait was over
 abbrev pub has_timed_out : WaitTimeoutResult → Bool

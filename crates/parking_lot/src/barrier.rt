@@ -1,30 +1,29 @@
-//! This module has the barrier, a point at which threads wait for one another.
+//! This module has `Barrier` and `TitledBarrier`, points at which threads wait for one another.
 //!
 //! # The protocol
 //!
-//! `here` counts the threads that have come in this round. `generation` counts the rounds, and
-//! wraps. `queue` has the threads that wait.
+//! Each round is a phase of `phaser`. `here` counts the threads that have come in this round.
 //!
-//! - A thread that arrives reads `generation`, and **then** adds itself to `here`.
-//! - The last thread of a round sets `here` to 0, **then** adds 1 to `generation`, and **then**
-//!   wakes the queue. It leads the round.
-//! - Every other thread waits in the queue while `generation` is what it read.
+//! - A thread that arrives reads the phase, and **then** adds itself to `here`.
+//! - The last thread of a round sets `here` to 0, and **then** ends the phase. It leads the round.
+//! - Every other thread waits for the end of the phase.
 //!
-//! No thread is forgotten. A thread stays in the queue only if it found its round open. The last
-//! thread of that round closes it later, and wakes all threads after that. A thread that is woken
-//! by the last one of an earlier round looks again. All accesses are `SeqCst`.
+//! The head of `phaser` says why no thread is forgotten, and that of `phaser::titled` what is
+//! proved of that for a `TitledBarrier`.
 //!
 //! No thread is counted twice in a round, by type: there are as many parties as the barrier wants,
 //! and a party is borrowed while it waits. `here` is 0 before the next round can begin, because
-//! nobody comes again before `generation` has changed.
+//! nobody comes again before the phase has ended.
 
 ghost use Rattle.std.specs.Iterator.{at_most};
 ghost use Rattle.std.specs.Prelude.{◌≡◌, ◌+◌, IfNone, IfOk, IfSome};
 ghost use Rattle.parking_lot.specs.Locks.{barrier_of, left_of, parties_of};
 
 use crate::lot::Lot;
-use crate::wait_queue::WaitQueue;
-use lot_threads::NoMemory;
+use crate::phaser::titled::TitledPhaser;
+use crate::phaser::{Phaser, PlainPhaser};
+use lot_threads::{LotError, NoMemory, TitledLot, WordParker};
+use std::alloc::Global;
 use std::fmt;
 use std::fmt::{Debug, Formatter};
 use std::sync::Wait;
@@ -35,28 +34,50 @@ use std::time::Clock;
 ///
 /// When all have come, all go on, and the barrier can be used again. Threads wait at it by its
 /// parties: `parties` hands them out, one for each thread.
+pub type Barrier<'l> = BarrierIn<PlainPhaser<'l>>;
+
+/// A `TitledBarrier` is a `Barrier` of which it is proved that none of its threads is left in the
+/// queue once their round has ended.
+///
+/// Its threads wait in a `TitledLot`, which deals each such barrier a key.
+pub type TitledBarrier<'l> = BarrierIn<TitledPhaser<'l>>;
+
+/// `BarrierIn` is the type behind `Barrier` and `TitledBarrier`.
+///
+/// Its parameter `P` says in what its threads wait.
 #[derive(Drop)]
-pub struct Barrier<'l> {
-    queue: WaitQueue<'l>,
+pub struct BarrierIn<P: Phaser> {
+    phaser: P,
     parties: usize,
     here: AtomicUsize,
-    generation: AtomicUsize,
 }
 
-/// `Parties` iterates over the parties of a barrier that were not handed out yet.
+/// `Parties` iterates over the parties of a `Barrier` that were not handed out yet.
+pub type Parties<'a, 'l> = PartiesIn<'a, PlainPhaser<'l>>;
+
+/// `TitledParties` iterates over those of a `TitledBarrier`.
+pub type TitledParties<'a, 'l> = PartiesIn<'a, TitledPhaser<'l>>;
+
+/// `PartiesIn` is the type behind `Parties` and `TitledParties`.
 #[derive(Drop)]
-pub struct Parties<'a, 'l> {
-    barrier: &'a Barrier<'l>,
+pub struct PartiesIn<'a, P: Phaser> {
+    barrier: &'a BarrierIn<P>,
     left: usize,
 }
 
-/// A `Party` is the right of one thread to wait at a barrier.
+/// A `Party` is the right of one thread to wait at a `Barrier`.
 ///
 /// A round ends when all parties of the barrier wait. So if one is dropped, or never handed out,
 /// the others wait for ever.
+pub type Party<'a, 'l> = PartyIn<'a, PlainPhaser<'l>>;
+
+/// A `TitledParty` is the right of one thread to wait at a `TitledBarrier`.
+pub type TitledParty<'a, 'l> = PartyIn<'a, TitledPhaser<'l>>;
+
+/// `PartyIn` is the type behind `Party` and `TitledParty`.
 #[derive(Drop)]
-pub struct Party<'a, 'l> {
-    barrier: &'a Barrier<'l>,
+pub struct PartyIn<'a, P: Phaser> {
+    barrier: &'a BarrierIn<P>,
 }
 
 /// A `BarrierWaitResult` says whether a thread led the round that has ended.
@@ -82,14 +103,42 @@ impl<'l> Barrier<'l> {
     pub fn new(lot: &'l Lot, parties: usize) -> Result<Barrier<'l>, NoMemory>
         ensures { IfOk result (λ barrier. parties_of barrier ≡ parties) }
     {
-        Ok(Barrier {
-            queue: WaitQueue::new(lot),
+        Ok(BarrierIn {
+            phaser: PlainPhaser::new(lot),
             parties,
             here: AtomicUsize::new(0),
-            generation: AtomicUsize::new(0),
         })
     }
+}
 
+impl<'l> TitledBarrier<'l> {
+    /// Creates a barrier for the given number of threads.
+    ///
+    /// It takes the next key of the lot, and allocates a word and a slot for the title. No other
+    /// call allocates, but for the registration of a thread that has to wait, which may make the
+    /// table of the lot larger.
+    ///
+    /// # Errors
+    ///
+    /// Returns `Full` if all keys of the lot that have titles are dealt, and `NoMemory` if there is
+    /// not enough memory.
+    pub fn new<R: Wait>(
+        rt: &R,
+        alloc: Global,
+        lot: &'l TitledLot<WordParker>,
+        parties: usize,
+    ) -> Result<TitledBarrier<'l>, LotError>
+        ensures { IfOk result (λ barrier. parties_of barrier ≡ parties) }
+    {
+        Ok(BarrierIn {
+            phaser: TitledPhaser::new(rt, alloc, lot)?,
+            parties,
+            here: AtomicUsize::new(0),
+        })
+    }
+}
+
+impl<P: Phaser> BarrierIn<P> {
     /// Hands out the parties of the barrier, as many as it was created for.
     ///
     /// Here each thread waits once, and learns whether it led the round:
@@ -103,12 +152,12 @@ impl<'l> Barrier<'l> {
     /// ```
     ///
     /// It borrows the barrier, so there are no other parties while one of these lives.
-    pub fn parties(&mut self) -> Parties<'_, 'l>
+    pub fn parties(&mut self) -> PartiesIn<'_, P>
         ensures all { left_of result ≡ parties_of self.old }
         ensures barrier { barrier_of result ≡ self.old }
     {
-        let barrier: &Barrier<'l> = self;
-        Parties {
+        let barrier: &BarrierIn<P> = self;
+        PartiesIn {
             barrier,
             left: barrier.parties,
         }
@@ -116,47 +165,36 @@ impl<'l> Barrier<'l> {
 
     // Counts the thread, and answers what it is in its round once all have come.
     fn wait<R: Wait + Clock>(&self, rt: &R) -> Role {
-        let generation = self.generation.load(Ordering::SeqCst);
+        let round = self.phaser.phase();
         let before = self.here.fetch_add(1, Ordering::SeqCst);
         if before.wrapping_add(1) == self.parties {
-            self.open(rt);
+            self.here.store(0, Ordering::SeqCst);
+            self.phaser.advance(rt, round);
             Role::Leader
         } else {
-            self.queue.wait(rt, || !self.is_open(generation));
+            self.phaser.wait(rt, round);
             Role::Follower
         }
     }
-
-    // Ends the round, and with that begins the next one.
-    fn open<R: Wait>(&self, rt: &R) {
-        self.here.store(0, Ordering::SeqCst);
-        self.generation.fetch_add(1, Ordering::SeqCst);
-        self.queue.wake_all(rt);
-    }
-
-    // Whether the round still waits for threads.
-    fn is_open(&self, generation: usize) -> bool {
-        self.generation.load(Ordering::SeqCst) == generation
-    }
 }
 
-impl<'a, 'l> Iterator for Parties<'a, 'l> {
-    type Item = Party<'a, 'l>;
+impl<'a, P: Phaser> Iterator for PartiesIn<'a, P> {
+    type Item = PartyIn<'a, P>;
 
     ghost remaining = { λ parties. at_most parties.left };
 
     ghost next_gives = { λ old result new.
         IfSome result (λ _. left_of new + 1 ≡ left_of old) × IfNone result (left_of old ≡ 0) };
 
-    fn next(&mut self) -> Option<Party<'a, 'l>> {
+    fn next(&mut self) -> Option<PartyIn<'a, P>> {
         self.left = self.left.checked_sub(1)?;
-        Some(Party {
+        Some(PartyIn {
             barrier: self.barrier,
         })
     }
 }
 
-impl Party<'_, '_> {
+impl<P: Phaser> PartyIn<'_, P> {
     /// Waits until all parties of the barrier wait.
     pub fn wait<R: Wait + Clock>(&mut self, rt: &R) -> BarrierWaitResult {
         BarrierWaitResult {
@@ -173,7 +211,7 @@ impl BarrierWaitResult {
     }
 }
 
-impl Debug for Barrier<'_> {
+impl<P: Phaser> Debug for BarrierIn<P> {
     fn fmt<W: fmt::Write>(&self, f: &mut Formatter<W>) -> fmt::Result {
         f.debug_struct("Barrier").finish_non_exhaustive()
     }

@@ -31,39 +31,19 @@
 //! its deadline.
 
 ghost use Rattle.std.specs.Prelude.{◌≡◌, true, false, IfOk, IfSome};
-ghost use Rattle.lot_threads.specs.Titled.{told_by};
 ghost use Rattle.lock_words.specs.Stock.{supply_of};
-ghost use Rattle.parking_lot.specs.Gates.{FitsQueue, Holds, IsQueueOf, Rests};
+ghost use Rattle.parking_lot.specs.Gates.{Holds, Rests};
+ghost use Rattle.parking_lot.specs.Queues.{IsQueueOf};
 
 mod waiting;
 
 use crate::lot::{is_past, stand_back};
-use lock_words::stock::{Hand, Stock, Supply, Tells};
-use lot_threads::{LotError, Title, TitledLot, Witness, WordParker};
+use crate::queue_title::QueueTitle;
+use lock_words::stock::{Hand, Stock, Supply};
+use lot_threads::{LotError, TitledLot, WordParker};
 use std::alloc::Global;
 use std::sync::Wait;
 use std::time::{Clock, Instant};
-
-/// In proofs, a `QueueKey` names the key and the lot of a title. Nothing reads it.
-#[derive(Drop)]
-pub struct QueueKey {
-    pub(crate) key: usize,
-    pub(crate) home: Witness,
-}
-
-/// A `QueueTitle` is the title of a gate's queue, as it lies in the stock.
-#[derive(Drop)]
-pub struct QueueTitle {
-    title: Title,
-}
-
-impl Tells for QueueTitle {
-    type Key = QueueKey;
-
-    ghost told = { λ queue. told_by queue.title };
-
-    ghost fits = { λ key queue. FitsQueue key queue.title };
-}
 
 /// A `Gate` lets as many threads in as it has permits. The others wait in a `TitledLot`, which
 /// deals each gate a key.
@@ -94,17 +74,14 @@ impl<'l, T: Drop> Gate<'l, T> {
     ) -> Result<Gate<'l, T>, LotError>
         ensures { IfOk result (λ gate. (supply_of gate.stock).guards ≡ false) }
     {
-        let (key, title) = lot.deal(rt).ok_or(LotError::Full)?;
-        let queue = QueueKey {
-            key,
-            home: lot.witness(),
-        };
+        let (title, queue) = QueueTitle::deal(rt, lot)?;
+        let key = queue.key;
         let supply = Supply {
             queue,
             permits,
             guards: false,
         };
-        let stock = Stock::new(alloc, QueueTitle { title }, &supply)?;
+        let stock = Stock::new(alloc, title, &supply)?;
         Ok(Gate {
             lot,
             stock,
@@ -128,17 +105,14 @@ impl<'l, T: Drop> Gate<'l, T> {
     ) -> Result<Gate<'l, T>, LotError>
         ensures { IfOk result (λ gate. (supply_of gate.stock).guards ≡ true) }
     {
-        let (key, title) = lot.deal(rt).ok_or(LotError::Full)?;
-        let queue = QueueKey {
-            key,
-            home: lot.witness(),
-        };
+        let (title, queue) = QueueTitle::deal(rt, lot)?;
+        let key = queue.key;
         let supply = Supply {
             queue,
             permits: 1,
             guards: true,
         };
-        let stock = Stock::guarding(alloc, value, QueueTitle { title }, &supply)?;
+        let stock = Stock::guarding(alloc, value, title, &supply)?;
         Ok(Gate {
             lot,
             stock,

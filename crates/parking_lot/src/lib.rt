@@ -72,6 +72,9 @@
 //!   may lock the bucket of its key once more than a `Mutex` does.
 //! - `TitledSemaphore`: upstream has none. Its threads wait in a `TitledLot` too, and each of its
 //!   permits is acquired by itself.
+//! - `TitledOnce`, `TitledBarrier`: upstream has neither. Their threads wait in a `TitledLot`.
+//!   `Once` and `TitledOnce` are one generic type, `OnceIn`, with different `Phaser`s. So are the
+//!   barriers, by `BarrierIn`.
 #![tactic(auto)]
 
 pub mod barrier;
@@ -84,6 +87,8 @@ pub mod lot;
 pub mod mutex;
 pub mod once;
 pub mod once_lock;
+pub mod phaser;
+mod queue_title;
 pub mod reentrant_mutex;
 pub mod rw_lock;
 pub mod semaphore;
@@ -91,16 +96,18 @@ pub mod titled_mutex;
 pub mod titled_semaphore;
 mod wait_queue;
 
-pub use barrier::{Barrier, BarrierWaitResult, Parties, Party};
+pub use barrier::{
+    Barrier, BarrierWaitResult, Parties, Party, TitledBarrier, TitledParties, TitledParty,
+};
 pub use condvar::{Condvar, WaitTimeoutResult};
 pub use guard::Guard;
 pub use lazy_lock::LazyLock;
 pub use lens::{Lens, MappedGuard};
-pub use lock_words::stock;
+pub use lock_words::{phases, stock};
 pub use lot::Lot;
-pub use lot_threads::{TitledLot, WordParker};
+pub use lot_threads::{LotError, NoMemory, TitledLot, WordParker};
 pub use mutex::{FairMutex, FairMutexGuard, Mutex, MutexGuard};
-pub use once::{Begun, Once};
+pub use once::{Begun, Once, TitledOnce};
 pub use once_lock::OnceLock;
 pub use reentrant_mutex::{Owner, ReentrantMutex, ReentrantMutexGuard};
 pub use rw_lock::{RwLock, RwLockReadGuard, RwLockUpgradableReadGuard, RwLockWriteGuard};

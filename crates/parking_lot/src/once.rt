@@ -1,16 +1,15 @@
-//! This module has `Once`, which runs one closure, for whichever thread comes first.
+//! This module has `Once` and `TitledOnce`, which run one closure, for the thread that comes first.
 //!
 //! # The protocol
 //!
 //! `beginning` has one word, which is 0 until a thread changes it to 1. That thread has the right
-//! to run its closure. `ran` says that the closure has run. `queue` has the threads that wait for
-//! that.
+//! to run its closure. `phaser` is in phase 0 until the closure has run.
 //!
-//! - The thread that has the right runs its closure, sets `ran`, and **then** wakes the queue.
-//! - Every other thread waits in the queue until `ran` is set.
+//! - The thread that has the right runs its closure and **then** ends phase 0.
+//! - Every other thread waits for the end of phase 0.
 //!
-//! No thread is forgotten. A thread stays in the queue only if it found `ran` not set. `ran` is set
-//! later, and after that all threads are woken. All accesses are `SeqCst`.
+//! The head of `phaser` says why no thread is forgotten, and that of `phaser::titled` what is
+//! proved of that for a `TitledOnce`.
 //!
 //! At most one closure runs, which is proved: a closure consumes a `Begun` of its `Once`, and by
 //! the law `onces_begin_once` there is at most one.
@@ -18,15 +17,19 @@
 ghost use Rattle.parking_lot.specs.Onces.{IsBegunOf};
 
 use crate::lot::Lot;
-use crate::wait_queue::WaitQueue;
+use crate::phaser::titled::TitledPhaser;
+use crate::phaser::{Phaser, PlainPhaser};
 use lock_words::beginning::Beginning;
 pub use lock_words::beginning::{AtMostOne, Begun, onces_begin_once};
-use lot_threads::NoMemory;
+use lot_threads::{LotError, NoMemory, TitledLot, WordParker};
+use std::alloc::Global;
 use std::fmt;
 use std::fmt::{Debug, Formatter};
 use std::sync::Wait;
-use std::sync::atomic::{AtomicBool, Ordering};
 use std::time::Clock;
+
+// The phase in which no closure has run to its end.
+const FIRST: u64 = 0;
 
 /// A `Once` runs one closure, although many threads may ask for it.
 ///
@@ -35,10 +38,20 @@ use std::time::Clock;
 ///     came.fetch_add(1, Ordering::SeqCst);
 /// });
 /// ```
+pub type Once<'l> = OnceIn<PlainPhaser<'l>>;
+
+/// A `TitledOnce` is a `Once` of which it is proved that no thread is left in its queue once the
+/// closure has run and the word says so.
+///
+/// Its threads wait in a `TitledLot`, which deals each such `Once` a key.
+pub type TitledOnce<'l> = OnceIn<TitledPhaser<'l>>;
+
+/// `OnceIn` is the type behind `Once` and `TitledOnce`.
+///
+/// Its parameter `P` says in what its threads wait.
 #[derive(Drop)]
-pub struct Once<'l> {
-    queue: WaitQueue<'l>,
-    ran: AtomicBool,
+pub struct OnceIn<P: Phaser> {
+    phaser: P,
     beginning: Beginning,
 }
 
@@ -49,13 +62,38 @@ impl<'l> Once<'l> {
     ///
     /// Returns `NoMemory` if there is not enough memory. It allocates one word.
     pub fn new(lot: &'l Lot) -> Result<Once<'l>, NoMemory> {
-        Ok(Once {
-            queue: WaitQueue::new(lot),
-            ran: AtomicBool::new(false),
+        Ok(OnceIn {
+            phaser: PlainPhaser::new(lot),
             beginning: Beginning::new(lot.alloc())?,
         })
     }
+}
 
+impl<'l> TitledOnce<'l> {
+    /// Creates a `Once` whose closure has not run.
+    ///
+    /// It takes the next key of the lot, and allocates two words and a slot for the title. No other
+    /// call allocates, but for the registration of a thread that has to wait, which may make the
+    /// table of the lot larger.
+    ///
+    /// # Errors
+    ///
+    /// Returns `Full` if all keys of the lot that have titles are dealt, and `NoMemory` if there is
+    /// not enough memory.
+    pub fn new<R: Wait>(
+        rt: &R,
+        alloc: Global,
+        lot: &'l TitledLot<WordParker>,
+    ) -> Result<TitledOnce<'l>, LotError> {
+        let beginning = Beginning::new(alloc)?;
+        Ok(OnceIn {
+            phaser: TitledPhaser::new(rt, alloc, lot)?,
+            beginning,
+        })
+    }
+}
+
+impl<P: Phaser> OnceIn<P> {
     /// Runs the closure if no other closure of this `Once` has begun; otherwise drops it and waits
     /// until the other has run.
     ///
@@ -75,14 +113,14 @@ impl<'l> Once<'l> {
     /// Returns whether a closure has run to its end.
     #[inline]
     pub fn is_completed(&self) -> bool {
-        self.ran.load(Ordering::SeqCst)
+        self.phaser.phase() != FIRST
     }
 
     /// Waits until a closure has run.
     ///
     /// It runs none itself, so another thread has to call `call_once`.
     pub fn wait<R: Wait + Clock>(&self, rt: &R) {
-        self.queue.wait(rt, || self.is_completed());
+        self.phaser.wait(rt, FIRST);
     }
 
     #[cold]
@@ -92,15 +130,14 @@ impl<'l> Once<'l> {
         match self.beginning.begin() {
             Some(begun) => {
                 f(begun);
-                self.ran.store(true, Ordering::SeqCst);
-                self.queue.wake_all(rt);
+                self.phaser.advance(rt, FIRST);
             }
             None => self.wait(rt),
         }
     }
 }
 
-impl Debug for Once<'_> {
+impl<P: Phaser> Debug for OnceIn<P> {
     fn fmt<W: fmt::Write>(&self, f: &mut Formatter<W>) -> fmt::Result {
         f.debug_struct("Once").finish_non_exhaustive()
     }

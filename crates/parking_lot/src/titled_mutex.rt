@@ -1,5 +1,5 @@
-//! This module has a mutex that is proved to forget no waiting thread. It is a `gate` with one permit,
-//! which guards the value. The head of that module has the protocol.
+//! This module has a mutex that is proved to forget no waiting thread. It is a `gate` with one
+//! permit, which guards the value. The head of that module has the protocol.
 //!
 //! A thread that waits on a condition variable is not in the list of the gate meanwhile. A notify
 //! wakes it, and it locks the mutex like any other.
@@ -9,10 +9,11 @@ ghost use Rattle.lock_words.specs.Stock.{supply_of};
 ghost use Rattle.parking_lot.specs.Gates.{Holds};
 ghost use Rattle.parking_lot.specs.TitledMutexes.{HoldsEmpty};
 
-pub use crate::gate::QueueKey;
-use crate::gate::{Gate, QueueTitle};
+use crate::gate::Gate;
 use crate::guard::{Guard, Release};
 use crate::lot::{instant_after, stand_back};
+pub use crate::queue_title::QueueKey;
+use crate::queue_title::QueueTitle;
 use lock_words::stock::{Hand, PERMIT};
 use lot_threads::{LotError, TitledLot, WordParker};
 use std::alloc::Global;

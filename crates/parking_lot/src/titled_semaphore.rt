@@ -5,8 +5,9 @@ ghost use Rattle.std.specs.Prelude.{◌≡◌, false};
 ghost use Rattle.lock_words.specs.Stock.{supply_of};
 ghost use Rattle.parking_lot.specs.Gates.{Holds, HoldsBare};
 
-use crate::gate::{Gate, QueueTitle};
+use crate::gate::Gate;
 use crate::lot::instant_after;
+use crate::queue_title::QueueTitle;
 use lock_words::stock::{Hand, PERMIT};
 use lot_threads::{LotError, TitledLot, WordParker};
 use std::alloc::Global;

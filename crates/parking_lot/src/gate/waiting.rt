@@ -7,10 +7,12 @@ ghost use Rattle.lot_threads.specs.Titled.{IsEnteredIn, IsTitle, told_by};
 ghost use Rattle.lock_words.specs.Stock.{HasPermit, IsHandOf, IsWithout, carrying, holds_of, seat_of, waits_of};
 ghost use Rattle.lock_words.specs.StockRule.{NoRepeats};
 ghost use Rattle.lock_words.specs.StockView.{having, resting};
-ghost use Rattle.parking_lot.specs.Gates.{Holds, HoldsAs, IsInList, IsThreadOf, MayBe, MayWait, Rests};
+ghost use Rattle.parking_lot.specs.Gates.{Holds, HoldsAs, IsInList, MayWait, Rests};
+ghost use Rattle.parking_lot.specs.Queues.{IsThreadOf, MayBe};
 
-use super::{Gate, QueueTitle};
+use super::Gate;
 use crate::lot::stand_back;
+use crate::queue_title::QueueTitle;
 use lock_words::stock::{Hand, PERMIT, TOLD};
 use lot_threads::{
     DEFAULT_PARK_TOKEN, DEFAULT_UNPARK_TOKEN, Entered, ThreadData, Title, TitledSection, WordParker,

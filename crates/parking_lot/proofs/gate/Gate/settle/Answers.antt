@@ -1,6 +1,6 @@
 use Rattle.std.proofs.Common.{ℕ, subst, sym}
 use Rattle.lock_words.specs.Stock.{waits_of}
-use Rattle.parking_lot.specs.Gates.{MayBe}
+use Rattle.parking_lot.specs.Queues.{MayBe}
 use Rattle.parking_lot.proofs.GateLemmas.{held, holds_as, settled}
 use Rattle.parking_lot.proofs.gate.Gate.settle.Goals as goal
 
