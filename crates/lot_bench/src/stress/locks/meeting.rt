@@ -2,7 +2,12 @@
 
 use super::patience::Patience;
 use crate::fault::Fault;
-use parking_lot::{Barrier, Lot, Once, Parties, Party, ReentrantMutex};
+use parking_lot::barrier::{PartiesIn, PartyIn};
+use parking_lot::once::OnceIn;
+use parking_lot::phaser::Phaser;
+use parking_lot::{
+    Barrier, Lot, Once, ReentrantMutex, TitledBarrier, TitledLot, TitledOnce, WordParker,
+};
 use std::alloc::Global;
 use std::sync::Wait;
 use std::sync::atomic::{AtomicU64, AtomicUsize, Ordering};
@@ -13,19 +18,22 @@ use std::time::Clock;
 // How often the threads meet.
 const MEETINGS: usize = 200;
 
+// How many keys have titles: one for each meeting, and one for the barrier.
+const KEYS: usize = 201;
+
 // What the threads share: a `Once` for each meeting, how many of those have run, a count that is
 // not added to in one step, how many threads have led a meeting, and the next thread's seed.
 #[derive(Drop)]
-struct Meeting<'a, 'l> {
-    onces: &'a [Once<'l>],
+struct Meeting<'a, 'm, 'l, P: Phaser> {
+    onces: &'a [OnceIn<P>],
     ran: AtomicUsize,
-    mutex: &'a ReentrantMutex<'l, AtomicUsize>,
+    mutex: &'m ReentrantMutex<'l, AtomicUsize>,
     led: AtomicUsize,
     seed: AtomicU64,
 }
 
 /// Lets so many threads meet again and again, in a lot with so many places, and answers how often
-/// they counted.
+/// they counted. Each number of places and threads comes with each kind of barrier by turns.
 pub(super) fn play<R: Threads + Wait + Clock + Sync>(
     rt: &R,
     alloc: Global,
@@ -34,13 +42,20 @@ pub(super) fn play<R: Threads + Wait + Clock + Sync>(
     seed: u64,
 ) -> Result<usize, Fault> {
     let lot = Lot::new(alloc, places)?;
-    play_on(rt, alloc, &lot, threads, seed)
+    let mutex = ReentrantMutex::new(&lot, AtomicUsize::new(0))?;
+    if seed / 12 % 2 == 0 {
+        meet(rt, alloc, &lot, &mutex, threads, seed)
+    } else {
+        let titled = TitledLot::new(alloc, places, KEYS)?;
+        meet_with_titles(rt, alloc, &titled, &mutex, threads, seed)
+    }
 }
 
-fn play_on<R: Threads + Wait + Clock + Sync>(
+fn meet<R: Threads + Wait + Clock + Sync>(
     rt: &R,
     alloc: Global,
     lot: &Lot,
+    mutex: &ReentrantMutex<'_, AtomicUsize>,
     threads: usize,
     seed: u64,
 ) -> Result<usize, Fault> {
@@ -48,52 +63,71 @@ fn play_on<R: Threads + Wait + Clock + Sync>(
     for _ in 0..MEETINGS {
         onces.push(Once::new(lot)?)?;
     }
-    play_with(rt, alloc, lot, &onces, threads, seed)
+    let mut barrier = Barrier::new(lot, threads)?;
+    let meeting = Meeting::new(&onces, mutex, seed);
+    let parties = all_of(alloc, barrier.parties())?;
+    let take_part = |mut party| meeting.take_part(rt, &mut party);
+    let counted = thread::map_vec(rt, parties, &take_part)?;
+    meeting.judge(rt, sum_of(counted))
 }
 
-fn play_with<R: Threads + Wait + Clock + Sync>(
+fn meet_with_titles<R: Threads + Wait + Clock + Sync>(
     rt: &R,
     alloc: Global,
-    lot: &Lot,
-    onces: &[Once<'_>],
+    lot: &TitledLot<WordParker>,
+    mutex: &ReentrantMutex<'_, AtomicUsize>,
     threads: usize,
     seed: u64,
 ) -> Result<usize, Fault> {
-    let mutex = ReentrantMutex::new(lot, AtomicUsize::new(0))?;
-    let meeting = Meeting {
-        onces,
-        ran: AtomicUsize::new(0),
-        mutex: &mutex,
-        led: AtomicUsize::new(0),
-        seed: AtomicU64::new(seed),
-    };
-    let mut barrier = Barrier::new(lot, threads)?;
-    let counted = meeting.hold(rt, alloc, barrier.parties())?;
-    meeting.judge(rt, counted)
+    let mut onces = Vec::with_capacity(alloc, MEETINGS)?;
+    for _ in 0..MEETINGS {
+        onces.push(TitledOnce::new(rt, alloc, lot)?)?;
+    }
+    let mut barrier = TitledBarrier::new(rt, alloc, lot, threads)?;
+    let meeting = Meeting::new(&onces, mutex, seed);
+    let parties = all_of(alloc, barrier.parties())?;
+    let take_part = |mut party| meeting.take_part(rt, &mut party);
+    let counted = thread::map_vec(rt, parties, &take_part)?;
+    meeting.judge(rt, sum_of(counted))
 }
 
-impl Meeting<'_, '_> {
-    // Answers how often all threads counted, or nothing if one of them found something wrong.
-    fn hold<R: Threads + Wait + Clock + Sync>(
-        &self,
-        rt: &R,
-        alloc: Global,
-        left: Parties<'_, '_>,
-    ) -> Result<Option<usize>, Fault> {
-        let mut parties = Vec::new(alloc);
-        for party in left {
-            parties.push(party)?;
+fn all_of<'a, P: Phaser>(
+    alloc: Global,
+    left: PartiesIn<'a, P>,
+) -> Result<Vec<PartyIn<'a, P>>, Fault> {
+    let mut parties = Vec::new(alloc);
+    for party in left {
+        parties.push(party)?;
+    }
+    Ok(parties)
+}
+
+// How often all threads counted, or nothing if one of them found something wrong.
+fn sum_of(counted: Vec<Option<usize>>) -> Option<usize> {
+    let mut sum = Some(0usize);
+    for more in counted {
+        sum = added(sum, more);
+    }
+    sum
+}
+
+impl<'a, 'm, 'l, P: Phaser> Meeting<'a, 'm, 'l, P> {
+    fn new(
+        onces: &'a [OnceIn<P>],
+        mutex: &'m ReentrantMutex<'l, AtomicUsize>,
+        seed: u64,
+    ) -> Meeting<'a, 'm, 'l, P> {
+        Meeting {
+            onces,
+            ran: AtomicUsize::new(0),
+            mutex,
+            led: AtomicUsize::new(0),
+            seed: AtomicU64::new(seed),
         }
-        let take_part = |mut party: Party<'_, '_>| self.take_part(rt, &mut party);
-        let mut sum = Some(0usize);
-        for counted in thread::map_vec(rt, parties, &take_part)? {
-            sum = added(sum, counted);
-        }
-        Ok(sum)
     }
 
     // Even if it finds something wrong it comes to each meeting, where others wait for it.
-    fn take_part<R: Wait + Clock>(&self, rt: &R, party: &mut Party<'_, '_>) -> Option<usize> {
+    fn take_part<R: Wait + Clock>(&self, rt: &R, party: &mut PartyIn<'_, P>) -> Option<usize> {
         let mut draws = self.seed.fetch_add(1, Ordering::SeqCst);
         let mut counted = Some(0usize);
         for (before, once) in self.onces.iter().enumerate() {
@@ -108,7 +142,7 @@ impl Meeting<'_, '_> {
     }
 
     // Whether this `Once` has run when its call returns, and no other since those before it.
-    fn has_run<R: Wait + Clock>(&self, rt: &R, once: &Once<'_>, before: usize) -> bool {
+    fn has_run<R: Wait + Clock>(&self, rt: &R, once: &OnceIn<P>, before: usize) -> bool {
         once.call_once(rt, |_begun| {
             thread::yield_now();
             self.ran.fetch_add(1, Ordering::SeqCst);
