@@ -1,7 +1,9 @@
-//! Tests of `Barrier`, which upstream does not have.
+//! Tests of `Barrier` and `TitledBarrier`, which upstream does not have.
 
 use crate::stage::{Host, ROOMS, expect, new_lot};
-use parking_lot::{Barrier, Lot, Parties, Party};
+use parking_lot::barrier::{BarrierIn, PartiesIn, PartyIn};
+use parking_lot::phaser::Phaser;
+use parking_lot::{Barrier, Lot, Party, TitledBarrier, TitledLot, TitledParty, WordParker};
 use std::sync::atomic::{AtomicUsize, Ordering};
 use std::thread;
 
@@ -12,7 +14,12 @@ const PARTIES: usize = 4;
 const ROUNDS: usize = 100;
 
 // Each comes again and again, and finds that all have come before it goes on.
-fn come<R: Host>(rt: &R, party: &mut Party<'_, '_>, came: &AtomicUsize, led: &AtomicUsize) {
+fn come<R: Host, P: Phaser>(
+    rt: &R,
+    party: &mut PartyIn<'_, P>,
+    came: &AtomicUsize,
+    led: &AtomicUsize,
+) {
     for round in 1..=ROUNDS {
         came.fetch_add(1, Ordering::SeqCst);
         if party.wait(rt).is_leader() {
@@ -24,23 +31,39 @@ fn come<R: Host>(rt: &R, party: &mut Party<'_, '_>, came: &AtomicUsize, led: &At
     }
 }
 
-fn push_next<'a, 'l, R: Host>(
+fn push_next<'a, R: Host, P: Phaser>(
     rt: &R,
-    parties: &mut Vec<Party<'a, 'l>>,
-    left: &mut Parties<'a, 'l>,
+    parties: &mut Vec<PartyIn<'a, P>>,
+    left: &mut PartiesIn<'a, P>,
 ) {
     let party = left.next().expect(rt, "a party");
     parties.push(party).expect(rt, "memory");
 }
 
-fn all_meet<R: Host>(rt: &R, barrier: &mut Barrier<'static>) -> usize {
-    let (came, led) = (AtomicUsize::new(0), AtomicUsize::new(0));
+fn all_parties<'a, R: Host, P: Phaser>(
+    rt: &R,
+    barrier: &'a mut BarrierIn<P>,
+) -> Vec<PartyIn<'a, P>> {
     let mut left = barrier.parties();
     let mut parties = Vec::new(rt.alloc());
     for _ in 0..PARTIES {
         push_next(rt, &mut parties, &mut left);
     }
-    let come = |mut party| come(rt, &mut party, &came, &led);
+    parties
+}
+
+fn all_meet<R: Host>(rt: &R, barrier: &mut Barrier<'static>) -> usize {
+    let (came, led) = (AtomicUsize::new(0), AtomicUsize::new(0));
+    let parties = all_parties(rt, barrier);
+    let come = |mut party: Party<'_, '_>| come(rt, &mut party, &came, &led);
+    thread::map_vec(rt, parties, &come).expect(rt, "threads");
+    led.load(Ordering::SeqCst)
+}
+
+fn all_meet_with_title<R: Host>(rt: &R, barrier: &mut TitledBarrier<'_>) -> usize {
+    let (came, led) = (AtomicUsize::new(0), AtomicUsize::new(0));
+    let parties = all_parties(rt, barrier);
+    let come = |mut party: TitledParty<'_, '_>| come(rt, &mut party, &came, &led);
     thread::map_vec(rt, parties, &come).expect(rt, "threads");
     led.load(Ordering::SeqCst)
 }
@@ -57,7 +80,22 @@ fn meet_in_each_room<R: Host>(rt: &R) {
     }
 }
 
+fn meet_with_title<R: Host>(rt: &R, room: usize) {
+    let lot: TitledLot<WordParker> = TitledLot::new(rt.alloc(), room, 1).expect(rt, "a lot");
+    let made = TitledBarrier::new(rt, rt.alloc(), &lot, PARTIES);
+    let mut barrier = made.expect(rt, "a barrier");
+    let is_well = all_meet_with_title(rt, &mut barrier) == ROUNDS;
+    expect(rt, is_well, "one leader each");
+}
+
 #[test]
 fn each_round_has_one_leader(rt: HostRuntime) {
     meet_in_each_room(&rt);
+}
+
+#[test]
+fn each_round_with_a_title_has_one_leader(rt: HostRuntime) {
+    for room in ROOMS {
+        meet_with_title(&rt, room);
+    }
 }

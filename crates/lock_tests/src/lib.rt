@@ -45,6 +45,8 @@ mod titled_calls;
 #[cfg(test)]
 mod titled_mutex;
 #[cfg(test)]
+mod titled_once;
+#[cfg(test)]
 mod titled_semaphore;
 #[cfg(test)]
 mod values;
