@@ -1,6 +1,6 @@
 -- The rule of a word with phases gives its law.
-use Rattle.std.proofs.Common.{◌≡◌, ℕ, ◌/◌, ◌<◌, ◌≤◌, ◌≢◌, List, get_or, sym, ap, ◌∙◌, subst, inl, inr, ⊎_elim, arith, Contains}
-use Rattle.std.proofs.Common.{Option, None, Some}
+use Rattle.std.proofs.Common.{◌≡◌, ℕ, ◌/◌, ◌≢◌, List, get_or, sym, ap, ◌∙◌, subst, inl, inr, ⊎_elim, arith, Contains}
+use Rattle.std.proofs.Common.{None, Some}
 use mathlib.Core.Logic.{dite}
 use mathlib.Core.Option.{some}
 use native.Mathlib.Decide.{ℕ_discrete}

@@ -1,5 +1,5 @@
 -- The steps of a thread at a word with phases keep its rule.
-use Rattle.std.proofs.Common.{◌≡◌, ℕ, ◌+◌, ◌*◌, ◌/◌, ◌%◌, ◌<◌, ◌≤◌, ◌≢◌, ◌⊎◌, List, [], ◌∷◌, ◌++◌, eqb, length, get_or, set}
+use Rattle.std.proofs.Common.{◌≡◌, ℕ, ◌+◌, ◌*◌, ◌/◌, ◌%◌, ◌≤◌, ◌⊎◌, List, [], ◌∷◌, ◌++◌, eqb, length, get_or, set}
 use Rattle.std.proofs.Common.{sym, refl, ap, ◌∙◌, subst, ⊎_elim, arith, length-set, get_or-set_same, Contains, Option, None, Some}
 use mathlib.Core.Logic.{dite}
 use mathlib.Core.Option.{some, none}
@@ -19,7 +19,7 @@ use Rattle.lock_words.specs.PhaseSteps.{told_in, LookTells, CarryTells, EndTells
 use Rattle.lock_words.specs.declared.phases.view.View.{View}
 use Rattle.lock_words.proofs.NumberLists.{NoRepeats-push, newest_is, nothing_in}
 use Rattle.lock_words.proofs.SeatCounts.{None_not_Some, carrier_kept, carrier_none, seat_here, seat_kept}
-use Rattle.lock_words.proofs.PhaseBoard.{St, Knows, rebuilt, unmoved, Goes, is_home, nobody_waits, carried_by, board}
+use Rattle.lock_words.proofs.PhaseBoard.{St, Knows, rebuilt, unmoved, Goes, is_home, nobody_waits, carried_by}
 
 -- a thread that has put the title back waits as the last number that it tells
 pub entered_tells : {M : Type 0} (told : M → List ℕ) (me after : Me (Option M) View) (v : View) (title : M)

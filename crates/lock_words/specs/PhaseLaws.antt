@@ -21,7 +21,8 @@ module _ {M : Type 0} (s : State (Option M) View) where
   module _ (told : M → List ℕ) where
     -- the title is at home and tells these numbers, or told them to the thread that has taken it
     abbrev pub TitleTells : List ℕ → Type 0
-    TitleTells numbers = ((title : M) × HasHome title × (told title ≡ numbers)) ⊎ SomeSeat s.views (λ seat. seat.carries ≡ Some numbers)
+    TitleTells numbers = ((title : M) × HasHome title × (told title ≡ numbers))
+        ⊎ SomeSeat s.views (λ seat. seat.carries ≡ Some numbers)
 
     pub record LeavesNobody (fits : M → Type 0) : Type 0 where
       -- the title of the queue is at home, or a thread carries it, and the word says that it is out
@@ -30,6 +31,7 @@ module _ {M : Type 0} (s : State (Option M) View) where
       -- each number that it tells is told once, and some thread waits as it for the end of the phase of the word: nobody
       -- stands in the queue for the end of a phase that is over
       pub once : (numbers : List ℕ) → TitleTells numbers → NoRepeats numbers
-      pub waits : (numbers : List ℕ) → TitleTells numbers → (n : ℕ) → Contains numbers n → SomeSeat s.views (WaitsIn phase_of n)
+      pub waits : (numbers : List ℕ) → TitleTells numbers → (n : ℕ) → Contains numbers n
+          → SomeSeat s.views (WaitsIn phase_of n)
       -- if it tells any at home, the word says that somebody may wait
       pub marked : (title : M) → HasHome title → told title ≢ [] → word_of % 4 ≡ 1

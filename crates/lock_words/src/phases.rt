@@ -236,9 +236,9 @@ impl<M: Tells> Phases<M> {
     }
 }
 
-/// States that nobody waits in the queue for the end of a phase that is over, and that the word says
-/// so if somebody waits while the title is in its slot. It follows from the rule that the table of
-/// every word with phases keeps.
+/// States that nobody waits in the queue for the end of a phase that is over, and that the word
+/// tells if somebody waits while the title is in its slot. It follows from the rule that the table
+/// of every word with phases keeps.
 ///
 /// The state leaves out the key that each thread carries.
 pub fn phases_leave_nobody<M: Tells>()

@@ -22,8 +22,8 @@ use std::sync::Wait;
 use std::sync::atomic::{AtomicU64, Ordering};
 use std::time::Clock;
 
-/// A `Phaser` numbers phases, the first of which is 0. No contract says when a phase ends, or that a
-/// wait returns only then.
+/// A `Phaser` numbers phases, the first of which is 0. No contract says when a phase ends, or that
+/// a wait returns only then.
 pub trait Phaser: Drop {
     /// Returns the number of the present phase.
     fn phase(&self) -> u64;

@@ -10,7 +10,7 @@ pub struct View {
     /// that the phase is over.
     pub waits: Option<u64>,
 
-    /// The phase that the thread found or began last. If it waits, it waits for the end of this one.
+    /// The phase that the thread found or began last. If it waits, it does so for the end of this.
     pub phase: u64,
 
     /// The numbers that the title told when the thread took it, if the title is out with it.

@@ -17,8 +17,8 @@
 //!   with the next phase.
 //!
 //! It is proved that the law `phases_leave_nobody` holds between any two steps of all threads: a
-//! thread in the list waits for the end of the present phase, and the word has the mark then, unless
-//! the title is out.
+//! thread in the list waits for the end of the present phase, and the word has the mark then,
+//! unless the title is out.
 
 ghost use Rattle.std.specs.Prelude.{◌≡◌, ◌/◌, [], IfErr, IfNone, IfOk, IfSome, IsFalse, IsTrue, None, OnErr};
 ghost use Rattle.lot_threads.specs.Members.{IsDataOf};
