@@ -227,7 +227,8 @@ pool take -> greatest";
 #[test]
 fn readers_of_a_table_see_old_or_new_values(rt: HostRuntime) {
     let scripts = "table insert 3 1 -> greatest ; table insert 1 2 -> greatest
-table insert 2 2 -> greatest ; table insert 3 3 -> 1 ; table get 3 -> 3 ; table get 4 -> greatest ; table look -> 3
+table insert 2 2 -> greatest ; table insert 3 3 -> 1 ; table get 3 -> 3
+table get 4 -> greatest ; table look -> 3
 table remove 1 -> 2 ; table remove 1 -> greatest ; table get 2 -> 2 ; table look -> 2
 
 table insert 10 0 -> any ; table insert 20 0 -> any ; table insert 30 0 -> any

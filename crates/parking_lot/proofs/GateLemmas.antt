@@ -13,7 +13,8 @@ use Rattle.lot_history.specs.declared.view.Piece.TheVariants as piece
 use Rattle.lot_threads.specs.Cells.{Has}
 use Rattle.lot_threads.specs.Titled.{IsTitle, told_by, without_next}
 use Rattle.lot_threads.specs.declared.title.Title as titles
-use Rattle.lock_words.specs.Stock.{IsHandOf, IsCarrying, IsWithout, HasPermit, HasPermitAndTitle, carrying, numbers_in, seat_of, holds_of, waits_of, numbers_of, aside_of, supply_of}
+use Rattle.lock_words.specs.Stock.{IsHandOf, IsCarrying, IsWithout, HasPermit, HasPermitAndTitle, carrying, numbers_in}
+use Rattle.lock_words.specs.Stock.{seat_of, holds_of, waits_of, numbers_of, aside_of, supply_of}
 use Rattle.lock_words.specs.StockRule.{Kept}
 use Rattle.lock_words.specs.StockSteps.{behind}
 use Rattle.lock_words.specs.StockView.{having, resting}

@@ -275,7 +275,8 @@ impl<T: Drop> Gate<'_, T> {
         requires title { IsTitle self.now.lot.now self.now.key title }
         requires stock { IsHandOf self.now.stock hand.old }
         requires carries { seat_of hand.old
-            ≡ carrying ((seat_of hand.old).0, rest (seat_of hand.old).1) (told_by title) (word / 4) }
+            ≡ carrying ((seat_of hand.old).0, rest (seat_of hand.old).1) (told_by title)
+            (word / 4) }
         requires gone { (n : ℕ) → waits_of hand.old ≡ Some n → ¬ Contains (told_by title) n }
         ensures stock { IsHandOf self.now.stock hand.new }
         ensures left { seat_of hand.new
