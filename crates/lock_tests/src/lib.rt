@@ -47,6 +47,8 @@ mod titled_mutex;
 #[cfg(test)]
 mod titled_once;
 #[cfg(test)]
+mod titled_rw_lock;
+#[cfg(test)]
 mod titled_semaphore;
 #[cfg(test)]
 mod values;

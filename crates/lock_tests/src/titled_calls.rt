@@ -1,9 +1,8 @@
-//! Tests of the calls that a `TitledMutex` has as a `Mutex` has them, and of condition variables on
-//! which threads wait with a titled mutex.
+//! Tests of the calls that a `TitledMutex` has as a `Mutex` has them, and of `TitledCondvar`.
 
-use crate::stage::{Host, ROOM, ROOMS, expect, has, new_lot, value_in};
+use crate::stage::{Host, ROOM, ROOMS, expect, has, value_in};
 use parking_lot::{
-    Condvar, Guard, Lens, Mutex, TitledLot, TitledMutex, TitledMutexGuard, WordParker,
+    Guard, Lens, TitledCondvar, TitledLot, TitledMutex, TitledMutexGuard, WordParker,
 };
 use std::sync::Wait;
 use std::thread;
@@ -85,8 +84,8 @@ fn a_titled_mutex_lends_its_value(rt: HostRuntime) {
 // A line of things, which are only counted, between two threads.
 struct Line<'l> {
     things: OneMutex<'l>,
-    filled: Condvar<'l>,
-    freed: Condvar<'l>,
+    filled: TitledCondvar<'l>,
+    freed: TitledCondvar<'l>,
 }
 
 impl Line<'_> {
@@ -95,7 +94,7 @@ impl Line<'_> {
             let things = self.things.lock(rt);
             let mut things = self
                 .freed
-                .wait_titled_while(things, |things: &mut usize| *things == MOST);
+                .wait_while(things, |things: &mut usize| *things == MOST);
             *things = things.wrapping_add(1);
             drop(things);
             self.filled.notify_one(rt);
@@ -107,20 +106,23 @@ impl Line<'_> {
             let things = self.things.lock(rt);
             let mut things = self
                 .filled
-                .wait_titled_while(things, |things: &mut usize| *things == 0);
+                .wait_while(things, |things: &mut usize| *things == 0);
             *things = things.wrapping_sub(1);
             self.freed.notify_all(rt);
         }
     }
 }
 
+fn new_condvar<'l, R: Host>(rt: &R, lot: &'l OneLot) -> TitledCondvar<'l> {
+    TitledCondvar::new(rt, rt.alloc(), lot).expect(rt, "a condition variable")
+}
+
 fn passes_things<R: Host>(rt: &R, room: usize) {
-    let lot = new_lot(rt, room);
-    let titled = OneLot::new(rt.alloc(), room, 1).expect(rt, "a lot");
+    let lot = OneLot::new(rt.alloc(), room, 3).expect(rt, "a lot");
     let line = Line {
-        things: TitledMutex::new(rt, rt.alloc(), &titled, 0).expect(rt, "a mutex"),
-        filled: Condvar::new(lot).expect(rt, "a condition variable"),
-        freed: Condvar::new(lot).expect(rt, "a condition variable"),
+        things: TitledMutex::new(rt, rt.alloc(), &lot, 0).expect(rt, "a mutex"),
+        filled: new_condvar(rt, &lot),
+        freed: new_condvar(rt, &lot),
     };
     thread::join(rt, &|| line.fill(rt), &|| line.empty(rt));
     let Line {
@@ -139,60 +141,55 @@ fn things_go_through_a_line_with_a_titled_mutex(rt: HostRuntime) {
     }
 }
 
-fn times_out<R: Host>(rt: &R, mutex: &OneMutex<'_>, condvar: &Condvar<'_>, room: usize) {
+fn times_out<R: Host>(rt: &R, mutex: &OneMutex<'_>, condvar: &TitledCondvar<'_>, room: usize) {
     let time = Duration::from_millis(SHORT);
-    let (guard, ended) = condvar.wait_titled_for(mutex.lock(rt), time);
+    let (guard, ended) = condvar.wait_for(mutex.lock(rt), time);
     expect(rt, ended.timed_out() == (room > 0), "nobody notifies");
-    let (guard, ended) = condvar.wait_titled_while_for(
-        guard,
-        |value: &mut usize| *value == 0,
-        time,
-    );
+    let (guard, ended) = condvar.wait_while_for(guard, |value: &mut usize| *value == 0, time);
     expect(rt, ended.timed_out(), "it is still 0");
     let deadline = Instant::now(rt).expect(rt, "a clock");
-    let (guard, ended) = condvar.wait_titled_until(guard, deadline);
+    let (guard, ended) = condvar.wait_until(guard, deadline);
     expect(rt, ended.timed_out() == (room > 0), "nobody notifies");
-    let (guard, ended) = condvar.wait_titled_while_until(
-        guard,
-        |value: &mut usize| *value == 1,
-        deadline,
-    );
+    let (guard, ended) = condvar.wait_while_until(guard, |value: &mut usize| *value == 1, deadline);
     expect(rt, !ended.timed_out() && *guard == 0, "it is 0");
 }
 
 #[test]
 fn a_wait_with_a_titled_mutex_ends_by_its_time(rt: HostRuntime) {
-    let titled = OneLot::new(rt.alloc(), ROOM, 1).expect(&rt, "a lot");
-    let mutex = TitledMutex::new(&rt, rt.alloc(), &titled, 0).expect(&rt, "a mutex");
     for room in ROOMS {
-        let condvar = Condvar::new(new_lot(&rt, room)).expect(&rt, "a condition variable");
+        let lot = OneLot::new(rt.alloc(), room, 2).expect(&rt, "a lot");
+        let mutex = TitledMutex::new(&rt, rt.alloc(), &lot, 0).expect(&rt, "a mutex");
+        let condvar = new_condvar(&rt, &lot);
         times_out(&rt, &mutex, &condvar, room);
     }
 }
 
-fn sets_both<R: Host>(rt: &R, titled: &OneMutex<'_>, plain: &Mutex<'_, usize>, set: &Condvar<'_>) {
-    let mut guard = titled.lock(rt);
-    *guard = 1;
-    drop(guard);
-    let mut guard = plain.lock(rt);
-    *guard = 1;
-    set.notify_all_held(&guard);
+// Waits until the value is another one, and answers what it is then.
+fn sees<R: Host>(rt: &R, mutex: &OneMutex<'_>, changed: &TitledCondvar<'_>) -> usize {
+    value_in(changed.wait_while(mutex.lock(rt), |value: &mut usize| *value == 0))
 }
 
-// Threads may wait with mutexes of both kinds, and a notify under the plain one wakes all.
+// Sets the value, and answers how many threads it notified.
+fn sets<R: Host>(rt: &R, mutex: &OneMutex<'_>, changed: &TitledCondvar<'_>) -> usize {
+    let mut value = mutex.lock(rt);
+    *value = 1;
+    drop(value);
+    changed.notify_all(rt)
+}
+
+// No thread waits for a notify that came after it had begun to wait.
 #[test]
-fn threads_wait_with_a_titled_mutex_and_a_plain_one(rt: HostRuntime) {
-    let lot = new_lot(&rt, ROOM);
-    let titled_lot = OneLot::new(rt.alloc(), ROOM, 1).expect(&rt, "a lot");
-    let titled = TitledMutex::new(&rt, rt.alloc(), &titled_lot, 0).expect(&rt, "a mutex");
-    let plain = Mutex::new(lot, 0).expect(&rt, "a mutex");
-    let set = Condvar::new(lot).expect(&rt, "a condition variable");
-    let of_titled = || value_in(set.wait_titled_while(
-        titled.lock(&rt),
-        |value: &mut usize| *value == 0,
-    ));
-    let of_plain = || value_in(set.wait_while(plain.lock(&rt), |value: &mut usize| *value == 0));
-    let both = || thread::join(&rt, &of_titled, &of_plain);
-    let (seen, _) = thread::join(&rt, &both, &|| sets_both(&rt, &titled, &plain, &set));
-    expect(&rt, seen == (1, 1), "both were notified");
+fn all_who_wait_on_a_titled_condvar_are_notified(rt: HostRuntime) {
+    for room in ROOMS {
+        let lot = OneLot::new(rt.alloc(), room, 2).expect(&rt, "a lot");
+        let mutex = TitledMutex::new(&rt, rt.alloc(), &lot, 0).expect(&rt, "a mutex");
+        let changed = new_condvar(&rt, &lot);
+        let see = || sees(&rt, &mutex, &changed);
+        let two = || thread::join(&rt, &see, &see);
+        let (seen, count) = thread::join(&rt, &two, &|| sets(&rt, &mutex, &changed));
+        expect(&rt, seen == (1, 1) && count <= 2, "both were notified");
+        expect(&rt, !changed.notify_one(&rt), "nobody waits any more");
+        let shown = format!(in rt.alloc(); "{changed:?}").expect(&rt, "memory");
+        expect(&rt, shown.as_str() == "TitledCondvar { .. }", "it is shown");
+    }
 }

@@ -11,7 +11,7 @@ use Rattle.atomic_table.proofs.Lists.{at_snoc, set_again}
 use Rattle.lot_word_lock.specs.WordPlaces.{total}
 use Rattle.lot_word_lock.proofs.WordCounts.{total-append, total-set, one_term}
 use Rattle.lock_words.specs.StockRule.{SomeSeat, NoRepeats}
-use Rattle.lock_words.specs.PhaseRule.{being, resting, carries_it, WaitsIn, Homes, IsOut, HasTitle, Phased}
+use Rattle.lock_words.specs.PhaseRule.{being, resting, carries_it, leads_it, WaitsIn, Homes, IsOut, HasTitle, Phased}
 use Rattle.lock_words.specs.PhaseSteps.{ArriveTells}
 use Rattle.lock_words.specs.declared.phases.view.View.{View}
 use Rattle.lock_words.proofs.NumberLists.{empty_unless, nothing_in}
@@ -34,15 +34,17 @@ module _ {M : Type 0} (told : M → List ℕ) (fits : M → Type 0) where
   -- the rule after a step of the seat id, part by part: c threads carry the title then
   pub rebuilt : (s : St M) (o : Phased told fits s) (id : ℕ) (v w : View) (ws : List ℕ) (hs : Homes M)
       (numbers : List ℕ) (phase mark c : ℕ) → get_elem? s.views id ≡ some v → length ws ≡ length s.words
+      → total leads_it s.views + leads_it w ≡ phase % 2 + leads_it v
       → c + carries_it v ≡ total carries_it s.views + carries_it w → c ≤ 1
       → get_or ws 0 0 ≡ 4 * phase + mark + 2 * c → mark ≤ 1 → (c ≡ 1 → mark ≡ 0)
       → (c ≡ 0 → HasTitle told fits numbers hs) → (c ≡ 1 → IsOut hs)
       → (c ≡ 1 → Known numbers phase (set s.views id w)) → NoRepeats numbers → (numbers ≢ [] → c ≡ 0 → mark ≡ 1)
       → ((n : ℕ) → Contains numbers n → SomeSeat (set s.views id w) (WaitsIn phase n))
       → Phased told fits (board ws hs (set s.views id w))
-  rebuilt s o id v w ws hs numbers phase mark c me long carriers alone word bit away title_home title_out known once
+  rebuilt s o id v w ws hs numbers phase mark c me long led carriers alone word bit away title_home title_out known once
       marked waits =
       let out = total-set carries_it s.views id v w me in
+      let leaders = total-set leads_it s.views id v w me in
       let same_c : total carries_it (set s.views id w) ≡ c = omega arith in
       let was_long = o.long in
       record {
@@ -52,6 +54,7 @@ module _ {M : Type 0} (told : M → List ℕ) (fits : M → Type 0) where
         long = omega arith;
         word = omega arith;
         bit = bit;
+        led = omega arith;
         carrier = omega arith;
         away = λ e. away (sym same_c ∙ e);
         title_home = λ e. title_home (sym same_c ∙ e);
@@ -83,6 +86,13 @@ module _ {M : Type 0} (told : M → List ℕ) (fits : M → Type 0) where
       let most = o.carrier in
       omega arith
 
+  pub leads_at_most : (s : St M) (o : Phased told fits s) (id : ℕ) (v : View) → get_elem? s.views id ≡ some v
+      → leads_it v ≤ o.phase % 2
+  leads_at_most s o id v me =
+      let mine = one_term leads_it s.views id v me in
+      let all = o.led in
+      omega arith
+
   -- where the word does not say that the title is out, it is at home
   pub is_home : (s : St M) (o : Phased told fits s) (word : ℕ) → get_or s.words 0 0 ≡ word → word % 4 ≤ 1
       → total carries_it s.views ≡ 0
@@ -107,6 +117,7 @@ module _ {M : Type 0} (told : M → List ℕ) (fits : M → Type 0) where
     long = omega arith;
     word = refl;
     bit = omega arith;
+    led = refl;
     carrier = omega arith;
     away = λ e. refl;
     title_home = λ _. record { title = title; home = refl; fit = fit; tells = nobody };
@@ -124,7 +135,10 @@ module _ {M : Type 0} (told : M → List ℕ) (fits : M → Type 0) where
       let new_one : View = being None (get_or s.words i 0 / 4) in
       let out : total carries_it (s.views ++ new_one ∷ []) ≡ total carries_it s.views =
       omega (arith, total-append carries_it s.views (new_one ∷ [])) in
+      let followers : total leads_it (s.views ++ new_one ∷ []) ≡ total leads_it s.views =
+      omega (arith, total-append leads_it s.views (new_one ∷ [])) in
       let word = o.word in
+      let led = o.led in
       let carrier = o.carrier in (
         new_one,
         record {
@@ -134,6 +148,7 @@ module _ {M : Type 0} (told : M → List ℕ) (fits : M → Type 0) where
           long = o.long;
           word = omega arith;
           bit = o.bit;
+          led = omega arith;
           carrier = omega arith;
           away = λ e. o.away (sym out ∙ e);
           title_home = λ e. o.title_home (sym out ∙ e);

@@ -1,15 +1,15 @@
--- The rule of a word with phases gives its law.
-use Rattle.std.proofs.Common.{◌≡◌, ℕ, ◌/◌, ◌≢◌, List, get_or, sym, ap, ◌∙◌, subst, inl, inr, ⊎_elim, arith, Contains}
+-- The rule of a word with phases gives its laws.
+use Rattle.std.proofs.Common.{◌≡◌, ℕ, ◌/◌, ◌<◌, ◌≤◌, ◌≢◌, List, get_or, sym, ap, ◌∙◌, subst, inl, inr, ⊎_elim, arith, Contains}
 use Rattle.std.proofs.Common.{None, Some}
 use mathlib.Core.Logic.{dite}
 use mathlib.Core.Option.{some}
 use native.Mathlib.Decide.{ℕ_discrete}
 use lib.ListN.{get_elem?}
 use Rattle.lot_word_lock.specs.WordPlaces.{total}
-use Rattle.lot_word_lock.proofs.WordCounts.{some_term}
+use Rattle.lot_word_lock.proofs.WordCounts.{one_term, two_terms, some_term}
 use Rattle.lock_words.specs.StockRule.{SomeSeat, NoRepeats}
-use Rattle.lock_words.specs.PhaseRule.{carries_it, WaitsIn, Phased}
-use Rattle.lock_words.specs.PhaseLaws.{HasHome, TitleTells, LeavesNobody}
+use Rattle.lock_words.specs.PhaseRule.{carries_it, leads_it, WaitsIn, Phased}
+use Rattle.lock_words.specs.PhaseLaws.{HasHome, TitleTells, LeavesNobody, HasOneLeader}
 use Rattle.lock_words.proofs.PhaseBoard.{St}
 use Rattle.lock_words.proofs.StockHolds.{some_carried}
 
@@ -63,4 +63,24 @@ module _ {M : Type 0} (told : M → List ℕ) (fits : M → Type 0) (s : St M) (
             let at_home = known.0 in
             let marked = o.marked (λ nobody. some_wait (known.1 ∙ nobody)) at_home in
             omega arith;
+      }
+
+  some_leader : 0 < total leads_it s.views → SomeSeat s.views (λ seat. 1 ≤ seat.leads)
+  some_leader some_lead = let t = some_term leads_it s.views some_lead in (t.0, t.1, t.2, omega (arith, t.3))
+
+  pub has_one_leader : HasOneLeader s
+  has_one_leader =
+      let led = o.led in
+      let is = phase_is in
+      record {
+        one = λ i j v u at_i at_j leads_i leads_j. dite (ℕ_discrete i j) (λ e. e) (λ ne.
+            let two = two_terms leads_it s.views i j v u (λ e. ne (sym e)) at_i at_j in
+            absurd (omega arith));
+        odd = (
+          (λ odd_one. some_leader (omega arith)),
+          λ leader.
+              let one = one_term leads_it s.views leader.0 leader.1 leader.2 in
+              let leads = leader.3 in
+              omega arith,
+        );
       }

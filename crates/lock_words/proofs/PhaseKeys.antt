@@ -4,6 +4,7 @@ use Rattle.atomic_table.specs.Table.{State, Me, Step, Allows, opening, rest}
 use Rattle.lot_word_lock.specs.WordKey.{without_key, UnderKey, TellsUnderKey}
 use Rattle.lot_word_lock.proofs.WordKeyLemmas.{step_under_key, opens_under_key}
 use Rattle.lock_words.specs.PhaseRule.{being, resting, Phased}
+use Rattle.lock_words.specs.Phases.{carrying}
 use Rattle.lock_words.specs.declared.phases.view.View.{View}
 use Rattle.lock_words.proofs.PhaseBoard.{opens}
 
@@ -12,6 +13,11 @@ module _ {M : Type 0} where
   pub with_title : (me after : Me (Option M) View) (now : View) (title : M) (others : List (ℕ × Option M))
       → after ≡ (me.0, (0, Some title) ∷ []) → me ≡ (now, others) → after ≡ (now, (0, Some title) ∷ [])
   with_title me after now title others put is = put ∙ (λ i. ((is i).0, (0, Some title) ∷ []))
+
+  -- a thread that carries the title and does not lead the phase
+  pub follows : (me : Me (Option M) View) (numbers : List ℕ) → me.0.leads ≡ 0
+      → me ≡ carrying me.0.waits me.0.leads numbers me.0.phase → me ≡ carrying me.0.waits 0 numbers me.0.phase
+  follows me numbers unled is = is ∙ ap (λ (l : ℕ). carrying me.0.waits l numbers me.0.phase) unled
 
   -- and once it was put back, and the seat waits no longer
   pub ended_knows : (me after : Me (Option M) View) (now : View) (title : M) (read phase : ℕ) → read ≡ phase

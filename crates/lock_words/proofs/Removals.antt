@@ -5,7 +5,17 @@ use Rattle.std.proofs.lemmas.Bool.{cases_eq, cond-true, cond-false, eq-eqb, ne_e
 use Rattle.std.proofs.lemmas.Map.Made.{Contains-tail}
 use Rattle.lot_base.specs.Waiting.{without_first}
 use Rattle.lock_words.specs.StockRule.{NoRepeats}
+use Rattle.lock_words.specs.StockSteps.{behind}
 use Rattle.lock_words.proofs.NumberLists.{Contains-first, Contains-behind, nothing_in}
+
+-- the numbers behind the first, which is none of them
+pub behind_once : (ns : List ℕ) → NoRepeats ns → NoRepeats (behind ns)
+behind_once [] once = tt
+behind_once (n ∷ ns) once = once.1
+
+pub behind_among : (ns : List ℕ) (n : ℕ) → Contains (behind ns) n → Contains ns n
+behind_among [] n c = c
+behind_among (m ∷ ns) n c = Contains-behind m n ns c
 
 -- the numbers without one of them
 pub without_among : (number : ℕ) (numbers : List ℕ) (n : ℕ) → Contains (without_first (λ each. each == number) numbers) n

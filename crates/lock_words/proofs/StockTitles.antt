@@ -18,12 +18,12 @@ use Rattle.lock_words.specs.StockSteps.{newest, behind, told_in, CarryTells, Rel
 use Rattle.lock_words.specs.declared.stock.Content.{Content}
 use Rattle.lock_words.specs.declared.stock.Content.TheVariants.{Title}
 use Rattle.lock_words.specs.declared.stock.view.View.{View}
-use Rattle.lock_words.proofs.NumberLists.{Contains-first, Contains-behind, NoRepeats-push, newest_is}
+use Rattle.lock_words.proofs.NumberLists.{Contains-first, NoRepeats-push, newest_is}
 use Rattle.lock_words.proofs.SeatCounts.{None_not_Some, carrier_kept, carrier_none, waiting_here}
 use Rattle.lock_words.proofs.StockBoard.{Knows, rebuilt, unmoved, Goes, is_home, carried_by}
 use Rattle.lock_words.proofs.StockSlots.{Gives, gives_nothing, gives_value, placed_else}
 use Rattle.lock_words.proofs.StockTries.{still}
-use Rattle.lock_words.proofs.Removals.{without_among, without_gone, without_once}
+use Rattle.lock_words.proofs.Removals.{behind_once, behind_among, without_among, without_gone, without_once}
 
 one_of : (mark : ℕ) → mark ≤ 1 → (mark ≡ 0 → ⊥) → mark ≡ 1
 one_of mark bit some_mark = dite (ℕ_discrete mark 0) (λ e. absurd (some_mark e)) (λ ne. omega arith)
@@ -38,15 +38,7 @@ entered_tells {T} {M} told me after v title numbers number holds is back held te
     ∙ ap (λ (n : ℕ). (having v.holds (Some n), [])) (ap newest tells ∙ newest_is numbers number)
     ∙ ap (λ (h : ℕ). (having h (Some number), [])) held)
 
--- the numbers behind the first, which is none of them
-behind_once : (ns : List ℕ) → NoRepeats ns → NoRepeats (behind ns)
-behind_once [] once = tt
-behind_once (n ∷ ns) once = once.1
-
-behind_among : (ns : List ℕ) (n : ℕ) → Contains (behind ns) n → Contains ns n
-behind_among [] n c = c
-behind_among (m ∷ ns) n c = Contains-behind m n ns c
-
+-- the first number, if others stand behind it
 first_of : (ns : List ℕ) → NoRepeats ns → behind ns ≢ [] → (n : ℕ) × ¬ Contains (behind ns) n × Contains ns n
 first_of [] once some_wait = absurd (some_wait refl)
 first_of (n ∷ ns) once some_wait = (n, once.0, Contains-first n ns)

@@ -1,5 +1,5 @@
--- What the rule of a word with phases means, in plain words: a law that holds in every state that meets it.
-use Rattle.std.specs.Prelude.{◌≡◌, ◌≢◌, ◌⊎◌, ℕ, ◌/◌, ◌%◌, List, [], Contains, Option, None, Some, slice_index}
+-- What the rule of a word with phases means, in plain words: two laws that hold in every state that meets it.
+use Rattle.std.specs.Prelude.{◌≡◌, ◌≢◌, ◌⊎◌, ◌↔◌, ℕ, ◌/◌, ◌%◌, ◌≤◌, List, [], Contains, Option, None, Some, slice_index}
 use mathlib.Core.Option.{some}
 use lib.ListN.{get_elem?}
 use Rattle.atomic_table.specs.Table.{State}
@@ -17,6 +17,13 @@ module _ {M : Type 0} (s : State (Option M) View) where
   -- the slot is at home with this title
   abbrev pub HasHome : M → Type 0
   HasHome title = get_elem? s.homes 0 ≡ some (some (Some title))
+
+  pub record HasOneLeader : Type 0 where
+    -- no two threads lead the phase
+    pub one : (i j : ℕ) (v u : View) → get_elem? s.views i ≡ some v → get_elem? s.views j ≡ some u → 1 ≤ v.leads
+        → 1 ≤ u.leads → i ≡ j
+    -- some thread does exactly if its number is odd
+    pub odd : (phase_of % 2 ≡ 1) ↔ SomeSeat s.views (λ seat. 1 ≤ seat.leads)
 
   module _ (told : M → List ℕ) where
     -- the title is at home and tells these numbers, or told them to the thread that has taken it

@@ -1,6 +1,6 @@
 -- The rule of a word with phases, as its table keeps it: what holds between any two steps of all threads.
 -- The word is four times the phase, and 1 more if somebody may wait for its end, and 2 more while the title is out.
-use Rattle.std.specs.Prelude.{◌≡◌, ◌≢◌, ℕ, ◌+◌, ◌*◌, ◌≤◌, List, [], length, slice_index, Contains, Option, None, Some}
+use Rattle.std.specs.Prelude.{◌≡◌, ◌≢◌, ℕ, ◌+◌, ◌*◌, ◌/◌, ◌%◌, ◌≤◌, List, [], length, slice_index, Contains, Option, None, Some}
 use mathlib.Core.Option.{some, none}
 use mathlib.Core.Option as maybe
 use lib.ListN.{get_elem?}
@@ -9,12 +9,20 @@ use Rattle.lot_word_lock.specs.WordPlaces.{total}
 use Rattle.lock_words.specs.StockRule.{one_if_some, SomeSeat, NoRepeats}
 use Rattle.lock_words.specs.declared.phases.view.View.{View}
 
-abbrev pub view : Option ℕ → ℕ → Option (List ℕ) → View
-view waits phase carries = record { waits = waits; phase = phase; carries = carries }
+abbrev pub view : Option ℕ → ℕ → ℕ → Option (List ℕ) → View
+view waits phase leads carries = record { waits = waits; phase = phase; leads = leads; carries = carries }
 
--- it does not carry the title
+-- the phase after this one: the next of an even number
+abbrev pub next_phase : ℕ → ℕ
+next_phase phase = (phase / 2 * 2 + 2) % 4611686018427387904
+
+-- it neither leads the phase nor carries the title
 abbrev pub being : Option ℕ → ℕ → View
-being waits phase = view waits phase None
+being waits phase = view waits phase 0 None
+
+-- it leads the phase, and does not carry the title
+abbrev pub leading : ℕ → View
+leading phase = view None phase 1 None
 
 -- it does not wait either
 abbrev pub resting : View
@@ -23,6 +31,10 @@ resting = being None 0
 -- 1 for a thread that carries the title, else 0
 abbrev pub carries_it : View → ℕ
 carries_it seat = one_if_some seat.carries
+
+-- 1 for a thread that leads the phase, else 0
+abbrev pub leads_it : View → ℕ
+leads_it seat = seat.leads
 
 -- it waits as this number for the end of this phase
 pub record WaitsIn (phase number : ℕ) (seat : View) : Type 0 where
@@ -54,6 +66,8 @@ module _ {M : Type 0} (told : M → List ℕ) (fits : M → Type 0) where
     pub long : 1 ≤ length s.words
     pub word : slice_index s.words 0 ≡ 4 * phase + mark + 2 * total carries_it s.views
     pub bit : mark ≤ 1
+    -- a phase with an odd number is led by one thread, and any other by none
+    pub led : total leads_it s.views ≡ phase % 2
     -- at most one thread carries the title, and the word does not say then that somebody may wait
     pub carrier : total carries_it s.views ≤ 1
     pub away : total carries_it s.views ≡ 1 → mark ≡ 0

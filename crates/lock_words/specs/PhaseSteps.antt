@@ -4,7 +4,7 @@ use Rattle.std.specs.Prelude.{◌≡◌, ◌≢◌, ℕ, ◌/◌, List, [], ◌�
 use Rattle.atomic_table.specs.Table.{Me, Step, rest}
 use Rattle.lock_words.specs.declared.phases.view.View.{View}
 use Rattle.lock_words.specs.StockSteps.{newest}
-use Rattle.lock_words.specs.PhaseRule.{view, being}
+use Rattle.lock_words.specs.PhaseRule.{view, being, leading}
 
 abbrev pub Play : Type 0 → Type 1
 Play M = Step (Option M) → Me (Option M) View → ℕ → Me (Option M) View → Type 0
@@ -19,7 +19,7 @@ module _ {M : Type 0} (told : M → List ℕ) where
     -- a thread has taken the slot with the title of the queue in this phase
     pub record TookTitle (phase : ℕ) (old new : Me (Option M) View) : Type 0 where
       pub title : M
-      pub is : new ≡ (view old.0.waits phase (Some (told title)), (0, Some title) ∷ old.1)
+      pub is : new ≡ (view old.0.waits phase old.0.leads (Some (told title)), (0, Some title) ∷ old.1)
       pub fit : fits title
 
     abbrev pub CarryTells : Play M
@@ -36,6 +36,18 @@ module _ {M : Type 0} where
   -- if the phase that it knows is over, it waits no longer
   abbrev pub LookTells : Play M
   LookTells st m r n = (r / 4 ≢ m.0.phase → n ≡ (being None (r / 4), m.1)) × (r / 4 ≡ m.0.phase → n ≡ m)
+
+  abbrev pub ReturnedTells : Play M
+  ReturnedTells st m r n = n ≡ (being m.0.waits m.0.phase, rest m.1)
+
+  abbrev pub LeftTells : Play M
+  LeftTells st m r n = n ≡ (being None m.0.phase, rest m.1)
+
+  abbrev pub DropWaitTells : Play M
+  DropWaitTells st m r n = (r ≡ st.first → n ≡ (being None m.0.phase, m.1)) × (r ≢ st.first → n ≡ m)
+
+  abbrev pub LeadTells : Play M
+  LeadTells st m r n = (r ≡ st.first → n ≡ (leading (st.second / 4), m.1)) × (r ≢ st.first → n ≡ m)
 
   abbrev pub EndedTells : Play M
   EndedTells st m r n = n ≡ (being None (st.first / 4), rest m.1)

@@ -449,8 +449,9 @@ impl<T: Drop, M: Tells> Stock<T, M> {
     }
 }
 
-// The word where as many permits are free as in the given one, and others wait or do not.
-fn word_of(found: u64, more: bool) -> u64
+// The word with the same number of permits, or of the phase, as the given one, where others wait or
+// do not.
+pub(crate) fn word_of(found: u64, more: bool) -> u64
     ensures { (mark : ℕ) × (result ≡ 4 * (found / 4) + mark) × (mark ≤ 1)
         × (mark ≡ 0 → IsFalse more) }
 {

@@ -6,3 +6,4 @@ pub mod Locks
 pub mod Onces
 pub mod Phasers
 pub mod TitledMutexes
+pub mod TitledRwLocks

@@ -15,8 +15,6 @@
 //!   moves them to the key of the mutex and sets the `parked` of the mutex, so that its unlock
 //!   wakes them. Otherwise it wakes them at once.
 //! - A thread whose deadline passes after it was moved has had its notify, so it did not time out.
-//! - A thread that comes with a titled mutex is noted as one of another lot, so that no notify
-//!   moves anybody while it waits: the list of such a mutex changes only with its title.
 //!
 //! No thread is forgotten. A thread that waits checks the condition, notes itself in `sleepers`,
 //! and unlocks the mutex, in this order and with the mutex locked. Another thread changes the
@@ -28,8 +26,6 @@ ghost use Rattle.std.specs.Iterator.Runs.{CallKeepsClosure};
 ghost use Rattle.std.specs.Sync.Condvar.{AnsweredAt, StoppedAt};
 ghost use Rattle.parking_lot.specs.Guards.{mutex_of, value_of};
 ghost use Rattle.parking_lot.specs.Locks.{has_timed_out};
-
-mod titled;
 
 use crate::guard::Guard;
 use crate::lot::{Lot, instant_after, is_past};
@@ -50,7 +46,7 @@ const SEVERAL: usize = usize::MAX;
 /// A `WaitTimeoutResult` says whether a timed wait ended because its time was over.
 #[derive(Clone, Copy, PartialEq, Eq, Debug)]
 pub struct WaitTimeoutResult {
-    timed_out: bool,
+    pub(crate) timed_out: bool,
 }
 
 impl WaitTimeoutResult {
@@ -81,8 +77,8 @@ impl WaitTimeoutResult {
 ///
 /// Threads may wait on one condition variable with several mutexes, and some of those may be fair.
 /// Each thread waits in the lot of the condition variable, so create both with the same lot: with
-/// two lots the notifies still work, but always wake at once. So they do while threads wait with a
-/// `TitledMutex`, for which `wait_titled` and its like are.
+/// two lots the notifies still work, but always wake at once. A `TitledCondvar` is for threads with
+/// a `TitledMutex`.
 #[derive(Drop)]
 pub struct Condvar<'l> {
     lot: &'l Lot,
@@ -91,16 +87,25 @@ pub struct Condvar<'l> {
     met: AtomicUsize,
 }
 
-// How long a thread waits for a condition.
+/// How long a thread waits for a condition.
 #[derive(Clone, Copy)]
-enum Patience {
+pub(crate) enum Patience {
     Endless,
     Until(Instant),
     Over,
 }
 
 impl Patience {
-    fn is_over<R: Clock>(self, rt: &R) -> bool
+    /// How long a wait for the duration is to last.
+    pub(crate) fn of<R: Clock>(rt: &R, duration: Duration) -> Patience {
+        match instant_after(rt, duration) {
+            Ok(Some(deadline)) => Patience::Until(deadline),
+            Ok(None) => Patience::Endless,
+            Err(_) => Patience::Over,
+        }
+    }
+
+    pub(crate) fn is_over<R: Clock>(self, rt: &R) -> bool
         ensures { self ≡ Patience.Endless → result ≡ false }
     {
         match self {
@@ -110,7 +115,7 @@ impl Patience {
         }
     }
 
-    fn deadline(self) -> Option<Instant> {
+    pub(crate) fn deadline(self) -> Option<Instant> {
         match self {
             Patience::Until(deadline) => Some(deadline),
             Patience::Endless | Patience::Over => None,
@@ -219,11 +224,7 @@ impl<'l> Condvar<'l> {
         ensures answered { AnsweredAt C.step (CallKeepsClosure C.FnMut condition) condition
             (has_timed_out result.1) (value_of result.0) }
     {
-        let patience = match instant_after(guard.lock().rt, duration) {
-            Ok(Some(deadline)) => Patience::Until(deadline),
-            Ok(None) => Patience::Endless,
-            Err(_) => Patience::Over,
-        };
+        let patience = Patience::of(guard.lock().rt, duration);
         self.wait_while_at_most(guard, condition, patience)
     }
 

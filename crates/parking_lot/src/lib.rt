@@ -70,6 +70,10 @@
 //!   `num_permits` there.
 //! - `TitledMutex`: upstream has none. Its threads wait in a `TitledLot`, and each call that waits
 //!   may lock the bucket of its key once more than a `Mutex` does.
+//! - `TitledCondvar`: upstream has none. Its threads wait in a `TitledLot`, and a notify moves no
+//!   thread to the queue of the mutex.
+//! - `TitledRwLock`: upstream has none. Its threads wait in a `TitledLot`. It has no upgradable and
+//!   no recursive reads, and no fair unlocks.
 //! - `TitledSemaphore`: upstream has none. Its threads wait in a `TitledLot` too, and each of its
 //!   permits is acquired by itself.
 //! - `TitledOnce`, `TitledBarrier`: upstream has neither. Their threads wait in a `TitledLot`.
@@ -92,7 +96,9 @@ mod queue_title;
 pub mod reentrant_mutex;
 pub mod rw_lock;
 pub mod semaphore;
+pub mod titled_condvar;
 pub mod titled_mutex;
+pub mod titled_rw_lock;
 pub mod titled_semaphore;
 mod wait_queue;
 
@@ -112,5 +118,10 @@ pub use once_lock::OnceLock;
 pub use reentrant_mutex::{Owner, ReentrantMutex, ReentrantMutexGuard};
 pub use rw_lock::{RwLock, RwLockReadGuard, RwLockUpgradableReadGuard, RwLockWriteGuard};
 pub use semaphore::{Semaphore, SemaphorePermit};
+pub use titled_condvar::TitledCondvar;
 pub use titled_mutex::{TitledLocked, TitledMutex, TitledMutexGuard};
+pub use titled_rw_lock::{
+    TitledReadLocked, TitledRwLock, TitledRwLockReadGuard, TitledRwLockWriteGuard,
+    TitledWriteLocked,
+};
 pub use titled_semaphore::{TitledSemaphore, TitledSemaphorePermit};

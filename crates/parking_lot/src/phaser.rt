@@ -1,5 +1,6 @@
 //! This module has phasers: a phaser numbers phases, and threads wait for the end of one. A `Once`
-//! and a `Barrier` are made of one. Upstream has none; Java has a `Phaser`.
+//! and a `Barrier` are made of one, a `TitledCondvar` and a `TitledRwLock` of titled ones. Upstream
+//! has none; Java has a `Phaser`.
 //!
 //! # The protocol of a `PlainPhaser`
 //!

@@ -6,7 +6,7 @@
 
 ghost use Rattle.lot_word_lock.specs.WordKey.{UnderKey, TellsUnderKey};
 ghost use Rattle.lock_words.specs.PhaseRule.{Phased, resting};
-ghost use Rattle.lock_words.specs.PhaseSteps.{ArriveTells, LookTells, CarryTells, EnteredTells, EndedTells, EndTells};
+ghost use Rattle.lock_words.specs.PhaseSteps.{ArriveTells, LookTells, CarryTells, EnteredTells, ReturnedTells, LeftTells, DropWaitTells, LeadTells, EndedTells, EndTells};
 
 use super::view::View;
 use crate::stock::Tells;
@@ -44,6 +44,30 @@ pub(super) struct Entered;
 
 impl<M: Tells> Play<Option<M>, (M::Key, View)> for Entered {
     ghost then = { TellsUnderKey (λ _. EnteredTells M.told) };
+}
+
+pub(super) struct Returned;
+
+impl<M: Tells> Play<Option<M>, (M::Key, View)> for Returned {
+    ghost then = { TellsUnderKey (λ _. ReturnedTells) };
+}
+
+pub(super) struct Left;
+
+impl<M: Tells> Play<Option<M>, (M::Key, View)> for Left {
+    ghost then = { TellsUnderKey (λ _. LeftTells) };
+}
+
+pub(super) struct DropWait;
+
+impl<M: Tells> Play<Option<M>, (M::Key, View)> for DropWait {
+    ghost then = { TellsUnderKey (λ _. DropWaitTells) };
+}
+
+pub(super) struct Lead;
+
+impl<M: Tells> Play<Option<M>, (M::Key, View)> for Lead {
+    ghost then = { TellsUnderKey (λ _. LeadTells) };
 }
 
 pub(super) struct Ended;

@@ -13,6 +13,9 @@ pub struct View {
     /// The phase that the thread found or began last. If it waits, it does so for the end of this.
     pub phase: u64,
 
+    /// 1 if the thread leads the phase, so that no other thread can end it, and else 0.
+    pub leads: u64,
+
     /// The numbers that the title told when the thread took it, if the title is out with it.
     pub carries: Option<LinkedList<u64>>,
 }

@@ -1,7 +1,7 @@
 //! Two threads that count by turns under a mutex, and wait on a condition variable meanwhile.
 
 use crate::rows::locks::Tally;
-use parking_lot::{Condvar, Mutex};
+use parking_lot::{Condvar, Mutex, TitledCondvar, TitledMutex};
 use std::sync;
 use std::sync::Wait;
 use std::time::Clock;
@@ -32,6 +32,25 @@ pub fn count_by_turns<R: Wait + Clock>(
             drop(tally);
             condvar.notify_one(rt);
         }
+    }
+    Some(last)
+}
+
+/// The same with titled ones, which are notified once the mutex is let go.
+pub fn count_by_titled_turns<R: Wait + Clock>(
+    rt: &R,
+    mutex: &TitledMutex<'_, Tally>,
+    condvar: &TitledCondvar<'_>,
+    side: usize,
+    rounds: usize,
+) -> Option<u64> {
+    let mut last = 0u64;
+    for _ in 0..rounds {
+        let is_early = |tally: &mut Tally| is_turn_of_other(tally, side);
+        let mut tally = condvar.wait_while(mutex.lock(rt), is_early);
+        last = tally.count_one(0);
+        drop(tally);
+        condvar.notify_one(rt);
     }
     Some(last)
 }

@@ -6,7 +6,7 @@ use crate::rows::measure::time_of_counts;
 use crate::rows::row::Row;
 use lot_base::word_lock::{Fits, WordLock};
 use parking_lot::mutex::{Fairness, MutexIn};
-use parking_lot::{RwLock, TitledMutex};
+use parking_lot::{RwLock, TitledMutex, TitledRwLock};
 use std::alloc::Global;
 use std::sync;
 use std::sync::Wait;
@@ -115,6 +115,20 @@ impl TallyLock for RwLock<'_, Tally> {
 }
 
 impl TallyRwLock for RwLock<'_, Tally> {
+    #[inline]
+    fn count<R: Wait + Clock>(&self, rt: &R) -> u64 {
+        self.read(rt).count
+    }
+}
+
+impl TallyLock for TitledRwLock<'_, Tally> {
+    #[inline]
+    fn count_one<R: Wait + Clock>(&self, rt: &R, turns: usize) -> u64 {
+        self.write(rt).count_one(turns)
+    }
+}
+
+impl TallyRwLock for TitledRwLock<'_, Tally> {
     #[inline]
     fn count<R: Wait + Clock>(&self, rt: &R) -> u64 {
         self.read(rt).count

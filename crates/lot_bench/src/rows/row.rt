@@ -65,6 +65,11 @@ sync_queue_two             sync   queue         5 1    2     0   10000   10000  
 sync_queue_eight           sync   queue         5 1    8     0   10000   40000   240000
 sync_semaphore_alone       sync   semaphore     7 1    1     0 1000000 1000000
 titled_semaphore_alone     titled semaphore     7 1    1     0 1000000 1000000
+titled_read_alone          titled rw_lock       7 1    1     0    3000  300000        0   0  0 100
+titled_read_four           titled rw_lock       7 1    4     0    3000 1200000        0   0  0 100
+titled_write_alone         titled rw_lock       7 1    1     0    3000  300000  2400000 100
+titled_mostly_read_four    titled rw_lock       7 1    4     0    3000 1200000    96000   1  0 99
+titled_condvar_turns       titled condvar       5 1    2     0    5000    5000    60000
 many_keys                  lot    many_keys     7 1    1   999  100000  100000
 thousand_threads           new    threads       1 0 1000     0       1    1000
 unpark_in_small_table      lot    unpark_keys   7 1    1     0 1000000 1000000

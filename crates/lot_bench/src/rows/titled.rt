@@ -1,13 +1,19 @@
 //! Rows of locks on a titled lot.
 
-use crate::rows::locks::{Tally, time_of_lock};
+use crate::rows::by_turns::count_by_titled_turns;
+use crate::rows::locks::{Tally, time_of_lock, time_of_rw_lock};
 use crate::rows::measure::time_of_counts;
 use crate::rows::row::Row;
-use parking_lot::{TitledLot, TitledMutex, TitledSemaphore, WordParker};
+use parking_lot::{
+    TitledCondvar, TitledLot, TitledMutex, TitledRwLock, TitledSemaphore, WordParker,
+};
 use std::alloc::Global;
 use std::sync::Wait;
 use std::thread::Threads;
 use std::time::Clock;
+
+// How many keys the lot has: as many as a read-write lock wants.
+const KEYS: usize = 3;
 
 /// Lets threads use the lock that the row names.
 pub fn time_of<R: Threads + Wait + Clock + Sync>(
@@ -16,9 +22,11 @@ pub fn time_of<R: Threads + Wait + Clock + Sync>(
     deed: &str,
     row: &Row,
 ) -> Option<u64> {
-    let lot = TitledLot::new(alloc, row.threads, 1).ok()?;
+    let lot = TitledLot::new(alloc, row.threads, KEYS).ok()?;
     match deed {
         "mutex" => time_of_mutex(rt, alloc, row, &lot),
+        "rw_lock" => time_of_titled_rw_lock(rt, alloc, row, &lot),
+        "condvar" => time_of_turns(rt, alloc, row, &lot),
         _ => time_of_semaphore(rt, alloc, row, &lot),
     }
 }
@@ -31,6 +39,28 @@ fn time_of_mutex<R: Threads + Wait + Clock + Sync>(
 ) -> Option<u64> {
     let mutex = TitledMutex::new(rt, alloc, lot, Tally::new()).ok()?;
     time_of_lock(rt, alloc, row, &mutex)
+}
+
+fn time_of_titled_rw_lock<R: Threads + Wait + Clock + Sync>(
+    rt: &R,
+    alloc: Global,
+    row: &Row,
+    lot: &TitledLot<WordParker>,
+) -> Option<u64> {
+    let lock = TitledRwLock::new(rt, alloc, lot, Tally::new()).ok()?;
+    time_of_rw_lock(rt, alloc, row, &lock)
+}
+
+fn time_of_turns<R: Threads + Wait + Clock + Sync>(
+    rt: &R,
+    alloc: Global,
+    row: &Row,
+    lot: &TitledLot<WordParker>,
+) -> Option<u64> {
+    let mutex = TitledMutex::new(rt, alloc, lot, Tally::new()).ok()?;
+    let condvar = TitledCondvar::new(rt, alloc, lot).ok()?;
+    let count = |side: usize| count_by_titled_turns(rt, &mutex, &condvar, side, row.calls);
+    time_of_counts(rt, alloc, row, &count)
 }
 
 fn time_of_semaphore<R: Threads + Wait + Clock + Sync>(

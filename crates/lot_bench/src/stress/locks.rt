@@ -2,6 +2,7 @@
 
 mod chosen;
 mod deeds;
+mod line;
 mod meeting;
 mod patience;
 mod shared;

@@ -1,8 +1,12 @@
-//! Threads that count under a titled mutex, and with permits of a titled semaphore.
+//! Threads that count under a titled mutex, with permits of a titled semaphore, and under a titled
+//! read-write lock, and that pass things on.
 
+use super::line;
 use super::patience::{Patience, count_together};
 use crate::fault::Fault;
-use parking_lot::{TitledLot, TitledMutex, TitledSemaphore, WordParker};
+use parking_lot::{
+    TitledLot, TitledMutex, TitledRwLock, TitledRwLockWriteGuard, TitledSemaphore, WordParker,
+};
 use std::alloc::Global;
 use std::sync::Wait;
 use std::sync::atomic::{AtomicUsize, Ordering};
@@ -10,8 +14,13 @@ use std::thread;
 use std::thread::Threads;
 use std::time::Clock;
 
-/// Lets so many threads count under a new mutex and then with permits of a new semaphore, in a lot
-/// with so many places, and answers how often they did.
+// How many keys the locks take that threads count with: one the mutex, one the semaphore, and three
+// the read-write lock.
+const KEYS: usize = 5;
+
+/// Lets so many threads count under a new mutex, then with permits of a new semaphore, and then
+/// under a new read-write lock, and pass things on, in a lot with so many places, and answers how
+/// often they did.
 pub(super) fn play<R: Threads + Wait + Clock + Sync>(
     rt: &R,
     alloc: Global,
@@ -19,10 +28,17 @@ pub(super) fn play<R: Threads + Wait + Clock + Sync>(
     threads: usize,
     seed: u64,
 ) -> Result<usize, Fault> {
-    let lot = TitledLot::new(alloc, places, 2)?;
+    let lot = TitledLot::new(alloc, places, KEYS + line::KEYS)?;
     let locked = lock(rt, alloc, &lot, threads, seed)?;
     let permitted = acquire(rt, alloc, &lot, threads, seed)?;
-    Ok(locked.wrapping_add(permitted))
+    let written = read_and_write(rt, alloc, &lot, threads, seed)?;
+    let passed = line::play(rt, alloc, &lot, threads)?;
+    Ok(
+        locked
+            .wrapping_add(permitted)
+            .wrapping_add(written)
+            .wrapping_add(passed),
+    )
 }
 
 fn lock<R: Threads + Wait + Clock + Sync>(
@@ -116,4 +132,68 @@ fn count_lent<R: Wait + Clock>(
     lent.fetch_sub(1, Ordering::SeqCst);
     drop(permit);
     Some(before)
+}
+
+fn read_and_write<R: Threads + Wait + Clock + Sync>(
+    rt: &R,
+    alloc: Global,
+    lot: &TitledLot<WordParker>,
+    threads: usize,
+    seed: u64,
+) -> Result<usize, Fault> {
+    let total = TitledRwLock::new(rt, alloc, lot, 0usize)?;
+    let act = |number: u64, patience: Patience| {
+        if number % 3 == 0 {
+            count_written(rt, &total, patience)
+        } else {
+            read_twice(rt, &total, patience)
+        }
+    };
+    let counted = count_together(rt, alloc, threads, seed, &act);
+    let sum = *total.read(rt);
+    if counted == Some(sum) {
+        Ok(sum)
+    } else {
+        Err(Fault::Wrong("what a titled read-write lock is around"))
+    }
+}
+
+// Reads twice if it gets the lock in time, and answers nothing if somebody wrote between.
+fn read_twice<R: Wait + Clock>(
+    rt: &R,
+    total: &TitledRwLock<'_, usize>,
+    patience: Patience,
+) -> Option<usize> {
+    let found = match patience {
+        Patience::Over => total.try_read(rt),
+        Patience::Until(deadline) => total.read_until(rt, deadline),
+        Patience::Endless => Some(total.read(rt)),
+    };
+    let Some(total) = found else {
+        return Some(0);
+    };
+    let before = *total;
+    thread::yield_now();
+    (*total == before).then_some(0)
+}
+
+// Counts if it gets the lock in time, and reads what it wrote. Answers nothing if somebody wrote
+// between.
+fn count_written<R: Wait + Clock>(
+    rt: &R,
+    total: &TitledRwLock<'_, usize>,
+    patience: Patience,
+) -> Option<usize> {
+    let found = match patience {
+        Patience::Over => total.try_write(rt),
+        Patience::Until(deadline) => total.write_until(rt, deadline),
+        Patience::Endless => Some(total.write(rt)),
+    };
+    let Some(mut total) = found else {
+        return Some(0);
+    };
+    let after = total.wrapping_add(1);
+    *total = after;
+    thread::yield_now();
+    (*TitledRwLockWriteGuard::downgrade(total) == after).then_some(1)
 }

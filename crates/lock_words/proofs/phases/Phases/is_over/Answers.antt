@@ -18,6 +18,6 @@ load-requires g c =
       c.requires.own.table,
       search rules,
       at_key told fits key _ _ id _ (being me.0.waits me.0.phase, []) 0 (λ y. y) (λ r. r) (λ _. LookTells)
-          (λ n. step n 0 0 0 none) refl c.requires.own.carried c.requires.without
+          (λ n. step n 0 0 0 none) refl c.requires.own.carried c.requires.follows
           (looks told (fits key) _ id me.0.phase me.0.waits []),
     )

@@ -1,9 +1,9 @@
-use Rattle.std.proofs.Common.{rules, ◌==◌, ◌+◌, ◌*◌, ◌/◌, [], refl}
+use Rattle.std.proofs.Common.{rules, ◌==◌, ◌+◌, ◌*◌, ◌/◌, [], None, refl}
 use mathlib.Core.Option.{none}
 use prog.Atomic.{either}
 use Rattle.atomic_table.specs.Table.{step}
 use Rattle.lot_word_lock.specs.WordKey.{without_key}
-use Rattle.lock_words.specs.PhaseRule.{being}
+use Rattle.lock_words.specs.PhaseRule.{view}
 use Rattle.lock_words.specs.PhaseSteps.{CarryTells}
 use Rattle.lock_words.proofs.PhaseKeys.{at_key}
 use Rattle.lock_words.proofs.PhaseMoves.{carries}
@@ -20,8 +20,8 @@ compare_exchange-requires g c =
     let me = without_key c.args.hand.now.seat.me in (
       c.requires.own.table,
       search rules,
-      at_key told fits key _ 1 id _ (being me.0.waits me.0.phase, []) 0 (λ x. either (x == word) new x) (λ r. r)
+      at_key told fits key _ 1 id _ (view me.0.waits me.0.phase me.0.leads None, []) 0 (λ x. either (x == word) new x) (λ r. r)
           (λ k. CarryTells told (fits k)) (λ n. step n 0 word new none) c.args.self.now.sized.1
           c.requires.own.carried c.requires.without
-          (carries told (fits key) id me.0.phase me.0.waits word new c.requires.home refl),
+          (carries told (fits key) id me.0.phase me.0.leads me.0.waits word new c.requires.home refl),
     )

@@ -1,5 +1,5 @@
 use Rattle.lock_words.specs.Phases.{IsHandOf, IsResting}
-use Rattle.parking_lot.proofs.phaser.titled.TitledPhaser.wait_for.Given as goal
+use Rattle.parking_lot.proofs.phaser.titled.TitledPhaser.wait_until.Given as goal
 
 abbrev pub invariant-loop : goal.invariant-loop
 invariant-loop g l = record {

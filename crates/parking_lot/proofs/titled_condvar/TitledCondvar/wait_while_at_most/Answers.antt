@@ -1,6 +1,6 @@
 use Rattle.std.proofs.Common.{sym, ap}
 use Rattle.parking_lot.specs.Guards.{titled_value_of}
-use Rattle.parking_lot.proofs.condvar.Condvar.wait_titled_while_at_most.Goals as goal
+use Rattle.parking_lot.proofs.titled_condvar.TitledCondvar.wait_while_at_most.Goals as goal
 
 pub returns-then-not-timed_out-clause-answered : goal.returns-then-not-timed_out-clause-answered
 returns-then-not-timed_out-clause-answered g c = (

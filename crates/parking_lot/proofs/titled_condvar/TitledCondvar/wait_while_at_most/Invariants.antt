@@ -2,7 +2,7 @@ use Rattle.std.proofs.Common.{◌≡◌}
 use denote.Param.Always.{always_mut}
 use Rattle.std.specs.Iterator.Runs.{CallKeepsClosure}
 use Rattle.parking_lot.specs.Guards.{titled_mutex_of}
-use Rattle.parking_lot.proofs.condvar.Condvar.wait_titled_while_at_most.Given as goal
+use Rattle.parking_lot.proofs.titled_condvar.TitledCondvar.wait_while_at_most.Given as goal
 
 -- what holds before each look at the condition
 pub record Turn (Asks : Type 0) (Keeps : Type 0) (Stays : Type 0) : Type 0 where
