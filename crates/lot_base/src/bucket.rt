@@ -3,7 +3,7 @@
 //! A bucket has the waiters of several keys in one queue. The list of a key is made of the waiters
 //! of that key, in their order.
 
-ghost use Rattle.std.specs.Prelude.{◌≡◌, true, false, ℕ, [], ◌∷◌, ◌++◌, ◌<◌, map, IfErr, IfSome, OnOk, IfOk, IsOkAnd, OnErr, is_ok, IsTrue, length, List, ◌≢◌, ◌↔◌, find, not, None, Some, IsNone, MatchOption};
+ghost use Rattle.std.specs.Prelude.{◌≡◌, true, false, ℕ, [], ◌∷◌, ◌++◌, ◌<◌, map, IfErr, IfSome, OnOk, IfOk, IsOkAnd, OnErr, is_ok, IsTrue, length, List, ◌≢◌, ◌↔◌, find, not, None, Some, IsNone, MatchOption, ◌≤◌, ◌^◌};
 ghost use Rattle.lot_base.specs.Filter.{IsFilterCallable, IsFiltered, park_tokens};
 ghost use Rattle.lot_base.specs.Node.{fields, option_nodes};
 ghost use Rattle.lot_base.specs.Place.{IsTableSize, place_of};
@@ -38,7 +38,20 @@ pub fn place(key: usize, size: usize) -> usize
     ensures value { result ≡ place_of key size }
     ensures below { result < size }
 {
-    key.wrapping_mul(MULTIPLIER) >> (64 - size.ilog2())
+    place_by_bits(key, size.ilog2() as usize)
+}
+
+/// Returns the place of a key in a table of 2 ^ `bits` buckets, as `place` does.
+///
+/// `bits` has to be from 4 to 16.
+#[inline]
+pub fn place_by_bits(key: usize, bits: usize) -> usize
+    requires least { 4 ≤ bits }
+    requires most { bits ≤ 16 }
+    ensures value { result ≡ place_of key (2 ^ bits) }
+    ensures below { result < 2 ^ bits }
+{
+    key.wrapping_mul(MULTIPLIER) >> (64 - bits)
 }
 
 /// A `Bucket` is a queue of nodes, whose keys all have the same place in the table.
