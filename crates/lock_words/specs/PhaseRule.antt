@@ -20,13 +20,13 @@ next_phase phase = (phase / 2 * 2 + 2) % 4611686018427387904
 abbrev pub being : Option ℕ → ℕ → View
 being waits phase = view waits phase 0 None
 
--- it leads the phase, and does not carry the title
-abbrev pub leading : ℕ → View
-leading phase = view None phase 1 None
-
 -- it does not wait either
 abbrev pub resting : View
 resting = being None 0
+
+-- it leads the phase, and does not carry the title
+abbrev pub leading : ℕ → View
+leading phase = view None phase 1 None
 
 -- 1 for a thread that carries the title, else 0
 abbrev pub carries_it : View → ℕ

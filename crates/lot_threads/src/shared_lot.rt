@@ -20,12 +20,11 @@ mod requeue;
 mod titled;
 mod unpark;
 
-use crate::cell::{MOST_ROWS, RowSlot, Slot, new_rows};
+use crate::cell::{MOST_ROWS, RowSlot, Slot, new_rows, place_in_row};
 use crate::numbered_nodes::NumberedNodes;
 use crate::parker::ThreadParkerT;
 use crate::registry::{Registry, new_registry};
 use crate::told::cut_up;
-use lot_base::bucket::place;
 use lot_base::queue::Node;
 use lot_base::thread_parker::ParkerKey;
 use lot_base::token::NoMemory;
@@ -181,28 +180,31 @@ impl<P: ThreadParkerT> SharedLot<P> {
         &self.rows[index]
     }
 
-    // The row of this index, if there is one and it was made.
+    // The row of this index, if it was made.
     #[inline]
     pub(super) fn row(&self, index: usize) -> Option<&Vec<WordLock<Slot>>>
+        requires { index < 13 }
         ensures { IfSome result (λ row. IsRow (id_of self.now) (max_threads_of self.now)
             (limit_of self.now)
             (2 ^ (index + 4)) row.now.items) }
     {
-        if index >= MOST_ROWS {
-            return None;
-        }
         self.row_slot(index).get()
     }
 
-    // The row that is in use, or was as `current` was read. It was made before, but no contract
-    // tells so.
+    // The row that is in use, or was as `current` was read, and its index. It was made before, but
+    // no contract tells so.
     #[inline]
-    pub(super) fn row_in_use(&self) -> Option<&Vec<WordLock<Slot>>>
-        ensures { IfSome result (λ row. IsRow (id_of self.now) (max_threads_of self.now)
+    pub(super) fn row_in_use(&self) -> Option<(usize, &Vec<WordLock<Slot>>)>
+        ensures below { IfSome result (λ used. used.0 < 13) }
+        ensures row { IfSome result (λ used. IsRow (id_of self.now) (max_threads_of self.now)
             (limit_of self.now)
-            (length row.now.items) row.now.items) }
+            (2 ^ (used.0 + 4)) used.1.now.items) }
     {
-        self.row(self.current.load(Ordering::SeqCst))
+        let index = self.current.load(Ordering::SeqCst);
+        if index >= MOST_ROWS {
+            return None;
+        }
+        Some((index, self.row(index)?))
     }
 
     // The lock of the key's place in the row in use.
@@ -210,8 +212,8 @@ impl<P: ThreadParkerT> SharedLot<P> {
     pub(crate) fn lock_of(&self, key: usize) -> Option<&WordLock<Slot>>
         ensures { IfSome result (λ lock. IsLockFor self.now key lock.now) }
     {
-        let row = self.row_in_use()?;
-        Some(lock_at(row, place(key, row.len())))
+        let (index, row) = self.row_in_use()?;
+        Some(lock_at(row, place_in_row(key, index)))
     }
 
     // Waits until the thread that changes the row is done, which has the numbers locked meanwhile.

@@ -17,12 +17,11 @@ ghost use Rattle.lot_threads.specs.Sections.{AreLockedInOrder, IsKeyedLock};
 ghost use Rattle.lot_threads.specs.Within.{FindsPieces};
 
 use super::{SharedLot, lock_at};
-use crate::cell::{Cell, Slot};
+use crate::cell::{Cell, Slot, place_in_row};
 use crate::critical_section::CriticalSection;
 use crate::parker::ThreadParkerT;
 use crate::section::{Licence, Section};
 use crate::told::{add_requeue, add_taken};
-use lot_base::bucket::place;
 use lot_base::queue::Queue;
 use lot_base::token::{RequeueOp, UnparkResult, UnparkToken};
 use lot_base::word_lock::WordLock;
@@ -182,9 +181,9 @@ impl<P: ThreadParkerT> SharedLot<P> {
             (λ other. IsKeyedLock self.now other × (other.key ≡ to)
             × AreApart locks.0.lock.now other.lock.now)) }
     {
-        let row = self.row_in_use()?;
-        let source = place(from, row.len());
-        let target = place(to, row.len());
+        let (index, row) = self.row_in_use()?;
+        let source = place_in_row(from, index);
+        let target = place_in_row(to, index);
         if source == target {
             return Some((keyed_at(row, source, from), None));
         }
