@@ -90,11 +90,14 @@ pub struct Supply<K> {
     pub guards: bool,
 }
 
+/// A `KeyedView` is what a hand carries in proofs: what its stock was made with, and its own view.
+pub type KeyedView<K> = (Supply<K>, View);
+
 /// A `Stock` has the permits of a lock that nobody holds, the title of its queue, and the value
 /// that its permit guards, if it guards one and nobody holds it.
 #[derive(Drop)]
 pub struct Stock<T: Drop, M: Tells> {
-    table: Table<Content<T, M>, (Supply<M::Key>, View), Supply<M::Key>, Order, Global>,
+    table: Table<Content<T, M>, KeyedView<M::Key>, Supply<M::Key>, Order, Global>,
     ghost sized: { (table.shared.table_id.words ≡ 2) × (table.shared.table_id.slots ≡ 2) },
 }
 
@@ -102,7 +105,7 @@ pub struct Stock<T: Drop, M: Tells> {
 ///
 /// It has no `Drop`, so it has to end in `leave`.
 pub struct Hand<T: Drop, M: Tells> {
-    seat: Seat<Content<T, M>, (Supply<M::Key>, View)>,
+    seat: Seat<Content<T, M>, KeyedView<M::Key>>,
 }
 
 impl<T: Drop, M: Tells> Hand<T, M> {
@@ -465,7 +468,7 @@ pub(crate) fn word_of(found: u64, more: bool) -> u64
 /// The state leaves out the key that each thread carries.
 pub fn stocks_conserve_permits<T: Drop, M: Tells>()
     ensures { (key : Supply M.Key) → (state : State (Content T M) (Supply M.Key × View))
-        → ⟦<Order as TableRule<Content<T, M>, (Supply<M::Key>, View), Supply<M::Key>>>⟧.holds key state
+        → ⟦<Order as TableRule<Content<T, M>, KeyedView<M::Key>, Supply<M::Key>>>⟧.holds key state
         → ConservesPermits (without_keys state) key.permits }
 {}
 
@@ -473,7 +476,7 @@ pub fn stocks_conserve_permits<T: Drop, M: Tells>()
 /// exactly while nobody does. It follows from the rule that the table of every stock keeps.
 pub fn stocks_exclude<T: Drop, M: Tells>()
     ensures { (key : Supply M.Key) → (state : State (Content T M) (Supply M.Key × View))
-        → ⟦<Order as TableRule<Content<T, M>, (Supply<M::Key>, View), Supply<M::Key>>>⟧.holds key state
+        → ⟦<Order as TableRule<Content<T, M>, KeyedView<M::Key>, Supply<M::Key>>>⟧.holds key state
         → key.guards ≡ true → IsExclusive (without_keys state) }
 {}
 
@@ -481,6 +484,6 @@ pub fn stocks_exclude<T: Drop, M: Tells>()
 /// is on the way. It follows from the rule that the table of every stock keeps.
 pub fn stocks_forget_nobody<T: Drop, M: Tells>()
     ensures { (key : Supply M.Key) → (state : State (Content T M) (Supply M.Key × View))
-        → ⟦<Order as TableRule<Content<T, M>, (Supply<M::Key>, View), Supply<M::Key>>>⟧.holds key state
+        → ⟦<Order as TableRule<Content<T, M>, KeyedView<M::Key>, Supply<M::Key>>>⟧.holds key state
         → ForgetsNobody (without_keys state) M.told (M.fits key.queue) }
 {}

@@ -1,7 +1,7 @@
 //! The buckets of a lot, each with its part of the history, behind a lock.
 
 ghost use Rattle.std.specs.Prelude.{◌≡◌, ◌∷◌, ◌+◌, ◌<◌, ◌^◌, [], length, IfOk, IfSome};
-ghost use Rattle.lot_base.specs.Place.{IsTableSize, place_of};
+ghost use Rattle.lot_base.specs.Place.{IsTableSize};
 ghost use Rattle.lot_history.specs.Views.{rest_of};
 ghost use Rattle.lot_history.specs.Witness.{IsPartOf, IsStill, IsWitnessOf, events_of, id_of, max_threads_of, pieces_of, limit_of};
 ghost use Rattle.lot_history.specs.declared.view.Piece.TheVariants.{TitledLists};
@@ -13,7 +13,7 @@ ghost use Rattle.lot_threads.specs.Cells.{AreRows, FitsCell, IsCellLock, IsRow, 
 use crate::told::refuse_two;
 use boxcar::slot::{OnceSlot, SlotRule};
 use boxcar::tag::{Names, Tag};
-use lot_base::bucket::{Bucket, place_by_bits};
+use lot_base::bucket::Bucket;
 use lot_base::token::NoMemory;
 use lot_base::word_lock::{Fits, WordLock};
 use lot_history::history::{History, Part, Witness};
@@ -98,16 +98,6 @@ pub(crate) fn row_size(index: usize) -> usize
     ensures { result ≡ 2 ^ (index + 4) }
 {
     1 << (index + 4)
-}
-
-// The place of a key in the row of this index. No load of the row's length has to come first.
-#[inline]
-pub(crate) fn place_in_row(key: usize, index: usize) -> usize
-    requires { index < 13 }
-    ensures value { result ≡ place_of key (2 ^ (index + 4)) }
-    ensures below { result < 2 ^ (index + 4) }
-{
-    place_by_bits(key, index + 4)
 }
 
 // What the slot of a row keeps: the row is of the lot and of the size that its tag tells.

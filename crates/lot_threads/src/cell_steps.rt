@@ -65,7 +65,8 @@ pub(crate) fn take_one_of<E: Told, C: FnOnce(&CriticalSection, UnparkResult) -> 
     ensures taken { TakesFrom history.now cell.old cell.new result.1 me.new }
     ensures one { length result.1 ≤ 1 }
 {
-    let section = CriticalSection::of(mem::replace(&mut cell.part, Part::none()));
+    let part = mem::replace(&mut cell.part, Part::none());
+    let section = CriticalSection { part };
     let (result, taken) = cell.bucket.take_one(
         key,
         |found|
@@ -75,7 +76,8 @@ pub(crate) fn take_one_of<E: Told, C: FnOnce(&CriticalSection, UnparkResult) -> 
                 × C.post callback lent found result }
         { callback(&section, found) },
     );
-    history.take(me, section.into_part());
+    let CriticalSection { part } = section;
+    history.take(me, part);
     add_taken::<E>(history, me, licence, cell, &taken, Answer::Unpark(result));
     (result, taken)
 }
@@ -177,7 +179,9 @@ fn take_filter_with<
     ensures found { Found history.now me.old me.new }
     ensures taken { TakesFrom history.now cell.old cell.new result.1 me.new }
 {
-    let section = CriticalSection::of(history.give(me));
+    let section = CriticalSection {
+        part: history.give(me),
+    };
     let (result, taken) = cell.bucket.take_filter(
         key,
         filter,
@@ -188,7 +192,8 @@ fn take_filter_with<
                 × C.post callback lent found result }
         { callback(&section, found) },
     );
-    history.take(me, section.into_part());
+    let CriticalSection { part } = section;
+    history.take(me, part);
     add_taken::<E>(history, me, licence, cell, &taken, Answer::Unpark(result));
     (result, taken)
 }
@@ -225,7 +230,8 @@ pub(crate) fn enter_in<V: FnOnce(&CriticalSection) -> bool>(
         (Thread (fields node.value).number Status.Running ∷ []) back.0) }
 {
     let entry = entry_for(&node);
-    let section = CriticalSection::of(mem::replace(&mut cell.part, Part::none()));
+    let part = mem::replace(&mut cell.part, Part::none());
+    let section = CriticalSection { part };
     let entered = cell.bucket.enter(
         node,
         ||
@@ -234,7 +240,8 @@ pub(crate) fn enter_in<V: FnOnce(&CriticalSection) -> bool>(
                 × V.post validate lent result }
         { validate(&section) },
     );
-    cell.part = section.into_part();
+    let CriticalSection { part } = section;
+    cell.part = part;
     match entered {
         Ok(()) => {
             add_entered(history, me, licence, cell, thread, entry);
@@ -277,9 +284,11 @@ pub(crate) fn leave_in<T: FnOnce(&CriticalSection, usize, bool)>(
         licence.spend();
         return None;
     };
-    let section = CriticalSection::of(mem::replace(&mut cell.part, Part::none()));
+    let part = mem::replace(&mut cell.part, Part::none());
+    let section = CriticalSection { part };
     timed_out(&section, key, last);
-    cell.part = section.into_part();
+    let CriticalSection { part } = section;
+    cell.part = part;
     let thread = add_timeout(history, me, licence, cell, number, key, last);
     Some((thread, node))
 }

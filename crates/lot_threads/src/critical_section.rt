@@ -1,7 +1,5 @@
 //! This module has the critical section that a lot lends to a closure while it calls the closure.
 
-ghost use Rattle.std.specs.Prelude.{◌≡◌};
-
 use lot_history::history::Part;
 
 /// A `CriticalSection` shows that the bucket of a key is locked, and with it the bucket's part of
@@ -14,23 +12,4 @@ use lot_history::history::Part;
 /// section, in order. The value has no bytes, and no `Drop`.
 pub struct CriticalSection {
     pub(crate) part: Part,
-}
-
-impl CriticalSection {
-    // The section of whoever has the part of its bucket.
-    #[inline(always)]
-    pub(crate) fn of(part: Part) -> CriticalSection
-        ensures { result.part ≡ part }
-    {
-        CriticalSection { part }
-    }
-
-    // Its part, for the bucket or for who changes it.
-    #[inline(always)]
-    pub(crate) fn into_part(self) -> Part
-        ensures { result ≡ self.part }
-    {
-        let CriticalSection { part } = self;
-        part
-    }
 }

@@ -20,11 +20,12 @@ mod requeue;
 mod titled;
 mod unpark;
 
-use crate::cell::{MOST_ROWS, RowSlot, Slot, new_rows, place_in_row};
+use crate::cell::{MOST_ROWS, RowSlot, Slot, new_rows};
 use crate::numbered_nodes::NumberedNodes;
 use crate::parker::ThreadParkerT;
 use crate::registry::{Registry, new_registry};
 use crate::told::cut_up;
+use lot_base::bucket::place_by_bits;
 use lot_base::queue::Node;
 use lot_base::thread_parker::ParkerKey;
 use lot_base::token::NoMemory;
@@ -207,13 +208,14 @@ impl<P: ThreadParkerT> SharedLot<P> {
         Some((index, self.row(index)?))
     }
 
-    // The lock of the key's place in the row in use.
+    // The lock of the key's place in the row in use. The place comes from the row's index, since a
+    // load of its length would have to come first.
     #[inline]
     pub(crate) fn lock_of(&self, key: usize) -> Option<&WordLock<Slot>>
         ensures { IfSome result (λ lock. IsLockFor self.now key lock.now) }
     {
         let (index, row) = self.row_in_use()?;
-        Some(lock_at(row, place_in_row(key, index)))
+        Some(lock_at(row, place_by_bits(key, index + 4)))
     }
 
     // Waits until the thread that changes the row is done, which has the numbers locked meanwhile.

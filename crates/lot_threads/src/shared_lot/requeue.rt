@@ -17,11 +17,12 @@ ghost use Rattle.lot_threads.specs.Sections.{AreLockedInOrder, IsKeyedLock};
 ghost use Rattle.lot_threads.specs.Within.{FindsPieces};
 
 use super::{SharedLot, lock_at};
-use crate::cell::{Cell, Slot, place_in_row};
+use crate::cell::{Cell, Slot};
 use crate::critical_section::CriticalSection;
 use crate::parker::ThreadParkerT;
 use crate::section::{Licence, Section};
 use crate::told::{add_requeue, add_taken};
+use lot_base::bucket::place_by_bits;
 use lot_base::queue::Queue;
 use lot_base::token::{RequeueOp, UnparkResult, UnparkToken};
 use lot_base::word_lock::WordLock;
@@ -182,8 +183,8 @@ impl<P: ThreadParkerT> SharedLot<P> {
             × AreApart locks.0.lock.now other.lock.now)) }
     {
         let (index, row) = self.row_in_use()?;
-        let source = place_in_row(from, index);
-        let target = place_in_row(to, index);
+        let source = place_by_bits(from, index + 4);
+        let target = place_by_bits(to, index + 4);
         if source == target {
             return Some((keyed_at(row, source, from), None));
         }
@@ -225,7 +226,8 @@ impl<P: ThreadParkerT> SharedLot<P> {
         ensures one { length result.1 ≤ 1 }
     {
         let mut moved = |number: usize, timed: bool| self.note_key(number, timed, to);
-        let section = CriticalSection::of(mem::replace(&mut cell.part, Part::none()));
+        let part = mem::replace(&mut cell.part, Part::none());
+        let section = CriticalSection { part };
         let (result, taken) = cell.bucket.requeue_one(
             from,
             to,
@@ -243,7 +245,8 @@ impl<P: ThreadParkerT> SharedLot<P> {
             { callback(&section, op, found) },
             &mut moved,
         );
-        self.history.take(me, section.into_part());
+        let CriticalSection { part } = section;
+        self.history.take(me, part);
         let answer = Answer::Unpark(result);
         add_taken::<E>(&self.history, me, licence, cell, &taken, answer);
         (result, taken)
@@ -290,7 +293,8 @@ impl<P: ThreadParkerT> SharedLot<P> {
         ensures one { length result.1 ≤ 1 }
     {
         let mut moved = |number: usize, timed: bool| self.note_key(number, timed, to);
-        let first = CriticalSection::of(mem::replace(&mut source.part, Part::none()));
+        let part = mem::replace(&mut source.part, Part::none());
+        let first = CriticalSection { part };
         let (result, taken) = source.bucket.requeue_two(
             &mut target.bucket,
             from,
@@ -309,7 +313,8 @@ impl<P: ThreadParkerT> SharedLot<P> {
             { callback(&first, op, found) },
             &mut moved,
         );
-        source.part = first.into_part();
+        let CriticalSection { part } = first;
+        source.part = part;
         let answer = Answer::Unpark(result);
         add_requeue::<E>(&self.history, me, licence, source, target, &taken, answer);
         (result, taken)

@@ -1,4 +1,4 @@
-use Rattle.std.proofs.Common.{◌≡◌, None, List, [], ◌∷◌, ◌++◌, true, rules, refl, sym, ap, ◌∙◌, subst}
+use Rattle.std.proofs.Common.{◌≡◌, None, List, [], ◌∷◌, ◌++◌, true, rules, refl, sym, ap, ◌∙◌, subst, false}
 use Rattle.lot_base.specs.BucketState.{BucketState}
 use Rattle.lot_base.specs.Node.{fields}
 use Rattle.lot_machine.specs.declared.status.Status.TheVariants.{Running}
@@ -23,10 +23,10 @@ add_entered-requires-clause-moves g c =
     let node = fields c.args.node.value in
     let old = c.args.cell.now.bucket in
     let same : c.entry_for-entry.result ≡ entry_of node = search rules in
-    let part_pieces : pieces_in c.into_part.result ≡ pieces_in c.args.cell.now.part =
-    ap pieces_in (c.into_part.ensures ∙ (c.of-section.ensures ∙ c.replace.ensures.value)) in
+    let part_pieces : pieces_in c.replace-part.result ≡ pieces_in c.args.cell.now.part =
+    ap pieces_in c.replace-part.ensures.value in
     subst (λ (entry : Entry). Moves bound (Is (entry_step entry true) answer.Entered)
-    (pieces_in c.into_part.result ++ Thread entry.number Running ∷ []) (lists_in (limit_of c.args.history.now) c.enter-entered.new.self ∷ []))
+    (pieces_in c.replace-part.result ++ Thread entry.number Running ∷ []) (lists_in (limit_of c.args.history.now) c.enter-entered.new.self ∷ []))
     (sym same)
     (subst (λ (pieces : List Piece). Moves bound (Is (entry_step (entry_of node) true) answer.Entered)
     (pieces ++ Thread node.number Running ∷ []) (lists_in (limit_of c.args.history.now) c.enter-entered.new.self ∷ []))
@@ -62,10 +62,10 @@ returns-in-Ok-clause-entered g c =
     let found = c.add_entered.ensures.found in
     let m = found.found.machine in
     let same : c.entry_for-entry.result ≡ entry_of node = search rules in
-    let part : c.into_part.result ≡ c.args.cell.now.part =
-    c.into_part.ensures ∙ (c.of-section.ensures ∙ c.replace.ensures.value) in
+    let part : c.replace-part.result ≡ c.args.cell.now.part =
+    c.replace-part.ensures.value in
     let has : Has (id_of history) (lists_in (limit_of c.args.history.now) bucket ∷ []) section.now.part =
-    rw (asked.1, c.of-section.ensures, c.replace.ensures.value) c.requires.cell.own.part in
+    rw (asked.1, c.replace-part.ensures.value) c.requires.cell.own.part in
     let so : AllSo m (lists_in (limit_of c.args.history.now) bucket ∷ Thread c.entry_for-entry.result.number Running ∷ []) =
     subst (λ (pieces : List Piece). AllSo m (pieces ++ Thread c.entry_for-entry.result.number Running ∷ []))
     (ap pieces_in part ∙ c.requires.cell.own.part.pieces) found.so in
@@ -82,4 +82,28 @@ returns-in-Ok-clause-entered g c =
       extends = subst (λ (entry : Entry).
           Extends history c.args.me.now (entry_step entry true) answer.Entered c.add_entered.new.me) same
           c.add_entered.ensures.extends;
+    }
+
+pub enter-entered-requires-clause-callable : goal.enter-entered-requires-clause-callable
+enter-entered-requires-clause-callable g c = λ lent is.
+    c.requires.callable lent (is_section c.args.history.now c.args.cell.now.bucket (fields c.args.node.value).key
+    c.requires.cell.here lent.now (rw (is, c.replace-part.ensures.value) c.requires.cell.own.part))
+
+pub returns-in-Err-clause-refused : goal.returns-in-Err-clause-refused
+returns-in-Err-clause-refused g c =
+    let history = c.args.history.now in
+    let bucket = c.args.cell.now.bucket in
+    let node = fields c.args.node.value in
+    let asked = c.in-Err.ensures.asked in
+    let same : c.entry_for-entry.result ≡ entry_of node = search rules in
+    record {
+      asks = record {
+        section = asked.0;
+        within = is_section history bucket node.key c.requires.cell.here asked.0.now
+            (rw (asked.1, c.replace-part.ensures.value) c.requires.cell.own.part);
+        answers = asked.2;
+      };
+      extends = subst (λ (entry : Entry).
+          Extends history c.args.me.now (entry_step entry false) answer.Invalid c.add_invalid.new.me) same
+          c.add_invalid.ensures.extends;
     }

@@ -29,7 +29,7 @@ add_timeout-thread-requires-clause-deadline g c =
     let old = c.args.cell.now.bucket in
     let node = fields c.in-Some.node.value in
     subst (λ (pieces : List Piece). Moves bound (Is (step.Deadline c.args.number) answer.Late) pieces
-    (late_pieces c.args.number pieces)) (sym (ap pieces_in (c.into_part.ensures ∙ (c.of-section.ensures ∙ c.replace.ensures.value))
+    (late_pieces c.args.number pieces)) (sym (ap pieces_in c.replace-part.ensures.value
     ∙ c.requires.cell.own.part.pieces))
     (late_titled bound (limit_of c.args.history.now) old.size old.place c.args.number (standing_in old.nodes)
     (Is (step.Deadline c.args.number) answer.Late)
@@ -46,8 +46,8 @@ add_timeout-thread-requires-clause-resolve g c =
     let told = c.remove_timed.ensures in
     let removed = c.in-Some.ensures.removed in
     subst (λ (pieces : List Piece). Moves bound (Is (step.Resolve number) (answer.TimedOut key c.in-Some.last))
-    (late_pieces number pieces) (lists_in (limit_of c.args.history.now) new ∷ Thread number status.Running ∷ [])) (sym (ap pieces_in (c.into_part.ensures
-    ∙ (c.of-section.ensures ∙ c.replace.ensures.value)) ∙ c.requires.cell.own.part.pieces))
+    (late_pieces number pieces) (lists_in (limit_of c.args.history.now) new ∷ Thread number status.Running ∷ [])) (sym (ap pieces_in c.replace-part.ensures.value
+    ∙ c.requires.cell.own.part.pieces))
     (rw (told.place.place, told.place.size, removed.2)
     (leaves_keyed bound (limit_of c.args.history.now) old.size old.place key None c.requires.above c.requires.cell.here
     old.nodes new.nodes (without_first (has_number number) (lists_of old.nodes key)) number
@@ -79,13 +79,13 @@ returns-clause-left g c =
     let here = c.requires.cell.here in
     let left = c.add_timeout-thread.ensures.leaves in
     let m = left.finds.found.machine in
-    let part : c.into_part.result ≡ c.args.cell.now.part =
-    c.into_part.ensures ∙ (c.of-section.ensures ∙ c.replace.ensures.value) in
-    let told : (section : Bor CriticalSection) × (section.now ≡ c.of-section.result)
+    let part : c.replace-part.result ≡ c.args.cell.now.part =
+    c.replace-part.ensures.value in
+    let told : (section : Bor CriticalSection) × (section.now ≡ record { part = c.replace-part.result })
     × g.T.FnOnce.post c.args.timed_out (section, (key, (c.in-Some.last, tt))) tt = (_, refl, c.timed_out.ensures) in
     let section = told.0 in
     let has : Has (id_of history) (lists_in (limit_of c.args.history.now) bucket ∷ []) section.now.part =
-    rw (told.1, c.of-section.ensures, c.replace.ensures.value) c.requires.cell.own.part in
+    rw c.replace-part.ensures.value c.requires.cell.own.part in
     let so : AllSo m (late_pieces c.args.number (lists_in (limit_of c.args.history.now) bucket ∷ [])) =
     subst (λ (pieces : List Piece). AllSo m (late_pieces c.args.number pieces))
     (ap pieces_in part ∙ c.requires.cell.own.part.pieces) left.finds.so in (

@@ -37,9 +37,9 @@ add_taken-requires-clause-moves g c =
     let part : Has (id_of c.args.history.now) (lists_in (limit_of c.args.history.now) old ∷ []) c.give.result =
     record { of_history = given.part; pieces = given.first ∙ ap first_of c.requires.piece } in
     let pieces : pieces_of c.take.new.me ≡ lists_in (limit_of c.args.history.now) old ∷ [] =
-    rw (c.take.ensures.pieces, given.rest, c.requires.piece, c.into_part.ensures, c.of-section.ensures) part.pieces in
+    rw (c.take.ensures.pieces, given.rest, c.requires.piece) part.pieces in
     let has : Has (id_of c.args.history.now) (lists_in (limit_of c.args.history.now) old ∷ []) called.0.now.part =
-    rw (called.1, c.of-section.ensures) part in
+    rw called.1 part in
     let short : length decisions ≤ length waiting = omega (arith, asked, all) in
     subst (λ (pieces : List Piece). Moves bound (λ s a. g.E.Told.said s a × (a ≡ answer.Unpark found)) pieces
     (lists_in (limit_of c.args.history.now) new ∷ threads_in c.take_filter-taken.result.1)) (sym pieces)
@@ -72,14 +72,14 @@ take_filter-taken-requires-clause-callback g c =
     let given = c.give.ensures in
     let part : Has (id_of c.args.history.now) (lists_in (limit_of c.args.history.now) c.args.cell.now.bucket ∷ []) c.give.result =
     record { of_history = given.part; pieces = given.first ∙ ap first_of c.requires.piece } in
-    λ decisions decided lent is. c.requires.callback decisions decided lent (rw (is, c.of-section.ensures) part)
+    λ decisions decided lent is. c.requires.callback decisions decided lent (rw is part)
 
 pub returns-clause-found : goal.returns-clause-found
 returns-clause-found g c =
     let found = c.add_taken.ensures.found in
     let given = c.give.ensures in
     let pieces : pieces_of c.take.new.me ≡ pieces_of c.args.me.now =
-    rw (c.take.ensures.pieces, given.rest, c.requires.piece, c.into_part.ensures, c.of-section.ensures)
+    rw (c.take.ensures.pieces, given.rest, c.requires.piece)
     (given.first ∙ ap first_of c.requires.piece) in
     record {
       before = found.before;

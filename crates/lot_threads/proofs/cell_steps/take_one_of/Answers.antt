@@ -29,9 +29,7 @@ add_taken-requires-clause-moves g c =
     rw (
       c.take.ensures.pieces,
       c.requires.idle.no_pieces,
-      c.into_part.ensures,
-      c.of-section.ensures,
-      c.replace.ensures.value,
+      c.replace-part.ensures.value,
     ) c.requires.cell.own.part.pieces in
     subst (λ (pieces : List Piece). Moves bound (λ s a. g.E.Told.said s a × (a ≡ answer.Unpark found)) pieces
     (lists_in (limit_of c.args.history.now) new ∷ threads_in c.take_one-taken.result.1)) (sym pieces)
@@ -43,14 +41,14 @@ add_taken-requires-clause-moves g c =
     (subst (λ (given : UnparkResult). g.E.Told.said (step.Unpark (op.One c.args.key token)) (answer.Unpark given)
     × (answer.Unpark given ≡ answer.Unpark found)) told.answer (
       c.requires.said called.1.0 found token
-          (rw (called.1.1, c.of-section.ensures, c.replace.ensures.value) c.requires.cell.own.part) called.1.2,
+          (rw (called.1.1, c.replace-part.ensures.value) c.requires.cell.own.part) called.1.2,
       refl,
     ))
     (takes_one bound old.size old.place c.args.key old.nodes new.nodes token [] c.requires.cell.here told.lists))
 
 pub take_one-taken-requires : goal.take_one-taken-requires
 take_one-taken-requires g c = λ lent is.
-    c.requires.callable lent (rw (is, c.of-section.ensures, c.replace.ensures.value) c.requires.cell.own.part)
+    c.requires.callable lent (rw (is, c.replace-part.ensures.value) c.requires.cell.own.part)
 
 pub returns-clause-found : goal.returns-clause-found
 returns-clause-found g c = record {
@@ -69,9 +67,7 @@ returns-clause-found g c = record {
       rw (
         c.take.ensures.pieces,
         c.requires.idle.no_pieces,
-        c.into_part.ensures,
-        c.of-section.ensures,
-        c.replace.ensures.value,
+        c.replace-part.ensures.value,
       ) c.requires.cell.own.part.pieces in
       subst (λ (ps : List Piece). AllSo c.add_taken.ensures.found.machine ps) pieces c.add_taken.ensures.found.so
       );

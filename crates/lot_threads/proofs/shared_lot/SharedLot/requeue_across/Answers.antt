@@ -24,7 +24,7 @@ requeue_two-taken-requires-clause-validate g c =
     let bucket = c.args.source.now.bucket in
     λ lent is. c.requires.callable.may_choose lent
     (is_section history bucket c.args.from c.requires.source.here lent.now
-    (rw (is, c.of-first.ensures, c.replace.ensures.value) c.requires.source.own.part))
+    (rw (is, c.replace-part.ensures.value) c.requires.source.own.part))
 
 pub requeue_two-taken-requires-clause-callable : goal.requeue_two-taken-requires-clause-callable
 requeue_two-taken-requires-clause-callable g c =
@@ -34,7 +34,7 @@ requeue_two-taken-requires-clause-callable g c =
       may_move = search rules;
       may_call_back = λ goes_on last moved. λ lent is. c.requires.callable.may_call_back chosen.0 lent
           (is_section history bucket c.args.from c.requires.source.here chosen.0.now
-          (rw (chosen.1, c.of-first.ensures, c.replace.ensures.value) c.requires.source.own.part))
+          (rw (chosen.1, c.replace-part.ensures.value) c.requires.source.own.part))
           (is ∙ sym chosen.1) op chosen.2 goes_on (lists_of bucket.nodes c.args.from);
     }
 
@@ -54,8 +54,8 @@ add_requeue-requires-clause-moves g c =
     let told = c.requeue_two-taken.ensures.requeued in
     let token = told.called.token in
     let found = c.requeue_two-taken.result.0 in
-    let source_pieces : pieces_in c.into_part.result ≡ lists_in limit source ∷ [] =
-    rw (c.into_part.ensures, c.of-first.ensures, c.replace.ensures.value) c.requires.source.own.part.pieces in
+    let source_pieces : pieces_in c.replace-part.result ≡ lists_in limit source ∷ [] =
+    rw c.replace-part.ensures.value c.requires.source.own.part.pieces in
     subst (λ (pieces : List Piece). Moves bound (λ s a. g.E.Told.said s a × (a ≡ answer.Unpark found))
     (pieces ++ pieces_in c.args.target.now.part) (lists_in own source_new ∷ lists_in own target_new ∷ threads_in taken))
     (sym source_pieces)
@@ -72,8 +72,8 @@ add_requeue-requires-clause-moves g c =
     g.E.Told.said (step.Unpark (op.Requeue from to told.op token)) (answer.Unpark given)
     × (answer.Unpark given ≡ answer.Unpark found)) told.called.results (
       c.requires.said found (step.Unpark (op.Requeue from to told.op token)) (answer.Unpark found) (record {
-        section = c.of-first.result;
-        has = rw (c.of-first.ensures, c.replace.ensures.value) c.requires.source.own.part;
+        section = record { part = c.replace-part.result };
+        has = rw c.replace-part.ensures.value c.requires.source.own.part;
         op = told.op;
         token = token;
         calls = record {
@@ -93,12 +93,10 @@ returns-clause-found g c =
     let source = c.args.source.now.bucket in
     let target = c.args.target.now.bucket in
     let found = c.add_requeue.ensures.found in
-    let pieces : pieces_in c.into_part.result ++ pieces_in c.args.target.now.part
+    let pieces : pieces_in c.replace-part.result ++ pieces_in c.args.target.now.part
     ≡ lists_in (limit_of c.args.self.now) source ∷ lists_in (limit_of c.args.self.now) target ∷ [] =
     rw (
-      c.into_part.ensures,
-      c.of-first.ensures,
-      c.replace.ensures.value,
+      c.replace-part.ensures.value,
       c.requires.source.own.part.pieces,
       c.requires.target.own.part.pieces,
     ) refl in

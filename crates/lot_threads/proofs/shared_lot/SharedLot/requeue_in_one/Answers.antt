@@ -26,7 +26,7 @@ requeue_one-taken-requires-clause-validate g c =
     let bucket = c.args.cell.now.bucket in
     λ lent is. c.requires.callable.may_choose lent
     (is_section history bucket c.args.from c.requires.cell.here lent.now
-    (rw (is, c.of-section.ensures, c.replace.ensures.value) c.requires.cell.own.part))
+    (rw (is, c.replace-part.ensures.value) c.requires.cell.own.part))
 
 pub requeue_one-taken-requires-clause-callable : goal.requeue_one-taken-requires-clause-callable
 requeue_one-taken-requires-clause-callable g c =
@@ -36,7 +36,7 @@ requeue_one-taken-requires-clause-callable g c =
       may_move = search rules;
       may_call_back = λ goes_on last moved. λ lent is. c.requires.callable.may_call_back chosen.0 lent
           (is_section history bucket c.args.from c.requires.cell.here chosen.0.now
-          (rw (chosen.1, c.of-section.ensures, c.replace.ensures.value) c.requires.cell.own.part))
+          (rw (chosen.1, c.replace-part.ensures.value) c.requires.cell.own.part))
           (is ∙ sym chosen.1) op chosen.2 goes_on (lists_of bucket.nodes c.args.from);
     }
 
@@ -56,9 +56,7 @@ add_taken-requires-clause-moves g c =
     rw (
       c.take.ensures.pieces,
       c.requires.idle.no_pieces,
-      c.into_part.ensures,
-      c.of-section.ensures,
-      c.replace.ensures.value,
+      c.replace-part.ensures.value,
     ) c.requires.cell.own.part.pieces in
     subst (λ (pieces : List Piece). Moves bound (λ s a. g.E.Told.said s a × (a ≡ answer.Unpark found)) pieces
     (lists_in (limit_of c.self.inside.history) new ∷ threads_in c.requeue_one-taken.result.1)) (sym pieces)
@@ -73,8 +71,8 @@ add_taken-requires-clause-moves g c =
     g.E.Told.said (step.Unpark (op.Requeue from to told.op token)) (answer.Unpark given)
     × (answer.Unpark given ≡ answer.Unpark found)) told.called.results (
       c.requires.said found (step.Unpark (op.Requeue from to told.op token)) (answer.Unpark found) (record {
-        section = c.of-section.result;
-        has = rw (c.of-section.ensures, c.replace.ensures.value) c.requires.cell.own.part;
+        section = record { part = c.replace-part.result };
+        has = rw c.replace-part.ensures.value c.requires.cell.own.part;
         op = told.op;
         token = token;
         calls = record {
@@ -108,9 +106,7 @@ returns-clause-found g c = record {
       rw (
         c.take.ensures.pieces,
         c.requires.idle.no_pieces,
-        c.into_part.ensures,
-        c.of-section.ensures,
-        c.replace.ensures.value,
+        c.replace-part.ensures.value,
       ) c.requires.cell.own.part.pieces in
       subst (λ (ps : List Piece). AllSo c.add_taken.ensures.found.machine ps) pieces c.add_taken.ensures.found.so
       );
