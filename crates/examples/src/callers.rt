@@ -1,7 +1,6 @@
 //! The callers that the documents of the other crates show, as they stand there.
 
-pub mod answer_text;
-pub mod count_by_four;
+pub mod count_by_two;
 pub mod greatest;
 pub mod hand_back;
 pub mod let_expire;
@@ -9,10 +8,8 @@ pub mod mutex_accounts;
 pub mod open;
 pub mod pass_on;
 pub mod register_and_park;
-pub mod resumed;
 pub mod take_ticket;
 pub mod tell_of_a_trim;
-pub mod unpark_alike;
 pub mod wait;
 pub mod ways_out;
 pub mod word_lock_accounts;

@@ -1,9 +1,9 @@
 //! Tests of `Barrier` and `TitledBarrier`, which upstream does not have.
 
-use crate::stage::{Host, ROOMS, expect, new_lot};
+use crate::stage::{Host, ROOMS, expect, new_lot, new_titled_lot};
 use parking_lot::barrier::{BarrierIn, PartiesIn, PartyIn};
 use parking_lot::phaser::Phaser;
-use parking_lot::{Barrier, Lot, Party, TitledBarrier, TitledLot, TitledParty, WordParker};
+use parking_lot::{Barrier, Lot, Party, TitledBarrier, TitledParty};
 use std::sync::atomic::{AtomicUsize, Ordering};
 use std::thread;
 
@@ -81,8 +81,7 @@ fn meet_in_each_room<R: Host>(rt: &R) {
 }
 
 fn meet_with_title<R: Host>(rt: &R, room: usize) {
-    let lot: TitledLot<WordParker> = TitledLot::new(rt.alloc(), room, 1).expect(rt, "a lot");
-    let made = TitledBarrier::new(rt, rt.alloc(), &lot, PARTIES);
+    let made = TitledBarrier::new(rt, new_titled_lot(rt, room), PARTIES);
     let mut barrier = made.expect(rt, "a barrier");
     let is_well = all_meet_with_title(rt, &mut barrier) == ROUNDS;
     expect(rt, is_well, "one leader each");

@@ -1,7 +1,7 @@
 //! What scripts and tests of each kind of lock share: lots, what a thread holds, and words that
 //! several locks have.
 
-use parking_lot::Lot;
+use parking_lot::{Lot, TitledLot};
 use std::alloc::AllocGlobal;
 use std::ops::Deref;
 use std::process::Abort;
@@ -33,6 +33,11 @@ pub const BETWEEN: usize = usize::MAX;
 /// one would have to be proved to drop each of its parts.
 pub fn new_lot<R: Abort + AllocGlobal>(rt: &R, room: usize) -> &'static Lot {
     Lot::for_ever(rt.alloc(), room).expect(rt, "a lot")
+}
+
+/// The same for titled locks.
+pub fn new_titled_lot<R: Abort + AllocGlobal>(rt: &R, room: usize) -> &'static TitledLot {
+    TitledLot::for_ever(rt.alloc(), room).expect(rt, "a lot")
 }
 
 // An assertion costs a proof a second or more wherever it stands, and a call of this a tenth.

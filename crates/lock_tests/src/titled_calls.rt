@@ -1,9 +1,7 @@
 //! Tests of the calls that a `TitledMutex` has as a `Mutex` has them, and of `TitledCondvar`.
 
-use crate::stage::{Host, ROOM, ROOMS, expect, has, value_in};
-use parking_lot::{
-    Guard, Lens, TitledCondvar, TitledLot, TitledMutex, TitledMutexGuard, WordParker,
-};
+use crate::stage::{Host, ROOM, ROOMS, expect, has, new_titled_lot, value_in};
+use parking_lot::{Guard, Lens, TitledCondvar, TitledLot, TitledMutex, TitledMutexGuard};
 use std::sync::Wait;
 use std::thread;
 use std::time::{Clock, Duration, Instant};
@@ -18,8 +16,6 @@ const MOST: usize = 2;
 const SHORT: u64 = 5;
 
 type OneMutex<'l> = TitledMutex<'l, usize>;
-
-type OneLot = TitledLot<WordParker>;
 
 type Pair = (usize, usize);
 
@@ -68,12 +64,12 @@ fn lends_a_part<R: Host>(rt: &R, mutex: &TitledMutex<'_, Pair>) {
 
 #[test]
 fn a_titled_mutex_lends_its_value(rt: HostRuntime) {
-    let lot = OneLot::new(rt.alloc(), 1, 3).expect(&rt, "a lot");
-    let mutex = TitledMutex::new(&rt, rt.alloc(), &lot, 1usize).expect(&rt, "a mutex");
+    let lot = new_titled_lot(&rt, 1);
+    let mutex = TitledMutex::new(&rt, lot, 1usize).expect(&rt, "a mutex");
     lends_the_value(&rt, &mutex);
     let shown = format!(in rt.alloc(); "{mutex:?}").expect(&rt, "memory");
     expect(&rt, shown.as_str() == "TitledMutex { .. }", "it is shown");
-    let pair = TitledMutex::new(&rt, rt.alloc(), &lot, (1, 2)).expect(&rt, "a mutex");
+    let pair = TitledMutex::new(&rt, lot, (1, 2)).expect(&rt, "a mutex");
     lends_a_part(&rt, &pair);
     let leaked = TitledMutexGuard::leak(mutex.lock(&rt), rt.alloc()).ok();
     expect(&rt, leaked.map(|value| *value) == Some(2), "it is leaked");
@@ -113,16 +109,16 @@ impl Line<'_> {
     }
 }
 
-fn new_condvar<'l, R: Host>(rt: &R, lot: &'l OneLot) -> TitledCondvar<'l> {
-    TitledCondvar::new(rt, rt.alloc(), lot).expect(rt, "a condition variable")
+fn new_condvar<'l, R: Host>(rt: &R, lot: &'l TitledLot) -> TitledCondvar<'l> {
+    TitledCondvar::new(rt, lot).expect(rt, "a condition variable")
 }
 
 fn passes_things<R: Host>(rt: &R, room: usize) {
-    let lot = OneLot::new(rt.alloc(), room, 3).expect(rt, "a lot");
+    let lot = new_titled_lot(rt, room);
     let line = Line {
-        things: TitledMutex::new(rt, rt.alloc(), &lot, 0).expect(rt, "a mutex"),
-        filled: new_condvar(rt, &lot),
-        freed: new_condvar(rt, &lot),
+        things: TitledMutex::new(rt, lot, 0).expect(rt, "a mutex"),
+        filled: new_condvar(rt, lot),
+        freed: new_condvar(rt, lot),
     };
     thread::join(rt, &|| line.fill(rt), &|| line.empty(rt));
     let Line {
@@ -157,9 +153,9 @@ fn times_out<R: Host>(rt: &R, mutex: &OneMutex<'_>, condvar: &TitledCondvar<'_>,
 #[test]
 fn a_wait_with_a_titled_mutex_ends_by_its_time(rt: HostRuntime) {
     for room in ROOMS {
-        let lot = OneLot::new(rt.alloc(), room, 2).expect(&rt, "a lot");
-        let mutex = TitledMutex::new(&rt, rt.alloc(), &lot, 0).expect(&rt, "a mutex");
-        let condvar = new_condvar(&rt, &lot);
+        let lot = new_titled_lot(&rt, room);
+        let mutex = TitledMutex::new(&rt, lot, 0).expect(&rt, "a mutex");
+        let condvar = new_condvar(&rt, lot);
         times_out(&rt, &mutex, &condvar, room);
     }
 }
@@ -181,9 +177,9 @@ fn sets<R: Host>(rt: &R, mutex: &OneMutex<'_>, changed: &TitledCondvar<'_>) -> u
 #[test]
 fn all_who_wait_on_a_titled_condvar_are_notified(rt: HostRuntime) {
     for room in ROOMS {
-        let lot = OneLot::new(rt.alloc(), room, 2).expect(&rt, "a lot");
-        let mutex = TitledMutex::new(&rt, rt.alloc(), &lot, 0).expect(&rt, "a mutex");
-        let changed = new_condvar(&rt, &lot);
+        let lot = new_titled_lot(&rt, room);
+        let mutex = TitledMutex::new(&rt, lot, 0).expect(&rt, "a mutex");
+        let changed = new_condvar(&rt, lot);
         let see = || sees(&rt, &mutex, &changed);
         let two = || thread::join(&rt, &see, &see);
         let (seen, count) = thread::join(&rt, &two, &|| sets(&rt, &mutex, &changed));

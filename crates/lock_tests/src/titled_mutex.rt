@@ -1,7 +1,7 @@
 //! Tests of `TitledMutex`, in lots with room for all that wait, for some and for none.
 
-use crate::stage::{Host, expect, has, value_in};
-use parking_lot::{TitledLot, TitledMutex, WordParker};
+use crate::stage::{Host, expect, has, new_titled_lot, value_in};
+use parking_lot::{LotError, TitledLot, TitledMutex};
 use std::ops::Deref;
 use std::sync::Wait;
 use std::thread;
@@ -13,17 +13,7 @@ const ROUNDS: usize = 300;
 // How long a hurried thread waits, in microseconds.
 const SOON: u64 = 50;
 
-type Lot = TitledLot<WordParker>;
-
 type Total<'l> = TitledMutex<'l, usize>;
-
-// What is done with a mutex, and with its lot, which has one key with a title.
-#[derive(Clone, Copy)]
-enum Deed {
-    Share,
-    Hold,
-    MakeAnother,
-}
 
 // Adds one under the mutex, again and again.
 fn add<R: Wait>(rt: &R, total: &Total<'_>) {
@@ -87,35 +77,30 @@ fn is_held_by_one_guard<R: Host>(rt: &R, mutex: &Total<'_>) {
     );
 }
 
-// Makes a lot with so many places, and a mutex.
-fn do_with_a_mutex<R: Host>(rt: &R, places: usize, deed: Deed) {
-    let lot = Lot::new(rt.alloc(), places, 1).expect(rt, "a lot");
-    let mutex = TitledMutex::new(rt, rt.alloc(), &lot, 0usize).expect(rt, "a mutex");
-    match deed {
-        Deed::Share => add_in_four(rt, &mutex),
-        Deed::Hold => is_held_by_one_guard(rt, &mutex),
-        Deed::MakeAnother => {
-            let second = TitledMutex::new(rt, rt.alloc(), &lot, 0usize);
-            expect(rt, second.is_err(), "its key is dealt");
-        }
-    }
+// A mutex in a lot with so many places.
+fn new_mutex<R: Host>(rt: &R, places: usize) -> Total<'static> {
+    TitledMutex::new(rt, new_titled_lot(rt, places), 0usize).expect(rt, "a mutex")
 }
 
 // Nobody is forgotten, and no addition is lost.
 #[test]
 fn threads_share_a_titled_mutex(rt: HostRuntime) {
     for places in [0, 1, 2, 16] {
-        do_with_a_mutex(&rt, places, Deed::Share);
+        add_in_four(&rt, &new_mutex(&rt, places));
     }
 }
 
 #[test]
 fn a_titled_mutex_is_held_by_one_guard(rt: HostRuntime) {
-    do_with_a_mutex(&rt, 1, Deed::Hold);
+    is_held_by_one_guard(&rt, &new_mutex(&rt, 1));
 }
 
-// A lot deals each of its titled keys once, so it has no more mutexes than those.
 #[test]
-fn a_lot_has_as_many_titled_mutexes_as_keys(rt: HostRuntime) {
-    do_with_a_mutex(&rt, 1, Deed::MakeAnother);
+fn a_titled_lot_has_a_greatest_number_of_threads(rt: HostRuntime) {
+    let refused = TitledLot::new(rt.alloc(), 16_385).err();
+    expect(
+        &rt,
+        refused == Some(LotError::TooManyThreads),
+        "one too many",
+    );
 }

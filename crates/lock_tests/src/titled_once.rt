@@ -1,13 +1,11 @@
 //! Tests of `TitledOnce`, in lots with room for all that wait, for one and for none.
 
-use crate::stage::{Host, ROOMS, expect};
-use parking_lot::{LotError, TitledLot, TitledOnce, WordParker};
+use crate::stage::{Host, ROOMS, expect, new_titled_lot};
+use parking_lot::{TitledLot, TitledOnce};
 use std::sync::Wait;
 use std::sync::atomic::{AtomicUsize, Ordering};
 use std::thread;
 use std::time::Clock;
-
-type Lot = TitledLot<WordParker>;
 
 // What four threads share: the once, and how often a closure has run.
 #[derive(Drop)]
@@ -35,9 +33,9 @@ fn ask_in_four<R: Host>(rt: &R, shared: &Shared<'_>) -> bool {
     one && other
 }
 
-fn runs_once<R: Host>(rt: &R, lot: &Lot) {
+fn runs_once<R: Host>(rt: &R, lot: &TitledLot) {
     let shared = Shared {
-        once: TitledOnce::new(rt, rt.alloc(), lot).expect(rt, "a once"),
+        once: TitledOnce::new(rt, lot).expect(rt, "a once"),
         runs: AtomicUsize::new(0),
     };
     expect(rt, !shared.once.is_completed(), "nobody has begun");
@@ -48,16 +46,9 @@ fn runs_once<R: Host>(rt: &R, lot: &Lot) {
 #[test]
 fn threads_wait_for_the_closure_of_a_titled_once(rt: HostRuntime) {
     for room in ROOMS {
-        let lot = Lot::new(rt.alloc(), room, 20).expect(&rt, "a lot");
+        let lot = new_titled_lot(&rt, room);
         for _ in 0..20u32 {
-            runs_once(&rt, &lot);
+            runs_once(&rt, lot);
         }
     }
-}
-
-#[test]
-fn a_lot_without_keys_makes_no_titled_once(rt: HostRuntime) {
-    let lot = Lot::new(rt.alloc(), 1, 0).expect(&rt, "a lot");
-    let refused = TitledOnce::new(&rt, rt.alloc(), &lot).err();
-    expect(&rt, refused == Some(LotError::Full), "no key is left");
 }

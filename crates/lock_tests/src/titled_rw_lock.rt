@@ -1,9 +1,7 @@
 //! Tests of `TitledRwLock`, in lots with room for all that wait, for one and for none.
 
-use crate::stage::{Host, ROOMS, expect};
-use parking_lot::{
-    LotError, TitledLot, TitledRwLock, TitledRwLockReadGuard, TitledRwLockWriteGuard, WordParker,
-};
+use crate::stage::{Host, ROOMS, expect, new_titled_lot};
+use parking_lot::{TitledLot, TitledRwLock, TitledRwLockReadGuard, TitledRwLockWriteGuard};
 use std::sync::Wait;
 use std::thread;
 use std::time::{Clock, Duration, Instant};
@@ -14,11 +12,6 @@ const ROUNDS: usize = 200;
 // How long a hurried thread waits, in microseconds.
 const SOON: u64 = 50;
 
-// How many keys one such lock takes.
-const KEYS: usize = 3;
-
-type Lot = TitledLot<WordParker>;
-
 // Two numbers that are equal while nobody writes.
 #[derive(Drop)]
 struct Pair {
@@ -28,12 +21,12 @@ struct Pair {
 
 type Lock<'l> = TitledRwLock<'l, Pair>;
 
-fn new_lock<'l, R: Host>(rt: &R, lot: &'l Lot) -> Lock<'l> {
+fn new_lock<'l, R: Host>(rt: &R, lot: &'l TitledLot) -> Lock<'l> {
     let pair = Pair {
         first: 0,
         second: 0,
     };
-    TitledRwLock::new(rt, rt.alloc(), lot, pair).expect(rt, "a lock")
+    TitledRwLock::new(rt, lot, pair).expect(rt, "a lock")
 }
 
 fn soon<R: Clock>(rt: &R) -> Option<Instant> {
@@ -102,8 +95,8 @@ fn take_part_in_four<R: Host>(rt: &R, lock: &Lock<'_>) -> Option<usize> {
 #[test]
 fn threads_read_and_write_under_a_titled_lock(rt: HostRuntime) {
     for room in ROOMS {
-        let lot = Lot::new(rt.alloc(), room, KEYS).expect(&rt, "a lot");
-        let lock = new_lock(&rt, &lot);
+        let lot = new_titled_lot(&rt, room);
+        let lock = new_lock(&rt, lot);
         let wrote = take_part_in_four(&rt, &lock);
         let pair = lock.into_inner();
         expect(
@@ -167,8 +160,8 @@ fn a_writer_is_alone<R: Host>(rt: &R, lock: &Lock<'_>) {
 #[test]
 fn a_titled_lock_is_read_by_many_or_written_by_one(rt: HostRuntime) {
     for room in ROOMS {
-        let lot = Lot::new(rt.alloc(), room, KEYS).expect(&rt, "a lot");
-        let mut lock = new_lock(&rt, &lot);
+        let lot = new_titled_lot(&rt, room);
+        let mut lock = new_lock(&rt, lot);
         readers_share_it(&rt, &lock);
         a_writer_is_alone(&rt, &lock);
         lock.get_mut().second = 8;
@@ -180,18 +173,5 @@ fn a_titled_lock_is_read_by_many_or_written_by_one(rt: HostRuntime) {
             "it is locked for writing",
         );
         expect(&rt, (pair.first, pair.second) == (7, 8), "what was written");
-    }
-}
-
-#[test]
-fn a_titled_lock_wants_three_keys(rt: HostRuntime) {
-    for keys in 0..KEYS {
-        let lot = Lot::new(rt.alloc(), 1, keys).expect(&rt, "a lot");
-        let refused = TitledRwLock::new(&rt, rt.alloc(), &lot, 0u32).err();
-        expect(
-            &rt,
-            refused == Some(LotError::Full),
-            "too few keys are left",
-        );
     }
 }

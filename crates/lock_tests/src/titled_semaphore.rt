@@ -1,6 +1,7 @@
 //! Tests of `TitledSemaphore`, in lots with room for all that wait, for some and for none.
 
-use parking_lot::{TitledLot, TitledSemaphore, WordParker};
+use crate::stage::new_titled_lot;
+use parking_lot::TitledSemaphore;
 use std::alloc::AllocGlobal;
 use std::process::Abort;
 use std::sync::Wait;
@@ -16,8 +17,6 @@ const ROUNDS: usize = 300;
 const SOON: u64 = 50;
 
 const PERMITS: u32 = 2;
-
-type Lot = TitledLot<WordParker>;
 
 // What four threads share: the semaphore, and how many of them have a permit.
 #[derive(Drop)]
@@ -55,8 +54,8 @@ fn take_permits_in_four<R: Abort + AllocGlobal + Wait + Clock + Threads + Sync>(
     rt: &R,
     places: usize,
 ) {
-    let lot = Lot::new(rt.alloc(), places, 1).expect(rt, "a lot");
-    let semaphore = TitledSemaphore::new(rt, rt.alloc(), &lot, PERMITS).expect(rt, "a semaphore");
+    let lot = new_titled_lot(rt, places);
+    let semaphore = TitledSemaphore::new(rt, lot, PERMITS).expect(rt, "a semaphore");
     let shared = Shared {
         semaphore,
         inside: AtomicUsize::new(0),
@@ -84,8 +83,8 @@ fn threads_share_the_permits_of_a_titled_semaphore(rt: HostRuntime) {
 
 #[test]
 fn permits_of_a_titled_semaphore_go_and_come_back(rt: HostRuntime) {
-    let lot = Lot::new(rt.alloc(), 1, 1).expect(&rt, "a lot");
-    let semaphore = TitledSemaphore::new(&rt, rt.alloc(), &lot, PERMITS).expect(&rt, "a semaphore");
+    let lot = new_titled_lot(&rt, 1);
+    let semaphore = TitledSemaphore::new(&rt, lot, PERMITS).expect(&rt, "a semaphore");
     let soon = Duration::from_micros(SOON);
     let first = semaphore.acquire(&rt);
     assert_eq!(&rt; semaphore.available_permits(), 1);

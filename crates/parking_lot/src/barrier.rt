@@ -22,8 +22,8 @@ ghost use Rattle.parking_lot.specs.Locks.{barrier_of, left_of, parties_of};
 use crate::lot::Lot;
 use crate::phaser::titled::TitledPhaser;
 use crate::phaser::{Phaser, PlainPhaser};
-use lot_threads::{LotError, NoMemory, TitledLot, WordParker};
-use std::alloc::Global;
+use crate::titled_lot::TitledLot;
+use lot_threads::NoMemory;
 use std::fmt;
 use std::fmt::{Debug, Formatter};
 use std::sync::Wait;
@@ -120,18 +120,16 @@ impl<'l> TitledBarrier<'l> {
     ///
     /// # Errors
     ///
-    /// Returns `Full` if all keys of the lot that have titles are dealt, and `NoMemory` if there is
-    /// not enough memory.
+    /// Returns `NoMemory` if there is not enough memory.
     pub fn new<R: Wait>(
         rt: &R,
-        alloc: Global,
-        lot: &'l TitledLot<WordParker>,
+        lot: &'l TitledLot,
         parties: usize,
-    ) -> Result<TitledBarrier<'l>, LotError>
+    ) -> Result<TitledBarrier<'l>, NoMemory>
         ensures { IfOk result (λ barrier. parties_of barrier ≡ parties) }
     {
         Ok(BarrierIn {
-            phaser: TitledPhaser::new(rt, alloc, lot)?,
+            phaser: TitledPhaser::new(rt, lot)?,
             parties,
             here: AtomicUsize::new(0),
         })

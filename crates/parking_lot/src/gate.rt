@@ -39,8 +39,9 @@ mod waiting;
 
 use crate::lot::{is_past, stand_back};
 use crate::queue_title::QueueTitle;
+use crate::titled_lot::{Queues, TitledLot};
 use lock_words::stock::{Hand, Stock, Supply};
-use lot_threads::{LotError, TitledLot, WordParker};
+use lot_threads::NoMemory;
 use std::alloc::Global;
 use std::sync::Wait;
 use std::time::{Clock, Instant};
@@ -49,7 +50,7 @@ use std::time::{Clock, Instant};
 /// deals each gate a key.
 #[derive(Drop)]
 pub struct Gate<'l, T: Drop> {
-    lot: &'l TitledLot<WordParker>,
+    lot: &'l Queues,
     pub(crate) stock: Stock<T, QueueTitle>,
     key: usize,
     alloc: Global,
@@ -64,16 +65,16 @@ impl<'l, T: Drop> Gate<'l, T> {
     ///
     /// # Errors
     ///
-    /// Returns `Full` if all keys of the lot that have titles are dealt, and `NoMemory` if there is
-    /// not enough memory.
+    /// Returns `NoMemory` if there is not enough memory.
     pub(crate) fn new<R: Wait>(
         rt: &R,
-        alloc: Global,
-        lot: &'l TitledLot<WordParker>,
+        lot: &'l TitledLot,
         permits: u32,
-    ) -> Result<Gate<'l, T>, LotError>
+    ) -> Result<Gate<'l, T>, NoMemory>
         ensures { IfOk result (λ gate. (supply_of gate.stock).guards ≡ false) }
     {
+        let alloc = lot.alloc();
+        let lot = lot.queues();
         let (title, queue) = QueueTitle::deal(rt, lot)?;
         let key = queue.key;
         let supply = Supply {
@@ -99,12 +100,13 @@ impl<'l, T: Drop> Gate<'l, T> {
     /// Returns the errors of `new`. The value is dropped then.
     pub(crate) fn guarding<R: Wait>(
         rt: &R,
-        alloc: Global,
-        lot: &'l TitledLot<WordParker>,
+        lot: &'l TitledLot,
         value: Box<T>,
-    ) -> Result<Gate<'l, T>, LotError>
+    ) -> Result<Gate<'l, T>, NoMemory>
         ensures { IfOk result (λ gate. (supply_of gate.stock).guards ≡ true) }
     {
+        let alloc = lot.alloc();
+        let lot = lot.queues();
         let (title, queue) = QueueTitle::deal(rt, lot)?;
         let key = queue.key;
         let supply = Supply {

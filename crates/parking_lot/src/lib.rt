@@ -1,6 +1,8 @@
 //! This crate has locks around values, with the shape of Rust's `parking_lot`.
 //!
-//! A program makes one `Lot`, in which threads wait, and creates each lock with it:
+//! A program makes one `Lot`, in which threads wait, and creates each lock with it. Titled locks are
+//! created with a `TitledLot`, and their docs say what is proved of them. Here a thread takes a seat
+//! under a mutex:
 //!
 //! ```
 //! /// Takes a seat, and returns whether one was free.
@@ -34,7 +36,8 @@
 //! adds in what way they work differently.
 //!
 //! - `Lot`: upstream has one lot for the whole program, which is created at its first use.
-//! - Every `new` of a lock takes the lot and returns a `Result`. Upstream's are `const fn`.
+//! - Every `new` of a lock takes the lot and returns a `Result`, and that of a titled lock takes the
+//!   runtime too. Upstream's are `const fn`.
 //! - `Mutex`: upstream's is one byte beside the value. A lock finds the lot by itself, and an
 //!   unlock is fair about every half millisecond. A thread that waits reads the byte ten times
 //!   before it parks. Here a thread can only try to lock. A try is an exchange, which takes the
@@ -97,6 +100,7 @@ pub mod reentrant_mutex;
 pub mod rw_lock;
 pub mod semaphore;
 pub mod titled_condvar;
+pub mod titled_lot;
 pub mod titled_mutex;
 pub mod titled_rw_lock;
 pub mod titled_semaphore;
@@ -111,7 +115,7 @@ pub use lazy_lock::LazyLock;
 pub use lens::{Lens, MappedGuard};
 pub use lock_words::{phases, stock};
 pub use lot::Lot;
-pub use lot_threads::{LotError, NoMemory, TitledLot, WordParker};
+pub use lot_threads::{LotError, NoMemory};
 pub use mutex::{FairMutex, FairMutexGuard, Mutex, MutexGuard};
 pub use once::{Begun, Once, TitledOnce};
 pub use once_lock::OnceLock;
@@ -119,6 +123,7 @@ pub use reentrant_mutex::{Owner, ReentrantMutex, ReentrantMutexGuard};
 pub use rw_lock::{RwLock, RwLockReadGuard, RwLockUpgradableReadGuard, RwLockWriteGuard};
 pub use semaphore::{Semaphore, SemaphorePermit};
 pub use titled_condvar::TitledCondvar;
+pub use titled_lot::TitledLot;
 pub use titled_mutex::{TitledLocked, TitledMutex, TitledMutexGuard};
 pub use titled_rw_lock::{
     TitledReadLocked, TitledRwLock, TitledRwLockReadGuard, TitledRwLockWriteGuard,

@@ -21,7 +21,8 @@ const UNNUMBERED: u64 = 0;
 
 /// In a `Lot`, threads wait for the locks that were created with it.
 ///
-/// A program makes one and creates each lock with it. Each lock has keys of its own in the lot.
+/// A program makes one and creates each lock with it, but for the titled locks, which are created
+/// with a `TitledLot`. Each lock has keys of its own in the lot.
 ///
 /// Only a fixed number of threads can wait in it at the same time, whichever of its locks they wait
 /// for. Threads that need not wait do not count. A thread that finds the lot full yields the

@@ -19,10 +19,10 @@ ghost use Rattle.parking_lot.specs.Onces.{IsBegunOf};
 use crate::lot::Lot;
 use crate::phaser::titled::TitledPhaser;
 use crate::phaser::{Phaser, PlainPhaser};
+use crate::titled_lot::TitledLot;
 use lock_words::beginning::Beginning;
 pub use lock_words::beginning::{AtMostOne, Begun, onces_begin_once};
-use lot_threads::{LotError, NoMemory, TitledLot, WordParker};
-use std::alloc::Global;
+use lot_threads::NoMemory;
 use std::fmt;
 use std::fmt::{Debug, Formatter};
 use std::sync::Wait;
@@ -78,16 +78,11 @@ impl<'l> TitledOnce<'l> {
     ///
     /// # Errors
     ///
-    /// Returns `Full` if all keys of the lot that have titles are dealt, and `NoMemory` if there is
-    /// not enough memory.
-    pub fn new<R: Wait>(
-        rt: &R,
-        alloc: Global,
-        lot: &'l TitledLot<WordParker>,
-    ) -> Result<TitledOnce<'l>, LotError> {
-        let beginning = Beginning::new(alloc)?;
+    /// Returns `NoMemory` if there is not enough memory.
+    pub fn new<R: Wait>(rt: &R, lot: &'l TitledLot) -> Result<TitledOnce<'l>, NoMemory> {
+        let beginning = Beginning::new(lot.alloc())?;
         Ok(OnceIn {
-            phaser: TitledPhaser::new(rt, alloc, lot)?,
+            phaser: TitledPhaser::new(rt, lot)?,
             beginning,
         })
     }

@@ -4,8 +4,9 @@ ghost use Rattle.std.specs.Prelude.{◌≡◌, [], IfOk};
 ghost use Rattle.lot_threads.specs.Titled.{told_by};
 ghost use Rattle.parking_lot.specs.Queues.{FitsQueue, IsQueueOf};
 
+use crate::titled_lot::Queues;
 use lock_words::stock::Tells;
-use lot_threads::{LotError, Title, TitledLot, Witness, WordParker};
+use lot_threads::{NoMemory, Title, Witness};
 use std::sync::Wait;
 
 /// In proofs, a `QueueKey` names the key and the lot of a title. Nothing reads its lot.
@@ -34,16 +35,14 @@ impl QueueTitle {
     ///
     /// # Errors
     ///
-    /// Returns `Full` if all keys of the lot that have titles are dealt.
-    pub(crate) fn deal<R: Wait>(
-        rt: &R,
-        lot: &TitledLot<WordParker>,
-    ) -> Result<(QueueTitle, QueueKey), LotError>
+    /// Returns `NoMemory` if all keys of the lot are dealt, which are more than a program has memory
+    /// for.
+    pub(crate) fn deal<R: Wait>(rt: &R, lot: &Queues) -> Result<(QueueTitle, QueueKey), NoMemory>
         ensures queue { IfOk result (λ dealt. IsQueueOf lot.now dealt.1.key dealt.1) }
         ensures fits { IfOk result (λ dealt. FitsQueue dealt.1 dealt.0.title) }
         ensures nobody { IfOk result (λ dealt. told_by dealt.0.title ≡ []) }
     {
-        let (key, title) = lot.deal(rt).ok_or(LotError::Full)?;
+        let (key, title) = lot.deal(rt).ok_or(NoMemory)?;
         let home = lot.witness();
         Ok((QueueTitle { title }, QueueKey { key, home }))
     }

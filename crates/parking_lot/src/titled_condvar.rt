@@ -34,9 +34,9 @@ use crate::guard::Guard;
 use crate::lot::instant_after;
 use crate::phaser::titled::TitledPhaser;
 use crate::phaser::titled::notify::Ending;
+use crate::titled_lot::TitledLot;
 use crate::titled_mutex::TitledMutexGuard;
-use lot_threads::{LotError, TitledLot, WordParker};
-use std::alloc::Global;
+use lot_threads::NoMemory;
 use std::fmt;
 use std::fmt::{Debug, Formatter};
 use std::sync::Wait;
@@ -64,15 +64,10 @@ impl<'l> TitledCondvar<'l> {
     ///
     /// # Errors
     ///
-    /// Returns `Full` if all keys of the lot that have titles are dealt, and `NoMemory` if there is
-    /// not enough memory.
-    pub fn new<R: Wait>(
-        rt: &R,
-        alloc: Global,
-        lot: &'l TitledLot<WordParker>,
-    ) -> Result<TitledCondvar<'l>, LotError> {
+    /// Returns `NoMemory` if there is not enough memory.
+    pub fn new<R: Wait>(rt: &R, lot: &'l TitledLot) -> Result<TitledCondvar<'l>, NoMemory> {
         Ok(TitledCondvar {
-            phaser: TitledPhaser::new(rt, alloc, lot)?,
+            phaser: TitledPhaser::new(rt, lot)?,
         })
     }
 

@@ -14,8 +14,9 @@ use crate::guard::{Guard, Release};
 use crate::lot::{instant_after, stand_back};
 pub use crate::queue_title::QueueKey;
 use crate::queue_title::QueueTitle;
+use crate::titled_lot::TitledLot;
 use lock_words::stock::{Hand, PERMIT};
-use lot_threads::{LotError, TitledLot, WordParker};
+use lot_threads::NoMemory;
 use std::alloc::Global;
 use std::fmt;
 use std::fmt::{Debug, Formatter};
@@ -86,17 +87,15 @@ impl<'l, T: Drop> TitledMutex<'l, T> {
     ///
     /// # Errors
     ///
-    /// Returns `Full` if all keys of the lot that have titles are dealt, and `NoMemory` if there is
-    /// not enough memory. The value is dropped then.
+    /// Returns `NoMemory` if there is not enough memory. The value is dropped then.
     pub fn new<R: Wait>(
         rt: &R,
-        alloc: Global,
-        lot: &'l TitledLot<WordParker>,
+        lot: &'l TitledLot,
         value: T,
-    ) -> Result<TitledMutex<'l, T>, LotError> {
-        let value = Box::new(alloc, value)?;
+    ) -> Result<TitledMutex<'l, T>, NoMemory> {
+        let value = Box::new(lot.alloc(), value)?;
         Ok(TitledMutex {
-            gate: Gate::guarding(rt, alloc, lot, value)?,
+            gate: Gate::guarding(rt, lot, value)?,
         })
     }
 

@@ -42,10 +42,10 @@ use crate::lot::{instant_after, is_past};
 use crate::phaser::Phaser;
 use crate::phaser::titled::{TitledPhaser, is_open};
 use crate::queue_title::QueueTitle;
+use crate::titled_lot::TitledLot;
 use crate::titled_semaphore::{TitledSemaphore, TitledSemaphorePermit};
 use lock_words::phases::Hand;
-use lot_threads::{LotError, TitledLot, WordParker, thread_yield};
-use std::alloc::Global;
+use lot_threads::{NoMemory, thread_yield};
 use std::fmt::{Debug, Formatter};
 use std::sync::Wait;
 use std::time::{Clock, Duration, Instant};
@@ -134,21 +134,19 @@ impl<'l, T> TitledRwLock<'l, T> {
     ///
     /// # Errors
     ///
-    /// Returns `Full` if fewer keys of the lot that have titles are left, and `NoMemory` if there
-    /// is not enough memory. The value is dropped then, and keys that it took are not dealt again.
+    /// Returns `NoMemory` if there is not enough memory. The value is dropped then.
     pub fn new<R: Wait>(
         rt: &R,
-        alloc: Global,
-        lot: &'l TitledLot<WordParker>,
+        lot: &'l TitledLot,
         value: T,
-    ) -> Result<TitledRwLock<'l, T>, LotError>
+    ) -> Result<TitledRwLock<'l, T>, NoMemory>
     where
         T: Drop,
     {
         Ok(TitledRwLock {
-            writing: TitledPhaser::new(rt, alloc, lot)?,
-            leaving: TitledPhaser::new(rt, alloc, lot)?,
-            turn: TitledSemaphore::new(rt, alloc, lot, 1)?,
+            writing: TitledPhaser::new(rt, lot)?,
+            leaving: TitledPhaser::new(rt, lot)?,
+            turn: TitledSemaphore::new(rt, lot, 1)?,
             value: sync::RwLock::new(value),
         })
     }

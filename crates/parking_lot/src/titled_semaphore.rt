@@ -8,9 +8,9 @@ ghost use Rattle.parking_lot.specs.Gates.{Holds, HoldsBare};
 use crate::gate::Gate;
 use crate::lot::instant_after;
 use crate::queue_title::QueueTitle;
+use crate::titled_lot::TitledLot;
 use lock_words::stock::{Hand, PERMIT};
-use lot_threads::{LotError, TitledLot, WordParker};
-use std::alloc::Global;
+use lot_threads::NoMemory;
 use std::sync::Wait;
 use std::time::{Clock, Duration, Instant};
 
@@ -59,16 +59,14 @@ impl<'l> TitledSemaphore<'l> {
     ///
     /// # Errors
     ///
-    /// Returns `Full` if all keys of the lot that have titles are dealt, and `NoMemory` if there is
-    /// not enough memory.
+    /// Returns `NoMemory` if there is not enough memory.
     pub fn new<R: Wait>(
         rt: &R,
-        alloc: Global,
-        lot: &'l TitledLot<WordParker>,
+        lot: &'l TitledLot,
         permits: u32,
-    ) -> Result<TitledSemaphore<'l>, LotError> {
+    ) -> Result<TitledSemaphore<'l>, NoMemory> {
         Ok(TitledSemaphore {
-            gate: Gate::new(rt, alloc, lot, permits)?,
+            gate: Gate::new(rt, lot, permits)?,
         })
     }
 

@@ -4,16 +4,11 @@ use crate::rows::by_turns::count_by_titled_turns;
 use crate::rows::locks::{Tally, time_of_lock, time_of_rw_lock};
 use crate::rows::measure::time_of_counts;
 use crate::rows::row::Row;
-use parking_lot::{
-    TitledCondvar, TitledLot, TitledMutex, TitledRwLock, TitledSemaphore, WordParker,
-};
+use parking_lot::{TitledCondvar, TitledLot, TitledMutex, TitledRwLock, TitledSemaphore};
 use std::alloc::Global;
 use std::sync::Wait;
 use std::thread::Threads;
 use std::time::Clock;
-
-// How many keys the lot has: as many as a read-write lock wants.
-const KEYS: usize = 3;
 
 /// Lets threads use the lock that the row names.
 pub fn time_of<R: Threads + Wait + Clock + Sync>(
@@ -22,43 +17,39 @@ pub fn time_of<R: Threads + Wait + Clock + Sync>(
     deed: &str,
     row: &Row,
 ) -> Option<u64> {
-    let lot = TitledLot::new(alloc, row.threads, KEYS).ok()?;
+    let lot = TitledLot::new(alloc, row.threads).ok()?;
+    time_on(rt, alloc, deed, row, &lot)
+}
+
+fn time_on<R: Threads + Wait + Clock + Sync>(
+    rt: &R,
+    alloc: Global,
+    deed: &str,
+    row: &Row,
+    lot: &TitledLot,
+) -> Option<u64> {
     match deed {
-        "mutex" => time_of_mutex(rt, alloc, row, &lot),
-        "rw_lock" => time_of_titled_rw_lock(rt, alloc, row, &lot),
-        "condvar" => time_of_turns(rt, alloc, row, &lot),
-        _ => time_of_semaphore(rt, alloc, row, &lot),
+        "mutex" => {
+            let mutex = TitledMutex::new(rt, lot, Tally::new()).ok()?;
+            time_of_lock(rt, alloc, row, &mutex)
+        }
+        "rw_lock" => {
+            let lock = TitledRwLock::new(rt, lot, Tally::new()).ok()?;
+            time_of_rw_lock(rt, alloc, row, &lock)
+        }
+        "condvar" => time_of_turns(rt, alloc, row, lot),
+        _ => time_of_semaphore(rt, alloc, row, lot),
     }
-}
-
-fn time_of_mutex<R: Threads + Wait + Clock + Sync>(
-    rt: &R,
-    alloc: Global,
-    row: &Row,
-    lot: &TitledLot<WordParker>,
-) -> Option<u64> {
-    let mutex = TitledMutex::new(rt, alloc, lot, Tally::new()).ok()?;
-    time_of_lock(rt, alloc, row, &mutex)
-}
-
-fn time_of_titled_rw_lock<R: Threads + Wait + Clock + Sync>(
-    rt: &R,
-    alloc: Global,
-    row: &Row,
-    lot: &TitledLot<WordParker>,
-) -> Option<u64> {
-    let lock = TitledRwLock::new(rt, alloc, lot, Tally::new()).ok()?;
-    time_of_rw_lock(rt, alloc, row, &lock)
 }
 
 fn time_of_turns<R: Threads + Wait + Clock + Sync>(
     rt: &R,
     alloc: Global,
     row: &Row,
-    lot: &TitledLot<WordParker>,
+    lot: &TitledLot,
 ) -> Option<u64> {
-    let mutex = TitledMutex::new(rt, alloc, lot, Tally::new()).ok()?;
-    let condvar = TitledCondvar::new(rt, alloc, lot).ok()?;
+    let mutex = TitledMutex::new(rt, lot, Tally::new()).ok()?;
+    let condvar = TitledCondvar::new(rt, lot).ok()?;
     let count = |side: usize| count_by_titled_turns(rt, &mutex, &condvar, side, row.calls);
     time_of_counts(rt, alloc, row, &count)
 }
@@ -67,9 +58,9 @@ fn time_of_semaphore<R: Threads + Wait + Clock + Sync>(
     rt: &R,
     alloc: Global,
     row: &Row,
-    lot: &TitledLot<WordParker>,
+    lot: &TitledLot,
 ) -> Option<u64> {
-    let semaphore = TitledSemaphore::new(rt, alloc, lot, 1).ok()?;
+    let semaphore = TitledSemaphore::new(rt, lot, 1).ok()?;
     let count = |_place: usize| take_permits(rt, &semaphore, row.calls);
     time_of_counts(rt, alloc, row, &count)
 }

@@ -40,10 +40,11 @@ pub(crate) mod notify;
 use super::Phaser;
 use crate::lot::{is_past, stand_back};
 use crate::queue_title::QueueTitle;
+use crate::titled_lot::{Queues, TitledLot};
 use lock_words::phases::{AWAITED, Hand, PHASE, Phases};
 use lot_threads::{
-    DEFAULT_PARK_TOKEN, DEFAULT_UNPARK_TOKEN, Entered, LotError, ThreadData, Title, TitledLot,
-    TitledSection, WordParker,
+    DEFAULT_PARK_TOKEN, DEFAULT_UNPARK_TOKEN, Entered, NoMemory, ThreadData, Title, TitledSection,
+    WordParker,
 };
 use std::alloc::Global;
 use std::sync::Wait;
@@ -52,7 +53,7 @@ use std::time::{Clock, Instant};
 /// A `TitledPhaser` is one whose threads wait in a `TitledLot`, which deals each such phaser a key.
 #[derive(Drop)]
 pub struct TitledPhaser<'l> {
-    lot: &'l TitledLot<WordParker>,
+    lot: &'l Queues,
     phases: Phases<QueueTitle>,
     key: usize,
     alloc: Global,
@@ -87,13 +88,10 @@ impl<'l> TitledPhaser<'l> {
     ///
     /// # Errors
     ///
-    /// Returns `Full` if all keys of the lot that have titles are dealt, and `NoMemory` if there is
-    /// not enough memory. The key is not dealt again then.
-    pub(crate) fn new<R: Wait>(
-        rt: &R,
-        alloc: Global,
-        lot: &'l TitledLot<WordParker>,
-    ) -> Result<TitledPhaser<'l>, LotError> {
+    /// Returns `NoMemory` if there is not enough memory.
+    pub(crate) fn new<R: Wait>(rt: &R, lot: &'l TitledLot) -> Result<TitledPhaser<'l>, NoMemory> {
+        let alloc = lot.alloc();
+        let lot = lot.queues();
         let (title, queue) = QueueTitle::deal(rt, lot)?;
         let key = queue.key;
         let phases = Phases::new(alloc, title, &queue)?;

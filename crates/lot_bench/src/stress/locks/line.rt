@@ -3,14 +3,11 @@
 use super::patience::MOMENT;
 use crate::fault::Fault;
 use crate::threads::sum_of;
-use parking_lot::{LotError, TitledCondvar, TitledLot, TitledMutex, TitledMutexGuard, WordParker};
+use parking_lot::{NoMemory, TitledCondvar, TitledLot, TitledMutex, TitledMutexGuard};
 use std::alloc::Global;
 use std::sync::Wait;
 use std::thread::Threads;
 use std::time::{Clock, Duration};
-
-/// How many keys a line takes.
-pub(super) const KEYS: usize = 3;
 
 // How many things a line has at most, and how many each thread puts or takes.
 const ROOM: usize = 2;
@@ -31,10 +28,10 @@ type Things<'x, 'l, R> = TitledMutexGuard<'x, 'x, 'l, usize, R>;
 pub(super) fn play<R: Threads + Wait + Clock + Sync>(
     rt: &R,
     alloc: Global,
-    lot: &TitledLot<WordParker>,
+    lot: &TitledLot,
     threads: usize,
 ) -> Result<usize, Fault> {
-    let line = Line::new(rt, alloc, lot)?;
+    let line = Line::new(rt, lot)?;
     let pass = |index: usize| line.pass(rt, index);
     let passed = sum_of(rt, alloc, threads, &pass);
     let left = *line.things.lock(rt);
@@ -45,15 +42,11 @@ pub(super) fn play<R: Threads + Wait + Clock + Sync>(
 }
 
 impl<'l> Line<'l> {
-    fn new<R: Wait>(
-        rt: &R,
-        alloc: Global,
-        lot: &'l TitledLot<WordParker>,
-    ) -> Result<Line<'l>, LotError> {
+    fn new<R: Wait>(rt: &R, lot: &'l TitledLot) -> Result<Line<'l>, NoMemory> {
         Ok(Line {
-            things: TitledMutex::new(rt, alloc, lot, 0)?,
-            filled: TitledCondvar::new(rt, alloc, lot)?,
-            freed: TitledCondvar::new(rt, alloc, lot)?,
+            things: TitledMutex::new(rt, lot, 0)?,
+            filled: TitledCondvar::new(rt, lot)?,
+            freed: TitledCondvar::new(rt, lot)?,
         })
     }
 

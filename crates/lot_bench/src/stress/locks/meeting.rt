@@ -5,9 +5,7 @@ use crate::fault::Fault;
 use parking_lot::barrier::{PartiesIn, PartyIn};
 use parking_lot::once::OnceIn;
 use parking_lot::phaser::Phaser;
-use parking_lot::{
-    Barrier, Lot, Once, ReentrantMutex, TitledBarrier, TitledLot, TitledOnce, WordParker,
-};
+use parking_lot::{Barrier, Lot, Once, ReentrantMutex, TitledBarrier, TitledLot, TitledOnce};
 use std::alloc::Global;
 use std::sync::Wait;
 use std::sync::atomic::{AtomicU64, AtomicUsize, Ordering};
@@ -17,9 +15,6 @@ use std::time::Clock;
 
 // How often the threads meet.
 const MEETINGS: usize = 200;
-
-// How many keys have titles: one for each meeting, and one for the barrier.
-const KEYS: usize = 201;
 
 // What the threads share: a `Once` for each meeting, how many of those have run, a count that is
 // not added to in one step, how many threads have led a meeting, and the next thread's seed.
@@ -46,7 +41,7 @@ pub(super) fn play<R: Threads + Wait + Clock + Sync>(
     if seed / 12 % 2 == 0 {
         meet(rt, alloc, &lot, &mutex, threads, seed)
     } else {
-        let titled = TitledLot::new(alloc, places, KEYS)?;
+        let titled = TitledLot::new(alloc, places)?;
         meet_with_titles(rt, alloc, &titled, &mutex, threads, seed)
     }
 }
@@ -74,16 +69,16 @@ fn meet<R: Threads + Wait + Clock + Sync>(
 fn meet_with_titles<R: Threads + Wait + Clock + Sync>(
     rt: &R,
     alloc: Global,
-    lot: &TitledLot<WordParker>,
+    lot: &TitledLot,
     mutex: &ReentrantMutex<'_, AtomicUsize>,
     threads: usize,
     seed: u64,
 ) -> Result<usize, Fault> {
     let mut onces = Vec::with_capacity(alloc, MEETINGS)?;
     for _ in 0..MEETINGS {
-        onces.push(TitledOnce::new(rt, alloc, lot)?)?;
+        onces.push(TitledOnce::new(rt, lot)?)?;
     }
-    let mut barrier = TitledBarrier::new(rt, alloc, lot, threads)?;
+    let mut barrier = TitledBarrier::new(rt, lot, threads)?;
     let meeting = Meeting::new(&onces, mutex, seed);
     let parties = all_of(alloc, barrier.parties())?;
     let take_part = |mut party| meeting.take_part(rt, &mut party);

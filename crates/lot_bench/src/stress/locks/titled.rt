@@ -4,19 +4,13 @@
 use super::line;
 use super::patience::{Patience, count_together};
 use crate::fault::Fault;
-use parking_lot::{
-    TitledLot, TitledMutex, TitledRwLock, TitledRwLockWriteGuard, TitledSemaphore, WordParker,
-};
+use parking_lot::{TitledLot, TitledMutex, TitledRwLock, TitledRwLockWriteGuard, TitledSemaphore};
 use std::alloc::Global;
 use std::sync::Wait;
 use std::sync::atomic::{AtomicUsize, Ordering};
 use std::thread;
 use std::thread::Threads;
 use std::time::Clock;
-
-// How many keys the locks take that threads count with: one the mutex, one the semaphore, and three
-// the read-write lock.
-const KEYS: usize = 5;
 
 /// Lets so many threads count under a new mutex, then with permits of a new semaphore, and then
 /// under a new read-write lock, and pass things on, in a lot with so many places, and answers how
@@ -28,7 +22,7 @@ pub(super) fn play<R: Threads + Wait + Clock + Sync>(
     threads: usize,
     seed: u64,
 ) -> Result<usize, Fault> {
-    let lot = TitledLot::new(alloc, places, KEYS + line::KEYS)?;
+    let lot = TitledLot::new(alloc, places)?;
     let locked = lock(rt, alloc, &lot, threads, seed)?;
     let permitted = acquire(rt, alloc, &lot, threads, seed)?;
     let written = read_and_write(rt, alloc, &lot, threads, seed)?;
@@ -44,11 +38,11 @@ pub(super) fn play<R: Threads + Wait + Clock + Sync>(
 fn lock<R: Threads + Wait + Clock + Sync>(
     rt: &R,
     alloc: Global,
-    lot: &TitledLot<WordParker>,
+    lot: &TitledLot,
     threads: usize,
     seed: u64,
 ) -> Result<usize, Fault> {
-    let total = TitledMutex::new(rt, alloc, lot, 0usize)?;
+    let total = TitledMutex::new(rt, lot, 0usize)?;
     let act = |number: u64, patience: Patience| Some(count_one(
         rt,
         &total,
@@ -91,12 +85,12 @@ fn count_one<R: Wait + Clock>(
 fn acquire<R: Threads + Wait + Clock + Sync>(
     rt: &R,
     alloc: Global,
-    lot: &TitledLot<WordParker>,
+    lot: &TitledLot,
     threads: usize,
     seed: u64,
 ) -> Result<usize, Fault> {
     let permits: u32 = if threads < 8 { 1 } else { 3 };
-    let semaphore = TitledSemaphore::new(rt, alloc, lot, permits)?;
+    let semaphore = TitledSemaphore::new(rt, lot, permits)?;
     let lent = AtomicUsize::new(0);
     let act = |number: u64, patience: Patience| {
         let before = count_lent(rt, &semaphore, &lent, patience, number % 4 == 0);
@@ -137,11 +131,11 @@ fn count_lent<R: Wait + Clock>(
 fn read_and_write<R: Threads + Wait + Clock + Sync>(
     rt: &R,
     alloc: Global,
-    lot: &TitledLot<WordParker>,
+    lot: &TitledLot,
     threads: usize,
     seed: u64,
 ) -> Result<usize, Fault> {
-    let total = TitledRwLock::new(rt, alloc, lot, 0usize)?;
+    let total = TitledRwLock::new(rt, lot, 0usize)?;
     let act = |number: u64, patience: Patience| {
         if number % 3 == 0 {
             count_written(rt, &total, patience)
