@@ -32,6 +32,25 @@ pub(crate) struct Cell {
 #[derive(Drop)]
 pub(crate) struct Slot {
     pub(crate) cell: Option<Cell>,
+
+    // Nobody reads it. The words of the next place's lock lie behind it on the heap, so it keeps the
+    // bucket out of the cache line that callers of the next bucket write.
+    apart: [u64; LINE],
+}
+
+// So many words are a cache line of 64 bytes.
+const LINE: usize = 8;
+
+impl Slot {
+    // The place with this bucket, or without one.
+    fn new(cell: Option<Cell>) -> Slot
+        ensures { result.cell ≡ cell }
+    {
+        Slot {
+            cell,
+            apart: [0; LINE],
+        }
+    }
 }
 
 // Which bucket a lock is around, in a row of how many, and of which lot: keys below the limit have
@@ -200,7 +219,7 @@ pub(crate) fn new_row(
     let mut row = Vec::with_capacity(alloc, size)?;
     for place in 0..size {
         key.place = place;
-        row.push(WordLock::new(alloc, Slot { cell: None }, &key)?)?;
+        row.push(WordLock::new(alloc, Slot::new(None), &key)?)?;
     }
     Ok(row)
 }
@@ -263,5 +282,5 @@ fn new_cell(
     let bucket = Bucket::new(key.place, key.size);
     let part = history.give(me);
     let cell = Some(Cell { bucket, part });
-    WordLock::new(alloc, Slot { cell }, key)
+    WordLock::new(alloc, Slot::new(cell), key)
 }
