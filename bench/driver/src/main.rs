@@ -231,6 +231,15 @@ fn park_with(
 
 // Threads that begin together.
 
+/// Threads that are just started may share a processor while another one is idle. After so long
+/// the system has spread them.
+const UNTIL_SPREAD: Duration = Duration::from_millis(40);
+
+fn run_for(duration: Duration) {
+    let start = Instant::now();
+    while start.elapsed() < duration {}
+}
+
 /// The time from the first start to the last end of so many threads that begin together.
 fn together(threads: usize, work: impl Fn(usize) -> bool + Sync) -> Option<Duration> {
     let barrier = Barrier::new(threads);
@@ -239,6 +248,7 @@ fn together(threads: usize, work: impl Fn(usize) -> bool + Sync) -> Option<Durat
         let handles: Vec<_> = (0..threads)
             .map(|thread| {
                 scope.spawn(move || {
+                    run_for(UNTIL_SPREAD);
                     barrier.wait();
                     let start = Instant::now();
                     let done = work(thread);

@@ -13,6 +13,9 @@ use std::sync::atomic::{AtomicU64, Ordering};
 use std::thread::Threads;
 use std::time::{Clock, Instant};
 
+// The inverse of the factor by which a lot hashes keys: their product is 1.
+const INVERSE: usize = 0xF1DE_83E1_9937_733D;
+
 /// Lets threads do the deed on a new lot, where others are registered too.
 pub fn time_of<P, R>(rt: &R, alloc: Global, deed: &str, row: &Row) -> Option<u64>
 where
@@ -56,6 +59,11 @@ impl Words {
             count: AtomicU64::new(0),
         }
     }
+}
+
+// A key whose bucket is the one at this place of a table of 16.
+fn key_at(place: usize) -> usize {
+    (place << 60).wrapping_mul(INVERSE)
 }
 
 // Registers before all begin and retires after the end, so that neither counts. Nothing says that
@@ -102,6 +110,7 @@ fn act<P: ThreadParkerT, R: Wait + Clock>(
     match deed {
         "unpark" => unparks_nobody(rt, lot, 1, 0, calls),
         "unpark_apart" => unparks_nobody(rt, lot, place.wrapping_add(1), 0, calls),
+        "unpark_near" => unparks_nobody(rt, lot, key_at(place), 0, calls),
         "unpark_keys" => unparks_nobody(rt, lot, 0, 1, calls),
         "park_late" => {
             let past = Instant::now(rt).ok();

@@ -8,6 +8,10 @@ use std::sync::{Barrier, Wait};
 use std::thread::Threads;
 use std::time::{Clock, Instant};
 
+// Threads that are just started may share a processor while another one is idle. After so many
+// nanoseconds the system has spread them.
+const UNTIL_SPREAD: u64 = 40_000_000;
+
 /// How many nanoseconds have passed since the start, if the clock could be read.
 pub fn nanoseconds_since<R: Clock>(rt: &R, start: Option<Instant>) -> Option<u64> {
     u64::try_from(start?.elapsed(rt).ok()?.as_nanos()).ok()
@@ -71,8 +75,9 @@ impl Watch {
         }
     }
 
-    /// Waits until all threads begin the run, and answers when this one does.
+    /// Runs for a while, waits until all threads begin the run, and answers when this one does.
     pub fn begin<R: Wait + Clock>(&self, rt: &R) -> Option<u64> {
+        run_until_spread(rt);
         self.begins.wait(rt);
         nanoseconds_since(rt, self.epoch)
     }
@@ -98,6 +103,18 @@ impl Watch {
         let start = self.start.swap(u64::MAX, Ordering::SeqCst);
         self.end.swap(0, Ordering::SeqCst).checked_sub(start)
     }
+}
+
+// Runs until the system has spread the threads over the processors.
+fn run_until_spread<R: Wait + Clock>(rt: &R) {
+    let start = Instant::now(rt).ok();
+    for _ in rt.forever() {
+        match nanoseconds_since(rt, start) {
+            Some(spent) if spent < UNTIL_SPREAD => (),
+            _ => return,
+        }
+    }
+    unreachable!()
 }
 
 /// Lets all threads act in each run, and answers the median time of a run. `None` says that a

@@ -8,6 +8,7 @@ pub const ROWS: &str = "\
 unpark_one_nobody          lot    unpark        7 1    1     0 1000000 1000000
 unpark_one_two_keys        lot    unpark_apart  7 1    2     0 3000000 3000000
 unpark_one_four_keys       lot    unpark_apart  7 1    4     0 3000000 3000000
+unpark_one_near_keys       lot    unpark_near   7 1    4     0 3000000 3000000
 unpark_one_one_key         lot    unpark        7 1    4     0  300000  300000
 unpark_one_one_key_sixteen lot    unpark        7 1   16     0  300000  300000
 park_invalid               lot    park_invalid  7 1    1     0 1000000 1000000
