@@ -39,7 +39,7 @@ pub(crate) struct Slot {
 }
 
 // So many words are a cache line of 64 bytes.
-const LINE: usize = 8;
+pub(crate) const LINE: usize = 8;
 
 impl Slot {
     // The place with this bucket, or without one.

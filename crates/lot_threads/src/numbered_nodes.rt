@@ -4,6 +4,7 @@ ghost use Rattle.std.specs.Prelude.{◌≡◌, ◌≢◌, ◌↔◌, ◌+◌, �
 ghost use Rattle.lot_base.specs.Node.{fields};
 ghost use Rattle.lot_machine.specs.Numbers.{count_registered, IsLeastUnregistered};
 
+use crate::cell::LINE;
 use lot_base::queue::Node;
 use lot_base::token::{LotError, NoMemory};
 use lot_machine::numbers::{MAX_THREADS, Numbers, Use};
@@ -13,9 +14,9 @@ use std::marker::Model;
 /// The use of each thread number, of which there are at most `MAX_THREADS`, and a node for each,
 /// which lies here while its number is free.
 ///
-/// The nodes are made one after another, with the lot: a registration asks for none, and whoever
-/// walks a queue finds them close together, where nodes that threads make lie each in the heap of
-/// its thread.
+/// The nodes are made with the lot, so a registration asks for none. Between two of them lies a
+/// cache line that nobody reads: each thread writes its own node when it parks, and so does not slow
+/// the others.
 #[derive(Drop)]
 pub struct NumberedNodes {
     numbers: Numbers,
@@ -36,7 +37,7 @@ impl Model for NumberedNodes {
 
 impl NumberedNodes {
     /// So many numbers, none of them registered, and a node for each. It allocates the room for
-    /// all of them, and each node.
+    /// all of them, each node, and a block behind it.
     ///
     /// # Errors
     ///
@@ -96,6 +97,9 @@ impl NumberedNodes {
 #[derive(Drop)]
 struct Places {
     nodes: Vec<Option<Box<Node>>>,
+
+    // A block behind each node on the heap.
+    between: Vec<Box<[u64; LINE]>>,
 }
 
 impl Model for Places {
@@ -114,10 +118,12 @@ impl Places {
         ensures { IfOk result (λ places. places ≡ replicate numbers true) }
     {
         let mut nodes = Vec::with_capacity(alloc, numbers)?;
+        let mut between = Vec::with_capacity(alloc, numbers)?;
         for number in 0..numbers {
             nodes.push(Some(Node::new(alloc, number)?))?;
+            between.push(Box::new(alloc, [0; LINE])?)?;
         }
-        Ok(Places { nodes })
+        Ok(Places { nodes, between })
     }
 
     // Takes the node of the number, which is here.

@@ -125,7 +125,7 @@ impl<P: ThreadParkerT> ParkingLot<P> {
     /// empty.
     ///
     /// It allocates the word of the history, 16 buckets each with a lock, and for each thread
-    /// number its use, a node and a parker.
+    /// number its use, a node, a cache line behind that, and a parker.
     ///
     /// # Errors
     ///
