@@ -25,7 +25,7 @@ const TURNS: usize = 10_000_000;
 
 type Row = (&'static str, fn() -> Option<f64>);
 
-const ROWS: [Row; 56] = [
+const ROWS: [Row; 58] = [
     ("unpark_one_nobody", unpark_one_nobody),
     ("unpark_one_two_keys", || {
         unpark_one_on_each(&KEYS[..2], 3_000_000)
@@ -38,7 +38,9 @@ const ROWS: [Row; 56] = [
         unpark_one_on_each(&[KEYS[0]; 16], 300_000)
     }),
     ("park_invalid", park_invalid),
+    ("park_invalid_four_keys", park_invalid_four_keys),
     ("park_past_deadline", park_past_deadline),
+    ("park_past_deadline_four", park_past_deadline_four),
     ("turns_strict", || median_of(5, turns_strict)),
     ("turns_by_word", || median_of(5, turns_by_word)),
     ("unpark_all_call", || unpark_all_of_them(false)),
@@ -196,19 +198,53 @@ fn park_past_deadline() -> Option<f64> {
     })
 }
 
+/// Four threads, each with a key of its own.
+fn park_invalid_four_keys() -> Option<f64> {
+    let is_valid = AtomicBool::new(hint::black_box(false));
+    park_on_each(&is_valid, None, ParkResult::Invalid)
+}
+
+fn park_past_deadline_four() -> Option<f64> {
+    let is_valid = AtomicBool::new(hint::black_box(true));
+    park_on_each(&is_valid, Some(Instant::now()), ParkResult::TimedOut)
+}
+
+fn park_on_each(
+    is_valid: &AtomicBool,
+    timeout: Option<Instant>,
+    expected: ParkResult,
+) -> Option<f64> {
+    median_of(7, || {
+        let spent = together(KEYS.len(), |thread| {
+            parks_as_expected(KEYS[thread], is_valid, timeout, expected)
+        })?;
+        Some(spent.as_nanos() as f64 / CALLS_ALONE as f64)
+    })
+}
+
 fn cost_of_parks(
     is_valid: &AtomicBool,
     timeout: Option<Instant>,
     expected: ParkResult,
 ) -> Option<f64> {
     let start = Instant::now();
+    let done = parks_as_expected(KEYS[0], is_valid, timeout, expected);
+    let cost = since(start, CALLS_ALONE);
+    done.then_some(cost)
+}
+
+#[inline]
+fn parks_as_expected(
+    key: usize,
+    is_valid: &AtomicBool,
+    timeout: Option<Instant>,
+    expected: ParkResult,
+) -> bool {
     let mut ended = 0;
     for _ in 0..CALLS_ALONE {
-        ended +=
-            u64::from(park_with(KEYS[0], || is_valid.load(SeqCst), || (), timeout) == expected);
+        ended += u64::from(park_with(key, || is_valid.load(SeqCst), || (), timeout) == expected);
     }
-    let cost = since(start, CALLS_ALONE);
-    (ended == CALLS_ALONE).then_some(cost)
+    ended == CALLS_ALONE
 }
 
 fn park_with(

@@ -31,12 +31,13 @@ pub fn unparks_nobody<P: ThreadParkerT, R: Wait>(
     unparked == 0
 }
 
-/// Parks where the validation answers false unless the word is 0. False says that a park did not
+/// Parks on the key, where the validation answers false unless the word is 0. False says that a park did not
 /// end with this result. Its closures are those of no other row, so that the park becomes a part of
 /// the loop, as in a program that parks at one place.
 pub fn parks<P: ThreadParkerT, R: Wait + Clock>(
     rt: &R,
     member: &mut Member<'_, P>,
+    key: usize,
     word: &AtomicU64,
     timeout: Option<Instant>,
     expected: ParkResult,
@@ -46,7 +47,7 @@ pub fn parks<P: ThreadParkerT, R: Wait + Clock>(
     for _ in 0..calls {
         let result = member.park(
             rt,
-            1,
+            key,
             || word.load(Ordering::SeqCst) == 0,
             nothing,
             |_, _| (),

@@ -107,18 +107,19 @@ fn act<P: ThreadParkerT, R: Wait + Clock>(
     is_first: bool,
 ) -> bool {
     let (lot, word) = (member.lot(), &words.word);
+    let own_key = place.wrapping_add(1);
     match deed {
         "unpark" => unparks_nobody(rt, lot, 1, 0, calls),
-        "unpark_apart" => unparks_nobody(rt, lot, place.wrapping_add(1), 0, calls),
+        "unpark_apart" => unparks_nobody(rt, lot, own_key, 0, calls),
         "unpark_near" => unparks_nobody(rt, lot, key_at(place), 0, calls),
         "unpark_keys" => unparks_nobody(rt, lot, 0, 1, calls),
         "park_late" => {
             let past = Instant::now(rt).ok();
-            parks(rt, member, word, past, ParkResult::TimedOut, calls)
+            parks(rt, member, own_key, word, past, ParkResult::TimedOut, calls)
         }
         "park_invalid" => {
             word.store(OVER, Ordering::SeqCst);
-            parks(rt, member, word, None, ParkResult::Invalid, calls)
+            parks(rt, member, own_key, word, None, ParkResult::Invalid, calls)
         }
         "many_keys" => unparks_itself_on_each(rt, member, word, calls),
         "mutex" if is_first => words.mutex.counts(rt, member, &words.count, calls),

@@ -12,7 +12,9 @@ unpark_one_near_keys       lot    unpark_near   7 1    4     0 3000000 3000000
 unpark_one_one_key         lot    unpark        7 1    4     0  300000  300000
 unpark_one_one_key_sixteen lot    unpark        7 1   16     0  300000  300000
 park_invalid               lot    park_invalid  7 1    1     0 1000000 1000000
+park_invalid_four_keys     lot    park_invalid  7 1    4     0 1000000 1000000
 park_past_deadline         lot    park_late     7 1    1     0 1000000 1000000
+park_past_deadline_four    lot    park_late     7 1    4     0 1000000 1000000
 turns_strict               lot    strict        5 1    2     0    1000    1000
 turns_by_word              lot    by_word       5 1    2     0    5000    5000
 unpark_all_call            crowd  call         15 0  100     0       1       1
