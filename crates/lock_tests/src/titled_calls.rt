@@ -173,6 +173,15 @@ fn sets<R: Host>(rt: &R, mutex: &OneMutex<'_>, changed: &TitledCondvar<'_>) -> u
     changed.notify_all(rt)
 }
 
+// Two threads wait, and a third notifies them.
+fn notifies_all<R: Host>(rt: &R, mutex: &OneMutex<'_>, changed: &TitledCondvar<'_>) {
+    let see = || sees(rt, mutex, changed);
+    let two = || thread::join(rt, &see, &see);
+    let (seen, count) = thread::join(rt, &two, &|| sets(rt, mutex, changed));
+    expect(rt, seen == (1, 1) && count <= 2, "both were notified");
+    expect(rt, !changed.notify_one(rt), "nobody waits any more");
+}
+
 // No thread waits for a notify that came after it had begun to wait.
 #[test]
 fn all_who_wait_on_a_titled_condvar_are_notified(rt: HostRuntime) {
@@ -180,12 +189,13 @@ fn all_who_wait_on_a_titled_condvar_are_notified(rt: HostRuntime) {
         let lot = new_titled_lot(&rt, room);
         let mutex = TitledMutex::new(&rt, lot, 0).expect(&rt, "a mutex");
         let changed = new_condvar(&rt, lot);
-        let see = || sees(&rt, &mutex, &changed);
-        let two = || thread::join(&rt, &see, &see);
-        let (seen, count) = thread::join(&rt, &two, &|| sets(&rt, &mutex, &changed));
-        expect(&rt, seen == (1, 1) && count <= 2, "both were notified");
-        expect(&rt, !changed.notify_one(&rt), "nobody waits any more");
-        let shown = format!(in rt.alloc(); "{changed:?}").expect(&rt, "memory");
-        expect(&rt, shown.as_str() == "TitledCondvar { .. }", "it is shown");
+        notifies_all(&rt, &mutex, &changed);
     }
+}
+
+#[test]
+fn a_titled_condvar_is_shown(rt: HostRuntime) {
+    let changed = new_condvar(&rt, new_titled_lot(&rt, 1));
+    let shown = format!(in rt.alloc(); "{changed:?}").expect(&rt, "memory");
+    expect(&rt, shown.as_str() == "TitledCondvar { .. }", "it is shown");
 }
