@@ -22,7 +22,8 @@ use std::time::{Clock, Instant};
 
 impl<T: Drop> Gate<'_, T> {
     // Takes a permit if one is free, and answers whether it did. While the title is out, it looks
-    // again: nobody takes a free permit then.
+    // again: nobody takes a free permit then. After an exchange in vain it stands back too, so that
+    // threads which come together do not take the word from each other all the time.
     #[inline]
     pub(super) fn try_take<R: Wait>(&self, rt: &R, hand: &mut Hand<T, QueueTitle>) -> bool
         requires stock { IsHandOf self.now.stock hand.old }
@@ -36,11 +37,10 @@ impl<T: Drop> Gate<'_, T> {
             if word < PERMIT {
                 return false;
             }
-            if word % PERMIT > TOLD {
-                stand_back();
-            } else if self.stock.acquire(hand, word) {
+            if word % PERMIT <= TOLD && self.stock.acquire(hand, word) {
                 return true;
             }
+            stand_back();
         }
         unreachable!()
     }
