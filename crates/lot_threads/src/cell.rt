@@ -33,8 +33,8 @@ pub(crate) struct Cell {
 pub(crate) struct Slot {
     pub(crate) cell: Option<Cell>,
 
-    // Nobody reads it. The words of the next place's lock lie behind it on the heap, so it keeps the
-    // bucket out of the cache line that callers of the next bucket write.
+    // Nobody reads it. The words of the next place's lock lie behind it on the heap, so it keeps
+    // the bucket out of the cache line that callers of the next bucket write.
     apart: [u64; LINE],
 }
 

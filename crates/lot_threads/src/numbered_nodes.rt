@@ -15,8 +15,8 @@ use std::marker::Model;
 /// which lies here while its number is free.
 ///
 /// The nodes are made with the lot, so a registration asks for none. Between two of them lies a
-/// cache line that nobody reads: each thread writes its own node when it parks, and so does not slow
-/// the others.
+/// cache line that nobody reads. So a thread that writes its own node, as each park does, does not
+/// slow the others.
 #[derive(Drop)]
 pub struct NumberedNodes {
     numbers: Numbers,

@@ -1,8 +1,8 @@
 //! This crate has locks around values, with the shape of Rust's `parking_lot`.
 //!
-//! A program makes one `Lot`, in which threads wait, and creates each lock with it. Titled locks are
-//! created with a `TitledLot`, and their docs say what is proved of them. Here a thread takes a seat
-//! under a mutex:
+//! A program makes one `Lot`, in which threads wait, and creates each lock with it. Titled locks
+//! are created with a `TitledLot`, and their docs say what is proved of them. Here a thread takes a
+//! seat under a mutex:
 //!
 //! ```
 //! /// Takes a seat, and returns whether one was free.
@@ -36,8 +36,8 @@
 //! adds in what way they work differently.
 //!
 //! - `Lot`: upstream has one lot for the whole program, which is created at its first use.
-//! - Every `new` of a lock takes the lot and returns a `Result`, and that of a titled lock takes the
-//!   runtime too. Upstream's are `const fn`.
+//! - Every `new` of a lock takes the lot and returns a `Result`, and that of a titled lock takes
+//!   the runtime too. Upstream's are `const fn`.
 //! - `Mutex`: upstream's is one byte beside the value. A lock finds the lot by itself, and an
 //!   unlock is fair about every half millisecond. A thread that waits reads the byte ten times
 //!   before it parks. Here a thread can only try to lock. A try is an exchange, which takes the

@@ -40,8 +40,8 @@ pub struct Lot {
 impl Lot {
     /// Creates a lot in which up to `threads` threads can wait at the same time.
     ///
-    /// It allocates a node, a cache line behind that and a parker for each of these threads, and the
-    /// first 16 buckets. More buckets are allocated when more threads wait at once.
+    /// It allocates a node, a cache line behind that and a parker for each of these threads, and
+    /// the first 16 buckets. More buckets are allocated when more threads wait at once.
     ///
     /// # Errors
     ///

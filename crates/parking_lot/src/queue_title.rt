@@ -35,8 +35,8 @@ impl QueueTitle {
     ///
     /// # Errors
     ///
-    /// Returns `NoMemory` if all keys of the lot are dealt, which are more than a program has memory
-    /// for.
+    /// Returns `NoMemory` if all keys of the lot are dealt, which are more than a program has
+    /// memory for.
     pub(crate) fn deal<R: Wait>(rt: &R, lot: &Queues) -> Result<(QueueTitle, QueueKey), NoMemory>
         ensures queue { IfOk result (λ dealt. IsQueueOf lot.now dealt.1.key dealt.1) }
         ensures fits { IfOk result (λ dealt. FitsQueue dealt.1 dealt.0.title) }

@@ -31,9 +31,9 @@ pub fn unparks_nobody<P: ThreadParkerT, R: Wait>(
     unparked == 0
 }
 
-/// Parks on the key, where the validation answers false unless the word is 0. False says that a park did not
-/// end with this result. Its closures are those of no other row, so that the park becomes a part of
-/// the loop, as in a program that parks at one place.
+/// Parks on the key, where the validation answers false unless the word is 0. False says that a
+/// park did not end with this result. Its closures are those of no other row, so that the park
+/// becomes a part of the loop, as in a program that parks at one place.
 pub fn parks<P: ThreadParkerT, R: Wait + Clock>(
     rt: &R,
     member: &mut Member<'_, P>,

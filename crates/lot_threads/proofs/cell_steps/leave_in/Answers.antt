@@ -46,8 +46,8 @@ add_timeout-thread-requires-clause-resolve g c =
     let told = c.remove_timed.ensures in
     let removed = c.in-Some.ensures.removed in
     subst (λ (pieces : List Piece). Moves bound (Is (step.Resolve number) (answer.TimedOut key c.in-Some.last))
-    (late_pieces number pieces) (lists_in (limit_of c.args.history.now) new ∷ Thread number status.Running ∷ [])) (sym (ap pieces_in c.replace-part.ensures.value
-    ∙ c.requires.cell.own.part.pieces))
+    (late_pieces number pieces) (lists_in (limit_of c.args.history.now) new ∷ Thread number status.Running ∷ []))
+    (sym (ap pieces_in c.replace-part.ensures.value ∙ c.requires.cell.own.part.pieces))
     (rw (told.place.place, told.place.size, removed.2)
     (leaves_keyed bound (limit_of c.args.history.now) old.size old.place key None c.requires.above c.requires.cell.here
     old.nodes new.nodes (without_first (has_number number) (lists_of old.nodes key)) number
