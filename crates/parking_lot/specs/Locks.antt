@@ -1,6 +1,7 @@
 -- What clauses say of reentrant mutexes and their owners, of permits, of the parties of a barrier,
 -- and of what a wait answers.
 use Rattle.std.specs.Prelude.{ℕ, Bool}
+use Rattle.lock_words.specs.Stock.{supply_of}
 use Rattle.parking_lot.specs.declared.barrier.BarrierIn.{BarrierIn}
 use Rattle.parking_lot.specs.declared.barrier.PartiesIn.{PartiesIn}
 use Rattle.parking_lot.specs.declared.condvar.WaitTimeoutResult.{WaitTimeoutResult}
@@ -9,6 +10,7 @@ use Rattle.parking_lot.specs.declared.reentrant_mutex.Owner.{Owner}
 use Rattle.parking_lot.specs.declared.reentrant_mutex.ReentrantMutex.{ReentrantMutex}
 use Rattle.parking_lot.specs.declared.semaphore.Semaphore.{Semaphore}
 use Rattle.parking_lot.specs.declared.semaphore.SemaphorePermit.{SemaphorePermit}
+use Rattle.parking_lot.specs.declared.titled_semaphore.TitledSemaphore.{TitledSemaphore}
 
 -- the lot of whose reentrant mutexes it is an owner
 abbrev pub lot_of_owner : Owner → Lot
@@ -27,6 +29,10 @@ module _ {R : Type 0} where
   -- the semaphore to which they go back
   abbrev pub semaphore_of : SemaphorePermit R → Semaphore
   semaphore_of permit = permit.semaphore.now
+
+-- how many permits a titled semaphore was made with, free or not
+abbrev pub permits_in : TitledSemaphore → ℕ
+permits_in semaphore = (supply_of semaphore.gate.stock).permits
 
 module _ {P : Type 0} where
   -- how many threads meet at the barrier

@@ -71,7 +71,8 @@ impl<'l, T: Drop> Gate<'l, T> {
         lot: &'l TitledLot,
         permits: u32,
     ) -> Result<Gate<'l, T>, NoMemory>
-        ensures { IfOk result (λ gate. (supply_of gate.stock).guards ≡ false) }
+        ensures bare { IfOk result (λ gate. (supply_of gate.stock).guards ≡ false) }
+        ensures permits { IfOk result (λ gate. (supply_of gate.stock).permits ≡ permits) }
     {
         let alloc = lot.alloc();
         let lot = lot.queues();

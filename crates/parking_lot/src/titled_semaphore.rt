@@ -51,6 +51,9 @@ impl<R: Wait> Drop for TitledSemaphorePermit<'_, '_, '_, R> {
 }
 
 impl<'l> TitledSemaphore<'l> {
+    ghost use Rattle.std.specs.Prelude.{◌≡◌, IfOk};
+    ghost use Rattle.parking_lot.specs.Locks.{permits_in};
+
     /// Creates a semaphore with the given number of permits, all of which are free.
     ///
     /// It takes the next key of the lot, and allocates one block for the word and one for the
@@ -64,7 +67,9 @@ impl<'l> TitledSemaphore<'l> {
         rt: &R,
         lot: &'l TitledLot,
         permits: u32,
-    ) -> Result<TitledSemaphore<'l>, NoMemory> {
+    ) -> Result<TitledSemaphore<'l>, NoMemory>
+        ensures { IfOk result (λ semaphore. permits_in semaphore ≡ permits) }
+    {
         Ok(TitledSemaphore {
             gate: Gate::new(rt, lot, permits)?,
         })
