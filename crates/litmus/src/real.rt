@@ -45,7 +45,7 @@ where
             return Ok(Grade::Unusable);
         }
     };
-    match run_test(rt, rt.alloc(), parsed, rounds, request.effort.most) {
+    match run_test(rt, rt.alloc(), &parsed, rounds, request.effort.most) {
         Ok(grade) => Ok(grade),
         Err(error) => {
             println!(rt; "{file}: {error}")?;
@@ -55,17 +55,18 @@ where
 }
 
 // The test that the text says, with the numbers of the request.
-fn parsed(alloc: Global, request: &Request, text: &str) -> Result<Parsed, ParseError> {
+fn parsed(alloc: Global, request: &Request, text: &str) -> Result<Arc<Parsed, Global>, ParseError> {
     let case = plain_case(alloc, request)?;
     let pairs = case.pairs(alloc)?;
-    parse(alloc, text, pairs.as_slice())
+    let parsed = parse(alloc, text, pairs.as_slice())?;
+    Ok(Arc::new(alloc, parsed)?)
 }
 
 // A search, which looks at no more states than so many, says which outcomes are expected.
 fn run_test<R>(
     rt: &R,
     alloc: Global,
-    parsed: Parsed,
+    parsed: &Arc<Parsed, Global>,
     rounds: u64,
     most: usize,
 ) -> Result<Grade, RunError>
@@ -76,8 +77,7 @@ where
         return Err(RunError::TooManyStates);
     };
     let mut tally = Tally::new(alloc, foreseen.as_slice())?;
-    let parsed = Arc::new(alloc, parsed)?;
-    play_all(rt, alloc, &parsed, rounds, &mut tally)?;
+    play_all(rt, alloc, parsed, rounds, &mut tally)?;
     println!(rt; "{}: {rounds} rounds with each parker", parsed.name)?;
-    Ok(tally.print(rt, &parsed)?)
+    Ok(tally.print(rt, parsed)?)
 }

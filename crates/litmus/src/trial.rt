@@ -63,7 +63,7 @@ pub enum Outcome {
 /// A protocol and what came of it.
 #[derive(Drop)]
 pub struct Trial {
-    pub parsed: Parsed,
+    pub parsed: Box<Parsed>,
     pub outcome: Outcome,
 }
 
@@ -79,7 +79,7 @@ pub fn try_text<W: Watcher>(
     effort: Effort,
     watcher: &mut W,
 ) -> Result<Trial, ParseError> {
-    let mut parsed = parse(alloc, text, numbers)?;
+    let mut parsed = Box::new(alloc, parse(alloc, text, numbers)?)?;
     let outcome = search(alloc, &mut parsed, effort, watcher)?;
     Ok(Trial { parsed, outcome })
 }

@@ -37,7 +37,7 @@ fn tell<R: Eprint>(rt: &R, fault: Fault) -> ExitCode {
     let (what, status) = match fault {
         Fault::UnknownWords => (USAGE, ExitCode::from(USAGE_STATUS)),
         Fault::NoMemory => ("NoMemory", ExitCode::FAILURE),
-        Fault::Wrong(what) => (what, ExitCode::FAILURE),
+        Fault::Wrong(wrong) => (wrong.text(), ExitCode::FAILURE),
     };
     let _ = eprintln!(rt; "{what}");
     status

@@ -16,7 +16,7 @@ mod titled;
 mod turns;
 mod word_mutex;
 
-use crate::fault::Fault;
+use crate::fault::{Fault, Wrong};
 use crate::rows::row::{ROWS, Row, name_of, named};
 use crate::rows::thousand::thousand_threads;
 use lot_threads::WordParker;
@@ -44,7 +44,7 @@ pub fn print_cost<R: Print + Threads + Wait + Clock + Copy + Send + Sync + 'stat
     };
     match cost_of(rt, alloc, subject, deed, &row) {
         Some(cost) => Ok(println!(rt; "{name} {}.{:02}", cost / 100, cost % 100)?),
-        None => Err(Fault::Wrong("the row failed")),
+        None => Err(Fault::Wrong(Wrong::Row)),
     }
 }
 

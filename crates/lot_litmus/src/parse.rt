@@ -9,6 +9,7 @@ mod draft;
 mod effect;
 mod error;
 mod expression;
+mod fault;
 mod flow;
 mod locals;
 mod names;

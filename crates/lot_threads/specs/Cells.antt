@@ -114,6 +114,11 @@ pub record AreRows (home : TableId) (max_threads limit : ℕ) (rows : List Named
   pub count : length rows ≡ 13
   pub each : EachAt (IsSlotAt home max_threads limit) 0 rows
 
+-- the slot of the first row is the one of which this number tells
+abbrev pub IsFirst : ℕ → List Named → Type 0
+IsFirst told [] = ⊥
+IsFirst told (slot ∷ _) = told ≡ slot.id
+
 -- threads that were taken, each with the token that its node has
 abbrev pub thread_taken : NodeFields → Piece
 thread_taken node = Thread node.number (Taken node.unpark_token)

@@ -8,10 +8,10 @@ ghost use Rattle.lot_history.specs.declared.view.Piece.TheVariants.{TitledLists}
 ghost use Rattle.lot_word_lock.specs.WordLock.{key_of};
 ghost use Rattle.lot_threads.specs.Rows.{EachAt, empty_lists, other_pieces};
 ghost use Rattle.lot_threads.specs.Idle.{IsIdle, StaysIdle};
-ghost use Rattle.lot_threads.specs.Cells.{AreRows, FitsCell, IsCellLock, IsRow, home_of};
+ghost use Rattle.lot_threads.specs.Cells.{AreRows, FitsCell, IsCellLock, IsFirst, IsRow, home_of};
 
 use crate::told::refuse_two;
-use boxcar::slot::{OnceSlot, SlotRule};
+use boxcar::slot::{OnceSlot, SlotRule, Written};
 use boxcar::tag::{Names, Tag};
 use lot_base::bucket::Bucket;
 use lot_base::token::NoMemory;
@@ -140,9 +140,12 @@ impl Names<CellKey> for RowTag {
 // The place of a row, which is made where it is first needed, and kept to the lot's end.
 pub(crate) type RowSlot = OnceSlot<Vec<WordLock<Slot>>, OfTag>;
 
-// The places of a new lot's rows, of 16 buckets and of each larger size. The first is made and in
-// use: each of its buckets has its piece, which the witness gives away. `other` is one that has no
-// piece.
+// What shows that a row is made. It has no bytes.
+pub(crate) type MadeRow = Written<Vec<WordLock<Slot>>>;
+
+// The places of a new lot's rows, of 16 buckets and of each larger size, and what shows that the
+// first is made. It is in use: each of its buckets has its piece, which the witness gives away.
+// `other` is one that has no piece.
 pub(crate) fn new_rows(
     alloc: Global,
     history: &History,
@@ -150,7 +153,7 @@ pub(crate) fn new_rows(
     other: &mut Witness,
     max_threads: usize,
     limit: usize,
-) -> Result<Vec<RowSlot>, NoMemory>
+) -> Result<(Vec<RowSlot>, MadeRow), NoMemory>
     requires witness { IsWitnessOf history.now me.old }
     requires other { IsWitnessOf history.now other.old }
     requires max_threads { max_threads ≡ max_threads_of history.now }
@@ -160,18 +163,20 @@ pub(crate) fn new_rows(
     ensures still { IsStill history.now me.old me.new }
     ensures other { IsStill history.now other.old other.new }
     ensures pieces { IfOk result (λ _. pieces_of me.new ≡ other_pieces max_threads limit) }
-    ensures rows { IfOk result (λ rows.
-        AreRows (id_of history.now) max_threads limit rows.items) }
+    ensures rows { IfOk result (λ made.
+        AreRows (id_of history.now) max_threads limit made.0.items) }
+    ensures first { IfOk result (λ made. IsFirst made.1.of made.0.items) }
 {
     let home = history.give(other);
     let size = INITIAL_BUCKETS;
     let first = new_cells(alloc, history, me, size, max_threads, limit, home)?;
     let home = history.give(other);
     let rows = new_slots(alloc, max_threads, limit, home)?;
-    if let Some(slot) = rows.first() {
-        let _ = slot.set(first);
-    }
-    Ok(rows)
+    // The slot is new, so it takes the row.
+    let Ok(made) = rows[0].set_written(first) else {
+        return Err(NoMemory);
+    };
+    Ok((rows, made))
 }
 
 // The places of rows of all sizes, of which none is made.

@@ -74,9 +74,7 @@ impl<'a, P: ThreadParkerT> Section<'a, P> {
         ensures key { result.0.key ≡ key }
     {
         for _ in rt.forever() {
-            if let Some(lock) = lot.lock_of(key)
-                && let Some(opened) = Section::at(rt, lot, lock, key)
-            {
+            if let Some(opened) = Section::at(rt, lot, lot.lock_of(key), key) {
                 return opened;
             }
             lot.wait_for_change(rt);

@@ -20,7 +20,7 @@ mod requeue;
 mod titled;
 mod unpark;
 
-use crate::cell::{MOST_ROWS, RowSlot, Slot, new_rows};
+use crate::cell::{MOST_ROWS, MadeRow, RowSlot, Slot, new_rows};
 use crate::numbered_nodes::NumberedNodes;
 use crate::parker::ThreadParkerT;
 use crate::registry::{Registry, new_registry};
@@ -54,6 +54,8 @@ struct PerThread<P: ThreadParkerT> {
 pub(crate) struct SharedLot<P: ThreadParkerT> {
     history: History,
     rows: Vec<RowSlot>,
+    // Shows that the first row is made.
+    first: MadeRow,
     // The index of the row in use. It may be out of date where it is read, and then the bucket is
     // not there.
     current: AtomicUsize,
@@ -71,7 +73,7 @@ impl<P: ThreadParkerT> Model for SharedLot<P> {
     ghost use Rattle.std.specs.Prelude.{◌≡◌, ◌≤◌, length};
     ghost use Rattle.lot_machine.specs.declared.numbers.TheConstants.{MAX_THREADS};
     ghost use Rattle.lot_history.specs.Witness.{id_of, limit_of, max_threads_of};
-    ghost use Rattle.lot_threads.specs.Cells.{AreRows, IsRegistryLock, home_of};
+    ghost use Rattle.lot_threads.specs.Cells.{AreRows, IsFirst, IsRegistryLock, home_of};
     ghost use Rattle.lot_threads.specs.Rows.{EachAt};
 
     ghost view = { λ lot. lot.history };
@@ -84,7 +86,8 @@ impl<P: ThreadParkerT> Model for SharedLot<P> {
         × (home_of (P.home thread.parker) ≡ id_of lot.history)) 0 lot.threads.items
         × IsRegistryLock (id_of lot.history) (max_threads_of lot.history) lot.registry
         × (max_threads_of lot.history ≤ MAX_THREADS)
-        × (lot.limit ≡ limit_of lot.history) };
+        × (lot.limit ≡ limit_of lot.history)
+        × IsFirst lot.first.of lot.rows.items };
 }
 
 impl<P: ThreadParkerT> SharedLot<P> {
@@ -105,7 +108,7 @@ impl<P: ThreadParkerT> SharedLot<P> {
         let (history, mut me) = History::with_titles(alloc, max_threads, limit)?;
         cut_up(&history, &mut me, max_threads, limit, INITIAL_BUCKETS);
         let mut other = history.tell(&mut me);
-        let rows = new_rows(alloc, &history, &mut me, &mut other, max_threads, limit)?;
+        let (rows, first) = new_rows(alloc, &history, &mut me, &mut other, max_threads, limit)?;
         let undealt = history.give(&mut me);
         let home = history.give(&mut other);
         let threads = new_threads(alloc, &history, max_threads, home)?;
@@ -114,6 +117,7 @@ impl<P: ThreadParkerT> SharedLot<P> {
         let lot = SharedLot {
             history,
             rows,
+            first,
             current: AtomicUsize::new(0),
             threads,
             registry,
@@ -192,30 +196,40 @@ impl<P: ThreadParkerT> SharedLot<P> {
         self.row_slot(index).get()
     }
 
-    // The row that is in use, or was as `current` was read, and its index. It was made before, but
-    // no contract tells so.
+    // The first row, which is made with the lot.
+    #[cold]
+    #[inline(never)]
+    fn first_row(&self) -> &Vec<WordLock<Slot>>
+        ensures { IsRow (id_of self.now) (max_threads_of self.now) (limit_of self.now) 16
+            result.now.items }
+    {
+        self.rows[0].value(&self.first)
+    }
+
+    // The row that is in use, or was as `current` was read, and its index.
     #[inline]
-    pub(super) fn row_in_use(&self) -> Option<(usize, &Vec<WordLock<Slot>>)>
-        ensures below { IfSome result (λ used. used.0 < 13) }
-        ensures row { IfSome result (λ used. IsRow (id_of self.now) (max_threads_of self.now)
-            (limit_of self.now)
-            (2 ^ (used.0 + 4)) used.1.now.items) }
+    pub(super) fn row_in_use(&self) -> (usize, &Vec<WordLock<Slot>>)
+        ensures below { result.0 < 13 }
+        ensures row { IsRow (id_of self.now) (max_threads_of self.now) (limit_of self.now)
+            (2 ^ (result.0 + 4)) result.1.now.items }
     {
         let index = self.current.load(Ordering::SeqCst);
-        if index >= MOST_ROWS {
-            return None;
+        if index < MOST_ROWS
+            && let Some(row) = self.row(index)
+        {
+            return (index, row);
         }
-        Some((index, self.row(index)?))
+        (0, self.first_row())
     }
 
     // The lock of the key's place in the row in use. The place comes from the row's index, since a
     // load of its length would have to come first.
     #[inline]
-    pub(crate) fn lock_of(&self, key: usize) -> Option<&WordLock<Slot>>
-        ensures { IfSome result (λ lock. IsLockFor self.now key lock.now) }
+    pub(crate) fn lock_of(&self, key: usize) -> &WordLock<Slot>
+        ensures { IsLockFor self.now key result.now }
     {
-        let (index, row) = self.row_in_use()?;
-        Some(lock_at(row, place_by_bits(key, index + 4)))
+        let (index, row) = self.row_in_use();
+        lock_at(row, place_by_bits(key, index + 4))
     }
 
     // Waits until the thread that changes the row is done, which has the numbers locked meanwhile.

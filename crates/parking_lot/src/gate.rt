@@ -1,4 +1,4 @@
-//! This module has a gate, which lets as many threads in as it has permits. The titled locks are
+//! This module has a gate, which lets as many threads in as it has permits. Two titled locks are
 //! instances of it: a `TitledSemaphore` has any number of permits, and a `TitledMutex` one, which
 //! guards a value. It is proved of a gate that it loses no permit and forgets no waiting thread.
 //!

@@ -49,7 +49,8 @@ use std::time::{Clock, Duration, Instant};
 /// with several mutexes, which may be of other lots.
 ///
 /// A wait may end without a notify. So call it in a loop that checks the condition, or call
-/// `wait_while`.
+/// `wait_while`. A notify moves nobody to the queue of the mutex, so call it after you unlocked the
+/// mutex.
 #[derive(Drop)]
 pub struct TitledCondvar<'l> {
     phaser: TitledPhaser<'l>,

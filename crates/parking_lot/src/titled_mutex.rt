@@ -82,8 +82,8 @@ impl<'l, T: Drop> TitledMutex<'l, T> {
     /// Creates a mutex that nobody holds, around the given value.
     ///
     /// It takes the next key of the lot, and allocates a block for the value, one for the word and
-    /// one for two slots. No other call allocates, but for the registration of a thread that has to
-    /// wait, which may make the table of the lot larger.
+    /// one for two slots. No other call allocates, but for `leak` and for the registration of a
+    /// thread that has to wait, which may make the table of the lot larger.
     ///
     /// # Errors
     ///
@@ -211,8 +211,9 @@ impl<'a, 'r, 'l, T: Drop, R: Wait> TitledMutexGuard<'a, 'r, 'l, T, R> {
 
     /// Unlocks the mutex if a thread may wait for it, lets others run, and locks it again.
     ///
-    /// The thread that has waited longest is woken. It gets the mutex if it is quicker than this
-    /// one. If nobody waits, the call does nothing.
+    /// The thread that has waited longest is woken. Nothing reserves the mutex for it, as
+    /// `MutexGuard::bump` does, so it gets the mutex only if it is quicker than this one. If nobody
+    /// waits, the call does nothing.
     pub fn bump(guard: Self) -> Self
         ensures { titled_mutex_of result ≡ titled_mutex_of guard.entry }
     {

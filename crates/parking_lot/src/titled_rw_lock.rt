@@ -62,7 +62,8 @@ use std::{fmt, sync};
 /// already reads must not call `read` again. When a writer has finished, all readers that wait are
 /// woken, and the next writer too.
 ///
-/// A write costs two exchanges more than with an `RwLock`. There are no upgradable reads.
+/// A write costs two exchanges more than with an `RwLock`. There are no upgradable or recursive
+/// reads. If a write guard is forgotten by `mem::forget`, nobody can lock again.
 #[derive(Drop)]
 pub struct TitledRwLock<'l, T> {
     writing: TitledPhaser<'l>,
@@ -213,7 +214,10 @@ impl<'l, T> TitledRwLock<'l, T> {
         }
     }
 
-    /// Locks for writing if nobody has the lock; otherwise returns `None` at once.
+    /// Locks for writing if nobody has the lock and no other writer is about to have it; otherwise
+    /// returns `None` at once.
+    ///
+    /// If it fails, it may wake a writer, in a critical section of a key.
     pub fn try_write<'a, 'r, R: Wait>(
         &'a self,
         rt: &'r R,

@@ -18,7 +18,8 @@ use std::time::{Clock, Duration, Instant};
 /// proved that no permit is lost and no thread that waits for one is forgotten.
 ///
 /// Its threads wait in a `TitledLot`, which deals each such semaphore a key. A thread that arrives
-/// may overtake those that wait.
+/// may overtake those that wait. Unlike those of a `Semaphore`, permits are acquired one at a time,
+/// and none is added later.
 ///
 /// If a permit is forgotten by `mem::forget`, nobody can have it again.
 #[derive(Drop)]
@@ -56,8 +57,8 @@ impl<'l> TitledSemaphore<'l> {
 
     /// Creates a semaphore with the given number of permits, all of which are free.
     ///
-    /// It takes the next key of the lot, and allocates one block for the word and one for the
-    /// title. No other call allocates, but for the registration of a thread that has to wait, which
+    /// It takes the next key of the lot, and allocates one block for the word and one for two
+    /// slots. No other call allocates, but for the registration of a thread that has to wait, which
     /// may make the table of the lot larger.
     ///
     /// # Errors

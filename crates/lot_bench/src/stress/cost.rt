@@ -2,7 +2,7 @@
 //! done so often that one which looks at all takes seconds. The processor time is measured from
 //! outside.
 
-use crate::fault::Fault;
+use crate::fault::{Fault, Wrong};
 use lot_simulator::interleaved::{FineAnswer, FineLot, FineStep, run_fine};
 use lot_simulator::lot::Lot;
 use lot_simulator::record::Record;
@@ -153,7 +153,7 @@ fn requeue_all(
         match answers.first() {
             Some(FineAnswer::Answer(Answer::Unpark(result)))
                 if result.requeued_threads == THREADS => {}
-            _ => return Err(Fault::Wrong("how many threads were requeued")),
+            _ => return Err(Fault::Wrong(Wrong::Requeue)),
         }
     }
     Ok(())
@@ -199,6 +199,6 @@ fn fill_journal(recorded: &mut Record) -> Result<(), Fault> {
     if recorded.journal().len() == ENTRIES {
         Ok(())
     } else {
-        Err(Fault::Wrong("how many steps were journalled"))
+        Err(Fault::Wrong(Wrong::Journal))
     }
 }

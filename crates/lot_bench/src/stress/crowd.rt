@@ -3,7 +3,7 @@
 use crate::calls::{
     ALL, park, register, requeue, retire, unpark_all, unpark_first, unpark_through,
 };
-use crate::fault::Fault;
+use crate::fault::{Fault, Wrong};
 use crate::stress::marks;
 use crate::threads::{comes_to, sum_of};
 use lot_threads::{
@@ -81,7 +81,7 @@ where
     let act = |index: usize| crowd.act(rt, index);
     match sum_of(rt, alloc, WAITERS + 1, &act) {
         Some(TOKENS) => Ok(TOKENS),
-        _ => Err(Fault::Wrong("how the parks of many threads ended")),
+        _ => Err(Fault::Wrong(Wrong::ManyParks)),
     }
 }
 

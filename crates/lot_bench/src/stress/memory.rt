@@ -8,7 +8,7 @@
 mod exclusive;
 mod one_thread;
 
-use crate::fault::Fault;
+use crate::fault::{Fault, Wrong};
 use crate::stress::{crowd, locks, word_lock};
 use lot_threads::{MAX_THREADS, ParkingLot, ThreadParkerT};
 use std::alloc::Global;
@@ -75,7 +75,7 @@ impl Scenario {
         };
         match found {
             Some(scenario) => Ok(scenario),
-            None => Err(Fault::Wrong("no scenario of this name")),
+            None => Err(Fault::Wrong(Wrong::UnknownScenario)),
         }
     }
 

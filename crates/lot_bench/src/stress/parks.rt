@@ -4,7 +4,7 @@
 use crate::calls::{
     ALL, Ended, park, register, requeue, retire, unpark_all, unpark_first, unpark_through,
 };
-use crate::fault::Fault;
+use crate::fault::{Fault, Wrong};
 use lot_threads::{
     DEFAULT_PARK_TOKEN, Member, ParkResult, ParkingLot, RequeueOp, ThreadParkerT, UnparkToken,
 };
@@ -26,7 +26,7 @@ pub fn run<P: ThreadParkerT, R: Wait + Clock>(
     if right == count {
         Ok(count)
     } else {
-        Err(Fault::Wrong("the end of a park"))
+        Err(Fault::Wrong(Wrong::Park))
     }
 }
 

@@ -5,7 +5,7 @@ use crate::calls::{
     Entry, park_if, register, register_into, requeue, retire, retire_all_but, unpark_all,
     unpark_first, unpark_through, waiting_on,
 };
-use crate::fault::Fault;
+use crate::fault::{Fault, Wrong};
 use crate::stress::draws::{draw, draw_op, draw_sieve, mixed};
 use crate::threads::{has_lasted, sum_of};
 use lot_threads::{Member, ParkResult, ParkToken, ParkingLot, ThreadParkerT, UnparkToken};
@@ -74,12 +74,12 @@ where
     let act = |index: usize| round.act(rt, index);
     let tokens = sum_of(rt, alloc, THREADS, &act);
     if !nobody_waits(rt, alloc, lot) {
-        return Err(Fault::Wrong("a list after the race"));
+        return Err(Fault::Wrong(Wrong::RaceList));
     }
     match tokens {
         Some(0) => Ok(round.unparked.load(Ordering::SeqCst)),
-        Some(_) => Err(Fault::Wrong("the tokens that were told, beside those handed out")),
-        None => Err(Fault::Wrong("a call that was refused in a race")),
+        Some(_) => Err(Fault::Wrong(Wrong::RaceTokens)),
+        None => Err(Fault::Wrong(Wrong::RaceRefusal)),
     }
 }
 

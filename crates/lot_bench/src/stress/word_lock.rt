@@ -2,7 +2,7 @@
 
 ghost use Rattle.std.specs.Prelude.{⊤};
 
-use crate::fault::Fault;
+use crate::fault::{Fault, Wrong};
 use crate::stress::marks;
 use crate::threads::{comes_to, sum_of};
 use lot_base::word_lock::{Fits, WordLock};
@@ -55,7 +55,7 @@ pub fn count_together<R: Threads + Wait + Clock + Sync>(
     if have_counted && count == locks.wrapping_mul(THREADS) {
         Ok(count)
     } else {
-        Err(Fault::Wrong("the count of the threads that locked"))
+        Err(Fault::Wrong(Wrong::WordLock))
     }
 }
 

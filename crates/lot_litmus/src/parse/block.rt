@@ -1,7 +1,7 @@
 //! Blocks: what is open, and what comes when it is closed.
 
 use super::draft::Label;
-use super::error::Wrong;
+use super::fault::Wrong;
 use super::names::{Meaning, Scope};
 use super::park::Park;
 use super::parser::Parser;

@@ -1,6 +1,7 @@
 //! What comes next in a text.
 
-use super::error::{Fault, ParseError, Wrong, expected, misplaced};
+use super::error::ParseError;
+use super::fault::{Fault, Rule, Syntax, Wrong, expected, misplaced};
 use super::token::{Before, Kind, Token};
 use std::alloc::Global;
 
@@ -43,7 +44,7 @@ impl<'t> Cursor<'t> {
     }
 
     /// The error that the last token breaks this rule.
-    pub(super) fn misplaced(&self, rule: &'static str) -> Wrong {
+    pub(super) fn misplaced(&self, rule: Rule) -> Wrong {
         misplaced(rule).at(self.last())
     }
 
@@ -67,7 +68,7 @@ impl<'t> Cursor<'t> {
         is_next
     }
 
-    pub(super) fn expect(&mut self, text: &str, name: &'static str) -> Result<(), Wrong> {
+    pub(super) fn expect(&mut self, text: &str, name: Syntax) -> Result<(), Wrong> {
         if !self.take(text) {
             return Err(expected(name));
         }
@@ -75,7 +76,7 @@ impl<'t> Cursor<'t> {
     }
 
     pub(super) fn open_brace(&mut self) -> Result<(), Wrong> {
-        self.expect("{", "`{`")
+        self.expect("{", Syntax::Brace)
     }
 
     /// Takes the word and the brace behind it, if the word is next.
@@ -94,7 +95,7 @@ impl<'t> Cursor<'t> {
             return Ok(false);
         }
         if count > 0 {
-            self.expect(",", "`,` or `)`")?;
+            self.expect(",", Syntax::Comma)?;
         }
         Ok(true)
     }
@@ -128,7 +129,7 @@ impl<'t> Cursor<'t> {
     pub(super) fn expect_break(&self) -> Result<(), Wrong> {
         let last = self.token(self.last()).text;
         if self.is_near() && last != "{" && last != "}" {
-            return Err(expected("the end of the statement (a new line, `;` or two blanks)"));
+            return Err(expected(Syntax::End));
         }
         Ok(())
     }

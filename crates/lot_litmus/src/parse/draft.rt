@@ -1,7 +1,7 @@
 //! The code of a thread while it is written.
 
 use super::effect::Effect;
-use super::error::{Fault, Wrong};
+use super::fault::{Counted, Fault, Wrong};
 use super::flow::{Flow, Place};
 use super::locals::{LocalSet, Locals};
 use crate::code::{Code, Instruction, Key, LOCALS, Local, Operand, Operation};
@@ -11,11 +11,11 @@ use std::alloc::Global;
 const JUMPS: usize = 16;
 
 // How many instructions a thread can have.
-const INSTRUCTIONS: usize = 65535;
+pub(super) const INSTRUCTIONS: usize = 65535;
 
 const ZERO: Operand = Operand::Constant(0);
 
-pub(super) const TOO_LONG: Fault = Fault::TooMany(INSTRUCTIONS, "instructions in a thread");
+pub(super) const TOO_LONG: Fault = Fault::TooMany(Counted::Instructions);
 
 /// A place in code, which may be found only later.
 #[derive(Clone, Copy)]
@@ -143,7 +143,7 @@ impl<'t> Draft<'t> {
         match self.locals.take(name) {
             Some(local) => local,
             None => {
-                self.fail(Fault::TooMany(LOCALS, "locals in a thread"));
+                self.fail(Fault::TooMany(Counted::Locals));
                 Local { number: 0 }
             }
         }

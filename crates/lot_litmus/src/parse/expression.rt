@@ -1,6 +1,6 @@
 //! Expressions.
 
-use super::error::{Fault, Wrong, blamed_on, expected};
+use super::fault::{Fault, Rule, Syntax, Wrong, blamed_on, expected};
 use super::names::Meaning;
 use super::parser::Parser;
 use crate::code::{Instruction, Operand, Operation};
@@ -45,8 +45,6 @@ enum Form {
 /// What stands before a value, or between two.
 #[derive(Clone, Copy)]
 pub(super) struct Operator {
-    pub(super) sign: &'static str,
-
     /// How strongly it binds, as in Rust.
     pub(super) strength: u8,
     operation: Operation,
@@ -76,9 +74,8 @@ const STRONGEST: u8 = 8;
 
 impl Operator {
     // One that stands before a value.
-    fn before(sign: &'static str, strength: u8, form: Form) -> Operator {
+    fn before(strength: u8, form: Form) -> Operator {
         Operator {
-            sign,
             strength,
             operation: Operation::Equal,
             form,
@@ -87,17 +84,33 @@ impl Operator {
 
     /// The operator between two values that has this sign.
     pub(super) fn of(text: &str) -> Option<Operator> {
-        for (sign, strength, operation, form) in OPERATORS {
-            if sign == text {
+        for (sign, strength, operation, form) in &OPERATORS {
+            if *sign == text {
                 return Some(Operator {
-                    sign,
-                    strength,
-                    operation,
-                    form,
+                    strength: *strength,
+                    operation: *operation,
+                    form: *form,
                 });
             }
         }
         None
+    }
+
+    /// How a word is compared with a number by one look at it.
+    pub(super) fn looking(self, operand: Operand) -> Option<(Operation, Operand)> {
+        match (self.form, self.operation, operand) {
+            (Form::Comparison, operation, _)
+            | (Form::Number, operation @ (Operation::And | Operation::Or | Operation::Xor), _) => {
+                Some((operation, operand))
+            }
+            // A difference is a byte other than 0 where the word is above the number.
+            (Form::Turned, Operation::Below, _) => Some((Operation::Subtract, operand)),
+            (Form::Turned, _, Operand::Constant(number)) => {
+                let below = number.checked_sub(1)?;
+                Some((Operation::Subtract, Operand::Constant(below)))
+            }
+            _ => None,
+        }
     }
 }
 
@@ -140,7 +153,7 @@ impl<'t> Parser<'t> {
         self.apply(&mut reading, WEAKEST)?;
         match reading.values.pop() {
             Some(value) if reading.waiting.is_empty() => Ok(value.operand),
-            _ => Err(expected("`)` or an operator")),
+            _ => Err(expected(Syntax::Operator)),
         }
     }
 
@@ -149,10 +162,10 @@ impl<'t> Parser<'t> {
         for _ in 0..self.cursor.tokens.len() {
             let token = self.cursor.at;
             let operator = if self.cursor.take("!") {
-                Operator::before("!", STRONGEST, Form::Not)
+                Operator::before(STRONGEST, Form::Not)
             } else if self.cursor.take("(") {
                 reading.open = reading.open.saturating_add(1);
-                Operator::before("(", 0, Form::Nothing)
+                Operator::before(0, Form::Nothing)
             } else {
                 break;
             };
@@ -220,8 +233,7 @@ impl<'t> Parser<'t> {
 
     fn turned(&mut self, value: Value) -> Value {
         if value.sense == Sense::Number && matches!(value.operand, Operand::Constant(_)) {
-            let rule = "`!` is for what is true or not: write 255 - N for bits";
-            self.draft.fail(Fault::Misplaced(rule));
+            self.draft.fail(Fault::Misplaced(Rule::NotForBits));
         }
         let zero = Operand::Constant(0);
         let operand = self.draft.compute(Operation::Equal, value.operand, zero);
@@ -254,9 +266,8 @@ impl<'t> Parser<'t> {
 
     // A number, what is in a local, or what is read of a word.
     fn number(&mut self) -> Result<Operand, Wrong> {
-        const EXPECTED: &str = "a number, a word or a local";
         let token = self.cursor.at;
-        let meaning = self.number_or_meaning(EXPECTED)?;
+        let meaning = self.number_or_meaning(Syntax::Value)?;
         self.cursor.next();
         match meaning {
             Meaning::Number(number) => Ok(Operand::Constant(number)),
@@ -267,7 +278,7 @@ impl<'t> Parser<'t> {
                 self.draft.check()?;
                 Ok(Operand::Local(to))
             }
-            _ => Err(expected(EXPECTED).at(token)),
+            _ => Err(expected(Syntax::Value).at(token)),
         }
     }
 
@@ -277,7 +288,7 @@ impl<'t> Parser<'t> {
         let place = self.draft.len();
         match self.expression()? {
             Operand::Constant(number) if self.draft.len() == place => Ok(number),
-            _ => Err(expected("a number that is known at first").at(token)),
+            _ => Err(expected(Syntax::KnownNumber).at(token)),
         }
     }
 }

@@ -1,7 +1,7 @@
 //! What the names of a text mean.
 
 use super::cursor::Span;
-use super::error::{Fault, Wrong, expected};
+use super::fault::{Fault, Syntax, Wrong, expected};
 use super::token::{Kind, Token};
 use crate::code::{Key, Local, Word};
 use std::alloc::Global;
@@ -111,7 +111,7 @@ impl<'t> Names<'t> {
     }
 
     /// What the token means. Something was expected that has a name.
-    pub(super) fn meaning(&self, token: Token<'t>, what: &'static str) -> Result<Meaning, Wrong> {
+    pub(super) fn meaning(&self, token: Token<'t>, what: Syntax) -> Result<Meaning, Wrong> {
         if token.kind != Kind::Name {
             return Err(expected(what));
         }

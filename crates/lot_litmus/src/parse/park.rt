@@ -2,11 +2,11 @@
 
 use super::block::Block;
 use super::draft::Label;
-use super::error::Wrong;
 use super::expression::Operator;
+use super::fault::{Rule, Wrong};
 use super::names::Meaning;
 use super::parser::Parser;
-use crate::code::{Instruction, Key, Local, Operand, Operation, Timing, Validation};
+use crate::code::{Instruction, Key, Local, Operand, Timing, Validation};
 
 /// A park.
 #[derive(Clone, Copy)]
@@ -27,8 +27,7 @@ impl<'t> Parser<'t> {
     /// The key of a statement that parks or unparks. Within a section no other can begin.
     pub(super) fn begin_section(&mut self) -> Result<Key, Wrong> {
         if self.section().is_some() {
-            let rule = "a bucket is locked here, so nobody can park or unpark";
-            return Err(self.cursor.misplaced(rule));
+            return Err(self.cursor.misplaced(Rule::BucketLocked));
         }
         self.key()
     }
@@ -44,8 +43,7 @@ impl<'t> Parser<'t> {
 
     pub(super) fn park(&mut self) -> Result<(), Wrong> {
         if self.is_before_sleep() {
-            let rule = "a thread that is about to sleep cannot park";
-            return Err(self.cursor.misplaced(rule));
+            return Err(self.cursor.misplaced(Rule::AboutToSleep));
         }
         let key = self.begin_section()?;
         let park = Park {
@@ -113,7 +111,7 @@ impl<'t> Parser<'t> {
             let ends = Operator::of(self.cursor.peek().text).is_none();
             if ends
                 && !self.draft.has_step_from(place)
-                && let Some((operation, operand)) = looking(operator.sign, operand)
+                && let Some((operation, operand)) = operator.looking(operand)
             {
                 return Ok(Some(Validation::Seen {
                     word,
@@ -213,25 +211,5 @@ impl<'t> Parser<'t> {
         self.set_outcome("token", 0);
         self.draft.place(park.end);
         self.end_statement();
-    }
-}
-
-// How a word is compared with a number by one look at it.
-fn looking(sign: &str, operand: Operand) -> Option<(Operation, Operand)> {
-    match (sign, operand) {
-        ("==", _) => Some((Operation::Equal, operand)),
-        ("!=", _) => Some((Operation::Unequal, operand)),
-        ("<", _) => Some((Operation::Below, operand)),
-        ("<=", _) => Some((Operation::AtMost, operand)),
-        ("&", _) => Some((Operation::And, operand)),
-        ("|", _) => Some((Operation::Or, operand)),
-        ("^", _) => Some((Operation::Xor, operand)),
-        // A difference is a byte other than 0 where the word is above the number.
-        (">", _) => Some((Operation::Subtract, operand)),
-        (">=", Operand::Constant(number)) => {
-            let below = number.checked_sub(1)?;
-            Some((Operation::Subtract, Operand::Constant(below)))
-        }
-        _ => None,
     }
 }

@@ -3,7 +3,7 @@
 use super::block::{Block, Open};
 use super::cursor::{Cursor, Span};
 use super::draft::Draft;
-use super::error::{Fault, Wrong, expected, misplaced};
+use super::fault::{Fault, Rule, Syntax, Wrong, expected};
 use super::names::{Meaning, Names};
 use super::parsed::Statement;
 use super::token::Token;
@@ -40,12 +40,12 @@ impl<'t> Parser<'t> {
     }
 
     /// What the next token means. Something was expected that has a name.
-    pub(super) fn meaning(&self, what: &'static str) -> Result<Meaning, Wrong> {
+    pub(super) fn meaning(&self, what: Syntax) -> Result<Meaning, Wrong> {
         self.names.meaning(self.cursor.peek(), what)
     }
 
     /// The same, where a number may stand too.
-    pub(super) fn number_or_meaning(&self, what: &'static str) -> Result<Meaning, Wrong> {
+    pub(super) fn number_or_meaning(&self, what: Syntax) -> Result<Meaning, Wrong> {
         match self.cursor.byte()? {
             Some(number) => Ok(Meaning::Number(number)),
             None => self.meaning(what),
@@ -53,16 +53,16 @@ impl<'t> Parser<'t> {
     }
 
     pub(super) fn word(&mut self) -> Result<Word, Wrong> {
-        let Meaning::Word(word) = self.meaning("a word")? else {
-            return Err(expected("a word"));
+        let Meaning::Word(word) = self.meaning(Syntax::Word)? else {
+            return Err(expected(Syntax::Word));
         };
         self.cursor.next();
         Ok(word)
     }
 
     pub(super) fn key(&mut self) -> Result<Key, Wrong> {
-        let Meaning::Key(key) = self.meaning("a key")? else {
-            return Err(expected("a key"));
+        let Meaning::Key(key) = self.meaning(Syntax::Key)? else {
+            return Err(expected(Syntax::Key));
         };
         self.cursor.next();
         Ok(key)
@@ -129,8 +129,7 @@ impl<'t> Parser<'t> {
             Some(Meaning::Local(local)) => Some(local),
             None => Some(self.declare(name)),
             Some(_) => {
-                let rule = "a name that this statement sets is that of no local";
-                self.draft.fail(Fault::Misplaced(rule));
+                self.draft.fail(Fault::Misplaced(Rule::NoLocal));
                 None
             }
         }

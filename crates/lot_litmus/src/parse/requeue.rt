@@ -2,7 +2,7 @@
 
 use super::block::Block;
 use super::draft::{Draft, Label};
-use super::error::{Wrong, expected};
+use super::fault::{Syntax, Wrong, expected};
 use super::names::moves_number;
 use super::parser::Parser;
 use super::wake::Waking;
@@ -40,7 +40,7 @@ impl<'t> Parser<'t> {
             return Ok(());
         }
         let Some(number) = moves_number(self.cursor.peek().text) else {
-            return Err(expected("`nobody`, `one`, `move_one`, `all`, `one_rest` or `validate {`"));
+            return Err(expected(Syntax::Requeue));
         };
         self.cursor.next();
         requeue.moves = Operand::Constant(number);

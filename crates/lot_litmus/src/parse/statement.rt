@@ -1,22 +1,12 @@
 //! Statements of threads.
 
 use super::block::{Block, Expansion, Loop};
-use super::error::{Fault, Wrong, blamed_on, expected, misplaced};
+use super::fault::{Fault, Rule, Syntax, Wrong, blamed_on, expected, misplaced};
 use super::names::{Macro, Meaning, Scope};
 use super::parsed::Statement;
 use super::parser::Parser;
 use super::token::Kind;
 use crate::code::{Access, Instruction, Key, Operand, Operation, Validation};
-
-// The words that change a word of the test.
-const UPDATES: [(&str, Operation); 6] = [
-    ("swap", Operation::Second),
-    ("add", Operation::Add),
-    ("sub", Operation::Subtract),
-    ("and", Operation::And),
-    ("or", Operation::Or),
-    ("xor", Operation::Xor),
-];
 
 impl<'t> Parser<'t> {
     /// From here on instructions come from the statement that begins with the next token.
@@ -68,7 +58,7 @@ impl<'t> Parser<'t> {
                 self.cursor.next();
                 self.keyword_statement(token.text)
             }
-            _ => Err(expected("a statement")),
+            _ => Err(expected(Syntax::Statement)),
         }
     }
 
@@ -102,7 +92,7 @@ impl<'t> Parser<'t> {
             "filter" => self.filter(),
             "requeue" => self.requeue(),
             "unpark" | "skip" | "stop" => self.decide(word),
-            _ => Err(expected("a statement").at(self.cursor.last())),
+            _ => Err(expected(Syntax::Statement).at(self.cursor.last())),
         }
     }
 
@@ -142,7 +132,7 @@ impl<'t> Parser<'t> {
             },
         ) = self.look_at_word()?
         else {
-            return Err(expected("one word, compared with a number or a local"));
+            return Err(expected(Syntax::Comparison));
         };
         self.draft.release(operand);
         Ok(Instruction::Await {
@@ -187,10 +177,7 @@ impl<'t> Parser<'t> {
                 _ => break,
             }
         }
-        Err(
-            self.cursor
-                .misplaced("this stands in no loop that it could leave"),
-        )
+        Err(self.cursor.misplaced(Rule::NoLoop))
     }
 
     fn return_statement(&mut self) -> Result<(), Wrong> {
@@ -205,29 +192,22 @@ impl<'t> Parser<'t> {
             self.draft.jump(end);
             return Ok(());
         }
-        Err(
-            self.cursor
-                .misplaced("a block that the lot runs cannot be left by `return`"),
-        )
+        Err(self.cursor.misplaced(Rule::LeavesLot))
     }
 }
 
 impl<'t> Parser<'t> {
     // `cas` and the like, if one comes next: the old value, in a temporary.
     fn update(&mut self) -> Result<Option<Operand>, Wrong> {
-        let text = self.cursor.peek().text;
-        if text == "cas" {
-            return Ok(Some(self.compare_exchange()?));
-        }
-        if text == "count" {
-            return Ok(Some(self.count()?));
-        }
-        for (name, operation) in UPDATES {
-            if name == text {
-                return Ok(Some(self.update_by(operation)?));
-            }
-        }
-        Ok(None)
+        let old = match self.cursor.peek().text {
+            "cas" => self.compare_exchange()?,
+            "count" => self.count()?,
+            name => match update_named(name) {
+                Some(operation) => self.update_by(operation)?,
+                None => return Ok(None),
+            },
+        };
+        Ok(Some(old))
     }
 
     fn update_by(&mut self, operation: Operation) -> Result<Operand, Wrong> {
@@ -279,8 +259,7 @@ impl<'t> Parser<'t> {
                 return Ok(self.draft.waiting(key));
             }
         }
-        let rule = "the bucket of this key is not known to be locked here";
-        Err(self.cursor.misplaced(rule))
+        Err(self.cursor.misplaced(Rule::BucketNotLocked))
     }
 
     /// The keys whose buckets are known to be locked here, if buckets are locked.
@@ -302,12 +281,12 @@ impl<'t> Parser<'t> {
         if self.cursor.is("(") {
             return match meaning {
                 Some(Meaning::Macro(called)) => self.call(called, token),
-                _ => Err(expected("a macro").at(token)),
+                _ => Err(expected(Syntax::Macro).at(token)),
             };
         }
-        self.cursor.expect("=", "`=` or `(`")?;
+        self.cursor.expect("=", Syntax::EqualsOrCall)?;
         if let Some(Meaning::Number(_) | Meaning::Key(_) | Meaning::Macro(_)) = meaning {
-            return Err(expected("a word or a local").at(token));
+            return Err(expected(Syntax::WordOrLocal).at(token));
         }
         let operand = match self.update()? {
             Some(old) => old,
@@ -332,7 +311,7 @@ impl<'t> Parser<'t> {
     // Goes on in the text of a macro, of which the name was read.
     fn call(&mut self, called: Macro, token: usize) -> Result<(), Wrong> {
         if self.is_expanding(called.body.from) {
-            return Err(misplaced("a macro cannot call itself").at(token));
+            return Err(misplaced(Rule::CallsItself).at(token));
         }
         let first = self.names.bindings.len();
         self.arguments(called)?;
@@ -389,13 +368,25 @@ impl<'t> Parser<'t> {
     }
 
     fn argument(&mut self) -> Result<Meaning, Wrong> {
-        const EXPECTED: &str = "a word, a key, a local or a number";
-        match self.number_or_meaning(EXPECTED)? {
-            Meaning::Macro(_) => Err(expected(EXPECTED)),
+        match self.number_or_meaning(Syntax::Argument)? {
+            Meaning::Macro(_) => Err(expected(Syntax::Argument)),
             meaning => {
                 self.cursor.next();
                 Ok(meaning)
             }
         }
+    }
+}
+
+// What a statement of this name makes of a word of the test.
+fn update_named(name: &str) -> Option<Operation> {
+    match name {
+        "swap" => Some(Operation::Second),
+        "add" => Some(Operation::Add),
+        "sub" => Some(Operation::Subtract),
+        "and" => Some(Operation::And),
+        "or" => Some(Operation::Or),
+        "xor" => Some(Operation::Xor),
+        _ => None,
     }
 }

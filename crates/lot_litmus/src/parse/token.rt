@@ -1,6 +1,7 @@
 //! The words, numbers and signs of a text.
 
-use super::error::{Fault, ParseError, Problem};
+use super::error::{ParseError, Problem};
+use super::fault::Fault;
 use std::alloc::{AllocError, Global};
 
 /// What a token is.
@@ -130,15 +131,21 @@ impl<'t> Token<'t> {
         let name = String::from_str(alloc, self.text)?;
         let found = self.quoted(alloc)?;
         Ok(match fault {
-            Fault::Expected(expected) => Problem::Expected { expected, found },
+            Fault::Expected(expected) => {
+                let expected = expected.text();
+                Problem::Expected { expected, found }
+            },
             Fault::Unknown => Problem::Unknown { name },
             Fault::Taken => Problem::Taken { name },
             Fault::Character => Problem::Character { character: found },
             Fault::NotAByte => Problem::NotAByte,
-            Fault::TooMany(most, what) => Problem::TooMany { most, what },
+            Fault::TooMany(counted) => {
+                let (most, what) = counted.most();
+                Problem::TooMany { most, what }
+            },
             Fault::Unclosed => Problem::Unclosed,
             Fault::Arguments { wanted, given } => Problem::Arguments { wanted, given },
-            Fault::Misplaced(rule) => Problem::Misplaced { rule },
+            Fault::Misplaced(rule) => Problem::Misplaced { rule: rule.text() },
             Fault::NoMemory => return Err(AllocError),
         })
     }
@@ -275,7 +282,7 @@ fn word_of(word: &str) -> Kind {
 }
 
 fn sign_length(line: &[u8]) -> Option<usize> {
-    for sign in SIGNS {
+    for sign in &SIGNS {
         if line.starts_with(sign.as_bytes()) {
             return Some(sign.len());
         }

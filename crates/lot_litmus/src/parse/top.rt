@@ -2,7 +2,7 @@
 
 use super::cursor::Span;
 use super::draft::{Draft, Finished, TOO_LONG};
-use super::error::{Fault, Wrong, expected, too_many};
+use super::fault::{Counted, Fault, Syntax, Wrong, expected, too_many};
 use super::locals::Locals;
 use super::names::{Macro, Meaning, is_known};
 use super::parsed::{
@@ -14,7 +14,7 @@ use crate::code::{Instruction, KEYS, Key, LOCALS, Operand, Operation, THREADS, W
 use std::mem;
 
 // How many threads a test can have, beside the one that looks at the ends.
-const WORKERS: usize = THREADS - 1;
+pub(super) const WORKERS: usize = THREADS - 1;
 
 // What is said of the ends.
 #[derive(Clone, Copy, PartialEq, Eq)]
@@ -42,10 +42,10 @@ pub(super) struct Reader<'t> {
 impl<'t> Reader<'t> {
     /// Reads the text up to its end.
     pub(super) fn read(&mut self) -> Result<(), Wrong> {
-        self.parser.cursor.expect("test", "`test NAME`")?;
+        self.parser.cursor.expect("test", Syntax::Test)?;
         let name = self.parser.cursor.peek();
         if !matches!(name.kind, Kind::Name | Kind::Keyword) {
-            return Err(expected("a name of the test"));
+            return Err(expected(Syntax::TestName));
         }
         self.parser.cursor.next();
         self.parsed.name = self.string(name.text)?;
@@ -74,15 +74,13 @@ impl<'t> Reader<'t> {
             "never" => self.claim(Claim::Never),
             "exists" => self.look_for(),
             "expect" => self.expect(),
-            _ => Err(expected(
-                "`let`, `word`, `key`, `macro`, `thread`, `forall`, `never`, `exists` or `expect`",
-            )),
+            _ => Err(expected(Syntax::Declaration)),
         }
     }
 }
 
 impl<'t> Parser<'t> {
-    fn any_name(&mut self, what: &'static str) -> Result<&'t str, Wrong> {
+    fn any_name(&mut self, what: Syntax) -> Result<&'t str, Wrong> {
         let token = self.cursor.peek();
         match token.kind {
             Kind::Name if !is_known(token.text) => Ok(self.cursor.next().text),
@@ -92,7 +90,7 @@ impl<'t> Parser<'t> {
     }
 
     // The name that is declared behind the next token.
-    fn new_name(&mut self, what: &'static str) -> Result<&'t str, Wrong> {
+    fn new_name(&mut self, what: Syntax) -> Result<&'t str, Wrong> {
         self.cursor.next();
         let name = self.any_name(what)?;
         if self.names.lookup(name).is_some() {
@@ -102,8 +100,8 @@ impl<'t> Parser<'t> {
     }
 
     fn declare_macro(&mut self) -> Result<(), Wrong> {
-        let name = self.new_name("a name of the macro")?;
-        self.cursor.expect("(", "`(`")?;
+        let name = self.new_name(Syntax::MacroName)?;
+        self.cursor.expect("(", Syntax::Parenthesis)?;
         let first = self.cursor.at;
         let parameters = self.parameters()?;
         let body = self.cursor.skip_block()?;
@@ -123,7 +121,7 @@ impl<'t> Parser<'t> {
                 return Ok(count);
             }
             let to = self.cursor.at;
-            let name = self.any_name("a name of a parameter")?;
+            let name = self.any_name(Syntax::ParameterName)?;
             if self.cursor.has(Span { from, to }, name) {
                 return Err(Fault::Taken.here().at(to));
             }
@@ -134,8 +132,8 @@ impl<'t> Parser<'t> {
 
 impl<'t> Reader<'t> {
     fn let_number(&mut self) -> Result<(), Wrong> {
-        let name = self.parser.new_name("a name of the number")?;
-        self.parser.cursor.expect("=", "`=`")?;
+        let name = self.parser.new_name(Syntax::NumberName)?;
+        self.parser.cursor.expect("=", Syntax::Equals)?;
         let number = self.parser.constant()?;
         let number = self.replaced(name).unwrap_or(number);
         let text = self.string(name)?;
@@ -156,12 +154,12 @@ impl<'t> Reader<'t> {
     }
 
     fn declare_word(&mut self) -> Result<(), Wrong> {
-        let name = self.parser.new_name("a name of the word")?;
+        let name = self.parser.new_name(Syntax::WordName)?;
         let number = self.parsed.words.len();
         if number >= WORDS {
-            return Err(too_many(WORDS, "words").at(self.parser.cursor.last()));
+            return Err(too_many(Counted::Words).at(self.parser.cursor.last()));
         }
-        self.parser.cursor.expect("=", "`=`")?;
+        self.parser.cursor.expect("=", Syntax::Equals)?;
         self.parsed.test.words[number] = self.parser.constant()?;
         let text = self.string(name)?;
         self.parsed.words.push(text)?;
@@ -174,10 +172,10 @@ impl<'t> Reader<'t> {
     }
 
     fn declare_key(&mut self) -> Result<(), Wrong> {
-        let name = self.parser.new_name("a name of the key")?;
+        let name = self.parser.new_name(Syntax::KeyName)?;
         let number = self.parsed.keys.len();
         if number >= KEYS {
-            return Err(too_many(KEYS, "keys").at(self.parser.cursor.last()));
+            return Err(too_many(Counted::Keys).at(self.parser.cursor.last()));
         }
         if self.parser.cursor.take("beside") {
             let other = self.parser.key()?;
@@ -197,7 +195,7 @@ impl<'t> Reader<'t> {
     }
 
     fn declare_thread(&mut self) -> Result<(), Wrong> {
-        let name = self.parser.new_name("a name of the thread")?;
+        let name = self.parser.new_name(Syntax::ThreadName)?;
         let token = self.parser.cursor.last();
         let copies = if self.parser.cursor.take("*") {
             self.parser.constant()?
@@ -206,7 +204,7 @@ impl<'t> Reader<'t> {
         };
         let text = self.parser.cursor.skip_block()?;
         if self.parsed.threads.len().saturating_add(copies as usize) > WORKERS {
-            return Err(too_many(WORKERS, "threads").at(token));
+            return Err(too_many(Counted::Threads).at(token));
         }
         for copy in 0..copies {
             self.parser.begin_thread(text, copy);
@@ -297,7 +295,7 @@ impl<'t> Reader<'t> {
         if self.parser.cursor.take("stuck") {
             return Ok(Verdict::Stuck(self.sleeper()?));
         }
-        Err(expected("`safe`, `stuck` or `fails`"))
+        Err(expected(Syntax::Verdict))
     }
 
     fn sleeper(&mut self) -> Result<Option<Sleeper>, Wrong> {
@@ -309,7 +307,7 @@ impl<'t> Reader<'t> {
             return Err(Fault::Unknown.here());
         }
         self.parser.cursor.next();
-        self.parser.cursor.expect("on", "`on`")?;
+        self.parser.cursor.expect("on", Syntax::On)?;
         let key = self.parser.key()?;
         let thread = self.string(name.text)?;
         Ok(Some(Sleeper { thread, key }))
@@ -326,7 +324,7 @@ impl<'t> Reader<'t> {
 
     fn sizes(&mut self) -> Result<Sizes, Wrong> {
         let name = self.parser.number_name()?;
-        self.parser.cursor.expect("in", "`in`")?;
+        self.parser.cursor.expect("in", Syntax::In)?;
         let mut values = Vec::new(self.parser.alloc);
         for _ in 0..self.parser.cursor.tokens.len() {
             let Some(value) = self.parser.cursor.byte()? else {
@@ -336,7 +334,7 @@ impl<'t> Reader<'t> {
             values.push(value)?;
         }
         if values.is_empty() {
-            return Err(expected("a number"));
+            return Err(expected(Syntax::Number));
         }
         let name = self.string(name)?;
         Ok(Sizes { name, values })
@@ -358,12 +356,11 @@ impl<'t> Parser<'t> {
 
     // Reads the name of a number.
     fn number_name(&mut self) -> Result<&'t str, Wrong> {
-        const EXPECTED: &str = "a number by name";
         let token = self.cursor.at;
-        let name = self.any_name(EXPECTED)?;
+        let name = self.any_name(Syntax::NamedNumber)?;
         match self.names.lookup(name) {
             Some(Meaning::Number(_)) => Ok(name),
-            Some(_) => Err(expected(EXPECTED).at(token)),
+            Some(_) => Err(expected(Syntax::NamedNumber).at(token)),
             None => Err(Fault::Unknown.here().at(token)),
         }
     }

@@ -2,7 +2,7 @@
 
 use super::block::Block;
 use super::draft::Label;
-use super::error::Wrong;
+use super::fault::{Rule, Wrong};
 use super::parser::Parser;
 use super::requeue::Requeue;
 use crate::code::{Instruction, Key, Local, Operand, Operation};
@@ -160,8 +160,7 @@ impl<'t> Parser<'t> {
                 _ => break,
             }
         }
-        let rule = "only the block of a filter decides on waiters";
-        Err(self.cursor.misplaced(rule))
+        Err(self.cursor.misplaced(Rule::OutsideFilter))
     }
 
     fn decide_in(&mut self, filter: Filter, word: &str) {

@@ -97,17 +97,16 @@ impl<P: ThreadParkerT> SharedLot<P> {
     {
         for _ in rt.forever() {
             match self.locks_of(from, to) {
-                Some((source, Some(target))) => {
+                (source, Some(target)) => {
                     if let Some((source, target, licence)) = self.open_both(rt, source, target) {
                         return (source, Some(target), licence);
                     }
                 }
-                Some((source, None)) => {
+                (source, None) => {
                     if let Some((source, licence)) = Section::at(rt, self, source.lock, from) {
                         return (source, None, licence);
                     }
                 }
-                None => {}
             }
             self.wait_for_change(rt);
         }
@@ -174,21 +173,19 @@ impl<P: ThreadParkerT> SharedLot<P> {
     // The lock of the bucket of the key `from`, and that of the key `to` if it is another, in one
     // row.
     #[inline(always)]
-    fn locks_of(&self, from: usize, to: usize) -> Option<(KeyedLock<'_>, Option<KeyedLock<'_>>)>
-        ensures from { IfSome result (λ locks.
-            IsKeyedLock self.now locks.0 × (locks.0.key ≡ from)) }
-        ensures to { IfSome result (λ locks.
-            MatchOption locks.1 (IsLockFor self.now to locks.0.lock.now)
+    fn locks_of(&self, from: usize, to: usize) -> (KeyedLock<'_>, Option<KeyedLock<'_>>)
+        ensures from { IsKeyedLock self.now result.0 × (result.0.key ≡ from) }
+        ensures to { MatchOption result.1 (IsLockFor self.now to result.0.lock.now)
             (λ other. IsKeyedLock self.now other × (other.key ≡ to)
-            × AreApart locks.0.lock.now other.lock.now)) }
+            × AreApart result.0.lock.now other.lock.now) }
     {
-        let (index, row) = self.row_in_use()?;
+        let (index, row) = self.row_in_use();
         let source = place_by_bits(from, index + 4);
         let target = place_by_bits(to, index + 4);
         if source == target {
-            return Some((keyed_at(row, source, from), None));
+            return (keyed_at(row, source, from), None);
         }
-        Some((keyed_at(row, source, from), Some(keyed_at(row, target, to))))
+        (keyed_at(row, source, from), Some(keyed_at(row, target, to)))
     }
 
     // Requeues waiters of the key `from` onto the key `to`, where both have one bucket, and tells

@@ -3,7 +3,7 @@
 use super::deeds::{DEEDS, Deed, KINDS, count_locked, notify, notify_held, sleep};
 use super::patience::{Patience, count_often};
 use super::shared::{count_upgraded, count_written, hold_permits, read};
-use crate::fault::Fault;
+use crate::fault::{Fault, Wrong};
 use crate::queue::{Notice, Queue, Things};
 use crate::stress::marks;
 use crate::threads::sum_of;
@@ -173,7 +173,7 @@ impl Locks<'_, '_> {
         if counted == Some(sum) && things.queued == 0 && is_free {
             Ok(sum)
         } else {
-            Err(Fault::Wrong("what the locks are around"))
+            Err(Fault::Wrong(Wrong::Locks))
         }
     }
 }

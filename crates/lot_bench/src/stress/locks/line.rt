@@ -1,7 +1,7 @@
 //! Threads that pass things on under a titled mutex, and wait on titled condition variables.
 
 use super::patience::MOMENT;
-use crate::fault::Fault;
+use crate::fault::{Fault, Wrong};
 use crate::threads::sum_of;
 use parking_lot::{NoMemory, TitledCondvar, TitledLot, TitledMutex, TitledMutexGuard};
 use std::alloc::Global;
@@ -37,7 +37,7 @@ pub(super) fn play<R: Threads + Wait + Clock + Sync>(
     let left = *line.things.lock(rt);
     match passed {
         Some(sum) if left == 0 => Ok(sum),
-        _ => Err(Fault::Wrong("what was passed on")),
+        _ => Err(Fault::Wrong(Wrong::Line)),
     }
 }
 

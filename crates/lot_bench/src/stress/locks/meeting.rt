@@ -1,7 +1,7 @@
 //! What threads do that meet at a barrier, with a `Once` for each round and a reentrant mutex.
 
 use super::patience::Patience;
-use crate::fault::Fault;
+use crate::fault::{Fault, Wrong};
 use parking_lot::barrier::{PartiesIn, PartyIn};
 use parking_lot::once::OnceIn;
 use parking_lot::phaser::Phaser;
@@ -173,7 +173,7 @@ impl<'a, 'm, 'l, P: Phaser> Meeting<'a, 'm, 'l, P> {
         if counted == Some(sum) && led == MEETINGS {
             Ok(sum)
         } else {
-            Err(Fault::Wrong("a meeting"))
+            Err(Fault::Wrong(Wrong::Meeting))
         }
     }
 }

@@ -3,7 +3,7 @@
 
 use super::line;
 use super::patience::{Patience, count_together};
-use crate::fault::Fault;
+use crate::fault::{Fault, Wrong};
 use parking_lot::{TitledLot, TitledMutex, TitledRwLock, TitledRwLockWriteGuard, TitledSemaphore};
 use std::alloc::Global;
 use std::sync::Wait;
@@ -54,7 +54,7 @@ fn lock<R: Threads + Wait + Clock + Sync>(
     if counted == Some(sum) {
         Ok(sum)
     } else {
-        Err(Fault::Wrong("what a titled mutex is around"))
+        Err(Fault::Wrong(Wrong::TitledMutex))
     }
 }
 
@@ -101,7 +101,7 @@ fn acquire<R: Threads + Wait + Clock + Sync>(
     };
     match count_together(rt, alloc, threads, seed, &act) {
         Some(sum) if semaphore.available_permits() == permits as usize => Ok(sum),
-        _ => Err(Fault::Wrong("the permits of a titled semaphore")),
+        _ => Err(Fault::Wrong(Wrong::TitledSemaphore)),
     }
 }
 
@@ -148,7 +148,7 @@ fn read_and_write<R: Threads + Wait + Clock + Sync>(
     if counted == Some(sum) {
         Ok(sum)
     } else {
-        Err(Fault::Wrong("what a titled read-write lock is around"))
+        Err(Fault::Wrong(Wrong::TitledRwLock))
     }
 }
 

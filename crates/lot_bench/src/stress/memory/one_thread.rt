@@ -2,7 +2,7 @@
 
 use super::{MOST, Scenario, tell};
 use crate::calls::{park, register_into, register_often, retire_all_but, unpark_all};
-use crate::fault::Fault;
+use crate::fault::{Fault, Wrong};
 use crate::stress::marks;
 use crate::stress::parks::park_often;
 use crate::stress::word_lock::Count;
@@ -110,7 +110,7 @@ fn call<'a, P: ThreadParkerT, R: Wait + Clock>(
         _ => {
             return match members.first_mut() {
                 Some(member) => call_of_one(rt, alloc, member, scenario, past),
-                None => Err(Fault::Wrong("nobody who is registered")),
+                None => Err(Fault::Wrong(Wrong::NobodyRegistered)),
             };
         }
     };
@@ -172,7 +172,7 @@ fn make<P: ThreadParkerT>(alloc: Global, scenario: Scenario) -> Result<usize, Fa
         Scenario::ParkingLotNew => ParkingLot::<P>::new(alloc, SOME).is_ok(),
         Scenario::WordLockNew => WordLock::new(alloc, Count(0), &()).is_ok(),
         Scenario::LotNew => Lot::new(alloc, SOME).is_ok(),
-        _ => return Err(Fault::Wrong("a scenario that makes nothing")),
+        _ => return Err(Fault::Wrong(Wrong::EmptyScenario)),
     };
     if is_made { Ok(1) } else { Err(Fault::NoMemory) }
 }
@@ -206,7 +206,7 @@ fn list_in_a_park<P: ThreadParkerT, R: Wait + Clock>(
     if is_alone && result == ParkResult::Unparked(token) {
         Ok(1)
     } else {
-        Err(Fault::Wrong("a list of one who waits, or its token"))
+        Err(Fault::Wrong(Wrong::OneWaiter))
     }
 }
 
@@ -264,7 +264,7 @@ fn register_and_wait<'a, P: ThreadParkerT, R: Wait + Clock>(
         register_into(rt, alloc, lot, members)?;
     }
     if !has_next_number(members) {
-        return Err(Fault::Wrong("the number after a registration"));
+        return Err(Fault::Wrong(Wrong::NextNumber));
     }
     match members.first_mut() {
         Some(member) => wait_on_each_key(rt, alloc, member),

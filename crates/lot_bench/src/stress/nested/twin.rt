@@ -1,7 +1,7 @@
 //! The exclusive lot, in which a walk does each step too, and what was compared.
 
 use crate::calls::{Ended, Entry};
-use crate::fault::Fault;
+use crate::fault::{Fault, Wrong};
 use crate::stress::draws::{draw, draw_below, mixed};
 use lot_simulator::lot::{Lot, Status};
 use lot_simulator::schedule::{Answer, Step};
@@ -74,11 +74,11 @@ impl Twin {
     pub(super) fn judge(&self) -> Result<(), Fault> {
         let (refused, unparked, late) = self.ends;
         if !self.are_alike {
-            Err(Fault::Wrong("a call that the exclusive lot answers otherwise"))
+            Err(Fault::Wrong(Wrong::OtherAnswer))
         } else if refused > 0 && unparked > 0 && late > 0 {
             Ok(())
         } else {
-            Err(Fault::Wrong("how parks ended"))
+            Err(Fault::Wrong(Wrong::NestedParks))
         }
     }
 

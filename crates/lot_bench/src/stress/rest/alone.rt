@@ -2,7 +2,7 @@
 
 ghost use Rattle.std.specs.Prelude.{◌≡◌};
 
-use crate::fault::Fault;
+use crate::fault::{Fault, Wrong};
 use crate::threads::comes_to;
 use lot_base::thread_parker::{ParkerKey, ThreadParkerT, UnparkHandleT};
 use lot_threads::Node;
@@ -39,7 +39,7 @@ pub fn wait_each_time<P: ThreadParkerT + Sync, R: Threads + Wait + Clock + Sync>
     if play(rt, alloc, &parker, rest) {
         Ok(())
     } else {
-        Err(Fault::Wrong("how the waits over a parker ended"))
+        Err(Fault::Wrong(Wrong::LoneWaits))
     }
 }
 

@@ -1,7 +1,7 @@
 //! Threads that come to a table while it grows.
 
 use crate::calls::{register, unpark_all};
-use crate::fault::Fault;
+use crate::fault::{Fault, Wrong};
 use crate::threads::{comes_to, sum_of};
 use lot_threads::{DEFAULT_UNPARK_TOKEN, ParkingLot, ThreadParkerT, unpark_one};
 use std::alloc::Global;
@@ -51,7 +51,7 @@ where
     let act = |index: usize| growth.act(rt, index);
     match sum_of(rt, alloc, THREADS, &act) {
         Some(sum) => Ok(sum),
-        None => Err(Fault::Wrong("how many threads came through a growth")),
+        None => Err(Fault::Wrong(Wrong::Growth)),
     }
 }
 

@@ -1,21 +1,21 @@
-use Rattle.std.proofs.Common.{ℕ, List, Some, arith, refl, sym, subst}
+use Rattle.std.proofs.Common.{ℕ, List, ◌<◌, length, arith, refl, sym, subst}
 use Rattle.atomic_table.specs.Seated.{TableId}
 use Rattle.lot_history.specs.Witness.{id_of}
 use Rattle.lot_threads.specs.Cells.{AreRows, FitsTag, IsRow, IsSlotAt}
-use Rattle.lot_threads.proofs.RowLemmas.{item_got}
+use Rattle.lot_threads.proofs.RowLemmas.{item_at}
 use Rattle.lot_threads.proofs.cell.new_rows.Goals as goal
 
-pub set-requires : goal.set-requires
-set-requires c =
+pub set_written-requires : goal.set_written-requires
+set_written-requires c =
     let rows = c.in_ok-rows.rows.items in
     let home = id_of c.args.history.now in
     let max_threads = c.args.max_threads in
     let limit = c.args.limit in
     let all : AreRows home max_threads limit rows =
     subst (λ (found : TableId). AreRows found max_threads limit rows) c.give-home-2.ensures.part.table c.in_ok-rows.ensures in
-    let slot : IsSlotAt home max_threads limit 0 c.in-Some.slot.now =
-    item_got (IsSlotAt home max_threads limit) rows 0 (Some c.in-Some.slot)
-    (rw (← c.deref.ensures.value) c.in-Some.ensures.item) all.each in
+    let below : 0 < length rows = omega (arith, all.count) in
+    let slot : IsSlotAt home max_threads limit 0 c.index.result.now =
+    item_at (IsSlotAt home max_threads limit) 0 rows 0 c.index.result.now below c.index.ensures all.each in
     let row : IsRow home max_threads limit 16 c.in_ok-first.first.items = record {
       table = record { bits = 4; at_least_4 = omega arith; at_most_16 = omega arith; is_power = refl };
       count = c.in_ok-first.ensures.count;
