@@ -15,18 +15,26 @@ pub fn files_of<R: Files + AllocGlobal + Clone + Drop>(
 ) -> io::Result<Vec<String>> {
     let mut files = Vec::new(rt.alloc());
     for name in names {
-        match fs::read_dir(rt, name.as_str()) {
-            Ok(folder) => {
-                let mut found = Vec::new(rt.alloc());
-                for entry in folder {
-                    add(&mut found, entry?.path().path_text())?;
-                }
-                push_sorted(&mut files, found, name.as_str())?;
-            }
-            Err(_) => files.push(name.clone()?)?,
-        }
+        push_files(rt, &mut files, name)?;
     }
     Ok(files)
+}
+
+fn push_files<R: Files + AllocGlobal + Clone + Drop>(
+    rt: &R,
+    files: &mut Vec<String>,
+    name: &String,
+) -> io::Result<()> {
+    let Ok(folder) = fs::read_dir(rt, name.as_str()) else {
+        files.push(name.clone()?)?;
+        return Ok(());
+    };
+    let mut found = Vec::new(rt.alloc());
+    for entry in folder {
+        add(&mut found, entry?.path().path_text())?;
+    }
+    push_sorted(files, found, name.as_str())?;
+    Ok(())
 }
 
 // Adds those that were found in the folder, or the folder if there are none, which is no text.

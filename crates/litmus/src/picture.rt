@@ -14,23 +14,33 @@ use std::alloc::{AllocError, Global};
 
 /// Draws the walk.
 pub fn picture(alloc: Global, scene: Scene<'_>, style: Style) -> Result<String, AllocError> {
-    let mut page = String::new(alloc);
     let frames = frames_of(alloc, scene)?;
     let names = names_of(alloc, scene.parsed)?;
     let cells = cells_of(alloc, scene)?;
     let longest = longest_of(names.as_slice()).max(longest_of(cells.as_slice()));
     let layout = Layout::of(alloc, style, (names.len(), longest), frames.as_slice())?;
-    if let Some(heads) = frames.first() {
-        layout.push_heads(&mut page, names.as_slice(), heads)?;
-    }
-    layout.push_row(&mut page, first_row(frames.as_slice()))?;
-    for (index, cell) in cells.iter().enumerate() {
-        push_remark(&mut page, scene.walk, index)?;
-        let row = row_of(scene.walk, frames.as_slice(), index, cell.as_str());
-        layout.push_row(&mut page, row)?;
-    }
+    let mut page = String::new(alloc);
+    push_frames(&mut page, scene, &layout, (&frames, &names, &cells))?;
     push_closing(&mut page, scene)?;
     Ok(page)
+}
+
+// The heads of the columns, and then a row for each state.
+fn push_frames(
+    page: &mut String,
+    scene: Scene<'_>,
+    layout: &Layout,
+    (frames, names, cells): (&[Frame], &[String], &[String]),
+) -> Result<(), AllocError> {
+    if let Some(heads) = frames.first() {
+        layout.push_heads(page, names, heads)?;
+    }
+    layout.push_row(page, first_row(frames))?;
+    for (index, cell) in cells.iter().enumerate() {
+        push_remark(page, scene.walk, index)?;
+        layout.push_row(page, row_of(scene.walk, frames, index, cell.as_str()))?;
+    }
+    Ok(())
 }
 
 // The heads of the columns, and behind them what is shown of each state.
