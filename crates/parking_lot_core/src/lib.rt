@@ -1,5 +1,5 @@
-//! This crate has every public item of Rust's `parking_lot_core` but the deadlock detector, under the
-//! name that it has there.
+//! This crate has every public item of Rust's `parking_lot_core` but the deadlock detector, under
+//! the name that it has there.
 //!
 //! It re-exports two crates and has no code of its own. `lot_threads` is the lot that threads
 //! share: lists of waiting threads by key, for building mutexes, condition variables and
