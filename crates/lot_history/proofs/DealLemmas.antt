@@ -16,7 +16,7 @@ use Rattle.lot_base.proofs.ValueLemmas.{with_value-same, with_value-other}
 use Rattle.lot_history.specs.declared.deal.Deal.{Deal}
 use Rattle.lot_history.specs.declared.view.Piece.TheVariants.{Title, Undealt}
 use Rattle.lot_history.specs.declared.view.View.{View}
-use Rattle.lot_history.specs.Pieces.{Name, list, title, dealing, thread, records, numbers, at_or_above, covers, cover}
+use Rattle.lot_history.specs.Pieces.{Name, list, title, dealing, thread, records, timing, numbers, at_or_above, covers, cover}
 use Rattle.lot_history.specs.Pieces.{numbers_of, AllSo}
 use Rattle.lot_history.specs.Rule.{IsDealt, Knows, Kept}
 use Rattle.lot_history.specs.Moves.{Regroups}
@@ -80,6 +80,7 @@ module _ (max_threads : ℕ) (views : List View) (kept : Kept max_threads views)
   fewer (dealing k) = omega (arith, covered (dealing k), dealt_dealing key limit k)
   fewer (thread number) = omega (arith, covered (thread number))
   fewer (records number) = omega (arith, covered (records number))
+  fewer (timing number) = omega (arith, covered (timing number))
   fewer numbers = omega (arith, covered numbers)
 
   -- the seat alone could deal the title, and it was not dealt
@@ -187,4 +188,5 @@ entitles max_threads limit = record {
     same (dealing key) = omega (arith, titles_below limit key)
     same (thread number) = refl
     same (records number) = refl
+    same (timing number) = refl
     same numbers = refl

@@ -15,25 +15,29 @@ use Rattle.lot_machine.specs.Status.{is_running}
 use Rattle.lot_machine.specs.Steps.{Gives, IsStep}
 use Rattle.lot_history.specs.declared.view.Standing.{Standing}
 use Rattle.lot_history.specs.declared.view.Piece.{Piece}
-use Rattle.lot_history.specs.declared.view.Piece.TheVariants.{Lists, Thread}
+use Rattle.lot_history.specs.declared.view.Piece.TheVariants.{Lists, Thread, Timing}
 use Rattle.lot_history.specs.Moves.{Finds, Moves}
-use Rattle.lot_history.specs.Pieces.{Name, list, title, dealing, thread, records, numbers, times_standing, cover, Alike, at_key}
+use Rattle.lot_history.specs.Pieces.{Name, list, title, dealing, thread, records, timing, numbers, times_standing, cover, Alike, at_key}
 use Rattle.lot_history.specs.Pieces.{waiter_of, AllStand, IsList, AllSo}
-use Rattle.lot_history.proofs.PieceLemmas.{own_thread, own_list, AllSo-alike, stands-alike, times-at_key, times-append}
+use Rattle.lot_history.proofs.PieceLemmas.{own_thread, own_timing, own_list, AllSo-alike, stands-alike, times-at_key, times-append}
 use Rattle.lot_history.proofs.PieceLemmas.{AllStand-append}
-use Rattle.lot_history.proofs.ThreadLemmas.{Is, stays_moves, turned_alike}
+use Rattle.lot_history.proofs.ThreadLemmas.{Is, stays_moves, turned_thread, turned_numbers}
 
-module _ (max_threads size place : ℕ) (standing : List Standing) (number key : ℕ) (park_token : ParkToken) (timed : Bool)
-    (rest : List Piece) where
+module _ (max_threads size place : ℕ) (standing : List Standing) (number key : ℕ) (park_token : ParkToken)
+    (was_timed timed : Bool) (rest : List Piece) where
   -- the thread as it stands in the list then
   abbrev pub entered : Standing
   entered = record { key = key; number = number; park_token = park_token; timed = timed; late = false }
 
   abbrev before : List Piece
-  before = Lists size place standing ∷ Thread number status.Running ∷ rest
+  before = Lists size place standing ∷ Thread number status.Running ∷ Timing number was_timed ∷ rest
 
   abbrev after : List Piece
-  after = Lists size place (standing ++ entered ∷ []) ∷ rest
+  after = Lists size place (standing ++ entered ∷ []) ∷ Timing number timed ∷ rest
+
+  -- what changes of them
+  abbrev old : List Piece
+  old = Lists size place standing ∷ Thread number status.Running ∷ Timing number was_timed ∷ []
 
   same_cover : (name : Name) → cover name after ≡ cover name before
   same_cover (list k) = omega arith
@@ -41,6 +45,7 @@ module _ (max_threads size place : ℕ) (standing : List Standing) (number key :
   same_cover (dealing k) = omega arith
   same_cover (thread other) = omega (arith, times-append other standing (entered ∷ []))
   same_cover (records other) = omega arith
+  same_cover (timing other) = omega arith
   same_cover numbers = omega arith
 
   module _ (here : place_of key size ≡ place) (m : Machine) (finds : Finds max_threads before m) where
@@ -57,8 +62,7 @@ module _ (max_threads size place : ℕ) (standing : List Standing) (number key :
         let one = own_thread number number status.Running refl in
         omega arith
 
-    other_list : (k : ℕ) → cover (list k) (Lists size place standing ∷ Thread number status.Running ∷ []) ≡ 0
-        → m.lists k ≡ next.lists k
+    other_list : (k : ℕ) → cover (list k) old ≡ 0 → m.lists k ≡ next.lists k
     other_list k none =
         ⊎_elim
         (λ (same : k ≡ key). let one = own_list k size place standing (ap (λ q. place_of q size) same ∙ here) in
@@ -66,16 +70,16 @@ module _ (max_threads size place : ℕ) (standing : List Standing) (number key :
         (λ (other : k ≢ key). sym (with_value-other m.lists key _ k other))
         (cases_eq k key)
 
-    alike : (name : Name) → cover name (Lists size place standing ∷ Thread number status.Running ∷ []) ≡ 0
-        → Alike m next name
+    alike : (name : Name) → cover name old ≡ 0 → Alike m next name
     alike (list k) none = other_list k none
     alike (title k) none = other_list k none
     alike (dealing k) none = tt
     alike (thread other) none =
-        turned_alike m number status.Running (status.Waiting timed) running refl refl [] (thread other) (omega arith)
+        turned_thread m number status.Running (status.Waiting timed) running refl refl other (omega arith)
     alike (records other) none = refl
-    alike numbers none =
-        turned_alike m number status.Running (status.Waiting timed) running refl refl [] numbers refl
+    alike (timing other) none = λ each waits. sym (with_value-other m.status number (status.Waiting timed) other
+        (λ same. let own = own_timing other number was_timed same in absurd (omega arith))) ∙ waits
+    alike numbers none = turned_numbers m number status.Running (status.Waiting timed) running refl refl
 
     at_own : (k : ℕ) → k ≡ key → at_key k (standing ++ entered ∷ []) ≡ at_key k standing ++ entered ∷ []
     at_own k same = filter-append (λ (each : Standing). each.key == k) standing (entered ∷ [])
@@ -117,7 +121,11 @@ module _ (max_threads size place : ℕ) (standing : List Standing) (number key :
 
     rest_is : AllSo next rest
     rest_is = AllSo-alike m next rest
-        (λ name more. alike name (let once = finds.once name in omega arith)) finds.so.1.1
+        (λ name more. alike name (let once = finds.once name in omega arith)) finds.so.1.1.1
+
+    timing_so : (other : Bool) → next.status number ≡ status.Waiting other → other ≡ timed
+    timing_so other waits = let same : status.Waiting timed ≡ status.Waiting other =
+        sym (with_value-same m.status number (status.Waiting timed) number refl) ∙ waits in cc (same)
 
     uncovered : (name : Name) → cover name after ≡ 0 → Alike m next name
     uncovered name none = alike name (let c = same_cover name in omega arith)
@@ -132,7 +140,7 @@ module _ (max_threads size place : ℕ) (standing : List Standing) (number key :
       is_said = (refl, refl);
       next = after_enter m number key park_token timed;
       does = does here m finds;
-      so = (lists_so here m finds, rest_is here m finds);
+      so = (lists_so here m finds, (timing_so here m finds, rest_is here m finds));
       others = uncovered here m finds;
     };
   }

@@ -12,7 +12,7 @@ use Rattle.lot_history.specs.declared.view.Standing.{Standing}
 use Rattle.lot_history.specs.declared.view.Piece.{Piece}
 use Rattle.lot_history.specs.declared.view.Piece.TheVariants.{Lists, TitledLists}
 use Rattle.lot_history.specs.Moves.{Regroups}
-use Rattle.lot_history.specs.Pieces.{Name, list, title, dealing, thread, records, numbers, at_or_above}
+use Rattle.lot_history.specs.Pieces.{Name, list, title, dealing, thread, records, timing, numbers, at_or_above}
 use Rattle.lot_history.specs.Pieces.{times_standing, cover, at_key, IsList}
 use Rattle.lot_history.proofs.NodeLemmas.{at_key-nodes}
 use Rattle.lot_history.proofs.PieceLemmas.{times-append}
@@ -181,6 +181,7 @@ module _ (size place : ℕ) where
       same_cover (dealing k) = omega (arith, places k)
       same_cover (thread number) = omega (arith, times number)
       same_cover (records number) = refl
+      same_cover (timing number) = refl
       same_cover numbers = refl
 
       -- a key below a limit is covered by neither

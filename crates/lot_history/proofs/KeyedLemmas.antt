@@ -1,5 +1,5 @@
 -- Steps of buckets where keys have titles, by who has the lists of their places and may change those of their keys.
-use Rattle.std.proofs.Common.{◌≡◌, ◌≢◌, ℕ, ◌+◌, ◌==◌, cond, List, [], ◌∷◌, ◌++◌}
+use Rattle.std.proofs.Common.{◌≡◌, ◌≢◌, ℕ, ◌+◌, ◌==◌, Bool, cond, List, [], ◌∷◌, ◌++◌}
 use Rattle.std.proofs.Common.{map, Option, None, Some, refl, sym, ap, ◌∙◌, subst, arith, append-nil}
 use Rattle.std.proofs.lemmas.Bool.{eq-eqb, le-ltb, cond-true}
 use Rattle.std.proofs.lemmas.List.{map-append}
@@ -13,7 +13,7 @@ use Rattle.lot_machine.specs.declared.status.Status.TheVariants as status
 use Rattle.lot_machine.specs.declared.step.Answer.{Answer}
 use Rattle.lot_machine.specs.declared.step.Step.{Step}
 use Rattle.lot_history.specs.declared.view.Piece.{Piece}
-use Rattle.lot_history.specs.declared.view.Piece.TheVariants.{Lists, Thread, TitledLists}
+use Rattle.lot_history.specs.declared.view.Piece.TheVariants.{Lists, Thread, TitledLists, Timing}
 use Rattle.lot_history.specs.declared.view.Standing.{Standing}
 use Rattle.lot_history.specs.Moves.{Moves}
 use Rattle.lot_history.specs.Pieces.{title, dealing, cover, at_or_above, at_key, waiter_of, threads_taken}
@@ -22,7 +22,7 @@ use Rattle.lot_history.specs.Titles.{MayChange, with_title, retold}
 use Rattle.lot_history.proofs.NodeLemmas.{at_key-nodes, changes_nodes}
 use Rattle.lot_history.proofs.PieceLemmas.{own_list}
 use Rattle.lot_history.proofs.TimeoutLemmas.{with_late, late_at_key, late_waiters}
-use Rattle.lot_history.proofs.TitledLemmas.{AreBeside, SameElsewhere, none_beside, thread_beside, taken_beside}
+use Rattle.lot_history.proofs.TitledLemmas.{AreBeside, SameElsewhere, none_beside, thread_beside, timing_beside, running_beside, taken_beside}
 use Rattle.lot_history.proofs.TitledLemmas.{changes-elsewhere, same_joined, stands_at, same_stand, all_stand_here}
 use Rattle.lot_history.proofs.TitledLemmas.{none_stand_elsewhere, moves_unchanged, moves_keyed, enters_key}
 use Rattle.lot_history.proofs.TitleLemmas.{standing_at, without_titles, Tells, AllTell, under_titles}
@@ -49,17 +49,21 @@ module _ (max_threads limit size place key : ℕ) (right : Option (List ℕ)) (m
       (changes_nodes old new key left lists)) here
 
   -- a thread enters
-  pub enters_keyed : (old : List NodeFields) (node : NodeFields) (said : Step → Answer → Type 0) → node.key ≡ key
-      → Moves max_threads said (Lists size place (standing_in old) ∷ Thread node.number status.Running ∷ [])
-      (Lists size place (standing_in (old ++ node ∷ [])) ∷ [])
+  pub enters_keyed : (old : List NodeFields) (node : NodeFields) (was_timed : Bool) (said : Step → Answer → Type 0)
+      → node.key ≡ key
       → Moves max_threads said
-      (TitledLists limit size place (standing_in old) ∷ with_title key right (Thread node.number status.Running ∷ []))
+      (Lists size place (standing_in old) ∷ Thread node.number status.Running ∷ Timing node.number was_timed ∷ [])
+      (Lists size place (standing_in (old ++ node ∷ [])) ∷ Timing node.number node.timed ∷ [])
+      → Moves max_threads said
+      (TitledLists limit size place (standing_in old)
+      ∷ with_title key right (Thread node.number status.Running ∷ Timing node.number was_timed ∷ []))
       (TitledLists limit size place (standing_in (old ++ node ∷ []))
-      ∷ with_title key (retold key (standing_in (old ++ node ∷ [])) right) [])
-  enters_keyed old node said same moves =
+      ∷ with_title key (retold key (standing_in (old ++ node ∷ [])) right) (Timing node.number node.timed ∷ []))
+  enters_keyed old node was_timed said same moves =
       let new : List Standing = standing_in (old ++ node ∷ []) in
-      moves_keyed max_threads limit size place (standing_in old) new (Thread node.number status.Running ∷ []) []
-      (thread_beside node.number status.Running [] none_beside) none_beside said moves key right may
+      moves_keyed max_threads limit size place (standing_in old) new
+      (Thread node.number status.Running ∷ Timing node.number was_timed ∷ []) (Timing node.number node.timed ∷ [])
+      (running_beside node.number was_timed) (timing_beside node.number node.timed [] none_beside) said moves key right may
       (subst (SameElsewhere (standing_in old) new) same
       (subst (λ (l : List Standing). SameElsewhere (standing_in old) l node.key)
       (sym (map-append standing_of old (node ∷ [])))

@@ -9,7 +9,7 @@ use Rattle.lot_base.proofs.ValueLemmas.{with_value-same, with_value-other}
 use Rattle.lot_machine.specs.Machine.{Machine, Waiter}
 use Rattle.lot_history.specs.declared.view.Standing.{Standing}
 use Rattle.lot_history.specs.declared.view.Piece.TheVariants.{Lists}
-use Rattle.lot_history.specs.Pieces.{Name, list, title, dealing, thread, records, numbers, covers, times_standing, at_key, waiter_of}
+use Rattle.lot_history.specs.Pieces.{Name, list, title, dealing, thread, records, timing, numbers, covers, times_standing, at_key, waiter_of}
 use Rattle.lot_history.specs.Pieces.{AllStand, IsList, IsSo}
 use Rattle.lot_history.proofs.PieceLemmas.{stands-alike, times-at_key}
 use Rattle.lot_history.proofs.TimesLemmas.{ChangesKey}
@@ -55,6 +55,7 @@ lists_cover size place standing after (title key) other = refl
 lists_cover size place standing after (dealing key) other = refl
 lists_cover size place standing after (thread number) other = absurd (cc)
 lists_cover size place standing after (records number) other = refl
+lists_cover size place standing after (timing number) other = refl
 lists_cover size place standing after numbers other = refl
 
 -- a thread that moves to another key

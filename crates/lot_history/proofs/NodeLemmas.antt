@@ -25,7 +25,7 @@ use Rattle.lot_machine.specs.declared.step.Op.TheVariants as op
 use Rattle.lot_machine.specs.declared.step.Step.TheVariants as step
 use Rattle.lot_history.specs.declared.view.Standing.{Standing}
 use Rattle.lot_history.specs.declared.view.Piece.{Piece}
-use Rattle.lot_history.specs.declared.view.Piece.TheVariants.{Lists, Thread}
+use Rattle.lot_history.specs.declared.view.Piece.TheVariants.{Lists, Thread, Timing}
 use Rattle.lot_history.specs.Moves.{Moves, IsFilter}
 use Rattle.lot_history.specs.Pieces.{at_key, waiter_of, threads_taken, standing_of, standing_in}
 use Rattle.lot_history.proofs.EnterLemmas.{enters}
@@ -121,17 +121,18 @@ filtered_length calls filter (token ∷ tokens) (Stop ∷ decisions) (next, call
     let same : length decisions ≡ 0 = ap (λ (ds : List FilterOp). length ds) (stops refl) in omega arith
 
 -- a thread's node enters a bucket
-pub enters_node : (max_threads size place : ℕ) (old : List NodeFields) (node : NodeFields) (rest : List Piece)
-    → place_of node.key size ≡ place
+pub enters_node : (max_threads size place : ℕ) (old : List NodeFields) (node : NodeFields) (was_timed : Bool)
+    (rest : List Piece) → place_of node.key size ≡ place
     → Moves max_threads (Is (step.Enter node.number node.key true node.park_token node.timed) answer.Entered)
-    (Lists size place (standing_in old) ∷ Thread node.number status.Running ∷ rest)
-    (Lists size place (standing_in (old ++ node ∷ [])) ∷ rest)
-enters_node max_threads size place old node rest here =
+    (Lists size place (standing_in old) ∷ Thread node.number status.Running ∷ Timing node.number was_timed ∷ rest)
+    (Lists size place (standing_in (old ++ node ∷ [])) ∷ Timing node.number node.timed ∷ rest)
+enters_node max_threads size place old node was_timed rest here =
     subst (λ (l : List Standing).
     Moves max_threads (Is (step.Enter node.number node.key true node.park_token node.timed) answer.Entered)
-    (Lists size place (standing_in old) ∷ Thread node.number status.Running ∷ rest) (Lists size place l ∷ rest))
+    (Lists size place (standing_in old) ∷ Thread node.number status.Running ∷ Timing node.number was_timed ∷ rest)
+    (Lists size place l ∷ Timing node.number node.timed ∷ rest))
     (sym (map-append standing_of old (node ∷ [])))
-    (enters max_threads size place (standing_in old) node.number node.key node.park_token node.timed rest here)
+    (enters max_threads size place (standing_in old) node.number node.key node.park_token was_timed node.timed rest here)
 
 -- unparks, as a bucket tells of them
 module _ (max_threads size place key : ℕ) (old new : List NodeFields) (token : UnparkToken) (rest : List Piece)

@@ -13,12 +13,12 @@ use Rattle.lot_machine.specs.Records.{times_recorded}
 use Rattle.lot_machine.specs.Status.{is_registered, is_running}
 use Rattle.lot_machine.specs.Steps.{Gives, IsStep}
 use Rattle.lot_history.specs.declared.view.Piece.{Piece}
-use Rattle.lot_history.specs.declared.view.Piece.TheVariants.{Thread, Records, Numbers}
+use Rattle.lot_history.specs.declared.view.Piece.TheVariants.{Thread, Records, Numbers, Timing}
 use Rattle.lot_history.specs.Moves.{Finds, Moves}
-use Rattle.lot_history.specs.Pieces.{Name, list, title, dealing, thread, records, numbers, has_number, IsOneMore, covers, cover, Alike}
+use Rattle.lot_history.specs.Pieces.{Name, list, title, dealing, thread, records, timing, numbers, has_number, IsOneMore, covers, cover, Alike}
 use Rattle.lot_history.specs.Pieces.{AllSo}
 use Rattle.lot_history.proofs.PieceLemmas.{AllSo-alike}
-use Rattle.lot_history.proofs.ThreadLemmas.{Is, stays_moves}
+use Rattle.lot_history.proofs.ThreadLemmas.{Is, stays_moves, turned_timing}
 
 -- a number is registered in a list that has it
 pub one_more_set : (uses : List Bool) (number : ℕ) → number < length uses → has_number uses number ≡ false
@@ -89,7 +89,7 @@ module _ (max_threads : ℕ) (uses : List Bool) (rest : List Piece) where
     old_pieces = Numbers uses ∷ rest
 
     abbrev new_pieces : List Piece
-    new_pieces = Numbers after ∷ Thread number status.Running ∷ Records number [] ∷ rest
+    new_pieces = Numbers after ∷ Thread number status.Running ∷ Records number [] ∷ Timing number false ∷ rest
 
     -- the number is covered by its own pieces now
     counted : (k : ℕ) → cond (has_number after k) 0 1 + cond (number == k) 1 0 ≡ cond (has_number uses k) 0 1
@@ -101,6 +101,7 @@ module _ (max_threads : ℕ) (uses : List Bool) (rest : List Piece) where
     same_cover (dealing k) = omega arith
     same_cover (thread k) = omega (arith, counted k)
     same_cover (records k) = omega (arith, counted k)
+    same_cover (timing k) = omega (arith, counted k)
     same_cover numbers = omega arith
 
     module _ (m : Machine) (finds : Finds max_threads old_pieces m) where
@@ -127,6 +128,7 @@ module _ (max_threads : ℕ) (uses : List Bool) (rest : List Piece) where
       alike (title k) none = refl
       alike (dealing k) none = tt
       alike (records k) none = refl
+      alike (timing k) none = turned_timing m number status.Running (λ timed is. cc (is)) k
       alike numbers none = absurd (omega arith)
       alike (thread k) none =
           sym (with_value-other m.status number status.Running k
@@ -140,6 +142,11 @@ module _ (max_threads : ℕ) (uses : List Bool) (rest : List Piece) where
         least = λ k low is_free.
             false≢true (ap is_registered (sym is_free) ∙ (finds.so.0.0 k ∙ least k low));
       }
+
+      -- it does not wait
+      timing_so : (timed : Bool) → next.status number ≡ status.Waiting timed → timed ≡ false
+      timing_so timed waits = let same : status.Running ≡ status.Waiting timed =
+          sym (with_value-same m.status number status.Running number refl) ∙ waits in absurd (cc (same))
 
       rest_is : AllSo next rest
       rest_is = AllSo-alike m next rest (λ name more. alike name (let once = finds.once name in omega arith)) finds.so.1
@@ -161,7 +168,7 @@ module _ (max_threads : ℕ) (uses : List Bool) (rest : List Piece) where
           (registered m finds, λ k none. finds.so.0.1 k (still_free m finds k none)),
           (
             with_value-same m.status number status.Running number refl,
-            (finds.so.0.1 number more.free, rest_is m finds),
+            (finds.so.0.1 number more.free, (timing_so m finds, rest_is m finds)),
           ),
         );
         others = uncovered m finds;
@@ -169,9 +176,10 @@ module _ (max_threads : ℕ) (uses : List Bool) (rest : List Piece) where
     }
 
 -- a running thread ends its registration
-module _ (max_threads number : ℕ) (keys : List ℕ) (uses after : List Bool) (one : IsOneMore after number uses) where
+module _ (max_threads number : ℕ) (keys : List ℕ) (timed : Bool) (uses after : List Bool)
+    (one : IsOneMore after number uses) where
   abbrev registered_pieces : List Piece
-  registered_pieces = Thread number status.Running ∷ Records number keys ∷ Numbers uses ∷ []
+  registered_pieces = Thread number status.Running ∷ Records number keys ∷ Timing number timed ∷ Numbers uses ∷ []
 
   retired_cover : (name : Name) → cover name (Numbers after ∷ []) ≡ cover name registered_pieces
   retired_cover (list k) = refl
@@ -179,6 +187,7 @@ module _ (max_threads number : ℕ) (keys : List ℕ) (uses after : List Bool) (
   retired_cover (dealing k) = refl
   retired_cover (thread k) = omega (arith, one_more_covered after number uses one k)
   retired_cover (records k) = omega (arith, one_more_covered after number uses one k)
+  retired_cover (timing k) = omega (arith, one_more_covered after number uses one k)
   retired_cover numbers = refl
 
   -- a number whose thread no piece covers is another
@@ -196,14 +205,14 @@ module _ (max_threads number : ℕ) (keys : List ℕ) (uses after : List Bool) (
         (λ (same : k ≡ number). ap is_registered (with_value-same m.status number status.Free k same)
         ∙ sym (more_own after number uses one k same).0)
         (λ (other : k ≢ number). ap is_registered (with_value-other m.status number status.Free k other)
-        ∙ (finds.so.1.1.0.0 k ∙ more_other after number uses one k other))
+        ∙ (finds.so.1.1.1.0.0 k ∙ more_other after number uses one k other))
         (cases_eq k number)
 
     free_so : (k : ℕ) → has_number after k ≡ false → retired.records k ≡ times_recorded []
     free_so k none =
         ⊎_elim (λ (same : k ≡ number). with_value-same m.records number (times_recorded []) k same)
         (λ (other : k ≢ number). with_value-other m.records number (times_recorded []) k other
-        ∙ finds.so.1.1.0.1 k (more_other after number uses one k other ∙ none))
+        ∙ finds.so.1.1.1.0.1 k (more_other after number uses one k other ∙ none))
         (cases_eq k number)
 
     alike_retired : (name : Name) → cover name (Numbers after ∷ []) ≡ 0 → Alike m retired name
@@ -212,6 +221,7 @@ module _ (max_threads number : ℕ) (keys : List ℕ) (uses after : List Bool) (
     alike_retired (dealing k) none = tt
     alike_retired (thread k) none = sym (with_value-other m.status number status.Free k (other_number k none))
     alike_retired (records k) none = sym (with_value-other m.records number (times_recorded []) k (other_number k none))
+    alike_retired (timing k) none = turned_timing m number status.Free (λ each is. cc (is)) k
     alike_retired numbers none = absurd (omega arith)
 
     does : IsStep m (step.Retire number) answer.Retired retired
@@ -219,7 +229,7 @@ module _ (max_threads number : ℕ) (keys : List ℕ) (uses after : List Bool) (
         (Gives m answer.Misfit answer.Retired retired)) (sym finds.so.0) (refl, refl)
 
   pub retires : Moves max_threads (Is (step.Retire number) answer.Retired)
-      (Thread number status.Running ∷ Records number keys ∷ Numbers uses ∷ []) (Numbers after ∷ [])
+      (Thread number status.Running ∷ Records number keys ∷ Timing number timed ∷ Numbers uses ∷ []) (Numbers after ∷ [])
   retires = record {
     cover = retired_cover;
     step = λ m finds. record {

@@ -11,8 +11,8 @@ use Rattle.lot_machine.specs.Machine.{Machine, times_in, entries_of}
 use Rattle.lot_machine.specs.Status.{is_registered}
 use Rattle.lot_history.specs.declared.view.Standing.{Standing}
 use Rattle.lot_history.specs.declared.view.Piece.{Piece}
-use Rattle.lot_history.specs.declared.view.Piece.TheVariants.{Lists, Thread, Records, Numbers, TitledLists, Title, Undealt}
-use Rattle.lot_history.specs.Pieces.{Name, list, title, thread, records, numbers, covers, cover, times_standing, Alike}
+use Rattle.lot_history.specs.declared.view.Piece.TheVariants.{Lists, Thread, Records, Numbers, TitledLists, Title, Undealt, Timing}
+use Rattle.lot_history.specs.Pieces.{Name, list, title, thread, records, timing, numbers, covers, cover, times_standing, Alike}
 use Rattle.lot_history.specs.Pieces.{waiter_of, status_of, AllStand, IsList, AreLists, at_key, numbers_of, IsSo, AllSo}
 
 pub cover-append : (name : Name) (ps qs : List Piece) → cover name (ps ++ qs) ≡ cover name ps + cover name qs
@@ -35,6 +35,9 @@ own_thread number other s same = cond-true (other == number) 1 0 (eq-eqb other n
 pub own_records : (number other : ℕ) (keys : List ℕ) → number ≡ other
     → covers (records number) (Records other keys) ≡ 1
 own_records number other keys same = cond-true (other == number) 1 0 (eq-eqb other number (sym same))
+
+pub own_timing : (number other : ℕ) (timed : Bool) → number ≡ other → covers (timing number) (Timing other timed) ≡ 1
+own_timing number other timed same = cond-true (other == number) 1 0 (eq-eqb other number (sym same))
 
 pub own_list : (key size place : ℕ) (standing : List Standing) → place_of key size ≡ place
     → covers (list key) (Lists size place standing) ≡ 1
@@ -127,6 +130,8 @@ IsSo-alike m next (Title key who) alike is =
     ap numbers_of (sym (alike (title key) (rw (eq-eqb key key refl) (omega arith)))) ∙ is
 IsSo-alike m next (Undealt from below) alike is = λ key first last.
     sym (alike (title key) (rw (own_undealt key from below first last) (omega arith))) ∙ is key first last
+IsSo-alike m next (Timing number timed) alike is = λ other waits.
+    is other (alike (timing number) (rw (eq-eqb number number refl) (omega arith)) other waits)
 
 pub AllSo-alike : (m next : Machine) (pieces : List Piece) → AlikeWhere m next (λ name. cover name pieces)
     → AllSo m pieces → AllSo next pieces

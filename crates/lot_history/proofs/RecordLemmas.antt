@@ -13,7 +13,7 @@ use Rattle.lot_machine.specs.Steps.{Gives, IsStep, IsAcquire}
 use Rattle.lot_history.specs.declared.view.Piece.{Piece}
 use Rattle.lot_history.specs.declared.view.Piece.TheVariants.{Thread, Records}
 use Rattle.lot_history.specs.Moves.{Moves}
-use Rattle.lot_history.specs.Pieces.{Name, list, title, dealing, thread, records, numbers, cover, Alike}
+use Rattle.lot_history.specs.Pieces.{Name, list, title, dealing, thread, records, timing, numbers, cover, Alike}
 use Rattle.lot_history.proofs.PieceLemmas.{own_records}
 use Rattle.lot_history.proofs.ThreadLemmas.{Is, stays_moves}
 
@@ -30,6 +30,7 @@ module _ (max_threads number key : ℕ) (keys after : List ℕ) where
   same_cover (dealing k) = refl
   same_cover (thread other) = refl
   same_cover (records other) = refl
+  same_cover (timing other) = refl
   same_cover numbers = refl
 
   -- a step that leaves the thread other records
@@ -57,6 +58,7 @@ module _ (max_threads number key : ℕ) (keys after : List ℕ) where
       alike m (thread other) none = refl
       alike m (records other) none = sym (with_value-other m.records number (times_recorded after) other
           (λ same. let own = own_records other number after same in absurd (omega arith)))
+      alike m (timing other) none = λ timed waits. waits
       alike m numbers none = λ other. refl
 
   pub acquires : times_recorded after ≡ one_more (times_recorded keys) key

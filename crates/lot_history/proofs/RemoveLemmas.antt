@@ -1,5 +1,5 @@
 -- A timeout, as a bucket tells of it: a node of the key is found by its number, and taken out.
-use Rattle.std.proofs.Common.{◌≡◌, ℕ, Bool, true, not, find, Some, List, [], ◌∷◌, refl, sym, ap, ◌∙◌, subst}
+use Rattle.std.proofs.Common.{◌≡◌, ℕ, Bool, true, not, find, Some, List, [], ◌∷◌, refl, sym, ap, ◌∙◌, subst, arith}
 use Rattle.lot_base.specs.NodeFields.{NodeFields}
 use Rattle.lot_base.specs.NodeLists.{lists_of, ChangesOnly, has_number}
 use Rattle.lot_base.specs.Place.{place_of}
@@ -10,13 +10,16 @@ use Rattle.lot_machine.specs.declared.step.Step.TheVariants as step
 use Rattle.lot_machine.proofs.SplitLemmas.{has_any-map}
 use Rattle.lot_history.specs.declared.view.Standing.{Standing}
 use Rattle.lot_history.specs.declared.view.Piece.{Piece}
-use Rattle.lot_history.specs.declared.view.Piece.TheVariants.{Lists, Thread}
-use Rattle.lot_history.specs.Moves.{Moves}
-use Rattle.lot_history.specs.Pieces.{at_key, standing_of, standing_in}
+use Rattle.lot_history.specs.declared.view.Piece.TheVariants.{Lists, Thread, TitledLists, Timing}
+use Rattle.lot_machine.specs.Machine.{Machine}
+use Rattle.lot_history.specs.Moves.{Finds, Moves}
+use Rattle.lot_history.specs.Pieces.{Name, list, title, dealing, thread, records, timing, numbers, cover, at_key}
+use Rattle.lot_history.specs.Pieces.{standing_of, standing_in}
 use Rattle.lot_history.proofs.FrameLemmas.{framed}
+use Rattle.lot_history.proofs.KeyedLemmas.{late_titled}
 use Rattle.lot_history.proofs.NodeLemmas.{at_key-nodes, changes_nodes}
-use Rattle.lot_history.proofs.ThreadLemmas.{Is}
-use Rattle.lot_history.proofs.TimeoutLemmas.{is_number, with_late, find-map, without_first-map, passes_deadline}
+use Rattle.lot_history.proofs.ThreadLemmas.{Is, supposing}
+use Rattle.lot_history.proofs.TimeoutLemmas.{is_number, with_late, late_times, found_status, find-map, without_first-map, passes_deadline}
 use Rattle.lot_history.proofs.TimeoutLemmas.{times_out}
 use Rattle.lot_history.proofs.TimesLemmas.{ChangesKey}
 
@@ -65,3 +68,36 @@ module _ (max_threads size place key number : ℕ) (old : List NodeFields) (node
       (standing_in new)
       (subst (ChangesKey (standing_in old) (standing_in new) key) (sym same_left)
       (changes_nodes old new key left lists))))
+
+-- its deadline passes, since it waits with a timeout, as its own piece says
+module _ (max_threads limit size place key number : ℕ) (old : List NodeFields) (node : NodeFields)
+    (here : place_of key size ≡ place) (found : find (has_number number) (lists_of old key) ≡ Some node) where
+  abbrev before : List Piece
+  before = TitledLists limit size place (standing_in old) ∷ Timing number true ∷ []
+
+  abbrev after : List Piece
+  after = TitledLists limit size place (with_late number (standing_in old)) ∷ Timing number true ∷ []
+
+  same_cover : (name : Name) → cover name after ≡ cover name before
+  same_cover (list k) = refl
+  same_cover (title k) = refl
+  same_cover (dealing k) = refl
+  same_cover (thread other) = omega (arith, late_times number other (standing_in old))
+  same_cover (records other) = refl
+  same_cover (timing other) = refl
+  same_cover numbers = refl
+
+  timed : (m : Machine) → Finds max_threads before m → node.timed ≡ true
+  timed m finds = finds.so.1.0 node.timed
+      (found_status number m (at_key key (standing_in old)) (standing_of node)
+      (found_here max_threads size place key number old node [] here found) (finds.so.0 key here).wait)
+
+  pub removes_timed : Moves max_threads (Is (step.Deadline number) answer.Late)
+      (TitledLists limit size place (standing_in old) ∷ Timing number true ∷ [])
+      (TitledLists limit size place (with_late number (standing_in old)) ∷ Timing number true ∷ [])
+  removes_timed = supposing max_threads (Is (step.Deadline number) answer.Late) before after same_cover
+      (λ m finds. framed max_threads (Is (step.Deadline number) answer.Late)
+      (TitledLists limit size place (standing_in old) ∷ [])
+      (TitledLists limit size place (with_late number (standing_in old)) ∷ []) (Timing number true ∷ [])
+      (late_titled max_threads limit size place number (standing_in old) (Is (step.Deadline number) answer.Late)
+      (removes_late max_threads size place key number old node [] here found (timed m finds))))

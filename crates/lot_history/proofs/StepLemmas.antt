@@ -17,7 +17,7 @@ use Rattle.lot_history.specs.Moves.{Moves, Regroups}
 use Rattle.lot_base.specs.Place.{place_of}
 use Rattle.lot_machine.specs.Machine.{Machine, new_machine}
 use Rattle.lot_machine.proofs.StepLemmas.{IsConsistent-new}
-use Rattle.lot_history.specs.Pieces.{Name, list, title, dealing, thread, records, numbers, cover, AllSo}
+use Rattle.lot_history.specs.Pieces.{Name, list, title, dealing, thread, records, timing, numbers, cover, AllSo}
 use Rattle.lot_history.specs.Rule.{IsDealt, Knows, Kept}
 use Rattle.lot_history.specs.Views.{all_pieces, first_view, told_view, spent_view, first_of, rest_of, part_view}
 use Rattle.lot_history.proofs.EventLemmas.{prefix_nil}
@@ -108,6 +108,7 @@ first_once (title key) = at_most_one (place_of key 1 == 0)
 first_once (dealing key) = at_most_one (place_of key 1 == 0)
 first_once (thread number) = omega arith
 first_once (records number) = omega arith
+first_once (timing number) = omega arith
 first_once numbers = omega arith
 
 pub opens : (max_threads : ℕ) → max_threads ≤ 2 ^ 64 - 1 → Kept max_threads (first_view ∷ [])

@@ -1,5 +1,5 @@
 -- Steps that concern one thread alone, or none.
-use Rattle.std.proofs.Common.{◌≡◌, ◌≢◌, ℕ, ◌+◌, ◌≤◌, true, List, [], ◌∷◌, refl, sym, ap, ◌∙◌, subst, ⊎_elim, arith}
+use Rattle.std.proofs.Common.{◌≡◌, ◌≢◌, ℕ, ◌+◌, ◌≤◌, Bool, true, List, [], ◌∷◌, refl, sym, ap, ◌∙◌, subst, ⊎_elim, arith}
 use Rattle.std.proofs.lemmas.Bool.{cases_eq}
 use Rattle.lot_base.specs.declared.token.UnparkToken.{UnparkToken}
 use Rattle.lot_base.proofs.ValueLemmas.{with_value-same, with_value-other}
@@ -14,8 +14,8 @@ use Rattle.lot_machine.specs.Status.{is_registered}
 use Rattle.lot_machine.specs.Steps.{IsStep, IsReturn, IsResolve}
 use Rattle.lot_history.specs.declared.view.Piece.{Piece}
 use Rattle.lot_history.specs.declared.view.Piece.TheVariants.{Thread}
-use Rattle.lot_history.specs.Moves.{Finds, Reaches, Moves}
-use Rattle.lot_history.specs.Pieces.{Name, list, title, dealing, thread, records, numbers, covers, cover, Alike, AllSo}
+use Rattle.lot_history.specs.Moves.{SameCover, Finds, Reaches, Moves}
+use Rattle.lot_history.specs.Pieces.{Name, list, title, dealing, thread, records, timing, numbers, covers, cover, Alike, AllSo}
 use Rattle.lot_history.proofs.PieceLemmas.{own_thread, AllSo-alike}
 
 -- this step, with this answer
@@ -56,6 +56,13 @@ answers max_threads step answer other before after same moves = record {
   };
 }
 
+-- one of which the machine that is found says that it may be made
+pub supposing : (max_threads : ℕ) (said : Step → Answer → Type 0) (before after : List Piece) → SameCover before after
+    → ((m : Machine) → Finds max_threads before m → Moves max_threads said before after)
+    → Moves max_threads said before after
+supposing max_threads said before after same moves =
+    record { cover = same; step = λ m finds. (moves m finds).step m finds }
+
 -- one that is known, where pieces go by other names
 pub said_moves : (max_threads : ℕ) (step : Step) (answer : Answer) (said : Step → Answer → Type 0)
     (before after old new : List Piece) → old ≡ before → new ≡ after → said step answer
@@ -88,6 +95,7 @@ stays_moves max_threads s a pieces does = record {
     alike m (dealing key) = tt
     alike m (thread number) = refl
     alike m (records number) = refl
+    alike m (timing number) = λ timed waits. waits
     alike m numbers = λ number. refl
 
 pub trims : (max_threads : ℕ) (pieces : List Piece) → Moves max_threads (Is step.Trim answer.Trimmed) pieces pieces
@@ -98,25 +106,42 @@ pub trims_nothing : (max_threads : ℕ) (pieces : List Piece)
     → Moves max_threads (Is step.Trim answer.NoMemory) pieces pieces
 trims_nothing max_threads pieces = stays_moves max_threads step.Trim answer.NoMemory pieces (λ m finds. refl)
 
+-- the status of a thread changes, which does not wait then
+pub turned_timing : (m : Machine) (number : ℕ) (after : Status) → ((timed : Bool) → after ≢ status.Waiting timed)
+    → (other : ℕ) → Alike m (with_status m number after) (timing other)
+turned_timing m number after awake other timed waits =
+    ⊎_elim
+    (λ (same : other ≡ number). absurd (awake timed (sym (with_value-same m.status number after other same) ∙ waits)))
+    (λ (apart : other ≢ number). sym (with_value-other m.status number after other apart) ∙ waits)
+    (cases_eq other number)
+
 -- the status of a registered thread changes, and it stays registered
 module _ (m : Machine) (number : ℕ) (before after : Status) (is : m.status number ≡ before)
     (was : is_registered before ≡ true) (still : is_registered after ≡ true) where
-  pub turned_alike : (rest : List Piece) (name : Name) → cover name (Thread number after ∷ rest) ≡ 0
-      → Alike m (with_status m number after) name
-  turned_alike rest (list key) none = refl
-  turned_alike rest (title key) none = refl
-  turned_alike rest (dealing key) none = tt
-  turned_alike rest (records other) none = refl
-  turned_alike rest (thread other) none =
+  pub turned_thread : (other : ℕ) → covers (thread other) (Thread number after) ≡ 0
+      → Alike m (with_status m number after) (thread other)
+  turned_thread other none =
       ⊎_elim (λ (same : other ≡ number). let one = own_thread other number after same in
       absurd (omega arith))
       (λ (apart : other ≢ number). sym (with_value-other m.status number after other apart))
       (cases_eq other number)
-  turned_alike rest numbers none = λ other.
+
+  pub turned_numbers : Alike m (with_status m number after) numbers
+  turned_numbers = λ other.
       ⊎_elim (λ (same : other ≡ number). ap (λ n. is_registered (m.status n)) same ∙ (ap is_registered is ∙ (was ∙ (sym still
       ∙ ap is_registered (sym (with_value-same m.status number after other same))))))
       (λ (apart : other ≢ number). ap is_registered (sym (with_value-other m.status number after other apart)))
       (cases_eq other number)
+
+  pub turned_alike : ((timed : Bool) → after ≢ status.Waiting timed) → (rest : List Piece) (name : Name)
+      → cover name (Thread number after ∷ rest) ≡ 0 → Alike m (with_status m number after) name
+  turned_alike awake rest (list key) none = refl
+  turned_alike awake rest (title key) none = refl
+  turned_alike awake rest (dealing key) none = tt
+  turned_alike awake rest (records other) none = refl
+  turned_alike awake rest (timing other) none = turned_timing m number after awake other
+  turned_alike awake rest (thread other) none = turned_thread other (omega (arith, none))
+  turned_alike awake rest numbers none = turned_numbers
 
 -- what the other pieces say stays so where one thread alone changes, which has a piece of its own
 pub rest_so : (m new : Machine) (first : Piece) (rest : List Piece)
@@ -127,10 +152,10 @@ rest_so m new first rest once alike so =
 
 -- a step by which a registered thread that stands in no list gets another status
 pub turns : (max_threads number : ℕ) (s : Step) (a : Answer) (before after : Status) (rest : List Piece)
-    → is_registered before ≡ true → is_registered after ≡ true
+    → is_registered before ≡ true → is_registered after ≡ true → ((timed : Bool) → after ≢ status.Waiting timed)
     → ((m : Machine) → m.status number ≡ before → IsStep m s a (with_status m number after))
     → Moves max_threads (Is s a) (Thread number before ∷ rest) (Thread number after ∷ rest)
-turns max_threads number s a before after rest was still does = record {
+turns max_threads number s a before after rest was still awake does = record {
   cover = same;
   step = λ m finds. record {
     step = s;
@@ -142,9 +167,9 @@ turns max_threads number s a before after rest was still does = record {
       with_value-same m.status number after number refl,
       rest_so m (with_status m number after) (Thread number after) rest
           (λ name. let c = same name in let o = finds.once name in omega arith)
-          (λ name none. turned_alike m number before after finds.so.0 was still [] name (omega arith)) finds.so.1,
+          (λ name none. turned_alike m number before after finds.so.0 was still awake [] name (omega arith)) finds.so.1,
     );
-    others = turned_alike m number before after finds.so.0 was still rest;
+    others = turned_alike m number before after finds.so.0 was still awake rest;
   };
 }
   where
@@ -154,6 +179,7 @@ turns max_threads number s a before after rest was still does = record {
     same (dealing key) = refl
     same (thread other) = refl
     same (records other) = refl
+    same (timing other) = refl
     same numbers = refl
 
 -- a thread that was taken comes back with its token, by `Return`, or by `Resolve` once its deadline has passed
@@ -164,12 +190,12 @@ module _ (max_threads number : ℕ) (token : UnparkToken) (rest : List Piece) wh
 
   pub returns : ComesBack (step.Return number)
   returns = turns max_threads number (step.Return number) (answer.Unparked token) (status.Taken token) status.Running
-      rest refl refl
+      rest refl refl (λ timed is. cc (is))
       (λ m taken. subst (λ s. IsReturn m number s (answer.Unparked token) (with_status m number status.Running))
       (sym taken) (refl, refl))
 
   pub resolves : ComesBack (step.Resolve number)
   resolves = turns max_threads number (step.Resolve number) (answer.Unparked token) (status.Taken token) status.Running
-      rest refl refl
+      rest refl refl (λ timed is. cc (is))
       (λ m taken. subst (λ s. IsResolve m number s (answer.Unparked token) (with_status m number status.Running))
       (sym taken) (refl, refl))

@@ -19,11 +19,11 @@ use Rattle.lot_history.specs.declared.view.Standing.{Standing}
 use Rattle.lot_history.specs.declared.view.Piece.{Piece}
 use Rattle.lot_history.specs.declared.view.Piece.TheVariants.{Lists, Thread}
 use Rattle.lot_history.specs.Moves.{Finds, Moves}
-use Rattle.lot_history.specs.Pieces.{Name, list, title, dealing, thread, records, numbers, times_standing, cover, Alike, at_key}
+use Rattle.lot_history.specs.Pieces.{Name, list, title, dealing, thread, records, timing, numbers, times_standing, cover, Alike, at_key}
 use Rattle.lot_history.specs.Pieces.{waiter_of, status_of, AllStand, IsList, IsSo}
 use Rattle.lot_history.proofs.ListsLemmas.{changes_so}
 use Rattle.lot_history.proofs.PieceLemmas.{StandsIn, stand_all, all_stand, own_list, times-at_key, times_in-waiters}
-use Rattle.lot_history.proofs.ThreadLemmas.{Is, turned_alike}
+use Rattle.lot_history.proofs.ThreadLemmas.{Is, turned_thread, turned_timing, turned_numbers}
 use Rattle.lot_history.proofs.TimesLemmas.{ChangesKey, HasKey, all_at_key, others_of, others-other}
 use Rattle.lot_history.proofs.TimesLemmas.{others-times, changed_times}
 
@@ -60,7 +60,7 @@ module _ (number : ℕ) where
   abbrev pub with_late : List Standing → List Standing
   with_late standing = map late_of standing
 
-  late_times : (other : ℕ) (standing : List Standing)
+  pub late_times : (other : ℕ) (standing : List Standing)
       → times_standing other (with_late standing) ≡ times_standing other standing
   late_times other [] = refl
   late_times other (each ∷ standing) = omega (arith, late_times other standing)
@@ -153,7 +153,7 @@ module _ (number : ℕ) where
           ap (λ n. cond (n == other) 1 0 + times_standing other standing) (eqb-true each.number number own)
       either false apart rest found_is = omega (arith, rest found_is other)
 
-  found_status : (m : Machine) (standing : List Standing) (found : Standing)
+  pub found_status : (m : Machine) (standing : List Standing) (found : Standing)
       → find (is_number number) standing ≡ Some found → AllStand m standing → m.status number ≡ status_of found
   found_status m [] found is _ = absurd (cc (is))
   found_status m (each ∷ standing) found is (first, rest) =
@@ -196,6 +196,7 @@ module _ (max_threads size place key number : ℕ) (standing : List Standing) (f
     same_cover (dealing k) = refl
     same_cover (thread other) = omega (arith, late_times number other standing)
     same_cover (records other) = refl
+    same_cover (timing other) = refl
     same_cover numbers = refl
 
     module _ (m : Machine) (finds : Finds max_threads old m) where
@@ -221,8 +222,8 @@ module _ (max_threads size place key number : ℕ) (standing : List Standing) (f
           (λ same. let own = ap (λ n. times_standing n standing) same in
           absurd (omega (arith, own, stands, late_times number other standing, none))))
       alike (records other) none = refl
-      alike numbers none =
-          turned_alike m number (status.Waiting true) status.Late was refl refl [] numbers refl
+      alike (timing other) none = turned_timing m number status.Late (λ each is. cc (is)) other
+      alike numbers none = turned_numbers m number (status.Waiting true) status.Late was refl refl
 
       does : IsStep m (step.Deadline number) answer.Late next
       does = subst (λ s. MatchBool (awaits_deadline s) (Gives next answer.Late answer.Late next)
@@ -267,6 +268,7 @@ module _ (max_threads size place key number : ℕ) (standing : List Standing) (f
     back_cover (dealing k) = omega arith
     back_cover (thread other) = omega (arith, fewer other, late_times number other standing)
     back_cover (records other) = omega arith
+    back_cover (timing other) = omega arith
     back_cover numbers = omega arith
 
     abbrev given : Answer
@@ -370,10 +372,10 @@ module _ (max_threads size place key number : ℕ) (standing : List Standing) (f
       alike_back (title k) none = other_list k none
       alike_back (dealing k) none = tt
       alike_back (thread other) none =
-          turned_alike m number status.Late status.Running was_late refl refl [] (thread other) (omega (arith, none))
+          turned_thread m number status.Late status.Running was_late refl refl other (omega (arith, none))
       alike_back (records other) none = refl
-      alike_back numbers none =
-          turned_alike m number status.Late status.Running was_late refl refl [] numbers refl
+      alike_back (timing other) none = turned_timing m number status.Running (λ each is. cc (is)) other
+      alike_back numbers none = turned_numbers m number status.Late status.Running was_late refl refl
 
     -- it leaves the list, and runs
     pub times_out : Moves max_threads (Is (step.Resolve number) (answer.TimedOut key (not (has_any left))))

@@ -9,10 +9,10 @@ use Rattle.lot_machine.specs.declared.step.Answer.{Answer}
 use Rattle.lot_machine.specs.declared.step.Step.{Step}
 use Rattle.lot_machine.specs.Machine.{Machine, Waiter}
 use Rattle.lot_history.specs.declared.view.Piece.{Piece}
-use Rattle.lot_history.specs.declared.view.Piece.TheVariants.{Lists, Thread, Records, Numbers, TitledLists, Title, Undealt}
+use Rattle.lot_history.specs.declared.view.Piece.TheVariants.{Lists, Thread, Records, Numbers, TitledLists, Title, Undealt, Timing}
 use Rattle.lot_history.specs.declared.view.Standing.{Standing}
 use Rattle.lot_history.specs.Moves.{SameCover, Finds, Reaches, Moves, Regroups}
-use Rattle.lot_history.specs.Pieces.{Name, list, title, dealing, thread, records, numbers, covers, cover, Alike, at_key}
+use Rattle.lot_history.specs.Pieces.{Name, list, title, dealing, thread, records, timing, numbers, covers, cover, Alike, at_key}
 use Rattle.lot_history.specs.Pieces.{waiter_of, numbers_of, AreLists, AllSo}
 
 -- who stands in the list of the key, as these pieces have it
@@ -70,6 +70,7 @@ titled_same limit size place standing (title key) other = absurd (cc)
 titled_same limit size place standing (dealing key) other = absurd (cc)
 titled_same limit size place standing (thread number) other = refl
 titled_same limit size place standing (records number) other = refl
+titled_same limit size place standing (timing number) other = refl
 titled_same limit size place standing numbers other = refl
 
 title_none : (key : ℕ) (stand : List ℕ) (name : Name) → is_of_title name ≡ false → covers name (Title key stand) ≡ 0
@@ -78,6 +79,7 @@ title_none key stand (title k) other = absurd (cc)
 title_none key stand (dealing k) other = absurd (cc)
 title_none key stand (thread number) other = refl
 title_none key stand (records number) other = refl
+title_none key stand (timing number) other = refl
 title_none key stand numbers other = refl
 
 undealt_none : (from below : ℕ) (name : Name) → is_of_title name ≡ false → covers name (Undealt from below) ≡ 0
@@ -86,6 +88,7 @@ undealt_none from below (title k) other = absurd (cc)
 undealt_none from below (dealing k) other = absurd (cc)
 undealt_none from below (thread number) other = refl
 undealt_none from below (records number) other = refl
+undealt_none from below (timing number) other = refl
 undealt_none from below numbers other = refl
 
 plain_cover : (name : Name) → is_of_title name ≡ false → (pieces : List Piece)
@@ -94,6 +97,7 @@ plain_cover name other [] = refl
 plain_cover name other (Lists size place standing ∷ pieces) = omega (arith, plain_cover name other pieces)
 plain_cover name other (Thread number status ∷ pieces) = omega (arith, plain_cover name other pieces)
 plain_cover name other (Records number keys ∷ pieces) = omega (arith, plain_cover name other pieces)
+plain_cover name other (Timing number timed ∷ pieces) = omega (arith, plain_cover name other pieces)
 plain_cover name other (Numbers uses ∷ pieces) = omega (arith, plain_cover name other pieces)
 plain_cover name other (TitledLists limit size place standing ∷ pieces) =
     omega (arith, titled_same limit size place standing name other, plain_cover name other pieces)
@@ -108,6 +112,7 @@ plain_title key [] = refl
 plain_title key (Lists size place standing ∷ pieces) = omega (arith, plain_title key pieces)
 plain_title key (Thread number status ∷ pieces) = omega (arith, plain_title key pieces)
 plain_title key (Records number keys ∷ pieces) = omega (arith, plain_title key pieces)
+plain_title key (Timing number timed ∷ pieces) = omega (arith, plain_title key pieces)
 plain_title key (Numbers uses ∷ pieces) = omega (arith, plain_title key pieces)
 plain_title key (TitledLists limit size place standing ∷ pieces) = omega (arith, plain_title key pieces)
 plain_title key (Title other stand ∷ pieces) = omega (arith, plain_title key pieces)
@@ -119,6 +124,7 @@ plain_dealing key [] = refl
 plain_dealing key (Lists size place standing ∷ pieces) = omega (arith, plain_dealing key pieces)
 plain_dealing key (Thread number status ∷ pieces) = omega (arith, plain_dealing key pieces)
 plain_dealing key (Records number keys ∷ pieces) = omega (arith, plain_dealing key pieces)
+plain_dealing key (Timing number timed ∷ pieces) = omega (arith, plain_dealing key pieces)
 plain_dealing key (Numbers uses ∷ pieces) = omega (arith, plain_dealing key pieces)
 plain_dealing key (TitledLists limit size place standing ∷ pieces) = omega (arith, plain_dealing key pieces)
 plain_dealing key (Title other stand ∷ pieces) = omega (arith, plain_dealing key pieces)
@@ -130,6 +136,7 @@ plain_so m [] so = tt
 plain_so m (Lists size place standing ∷ pieces) (first, rest) = (first, plain_so m pieces rest)
 plain_so m (Thread number status ∷ pieces) (first, rest) = (first, plain_so m pieces rest)
 plain_so m (Records number keys ∷ pieces) (first, rest) = (first, plain_so m pieces rest)
+plain_so m (Timing number timed ∷ pieces) (first, rest) = (first, plain_so m pieces rest)
 plain_so m (Numbers uses ∷ pieces) (first, rest) = (first, plain_so m pieces rest)
 plain_so m (TitledLists limit size place standing ∷ pieces) (first, rest) = (first, plain_so m pieces rest)
 plain_so m (Title key stand ∷ pieces) (first, rest) = plain_so m pieces rest
@@ -151,6 +158,7 @@ plain_finds max_threads pieces m finds = record {
     once (dealing key) = omega (arith, plain_dealing key pieces, finds.once (list key))
     once (thread number) = omega (arith, plain_cover (thread number) refl pieces, finds.once (thread number))
     once (records number) = omega (arith, plain_cover (records number) refl pieces, finds.once (records number))
+    once (timing number) = omega (arith, plain_cover (timing number) refl pieces, finds.once (timing number))
     once numbers = omega (arith, plain_cover numbers refl pieces, finds.once numbers)
 
 -- the list of a key is as the pieces have it
@@ -167,6 +175,7 @@ nobody key (Lists size place standing ∷ pieces) none =
     (nobody key pieces)
 nobody key (Thread number status ∷ pieces) none = nobody key pieces (omega (arith, none))
 nobody key (Records number keys ∷ pieces) none = nobody key pieces (omega (arith, none))
+nobody key (Timing number timed ∷ pieces) none = nobody key pieces (omega (arith, none))
 nobody key (Numbers uses ∷ pieces) none = nobody key pieces (omega (arith, none))
 nobody key (TitledLists limit size place standing ∷ pieces) none =
     none-or (place_of key size == place) (at_key key standing) (standing_at key pieces) (cover (list key) pieces) none
@@ -205,6 +214,7 @@ module _ (m : Machine) (key : ℕ) where
       list_or size place standing pieces so.0 one (list_is pieces so.1)
   list_is (Thread number status ∷ pieces) so one = list_is pieces so.1 (omega (arith, one))
   list_is (Records number keys ∷ pieces) so one = list_is pieces so.1 (omega (arith, one))
+  list_is (Timing number timed ∷ pieces) so one = list_is pieces so.1 (omega (arith, one))
   list_is (Numbers uses ∷ pieces) so one = list_is pieces so.1 (omega (arith, one))
   list_is (TitledLists limit size place standing ∷ pieces) so one =
       list_or size place standing pieces so.0 one (list_is pieces so.1)
@@ -225,6 +235,7 @@ titled_so m all [] tell told so = tt
 titled_so m all (Lists size place standing ∷ pieces) tell told so = (so.0, titled_so m all pieces tell told so.1)
 titled_so m all (Thread number status ∷ pieces) tell told so = (so.0, titled_so m all pieces tell told so.1)
 titled_so m all (Records number keys ∷ pieces) tell told so = (so.0, titled_so m all pieces tell told so.1)
+titled_so m all (Timing number timed ∷ pieces) tell told so = (so.0, titled_so m all pieces tell told so.1)
 titled_so m all (Numbers uses ∷ pieces) tell told so = (so.0, titled_so m all pieces tell told so.1)
 titled_so m all (TitledLists limit size place standing ∷ pieces) tell told so =
     (so.0, titled_so m all pieces tell told so.1)
@@ -245,6 +256,8 @@ module _ (max_threads : ℕ) (before after : List Piece) (keeps : KeepsTitles be
       ∙ (plain (thread number) ∙ plain_cover (thread number) refl before)
   same_cover (records number) = sym (plain_cover (records number) refl after)
       ∙ (plain (records number) ∙ plain_cover (records number) refl before)
+  same_cover (timing number) = sym (plain_cover (timing number) refl after)
+      ∙ (plain (timing number) ∙ plain_cover (timing number) refl before)
   same_cover numbers =
       sym (plain_cover numbers refl after) ∙ (plain numbers ∙ plain_cover numbers refl before)
 
@@ -284,6 +297,8 @@ module _ (max_threads : ℕ) (before after : List Piece) (keeps : KeepsTitles be
         others (thread number) (plain_cover (thread number) refl after ∙ none)
     uncovered next so others (records number) none =
         others (records number) (plain_cover (records number) refl after ∙ none)
+    uncovered next so others (timing number) none =
+        others (timing number) (plain_cover (timing number) refl after ∙ none)
     uncovered next so others numbers none = others numbers (plain_cover numbers refl after ∙ none)
 
 -- a step

@@ -15,7 +15,7 @@ use Rattle.lot_machine.specs.declared.step.Step.{Step}
 use Rattle.lot_machine.specs.declared.step.Step.TheVariants as step
 use Rattle.lot_machine.specs.Machine.{Waiter}
 use Rattle.lot_history.specs.declared.view.Piece.{Piece}
-use Rattle.lot_history.specs.declared.view.Piece.TheVariants.{Lists, Thread, TitledLists, Title}
+use Rattle.lot_history.specs.declared.view.Piece.TheVariants.{Lists, Thread, TitledLists, Title, Timing}
 use Rattle.lot_history.specs.declared.view.Standing.{Standing}
 use Rattle.lot_history.specs.Moves.{Moves}
 use Rattle.lot_history.specs.Pieces.{list, title, dealing, covers, cover, at_or_above, at_key, waiter_of, threads_taken}
@@ -56,10 +56,27 @@ thread_beside number status pieces beside = record {
   same = ap (λ (ps : List Piece). Thread number status ∷ ps) beside.same;
 }
 
+pub timing_beside : (number : ℕ) (timed : Bool) (pieces : List Piece) → AreBeside pieces
+    → AreBeside (Timing number timed ∷ pieces)
+timing_beside number timed pieces beside = record {
+  lists = λ key. omega (arith, beside.lists key);
+  titles = λ key. omega (arith, beside.titles key);
+  dealings = λ key. omega (arith, beside.dealings key);
+  nobody = beside.nobody;
+  tell = beside.tell;
+  same = ap (λ (ps : List Piece). Timing number timed ∷ ps) beside.same;
+}
+
 pub taken_beside : (token : UnparkToken) (taken : List Standing) → AreBeside (threads_taken token taken)
 taken_beside token [] = none_beside
 taken_beside token (each ∷ taken) =
     thread_beside each.number (status.Taken token) (threads_taken token taken) (taken_beside token taken)
+
+-- a running thread, with what says how it waits
+pub running_beside : (number : ℕ) (timed : Bool)
+    → AreBeside (Thread number status.Running ∷ Timing number timed ∷ [])
+running_beside number timed =
+    thread_beside number status.Running (Timing number timed ∷ []) (timing_beside number timed [] none_beside)
 
 -- the waiters of each key but this one are as they were
 abbrev pub SameElsewhere : List Standing → List Standing → ℕ → Type 0
@@ -207,17 +224,18 @@ enters_key standing each k =
 
 -- a running thread enters the list of a key
 pub enters_titled : (max_threads limit size place : ℕ) (standing : List Standing) (stand : List ℕ)
-    (number key : ℕ) (park_token : ParkToken) (timed : Bool) → place_of key size ≡ place
+    (number key : ℕ) (park_token : ParkToken) (was_timed timed : Bool) → place_of key size ≡ place
     → Moves max_threads (Is (step.Enter number key true park_token timed) answer.Entered)
-    (TitledLists limit size place standing ∷ Title key stand ∷ Thread number status.Running ∷ [])
+    (TitledLists limit size place standing ∷ Title key stand ∷ Thread number status.Running ∷ Timing number was_timed ∷ [])
     (TitledLists limit size place (standing ++ entering number key park_token timed ∷ [])
-    ∷ title_of key (standing ++ entering number key park_token timed ∷ []) ∷ [])
-enters_titled max_threads limit size place standing stand number key park_token timed here =
+    ∷ title_of key (standing ++ entering number key park_token timed ∷ []) ∷ Timing number timed ∷ [])
+enters_titled max_threads limit size place standing stand number key park_token was_timed timed here =
     let each = entering number key park_token timed in
-    moves_titled max_threads limit size place standing (standing ++ each ∷ []) (Thread number status.Running ∷ []) []
-    (thread_beside number status.Running [] none_beside) none_beside
+    moves_titled max_threads limit size place standing (standing ++ each ∷ [])
+    (Thread number status.Running ∷ Timing number was_timed ∷ []) (Timing number timed ∷ [])
+    (running_beside number was_timed) (timing_beside number timed [] none_beside)
     (Is (step.Enter number key true park_token timed) answer.Entered)
-    (enters max_threads size place standing number key park_token timed [] here) key stand
+    (enters max_threads size place standing number key park_token was_timed timed [] here) key stand
     (changes-elsewhere standing (standing ++ each ∷ []) (at_key key standing ++ each ∷ []) key
     (enters_key standing each))
     here

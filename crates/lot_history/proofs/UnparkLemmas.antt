@@ -16,7 +16,7 @@ use Rattle.lot_machine.proofs.WaiterLemmas.{statuses_with_taken-among, statuses_
 use Rattle.lot_history.specs.declared.view.Standing.{Standing}
 use Rattle.lot_history.specs.declared.view.Piece.{Piece}
 use Rattle.lot_history.specs.Moves.{Finds, Moves}
-use Rattle.lot_history.specs.Pieces.{Name, list, title, dealing, thread, records, numbers, times_standing, cover, Alike, waiter_of}
+use Rattle.lot_history.specs.Pieces.{Name, list, title, dealing, thread, records, timing, numbers, times_standing, cover, Alike, waiter_of}
 use Rattle.lot_history.specs.Pieces.{IsList, AllSo, threads_taken}
 use Rattle.lot_history.proofs.ListsLemmas.{is_thread}
 use Rattle.lot_history.proofs.PieceLemmas.{own_thread, AllSo-append, cover-append, stands-registered, times_in-waiters}
@@ -38,6 +38,8 @@ cover-taken_other token (each ∷ taken) (dealing key) other =
     omega (arith, cover-taken_other token taken (dealing key) other)
 cover-taken_other token (each ∷ taken) (records number) other =
     omega (arith, cover-taken_other token taken (records number) other)
+cover-taken_other token (each ∷ taken) (timing number) other =
+    omega (arith, cover-taken_other token taken (timing number) other)
 cover-taken_other token (each ∷ taken) numbers other = omega (arith, cover-taken_other token taken numbers other)
 cover-taken_other token (each ∷ taken) (thread number) other = absurd (cc)
 
@@ -73,6 +75,7 @@ module _ (max_threads from to : ℕ) (old new : List Piece) (waiting : List Stan
   same_cover (title key) = apart (title key) refl
   same_cover (dealing key) = apart (dealing key) refl
   same_cover (records number) = apart (records number) refl
+  same_cover (timing number) = apart (timing number) refl
   same_cover numbers = apart numbers refl
   same_cover (thread number) = omega (
     arith,
@@ -127,6 +130,11 @@ module _ (max_threads from to : ℕ) (old new : List Piece) (waiting : List Stan
     alike (dealing key) none = tt
     alike (thread number) none = other_status number (omega (arith, threads_less number, none))
     alike (records number) none = refl
+    alike (timing number) none = λ timed waits.
+        ⊎_elim (λ (nobody : times_standing number split.taken ≡ 0). other_status number nobody ∙ waits)
+        (λ (some : times_standing number split.taken ≢ 0). let taken : status.Taken token ≡ status.Waiting timed =
+        sym (taken_status number (omega arith)) ∙ waits in absurd (cc (taken)))
+        (cases_eq (times_standing number split.taken) 0)
     alike numbers none = λ number.
         ⊎_elim (λ (nobody : times_standing number split.taken ≡ 0). ap is_registered (other_status number nobody))
         (λ (some : times_standing number split.taken ≢ 0). let all = parted_times split waiting parts number in

@@ -12,16 +12,18 @@ use Rattle.lot_machine.specs.Records.{times_recorded}
 use Rattle.lot_machine.specs.Status.{is_registered}
 use Rattle.lot_history.specs.declared.view.Standing.{Standing}
 use Rattle.lot_history.specs.declared.view.Piece.{Piece}
-use Rattle.lot_history.specs.declared.view.Piece.TheVariants.{Lists, Thread, Records, Numbers, TitledLists, Title, Undealt}
+use Rattle.lot_history.specs.declared.view.Piece.TheVariants.{Lists, Thread, Records, Numbers, TitledLists, Title, Undealt, Timing}
 
 -- what a piece may be about: the list of a key, the key's title and whether it was dealt, the status of a thread, its
--- records, and which numbers are registered. To change a list takes both the list and the title
+-- records, whether it waits with a timeout, and which numbers are registered. To change a list takes both the list and
+-- the title, and to let a thread enter one also its status and its timing
 pub data Name : Type 0 where
   list : ℕ → Name
   title : ℕ → Name
   dealing : ℕ → Name
   thread : ℕ → Name
   records : ℕ → Name
+  timing : ℕ → Name
   numbers : Name
 
 -- whether a number is registered
@@ -52,6 +54,7 @@ covers (thread number) (Thread other status) = cond (other == number) 1 0
 covers (records number) (Records other keys) = cond (other == number) 1 0
 covers (thread number) (Numbers uses) = cond (has_number uses number) 0 1
 covers (records number) (Numbers uses) = cond (has_number uses number) 0 1
+covers (timing number) (Numbers uses) = cond (has_number uses number) 0 1
 covers numbers (Numbers uses) = 1
 covers (list key) (TitledLists limit size place standing) = cond (place_of key size == place) 1 0
 covers (title key) (TitledLists limit size place standing) = at_or_above limit key (place_of key size == place)
@@ -60,6 +63,7 @@ covers (thread number) (TitledLists limit size place standing) = times_standing 
 covers (title key) (Title other who) = cond (other == key) 1 0
 covers (title key) (Undealt from below) = at_or_above from key (nat_lt key below)
 covers (dealing key) (Undealt from below) = at_or_above from key (nat_lt key below)
+covers (timing number) (Timing other timed) = cond (other == number) 1 0
 covers _ _ = 0
 
 -- and how often several do
@@ -67,13 +71,16 @@ abbrev pub cover : Name → List Piece → ℕ
 cover name [] = 0
 cover name (piece ∷ pieces) = covers name piece + cover name pieces
 
--- two machines are alike in what a name is about
+-- two machines are alike in what a name is about; in the timing of a thread where the thread waits in the second as it
+-- waits in the first, if it waits there
 abbrev pub Alike : Machine → Machine → Name → Type 0
 Alike m other (list key) = m.lists key ≡ other.lists key
 Alike m other (title key) = m.lists key ≡ other.lists key
 Alike m other (dealing key) = ⊤
 Alike m other (thread number) = m.status number ≡ other.status number
 Alike m other (records number) = m.records number ≡ other.records number
+Alike m other (timing number) =
+    (timed : Bool) → other.status number ≡ status.Waiting timed → m.status number ≡ status.Waiting timed
 Alike m other numbers = (number : ℕ) → is_registered (m.status number) ≡ is_registered (other.status number)
 
 -- a thread in a list as the machine has it, and its status
@@ -117,6 +124,7 @@ IsSo m (Numbers uses) =
 IsSo m (TitledLists limit size place standing) = AreLists m size place standing
 IsSo m (Title key who) = numbers_of (m.lists key) ≡ who
 IsSo m (Undealt from below) = (key : ℕ) → from ≤ key → key < below → m.lists key ≡ []
+IsSo m (Timing number timed) = (other : Bool) → m.status number ≡ status.Waiting other → other ≡ timed
 
 -- and as all of these say
 abbrev pub AllSo : Machine → List Piece → Type 0

@@ -14,7 +14,7 @@ use Rattle.lot_history.specs.declared.bounds.Bounds.{Bounds}
 use Rattle.lot_history.specs.declared.deal.Deal.{Deal}
 use Rattle.lot_history.specs.declared.event.Event.{Event}
 use Rattle.lot_history.specs.declared.view.Piece.{Piece}
-use Rattle.lot_history.specs.declared.view.Piece.TheVariants.{Numbers, Thread, TitledLists, Title, Undealt}
+use Rattle.lot_history.specs.declared.view.Piece.TheVariants.{Numbers, Thread, TitledLists, Title, Undealt, Timing}
 use Rattle.lot_history.specs.declared.view.Standing.{Standing}
 use Rattle.lot_history.specs.declared.view.View.{View}
 use Rattle.lot_history.specs.Pieces.{title, cover, at_key, numbers_of}
@@ -65,21 +65,23 @@ abbrev pub entering : ℕ → ℕ → ParkToken → Bool → Standing
 entering number key park_token timed =
     record { key = key; number = number; park_token = park_token; timed = timed; late = false }
 
--- pieces of which the first are the lists of a place, the title of a key of that place, and a running thread
+-- pieces of which the first are the lists of a place, the title of a key of that place, and those of a running thread
 pub record MayEnter (pieces : List Piece) (key number : ℕ) : Type 0 where
   pub limit : ℕ
   pub size : ℕ
   pub place : ℕ
   pub standing : List Standing
   pub numbers : List ℕ
+  pub timed : Bool
   pub are : pieces ≡ TitledLists limit size place standing ∷ Title key numbers ∷ Thread number status.Running
-      ∷ rest_of (rest_of (rest_of pieces))
+      ∷ Timing number timed ∷ rest_of (rest_of (rest_of (rest_of pieces)))
   pub here : place_of key size ≡ place
 
 -- those pieces once the thread is in the list
 abbrev pub with_entry : Standing → List Piece → List Piece
-with_entry each (TitledLists limit size place standing ∷ Title key numbers ∷ thread ∷ pieces) =
-    let after = standing ++ each ∷ [] in TitledLists limit size place after ∷ title_of key after ∷ pieces
+with_entry each (TitledLists limit size place standing ∷ Title key numbers ∷ thread ∷ timing ∷ pieces) =
+    let after = standing ++ each ∷ [] in
+    TitledLists limit size place after ∷ title_of key after ∷ Timing each.number each.timed ∷ pieces
 with_entry each pieces = pieces
 
 -- the title of the key is among these pieces, and tells that these threads stand in the key's list

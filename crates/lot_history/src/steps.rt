@@ -2,12 +2,12 @@
 //!
 //! A step of a bucket is added by `History::add`, where the bucket is.
 
-ghost use Rattle.std.specs.Prelude.{◌≡◌, ◌<◌, ◌∷◌, [], true, Bool, List, ℕ};
+ghost use Rattle.std.specs.Prelude.{◌≡◌, ◌<◌, ◌∷◌, [], true, false, Bool, List, ℕ};
 ghost use Rattle.lot_machine.specs.Records.{one_less, one_more, times_recorded};
 ghost use Rattle.lot_history.specs.Pieces.{IsOneMore, has_number};
 ghost use Rattle.lot_history.specs.Views.{rest_of};
 ghost use Rattle.lot_history.specs.declared.view.Piece.{Piece};
-ghost use Rattle.lot_history.specs.declared.view.Piece.TheVariants.{Numbers, Records, Thread};
+ghost use Rattle.lot_history.specs.declared.view.Piece.TheVariants.{Numbers, Records, Thread, Timing};
 ghost use Rattle.lot_history.specs.Witness.{Adds, Extends, IsStill, IsWitnessOf, deals_of, max_threads_of, pieces_of};
 
 use crate::history::{History, Witness};
@@ -69,7 +69,7 @@ impl History {
     /// Adds that the least free number is registered.
     ///
     /// The first piece of the witness is that of the numbers. The witness keeps it, with this
-    /// number added, and has the two pieces of the thread behind it. The caller picks the numbers
+    /// number added, and has the three pieces of the thread behind it. The caller picks the numbers
     /// `after`. It costs one load.
     pub fn register(&self, me: &mut Witness, number: usize)
         ghost after: { List Bool }
@@ -86,7 +86,7 @@ impl History {
             Step.Register (Answer.Registered number) me.new }
         ensures pieces { pieces_of me.new
             ≡ Numbers after ∷ Thread number Status.Running ∷ Records number []
-            ∷ rest_of (pieces_of me.old) }
+            ∷ Timing number false ∷ rest_of (pieces_of me.old) }
         ensures deals { deals_of me.new ≡ deals_of me.old }
     {
         self.register_as::<Brand>(me, number);
@@ -105,7 +105,7 @@ impl History {
         } }
         requires after { after.1
             ≡ Numbers after.0 ∷ Thread number Status.Running ∷ Records number []
-            ∷ rest_of (pieces_of me.old) }
+            ∷ Timing number false ∷ rest_of (pieces_of me.old) }
         requires said { E.said Step.Register (Answer.Registered number) }
         ensures still { IsStill self.now me.old me.new }
         ensures adds { Adds self.now me.old E.said me.new }
@@ -117,24 +117,26 @@ impl History {
 
     /// Adds that a running thread gives its number back.
     ///
-    /// The first three pieces of the witness are those of the thread, of its records and of the
-    /// numbers. The witness keeps only the last of them, without this number. The caller picks the
-    /// numbers `after`. It costs one load.
+    /// The first four pieces of the witness are those of the thread, of its records, of its timing
+    /// and of the numbers. The witness keeps only the last of them, without this number. The caller
+    /// picks the numbers `after`. It costs one load.
     pub fn retire(&self, me: &mut Witness, number: usize)
         ghost after: { List Bool }
         requires witness { IsWitnessOf self.now me.old }
         requires registered { record {
           keys : List ℕ;
+          timed : Bool;
           uses : List Bool;
           pieces : pieces_of me.old ≡ Thread number Status.Running ∷ Records number keys
-              ∷ Numbers uses ∷ rest_of (rest_of (rest_of (pieces_of me.old)));
+              ∷ Timing number timed ∷ Numbers uses
+              ∷ rest_of (rest_of (rest_of (rest_of (pieces_of me.old))));
           more : IsOneMore after number uses;
         } }
         ensures still { IsStill self.now me.old me.new }
         ensures extends { Extends self.now me.old
             (Step.Retire number) Answer.Retired me.new }
         ensures pieces { pieces_of me.new
-            ≡ Numbers after ∷ rest_of (rest_of (rest_of (pieces_of me.old))) }
+            ≡ Numbers after ∷ rest_of (rest_of (rest_of (rest_of (pieces_of me.old)))) }
         ensures deals { deals_of me.new ≡ deals_of me.old }
     {
         self.retire_as::<Brand>(me, number);
@@ -146,13 +148,15 @@ impl History {
         requires witness { IsWitnessOf self.now me.old }
         requires registered { record {
           keys : List ℕ;
+          timed : Bool;
           uses : List Bool;
           pieces : pieces_of me.old ≡ Thread number Status.Running ∷ Records number keys
-              ∷ Numbers uses ∷ rest_of (rest_of (rest_of (pieces_of me.old)));
+              ∷ Timing number timed ∷ Numbers uses
+              ∷ rest_of (rest_of (rest_of (rest_of (pieces_of me.old))));
           more : IsOneMore after.0 number uses;
         } }
         requires after { after.1
-            ≡ Numbers after.0 ∷ rest_of (rest_of (rest_of (pieces_of me.old))) }
+            ≡ Numbers after.0 ∷ rest_of (rest_of (rest_of (rest_of (pieces_of me.old)))) }
         requires said { E.said (Step.Retire number) Answer.Retired }
         ensures still { IsStill self.now me.old me.new }
         ensures adds { Adds self.now me.old E.said me.new }

@@ -88,8 +88,9 @@ impl History {
     }
 
     /// Adds the event that a running thread enters the list of a key that has a title. The witness
-    /// has the lists of the key's place, the title and the thread's piece before its other pieces.
-    /// It keeps the first two, and the title tells of the thread then. It costs a load.
+    /// has the lists of the key's place, the title, the thread's piece and its timing before its
+    /// other pieces. It keeps all but the third; the title tells of the thread then, and the timing
+    /// tells how it waits. It costs a load.
     pub fn enter_titled(
         &self,
         me: &mut Witness,

@@ -52,6 +52,10 @@ pub enum Piece {
     /// The titles of all keys from the first up to but not the second, which were not dealt. Nobody
     /// stands in their lists.
     Undealt(u64, u64),
+
+    /// Whether a thread waits with a timeout, where it waits. Nobody lets the thread enter a list
+    /// without this piece.
+    Timing(u64, bool),
 }
 
 /// A `View` is what a witness knows.

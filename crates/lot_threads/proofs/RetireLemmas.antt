@@ -7,7 +7,7 @@ use Rattle.lot_base.proofs.ValueLemmas.{with_value-same, with_value-other}
 use Rattle.lot_machine.specs.declared.status.Status.TheVariants.{Running}
 use Rattle.lot_machine.specs.Machine.{Machine}
 use Rattle.lot_machine.specs.Status.{is_registered}
-use Rattle.lot_history.specs.declared.view.Piece.TheVariants.{Numbers, Records, Thread}
+use Rattle.lot_history.specs.declared.view.Piece.TheVariants.{Numbers, Records, Thread, Timing}
 use Rattle.lot_history.specs.Pieces.{has_number, AllSo, IsOneMore}
 
 -- a number that is registered is one more than those without it
@@ -24,6 +24,7 @@ one_more_unset uses number low registered = record {
 }
 
 -- the number of a thread that runs is registered
-pub registered_runs : (m : Machine) (number : ℕ) (keys : List ℕ) (uses : List Bool)
-    → AllSo m (Thread number Running ∷ Records number keys ∷ Numbers uses ∷ []) → has_number uses number ≡ true
-registered_runs m number keys uses (runs, (recorded, (so, _))) = sym (so.0 number) ∙ ap is_registered runs
+pub registered_runs : (m : Machine) (number : ℕ) (keys : List ℕ) (timed : Bool) (uses : List Bool)
+    → AllSo m (Thread number Running ∷ Records number keys ∷ Timing number timed ∷ Numbers uses ∷ [])
+    → has_number uses number ≡ true
+registered_runs m number keys timed uses (runs, (recorded, (timing, (so, _)))) = sym (so.0 number) ∙ ap is_registered runs

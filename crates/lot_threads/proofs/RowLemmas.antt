@@ -7,7 +7,7 @@ use Rattle.lot_base.specs.Place.{IsTableSize, place_of}
 use Rattle.lot_base.proofs.PlaceLemmas.{place_of-below}
 use Rattle.lot_machine.specs.Machine.{Machine}
 use Rattle.lot_history.specs.Moves.{Finds, Regroups}
-use Rattle.lot_history.specs.Pieces.{Name, list, title, dealing, thread, records, numbers, has_number}
+use Rattle.lot_history.specs.Pieces.{Name, list, title, dealing, thread, records, timing, numbers, has_number}
 use Rattle.lot_history.specs.Pieces.{at_or_above, cover, covers, AllSo}
 use Rattle.lot_history.specs.Titles.{titled_pieces}
 use Rattle.lot_history.specs.declared.view.Piece.{Piece}
@@ -103,6 +103,11 @@ module _ (limit size : ℕ) (others : List Piece) where
   records_covered number place zero = refl
   records_covered number place (suc count) = omega (arith, records_covered number (place + 1) count)
 
+  timing_covered : (number place count : ℕ)
+      → cover (timing number) (empty_lists limit size place count others) ≡ cover (timing number) others
+  timing_covered number place zero = refl
+  timing_covered number place (suc count) = omega (arith, timing_covered number (place + 1) count)
+
   numbers_covered : (place count : ℕ)
       → cover numbers (empty_lists limit size place count others) ≡ cover numbers others
   numbers_covered place zero = refl
@@ -156,6 +161,10 @@ module _ (max_threads limit size : ℕ) (table : IsTableSize size) where
       let free : covers (records number) (free_numbers max_threads) ≡ 1 =
       ap (λ is. cond is 0 1) (unused max_threads number) in
       omega (arith, records_covered limit size rest number 0 size, free)
+  same_cover (timing number) =
+      let free : covers (timing number) (free_numbers max_threads) ≡ 1 =
+      ap (λ is. cond is 0 1) (unused max_threads number) in
+      omega (arith, timing_covered limit size rest number 0 size, free)
   same_cover numbers = numbers_covered limit size rest 0 size
 
   module _ (bound : ℕ) (m : Machine) (finds : Finds bound (titled_pieces limit) m) where

@@ -1,6 +1,6 @@
 -- The invariants of what lies behind the locks of a lot, buckets and the registry of numbers, each with its part of
 -- the lot's history, and what goes beside the node of a thread that was unparked.
-use Rattle.std.specs.Prelude.{◌≡◌, ◌≢◌, ℕ, ◌+◌, ◌*◌, ◌<◌, ◌≤◌, ◌^◌, All, ⊤, List, [], ◌∷◌, map, length, Option, Some, None}
+use Rattle.std.specs.Prelude.{◌≡◌, ◌≢◌, ℕ, ◌+◌, ◌*◌, ◌<◌, ◌≤◌, ◌^◌, All, ⊤, Bool, List, [], ◌∷◌, map, length, Option, Some, None}
 use Rattle.atomic_table.specs.Seated.{TableId}
 use Rattle.boxcar.specs.Slot.{Named}
 use Rattle.lot_base.specs.BucketState.{BucketState, IsBucketAt, KeepsPlace}
@@ -16,7 +16,7 @@ use Rattle.lot_history.specs.declared.history.History.{History}
 use Rattle.lot_history.specs.declared.history.Part.{Part}
 use Rattle.lot_history.specs.declared.history.Witness.{Witness}
 use Rattle.lot_history.specs.declared.view.Piece.{Piece}
-use Rattle.lot_history.specs.declared.view.Piece.TheVariants.{TitledLists, Thread, Records, Numbers}
+use Rattle.lot_history.specs.declared.view.Piece.TheVariants.{TitledLists, Thread, Records, Numbers, Timing}
 use Rattle.lot_history.specs.Pieces.{standing_in}
 use Rattle.lot_history.specs.Witness.{IsPartOf, events_of, id_of, limit_of, max_threads_of, pieces_in, pieces_of}
 use Rattle.lot_threads.specs.declared.cell.Cell.{Cell}
@@ -40,6 +40,11 @@ pub record Has (home : TableId) (all : List Piece) (part : Part) : Type 0 where
 pub record HasRecords (home : TableId) (number : ℕ) (part : Part) : Type 0 where
   pub keys : List ℕ
   pub has : Has home (Records number keys ∷ []) part
+
+-- the part says how a thread waits, with a timeout or without, where it waits
+pub record HasTiming (home : TableId) (number : ℕ) (part : Part) : Type 0 where
+  pub timed : Bool
+  pub has : Has home (Timing number timed ∷ []) part
 
 -- the lists of a bucket, where keys below the limit have titles
 abbrev pub lists_in : ℕ → BucketState → Piece

@@ -21,10 +21,10 @@ use Rattle.lot_history.specs.declared.history.History.{History}
 use Rattle.lot_history.specs.declared.history.Part.{Part}
 use Rattle.lot_history.specs.declared.history.Witness.{Witness}
 use Rattle.lot_history.specs.declared.view.Piece.{Piece}
-use Rattle.lot_history.specs.declared.view.Piece.TheVariants.{Thread, Records}
+use Rattle.lot_history.specs.declared.view.Piece.TheVariants.{Thread, Records, Timing}
 use Rattle.lot_history.specs.Witness.{Extends, Looks, IsStill, IsWitnessOf, events_of, max_threads_of, pieces_of}
 use Rattle.lot_threads.specs.declared.told.Entry.{Entry}
-use Rattle.lot_threads.specs.Cells.{Has}
+use Rattle.lot_threads.specs.Cells.{Has, HasTiming}
 
 -- this step, with this answer
 abbrev pub Is : Step → Answer → Step → Answer → Type 0
@@ -53,11 +53,12 @@ pub record ThreadDataState : Type 0 where
   pub witness : Witness
 
 -- the data of a thread that runs has its node, and the pieces that say so
-pub record IsThreadData (own : ℕ) (node : Option (Box Node Global)) (keys : List ℕ) (thread records : Part)
-    (witness : Witness) : Type 0 where
+pub record IsThreadData (own : ℕ) (node : Option (Box Node Global)) (keys : List ℕ)
+    (thread records timing : Part) (witness : Witness) : Type 0 where
   pub has_node : IsSomeAnd node (λ held. (fields held.value).number ≡ own)
   pub runs : Has witness.seat.table_id (Thread own Running ∷ []) thread
   pub has_recorded : Has witness.seat.table_id (Records own keys ∷ []) records
+  pub has_timing : HasTiming witness.seat.table_id own timing
   pub no_pieces : pieces_of witness ≡ []
 
 -- the data is that of a thread of the lot that has this history
@@ -90,7 +91,7 @@ answer_for (Some number) = Registered number
 
 abbrev pub pieces_for : Option ℕ → List Piece
 pieces_for None = []
-pieces_for (Some number) = Thread number Running ∷ Records number [] ∷ []
+pieces_for (Some number) = Thread number Running ∷ Records number [] ∷ Timing number false ∷ []
 
 -- the new witness told of the registration, and has the thread's pieces
 pub record IsRegistered (history : History) (number : Option ℕ) (witness : Witness) : Type 0 where

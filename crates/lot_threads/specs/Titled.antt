@@ -12,7 +12,7 @@ use Rattle.lot_history.specs.declared.history.Witness.{Witness}
 use Rattle.lot_history.specs.declared.view.Piece.{Piece}
 use Rattle.lot_history.specs.declared.view.Piece.TheVariants as piece
 use Rattle.lot_history.specs.declared.view.Piece.TheVariants.{Records}
-use Rattle.lot_threads.specs.Cells.{Has}
+use Rattle.lot_threads.specs.Cells.{Has, HasTiming}
 use Rattle.lot_threads.specs.Members.{ThreadDataState}
 use Rattle.lot_threads.specs.declared.title.Title.{Title}
 
@@ -61,9 +61,10 @@ pub record EnteredState : Type 0 where
   pub records : List ℕ
   pub witness : Witness
 
--- its node and its piece are with the bucket, and it has the piece of its records
-pub record IsEntered (own : ℕ) (keys : List ℕ) (records : Part) (witness : Witness) : Type 0 where
+-- its node and its piece are with the bucket, and it has the pieces of its records and of its timing
+pub record IsEntered (own : ℕ) (keys : List ℕ) (records timing : Part) (witness : Witness) : Type 0 where
   pub has_recorded : Has witness.seat.table_id (Records own keys ∷ []) records
+  pub has_timing : HasTiming witness.seat.table_id own timing
   pub no_pieces : pieces_of witness ≡ []
 
 -- it is a thread of the lot that has this history

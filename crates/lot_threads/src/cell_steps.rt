@@ -2,19 +2,19 @@
 //! history.
 
 ghost use denote.Ref.{Bor};
-ghost use Rattle.std.specs.Prelude.{◌≡◌, ◌∷◌, ◌<◌, ◌≤◌, ◌^◌, ℕ, [], length, Bool, All, IfErr, IfNone, IfSome, OnOk};
+ghost use Rattle.std.specs.Prelude.{◌≡◌, ◌∷◌, ◌<◌, ◌≤◌, ◌^◌, ℕ, [], length, Bool, All, IfErr, IfNone, IfSome, OnErr, OnOk, None, true, find};
 ghost use Rattle.lot_base.specs.BucketState.{KeepsPlace};
 ghost use Rattle.lot_base.specs.Filter.{IsFilterCallable, IsFiltered, park_tokens};
 ghost use Rattle.lot_base.specs.Node.{fields};
-ghost use Rattle.lot_base.specs.NodeLists.{lists_of, with_saturated_counts};
+ghost use Rattle.lot_base.specs.NodeLists.{has_number, lists_of, with_saturated_counts};
 ghost use Rattle.lot_base.specs.Place.{place_of};
 ghost use Rattle.lot_base.specs.Waiting.{result_of, split_filter, split_first};
 ghost use Rattle.lot_machine.specs.declared.step.Answer.{Answer};
 ghost use Rattle.lot_machine.specs.declared.step.Step.{Step};
 ghost use Rattle.lot_base.specs.declared.token.UnparkResult.{UnparkResult};
 ghost use Rattle.lot_history.specs.Witness.{events_of, id_of, limit_of, max_threads_of, pieces_of, seen_by, Adds, Found, IsStill, IsWitnessOf};
-ghost use Rattle.lot_history.specs.declared.view.Piece.TheVariants.{Thread};
-ghost use Rattle.lot_threads.specs.Cells.{Has, IsBelow, IsCell, IsCellFor, TakesFrom, lists_in};
+ghost use Rattle.lot_history.specs.declared.view.Piece.TheVariants.{Thread, Timing};
+ghost use Rattle.lot_threads.specs.Cells.{Has, HasTiming, IsBelow, IsCell, IsCellFor, TakesFrom, lists_in};
 ghost use Rattle.lot_threads.specs.Idle.{IsIdle, StaysIdle};
 ghost use Rattle.lot_threads.specs.Members.{IsListed, entry_of};
 ghost use Rattle.lot_threads.specs.Within.{Enters, FindsPieces, IsUnparkWithin, MayFilterWithin, MayTellTimeout, MayValidate, Refuses, TellsTimeout, UnparksWithin};
@@ -199,13 +199,14 @@ fn take_filter_with<
 }
 
 // Puts a thread last in the list of its key, if `validate` answers true, and tells so; or gives
-// back its piece and its node.
+// back its piece and its node. Once it is in the list, `timing` says how it waits.
 pub(crate) fn enter_in<V: FnOnce(&CriticalSection) -> bool>(
     history: &History,
     me: &mut Witness,
     licence: Licence,
     cell: &mut Cell,
     thread: Part,
+    timing: &mut Part,
     node: Box<Node>,
     validate: V,
 ) -> Result<(), (Part, Box<Node>)>
@@ -215,6 +216,7 @@ pub(crate) fn enter_in<V: FnOnce(&CriticalSection) -> bool>(
     requires below { IsBelow (max_threads_of history.now) (fields node.value) }
     requires thread { Has (id_of history.now)
         (Thread (fields node.value).number Status.Running ∷ []) thread }
+    requires timing { HasTiming (id_of history.now) (fields node.value).number timing.old }
     requires callable { MayValidate V.FnOnce validate history.now (fields node.value).key }
 
     ensures idle { StaysIdle history.now me.old me.new }
@@ -228,6 +230,9 @@ pub(crate) fn enter_in<V: FnOnce(&CriticalSection) -> bool>(
     ensures returned { IfErr result (λ back. (back.1.value ≡ node.value)
         × Has (id_of history.now)
         (Thread (fields node.value).number Status.Running ∷ []) back.0) }
+    ensures timing { OnOk result (Has (id_of history.now)
+        (Timing (fields node.value).number (fields node.value).timed ∷ []) timing.new) }
+    ensures same_timing { OnErr result (timing.new ≡ timing.old) }
 {
     let entry = entry_for(&node);
     let part = mem::replace(&mut cell.part, Part::none());
@@ -244,7 +249,7 @@ pub(crate) fn enter_in<V: FnOnce(&CriticalSection) -> bool>(
     cell.part = part;
     match entered {
         Ok(()) => {
-            add_entered(history, me, licence, cell, thread, entry);
+            add_entered(history, me, licence, cell, thread, timing, entry);
             Ok(())
         }
         Err(node) => Err((add_invalid(history, me, licence, thread, entry), node)),
@@ -252,14 +257,15 @@ pub(crate) fn enter_in<V: FnOnce(&CriticalSection) -> bool>(
 }
 
 // Takes the node of a thread whose deadline has passed out of the bucket of its key, calls
-// `timed_out` and tells so; or answers `None` if the node is not there, since an unpark took it. It
-// leaves a node there that says that its thread has no timeout: no contract tells that the node of
-// a thread with a deadline says otherwise, and then that thread would wait for an unpark.
+// `timed_out` and tells so; or answers `None` if the node is not there, since an unpark took it.
+// Nobody else lets the thread enter a list while `timing` is here, so the node says what it says:
+// that the thread waits with a timeout.
 pub(crate) fn leave_in<T: FnOnce(&CriticalSection, usize, bool)>(
     history: &History,
     me: &mut Witness,
     licence: Licence,
     cell: &mut Cell,
+    timing: &mut Part,
     number: usize,
     key: usize,
     timed_out: T,
@@ -267,6 +273,7 @@ pub(crate) fn leave_in<T: FnOnce(&CriticalSection, usize, bool)>(
     requires idle { IsIdle history.now me.old }
     requires cell { IsCellFor history.now key cell.old }
     requires above { limit_of history.now ≤ key }
+    requires timing { Has (id_of history.now) (Timing number true ∷ []) timing.old }
     requires callable { MayTellTimeout T.FnOnce timed_out history.now }
 
     ensures idle { StaysIdle history.now me.old me.new }
@@ -277,10 +284,20 @@ pub(crate) fn leave_in<T: FnOnce(&CriticalSection, usize, bool)>(
         × TellsTimeout T.FnOnce timed_out history.now number key last me.old me.new) }
     ensures returned { IfSome result (λ back. ((fields back.1.value).number ≡ number)
         × Has (id_of history.now) (Thread number Status.Running ∷ []) back.0) }
+    ensures timing { Has (id_of history.now) (Timing number true ∷ []) timing.new }
+    ensures gone { IfNone result
+        (find (has_number number) (lists_of cell.old.bucket.nodes key) ≡ None) }
     ensures unchanged { IfNone result ((seen_by me.new ≡ seen_by me.old)
         × (events_of me.new ≡ events_of me.old)) }
 {
-    let Some((node, last)) = cell.bucket.remove_timed(number, key) else {
+    let Some((node, last)) = cell.bucket.remove(
+        number,
+        key,
+        |_key, last| -> bool
+            ensures { result ≡ last }
+        { last },
+    )
+    else {
         licence.spend();
         return None;
     };
@@ -289,7 +306,7 @@ pub(crate) fn leave_in<T: FnOnce(&CriticalSection, usize, bool)>(
     timed_out(&section, key, last);
     let CriticalSection { part } = section;
     cell.part = part;
-    let thread = add_timeout(history, me, licence, cell, number, key, last);
+    let thread = add_timeout(history, me, licence, cell, timing, number, key, last);
     Some((thread, node))
 }
 

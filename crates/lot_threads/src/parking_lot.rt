@@ -86,6 +86,7 @@ pub struct ThreadData {
     pub(crate) keys: Records,
     pub(crate) thread: Part,
     pub(crate) records: Part,
+    pub(crate) timing: Part,
     pub(crate) witness: Witness,
 }
 
@@ -101,7 +102,7 @@ impl Model for ThreadData {
     } };
 
     ghost invariant = { λ own. IsThreadData own.number own.node own.keys own.thread own.records
-        own.witness };
+        own.timing own.witness };
 }
 
 impl ThreadData {
@@ -237,12 +238,14 @@ impl<P: ThreadParkerT> SharedLot<P> {
         };
         let thread = self.history().give(&mut witness);
         let records = self.history().give(&mut witness);
+        let timing = self.history().give(&mut witness);
         Ok(ThreadData {
             number: node.number,
             node: Some(node),
             keys: Records::new(alloc),
             thread,
             records,
+            timing,
             witness,
         })
     }
@@ -260,10 +263,11 @@ impl<P: ThreadParkerT> SharedLot<P> {
             keys: _keys,
             thread,
             records,
+            timing,
             mut witness,
         } = thread_data;
         // The data of a thread that does not wait has its node: its type keeps that.
-        self.release(rt, &mut witness, node.unwrap(), thread, records);
+        self.release(rt, &mut witness, node.unwrap(), thread, records, timing);
         witness
     }
 }
@@ -386,12 +390,13 @@ pub fn park_within<
     let mut node = thread_data.node.take().unwrap();
     node.prepare(key, park_token, timeout.is_some());
     let thread = mem::replace(&mut thread_data.thread, Part::none());
+    let timing = &mut thread_data.timing;
     let me = &mut thread_data.witness;
 
     // Queue: validate and enter in one section.
     lot.parker(number).prepare_park();
     let (mut section, licence) = Section::open(rt, lot, key);
-    let entered = section.enter(me, licence, thread, node, validate);
+    let entered = section.enter(me, licence, thread, timing, node, validate);
     section.close();
     if let Err((thread, node)) = entered {
         thread_data.thread = thread;
@@ -401,7 +406,7 @@ pub fn park_within<
 
     // Sleep, and a second look after the deadline.
     before_sleep(me);
-    let (result, thread, node) = lot.wait(rt, me, number, timed_out, timeout);
+    let (result, thread, node) = lot.wait(rt, me, timing, number, timed_out, timeout);
     thread_data.thread = thread;
     thread_data.node = Some(node);
     result

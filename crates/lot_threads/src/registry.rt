@@ -5,7 +5,7 @@ ghost use Rattle.lot_base.specs.Node.{fields};
 ghost use Rattle.lot_machine.specs.Numbers.{IsLeastUnregistered, count_registered};
 ghost use Rattle.lot_history.specs.Witness.{Extends, IsPartOf, IsStill, IsWitnessOf, id_of, max_threads_of, pieces_of};
 ghost use Rattle.lot_history.specs.declared.view.Piece.TheVariants.{Thread};
-ghost use Rattle.lot_threads.specs.Cells.{Has, HasRecords, IsBelow, IsRegistry, IsRegistryLock, numbers_in, size_in};
+ghost use Rattle.lot_threads.specs.Cells.{Has, HasRecords, HasTiming, IsBelow, IsRegistry, IsRegistryLock, numbers_in, size_in};
 ghost use Rattle.lot_threads.specs.Idle.{IsIdle, StaysIdle};
 ghost use Rattle.lot_threads.specs.Members.{IsRegistered, pieces_for};
 ghost use Rattle.lot_threads.specs.Rows.{free_numbers};
@@ -141,6 +141,7 @@ impl Registry {
         node: Box<Node>,
         thread: Part,
         records: Part,
+        timing: Part,
     )
         requires registry { IsRegistry (id_of history.now) (max_threads_of history.now) self.old }
         requires idle { IsIdle history.now me.old }
@@ -148,6 +149,7 @@ impl Registry {
         requires thread { Has (id_of history.now)
             (Thread (fields node.value).number Status.Running ∷ []) thread }
         requires records { HasRecords (id_of history.now) (fields node.value).number records }
+        requires timing { HasTiming (id_of history.now) (fields node.value).number timing }
         ensures registry { IsRegistry (id_of history.now) (max_threads_of history.now) self.new }
         ensures idle { StaysIdle history.now me.old me.new }
         ensures extends { Extends history.now me.old
@@ -156,6 +158,7 @@ impl Registry {
         let number = node.number;
         history.take(me, thread);
         history.take(me, records);
+        history.take(me, timing);
         let part = mem::replace(&mut self.part, Part::none());
         history.take(me, part);
         // It learns that the number is registered, since the thread runs.

@@ -1,14 +1,14 @@
 //! A section: what a call does while it has the bucket of a key locked.
 
-ghost use Rattle.std.specs.Prelude.{◌≡◌, ◌<◌, ◌≤◌, ◌∷◌, [], Bool, IfErr, IfNone, IfSome, IsFalse, IsTrue, OnOk, Some};
+ghost use Rattle.std.specs.Prelude.{◌≡◌, ◌<◌, ◌≤◌, ◌∷◌, [], Bool, IfErr, IfNone, IfSome, OnErr, OnOk, Some, true};
 ghost use Rattle.std.proofs.Props.{props};
 ghost use Rattle.lot_base.specs.Node.{fields};
 ghost use Rattle.lot_machine.specs.declared.step.Answer.{Answer};
 ghost use Rattle.lot_machine.specs.declared.step.Step.{Step};
 ghost use Rattle.lot_history.specs.Witness.{Extends, events_of, id_of, max_threads_of, seen_by, limit_of};
-ghost use Rattle.lot_history.specs.declared.view.Piece.TheVariants.{Thread};
-ghost use Rattle.lot_word_lock.specs.WordLock.{IsClaimOn, key_of};
-ghost use Rattle.lot_threads.specs.Cells.{AreApart, FitsSlot, Has, IsBelow, IsLockFor};
+ghost use Rattle.lot_history.specs.declared.view.Piece.TheVariants.{Thread, Timing};
+ghost use Rattle.lot_word_lock.specs.WordLock.{key_of};
+ghost use Rattle.lot_threads.specs.Cells.{AreApart, FitsSlot, Has, HasTiming, IsBelow, IsLockFor};
 ghost use Rattle.lot_threads.specs.Idle.{IsIdle, StaysIdle};
 ghost use Rattle.lot_threads.specs.Members.{IsListed, entry_of};
 ghost use Rattle.lot_threads.specs.Requeues.{MayRequeueWithin, RequeuesWithin};
@@ -97,7 +97,7 @@ impl<'a, P: ThreadParkerT> Section<'a, P> {
         ensures key { IfSome result (λ opened. opened.0.key ≡ key) }
     {
         let mut claim = lock.claim(rt);
-        if is_away(lock, &mut claim) {
+        if claim.value_mut(lock).as_mut().unwrap().cell.is_none() {
             lock.release(claim);
             return None;
         }
@@ -315,13 +315,14 @@ impl<'a, P: ThreadParkerT> Section<'a, P> {
     }
 
     /// Puts a thread last in the list of the key, if `validate` answers true, or gives its piece
-    /// and its node back.
+    /// and its node back. Once it is in the list, `timing` says how it waits.
     #[inline]
     pub(crate) fn enter<V: FnOnce(&CriticalSection) -> bool>(
         &mut self,
         me: &mut Witness,
         licence: Licence,
         thread: Part,
+        timing: &mut Part,
         node: Box<Node>,
         validate: V,
     ) -> Result<(), (Part, Box<Node>)>
@@ -331,6 +332,8 @@ impl<'a, P: ThreadParkerT> Section<'a, P> {
         requires below { IsBelow (max_threads_of self.old.lot.now) (fields node.value) }
         requires thread { Has (id_of self.old.lot.now)
             (Thread (fields node.value).number Status.Running ∷ []) thread }
+        requires timing { HasTiming (id_of self.old.lot.now) (fields node.value).number
+            timing.old }
         requires callable { MayValidate V.FnOnce validate self.old.lot.now self.old.key }
         ensures idle { StaysIdle self.old.lot.now me.old me.new }
         ensures entered { OnOk result (Enters V.FnOnce validate self.old.lot.now
@@ -340,6 +343,9 @@ impl<'a, P: ThreadParkerT> Section<'a, P> {
         ensures returned { IfErr result (λ back. (back.1.value ≡ node.value)
             × Has (id_of self.old.lot.now)
             (Thread (fields node.value).number Status.Running ∷ []) back.0) }
+        ensures timing { OnOk result (Has (id_of self.old.lot.now)
+            (Timing (fields node.value).number (fields node.value).timed ∷ []) timing.new) }
+        ensures same_timing { OnErr result (timing.new ≡ timing.old) }
     {
         let lot = self.lot;
         let key = self.key;
@@ -347,7 +353,16 @@ impl<'a, P: ThreadParkerT> Section<'a, P> {
         let timed = node.timed;
         let slot = self.claim.value_mut(self.lock).as_mut().unwrap();
         let cell = slot.cell.as_mut().unwrap();
-        let entered = enter_in(lot.history(), me, licence, cell, thread, node, validate);
+        let entered = enter_in(
+            lot.history(),
+            me,
+            licence,
+            cell,
+            thread,
+            timing,
+            node,
+            validate,
+        );
         if entered.is_ok() {
             lot.note_key(number, timed, key);
         }
@@ -360,11 +375,13 @@ impl<'a, P: ThreadParkerT> Section<'a, P> {
         &mut self,
         me: &mut Witness,
         licence: Licence,
+        timing: &mut Part,
         number: usize,
         timed_out: T,
     ) -> Option<(Part, Box<Node>)>
         requires idle { IsIdle self.old.lot.now me.old }
         requires above { limit_of self.old.lot.now ≤ self.old.key }
+        requires timing { Has (id_of self.old.lot.now) (Timing number true ∷ []) timing.old }
         requires callable { MayTellTimeout T.FnOnce timed_out self.old.lot.now }
         ensures idle { StaysIdle self.old.lot.now me.old me.new }
         ensures left { IfSome result (λ back. (last : Bool)
@@ -372,6 +389,7 @@ impl<'a, P: ThreadParkerT> Section<'a, P> {
             me.new) }
         ensures returned { IfSome result (λ back. ((fields back.1.value).number ≡ number)
             × Has (id_of self.old.lot.now) (Thread number Status.Running ∷ []) back.0) }
+        ensures timing { Has (id_of self.old.lot.now) (Timing number true ∷ []) timing.new }
         ensures unchanged { IfNone result ((seen_by me.new ≡ seen_by me.old)
             × (events_of me.new ≡ events_of me.old)) }
     {
@@ -379,7 +397,7 @@ impl<'a, P: ThreadParkerT> Section<'a, P> {
         let key = self.key;
         let slot = self.claim.value_mut(self.lock).as_mut().unwrap();
         let cell = slot.cell.as_mut().unwrap();
-        leave_in(history, me, licence, cell, number, key, timed_out)
+        leave_in(history, me, licence, cell, timing, number, key, timed_out)
     }
 
     /// Sees the history with the bucket's part, and lists the threads of the key.
@@ -394,15 +412,4 @@ impl<'a, P: ThreadParkerT> Section<'a, P> {
         let cell = slot.cell.as_mut().unwrap();
         list_in(history, me, cell, alloc, key)
     }
-}
-
-// Looks whether the bucket is away, since the row is not in use there.
-#[inline]
-fn is_away(lock: &WordLock<Slot>, claim: &mut Claim<Slot>) -> bool
-    requires { IsClaimOn (FitsSlot (key_of lock.now)) lock.now claim.old }
-    ensures there { IsFalse result → HasBucket lock.now claim.new }
-    ensures away { IsTrue result → IsClaimOn (FitsSlot (key_of lock.now)) lock.now claim.new }
-{
-    let value = claim.value_mut(lock);
-    value.as_mut().unwrap().cell.is_none()
 }

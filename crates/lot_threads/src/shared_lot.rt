@@ -8,7 +8,7 @@ ghost use Rattle.lot_machine.specs.declared.step.Answer.{Answer};
 ghost use Rattle.lot_machine.specs.declared.step.Step.{Step};
 ghost use Rattle.lot_history.specs.Witness.{id_of, limit_of, max_threads_of, Extends, IsPartOf, IsStill};
 ghost use Rattle.lot_history.specs.declared.view.Piece.TheVariants.{Thread, Undealt};
-ghost use Rattle.lot_threads.specs.Cells.{Has, HasRecords, IsBelow, IsLockAt, IsLockFor, IsRegistry, IsRow, IsSlotAt, home_of};
+ghost use Rattle.lot_threads.specs.Cells.{Has, HasRecords, HasTiming, IsBelow, IsLockAt, IsLockFor, IsRegistry, IsRow, IsSlotAt, home_of};
 ghost use Rattle.lot_threads.specs.Idle.{IsIdle};
 ghost use Rattle.lot_threads.specs.Members.{IsRegistered, number_in};
 ghost use Rattle.lot_threads.specs.Rows.{EachAt};
@@ -215,7 +215,7 @@ impl<P: ThreadParkerT> SharedLot<P> {
     {
         let index = self.current.load(Ordering::SeqCst);
         if index < MOST_ROWS
-            && let Some(row) = self.row(index)
+            && let Some(row) = self.row_slot(index).get()
         {
             return (index, row);
         }
@@ -229,7 +229,7 @@ impl<P: ThreadParkerT> SharedLot<P> {
         ensures { IsLockFor self.now key result.now }
     {
         let (index, row) = self.row_in_use();
-        lock_at(row, place_by_bits(key, index + 4))
+        &row[place_by_bits(key, index + 4)]
     }
 
     // Waits until the thread that changes the row is done, which has the numbers locked meanwhile.
@@ -291,18 +291,21 @@ impl<P: ThreadParkerT> SharedLot<P> {
         node: Box<Node>,
         thread: Part,
         records: Part,
+        timing: Part,
     )
         requires idle { IsIdle self.now me.old }
         requires below { IsBelow (max_threads_of self.now) (fields node.value) }
         requires thread { Has (id_of self.now)
             (Thread (fields node.value).number Status.Running ∷ []) thread }
         requires records { HasRecords (id_of self.now) (fields node.value).number records }
+        requires timing { HasTiming (id_of self.now) (fields node.value).number timing }
         ensures still { IsStill self.now me.old me.new }
         ensures extends { Extends self.now me.old (Step.Retire (fields node.value).number)
             Answer.Retired me.new }
     {
         let mut held = self.registry.lock(rt);
-        held.value.retire(&self.history, me, node, thread, records);
+        held.value
+            .retire(&self.history, me, node, thread, records, timing);
         self.registry.unlock(held);
     }
 }

@@ -188,6 +188,7 @@ impl<P: ThreadParkerT> TitledLot<P> {
             key: _,
             keys,
             records,
+            timing,
             mut witness,
         } = entered;
         let (token, thread, node) = self.shared().wait_unparked(rt, &mut witness, number);
@@ -197,6 +198,7 @@ impl<P: ThreadParkerT> TitledLot<P> {
             keys,
             thread,
             records,
+            timing,
             witness,
         };
         (back, token)
@@ -229,6 +231,7 @@ impl<P: ThreadParkerT> TitledLot<P> {
             key,
             keys,
             records,
+            timing,
             mut witness,
         } = entered;
         let shared = self.shared();
@@ -243,6 +246,7 @@ impl<P: ThreadParkerT> TitledLot<P> {
                 key,
                 keys,
                 records,
+                timing,
                 witness,
             });
         };
@@ -252,6 +256,7 @@ impl<P: ThreadParkerT> TitledLot<P> {
             keys,
             thread,
             records,
+            timing,
             witness,
         };
         Ok((back, token))

@@ -79,6 +79,7 @@ pub struct Entered {
     pub(crate) key: usize,
     pub(crate) keys: Records,
     pub(crate) records: Part,
+    pub(crate) timing: Part,
     pub(crate) witness: Witness,
 }
 
@@ -94,7 +95,8 @@ impl Model for Entered {
       witness = thread.witness;
     } };
 
-    ghost invariant = { λ own. IsEntered own.number own.keys own.records own.witness };
+    ghost invariant = { λ own. IsEntered own.number own.keys own.records own.timing
+        own.witness };
 }
 
 impl Entered {
@@ -157,6 +159,7 @@ impl<'a, P: ThreadParkerT> TitledSection<'a, P> {
             keys,
             thread,
             records,
+            mut timing,
             mut witness,
         } = thread_data;
         let key = section.key;
@@ -164,12 +167,13 @@ impl<'a, P: ThreadParkerT> TitledSection<'a, P> {
         let mut node = node.unwrap();
         node.prepare(key, park_token, timed);
         section.lot.parker(number).prepare_park();
-        let title = section.enter_titled(&mut witness, licence, thread, node, title);
+        let title = section.enter_titled(&mut witness, licence, thread, &mut timing, node, title);
         let entered = Entered {
             number,
             key,
             keys,
             records,
+            timing,
             witness,
         };
         let to_wake = ToWake::One(None);
@@ -238,7 +242,8 @@ impl<'a, P: ThreadParkerT> TitledSection<'a, P> {
     /// and whether it was the last in the list.
     ///
     /// If an unpark has taken the thread before, it returns the thread as it was; the thread must
-    /// call `TitledLot::wait` then, which returns soon. The call allocates nothing.
+    /// call `TitledLot::wait` then, which returns soon. A thread that entered without a deadline
+    /// stays in the list and is returned, too. The call allocates nothing.
     pub fn leave(
         self,
         entered: Entered,
@@ -271,6 +276,7 @@ impl<'a, P: ThreadParkerT> TitledSection<'a, P> {
             key,
             keys,
             records,
+            timing,
             mut witness,
         } = entered;
         match section.leave_titled(&mut witness, licence, number, title) {
@@ -281,6 +287,7 @@ impl<'a, P: ThreadParkerT> TitledSection<'a, P> {
                     keys,
                     thread,
                     records,
+                    timing,
                     witness,
                 };
                 let to_wake = ToWake::One(None);
@@ -292,6 +299,7 @@ impl<'a, P: ThreadParkerT> TitledSection<'a, P> {
                     key,
                     keys,
                     records,
+                    timing,
                     witness,
                 };
                 let to_wake = ToWake::One(None);

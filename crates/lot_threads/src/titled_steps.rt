@@ -9,8 +9,8 @@ ghost use Rattle.lot_base.specs.Waiting.{has_any, result_of, split_first};
 ghost use Rattle.lot_history.specs.Moves.{Moves};
 ghost use Rattle.lot_history.specs.Witness.{Adds, Extends, Found, IsStill, IsWitnessOf, deals_in, deals_of, events_of, id_of, limit_of, max_threads_of, pieces_of, seen_by};
 ghost use Rattle.lot_history.specs.declared.view.Piece.{Piece};
-ghost use Rattle.lot_history.specs.declared.view.Piece.TheVariants.{Thread};
-ghost use Rattle.lot_threads.specs.Cells.{Has, IsBelow, IsCell, IsCellFor, TakesFrom, lists_in, threads_in};
+ghost use Rattle.lot_history.specs.declared.view.Piece.TheVariants.{Thread, Timing};
+ghost use Rattle.lot_threads.specs.Cells.{Has, HasTiming, IsBelow, IsCell, IsCellFor, TakesFrom, lists_in, threads_in};
 ghost use Rattle.lot_threads.specs.Idle.{IsIdle, StaysIdle};
 ghost use Rattle.lot_machine.specs.declared.step.Answer.{Answer};
 ghost use Rattle.lot_machine.specs.declared.step.Step.{Step};
@@ -135,7 +135,7 @@ fn add_all_titled(
 }
 
 // Adds that a thread entered the list of its key with the key's title, where the bucket is as it is
-// with the thread.
+// with the thread. The witness has the piece then that says how the thread waits.
 fn add_entered_titled(
     history: &History,
     me: &mut Witness,
@@ -147,10 +147,11 @@ fn add_entered_titled(
     requires moves { Moves (max_threads_of history.now)
         (Is (entry_step entry true) Answer.Entered) (pieces_of me.old)
         (lists_in (limit_of history.now) cell.old.bucket ∷ title_in entry.key cell.old.bucket
-        ∷ []) }
-    ensures idle { StaysIdle history.now me.old me.new }
+        ∷ Timing entry.number entry.timed ∷ []) }
+    ensures still { IsStill history.now me.old me.new }
     ensures extends { Extends history.now me.old (entry_step entry true) Answer.Entered me.new }
     ensures found { Found history.now me.old me.new }
+    ensures pieces { pieces_of me.new ≡ Timing entry.number entry.timed ∷ [] }
     ensures bucket { cell.new.bucket ≡ cell.old.bucket }
     ensures part { Has (id_of history.now) (lists_in (limit_of history.now) cell.old.bucket ∷ [])
         cell.new.part }
@@ -260,13 +261,14 @@ pub(crate) fn take_all_titled_of(
     (count, taken, title)
 }
 
-// Puts a thread last in the list of its key, and tells so.
+// Puts a thread last in the list of its key, and tells so. `timing` says then how it waits.
 pub(crate) fn enter_titled_in(
     history: &History,
     me: &mut Witness,
     licence: Licence,
     cell: &mut Cell,
     thread: Part,
+    timing: &mut Part,
     node: Box<Node>,
     title: Title,
 ) -> Title
@@ -275,6 +277,7 @@ pub(crate) fn enter_titled_in(
     requires below { IsBelow (max_threads_of history.now) (fields node.value) }
     requires thread { Has (id_of history.now)
         (Thread (fields node.value).number Status.Running ∷ []) thread }
+    requires timing { HasTiming (id_of history.now) (fields node.value).number timing.old }
     requires title { IsTitle history.now (fields node.value).key title }
 
     ensures idle { StaysIdle history.now me.old me.new }
@@ -285,6 +288,8 @@ pub(crate) fn enter_titled_in(
         (entry_step (entry_of (fields node.value)) true) Answer.Entered me.new }
     ensures title { Retells history.now (fields node.value).key title
         (told_by title ++ (fields node.value).number ∷ []) result }
+    ensures timing { Has (id_of history.now)
+        (Timing (fields node.value).number (fields node.value).timed ∷ []) timing.new }
 {
     let entry = entry_for(&node);
     put_last(&mut cell.bucket, node);
@@ -293,7 +298,11 @@ pub(crate) fn enter_titled_in(
     let Title { part } = title;
     history.take(me, part);
     history.take(me, thread);
-    add_entered_titled(history, me, licence, cell, entry)
+    let part = mem::replace(timing, Part::none());
+    history.take(me, part);
+    let title = add_entered_titled(history, me, licence, cell, entry);
+    *timing = history.give(me);
+    title
 }
 
 // Takes the node of a thread whose deadline has passed out of the bucket of its key, and tells so;

@@ -5,7 +5,7 @@ ghost use Rattle.lot_base.specs.BucketState.{IsBucketAt};
 ghost use Rattle.lot_history.specs.Moves.{Moves, Regroups};
 ghost use Rattle.lot_history.specs.Witness.{events_of, id_of, limit_of, max_threads_of, pieces_in, pieces_of, Adds, Extends, Found, IsPartOf, IsStill, IsWitnessOf, deals_of};
 ghost use Rattle.lot_history.specs.declared.view.Piece.{Piece};
-ghost use Rattle.lot_history.specs.declared.view.Piece.TheVariants.{Records, Thread};
+ghost use Rattle.lot_history.specs.declared.view.Piece.TheVariants.{Records, Thread, Timing};
 ghost use Rattle.lot_threads.specs.Cells.{Has, IsCell, lists_in, numbers_in, threads_in};
 ghost use Rattle.lot_threads.specs.Idle.{IsIdle, StaysIdle};
 ghost use Rattle.lot_threads.specs.Late.{late_pieces};
@@ -155,11 +155,13 @@ pub(crate) fn add_registered(
     requires witness { IsWitnessOf history.now me.old }
     requires moves { Moves (max_threads_of history.now)
         (Is Step.Register (Answer.Registered number)) (pieces_of me.old)
-        (numbers_in numbers.now ∷ Thread number Status.Running ∷ Records number [] ∷ []) }
+        (numbers_in numbers.now ∷ Thread number Status.Running ∷ Records number []
+        ∷ Timing number false ∷ []) }
     ensures still { IsStill history.now me.old me.new }
     ensures extends { Extends history.now me.old Step.Register (Answer.Registered number) me.new }
     ensures pieces { pieces_of me.new
-        ≡ numbers_in numbers.now ∷ Thread number Status.Running ∷ Records number [] ∷ [] }
+        ≡ numbers_in numbers.now ∷ Thread number Status.Running ∷ Records number []
+        ∷ Timing number false ∷ [] }
 {
     add_with::<Brand, (usize, &NumberedNodes)>(history, me, &(number, numbers));
 }
@@ -350,37 +352,45 @@ fn add_requeued<E: Told>(history: &History, me: &mut Witness, left: &Requeued<'_
 }
 
 // Adds that a thread entered, where the bucket beside the part is as it is with the thread. It has
-// the thread's piece from then on.
+// the thread's piece from then on, and `timing` says how the thread waits.
 pub(crate) fn add_entered(
     history: &History,
     me: &mut Witness,
     licence: Licence,
     cell: &mut Cell,
     thread: Part,
+    timing: &mut Part,
     entry: Entry,
 )
     requires witness { IsWitnessOf history.now me.old }
     requires none { pieces_of me.old ≡ [] }
     requires part { IsPartOf (id_of history.now) cell.old.part }
     requires thread { Has (id_of history.now) (Thread entry.number Status.Running ∷ []) thread }
+    requires timing { IsPartOf (id_of history.now) timing.old }
     requires moves { Moves (max_threads_of history.now)
         (Is (entry_step entry true) Answer.Entered)
-        (pieces_in cell.old.part ++ Thread entry.number Status.Running ∷ [])
-        (lists_in (limit_of history.now) cell.old.bucket ∷ []) }
+        ((pieces_in cell.old.part ++ Thread entry.number Status.Running ∷ [])
+        ++ pieces_in timing.old)
+        (lists_in (limit_of history.now) cell.old.bucket ∷ Timing entry.number entry.timed ∷ []) }
     ensures idle { StaysIdle history.now me.old me.new }
     ensures extends { Extends history.now me.old (entry_step entry true) Answer.Entered me.new }
     ensures found { FindsPieces history.now
-        (pieces_in cell.old.part ++ Thread entry.number Status.Running ∷ []) me.old me.new }
+        ((pieces_in cell.old.part ++ Thread entry.number Status.Running ∷ [])
+        ++ pieces_in timing.old) me.old me.new }
     ensures bucket { cell.new.bucket ≡ cell.old.bucket }
     ensures part { Has (id_of history.now) (lists_in (limit_of history.now) cell.old.bucket ∷ [])
         cell.new.part }
+    ensures timing { Has (id_of history.now) (Timing entry.number entry.timed ∷ []) timing.new }
 {
     let part = mem::replace(&mut cell.part, Part::none());
     history.take(me, part);
     history.take(me, thread);
+    let part = mem::replace(timing, Part::none());
+    history.take(me, part);
     licence.spend();
     add_with::<Brand, (&Bucket, Entry)>(history, me, &(&cell.bucket, entry));
     cell.part = history.give(me);
+    *timing = history.give(me);
 }
 
 // Adds that a thread was not let in, and gives its piece back.
@@ -407,40 +417,50 @@ pub(crate) fn add_invalid(
 }
 
 // Adds that the deadline of a thread passed, and that it left the list of the key, where the bucket
-// beside the part is as it is without the thread. Gives the thread's piece.
+// beside the part is as it is without the thread, and `timing` says that it waits with a timeout.
+// Gives the thread's piece.
 pub(crate) fn add_timeout(
     history: &History,
     me: &mut Witness,
     licence: Licence,
     cell: &mut Cell,
+    timing: &mut Part,
     number: usize,
     key: usize,
     last: bool,
 ) -> Part
     requires idle { IsIdle history.now me.old }
     requires part { IsPartOf (id_of history.now) cell.old.part }
+    requires timing { IsPartOf (id_of history.now) timing.old }
     requires deadline { Moves (max_threads_of history.now)
         (Is (Step.Deadline number) Answer.Late)
-        (pieces_in cell.old.part) (late_pieces number (pieces_in cell.old.part)) }
+        (pieces_in cell.old.part ++ pieces_in timing.old)
+        (late_pieces number (pieces_in cell.old.part ++ pieces_in timing.old)) }
     requires resolve { Moves (max_threads_of history.now)
         (Is (Step.Resolve number) (Answer.TimedOut key last))
-        (late_pieces number (pieces_in cell.old.part))
-        (lists_in (limit_of history.now) cell.old.bucket ∷ Thread number Status.Running ∷ []) }
+        (late_pieces number (pieces_in cell.old.part ++ pieces_in timing.old))
+        (lists_in (limit_of history.now) cell.old.bucket ∷ Thread number Status.Running
+        ∷ Timing number true ∷ []) }
     ensures idle { StaysIdle history.now me.old me.new }
-    ensures leaves { LeavesFrom history.now (pieces_in cell.old.part) number key last me.old
-        me.new }
+    ensures leaves { LeavesFrom history.now (pieces_in cell.old.part ++ pieces_in timing.old)
+        number key last me.old me.new }
     ensures bucket { cell.new.bucket ≡ cell.old.bucket }
     ensures part { Has (id_of history.now) (lists_in (limit_of history.now) cell.old.bucket ∷ [])
         cell.new.part }
     ensures thread { Has (id_of history.now) (Thread number Status.Running ∷ []) result }
+    ensures timing { Has (id_of history.now) (Timing number true ∷ []) timing.new }
 {
     let part = mem::replace(&mut cell.part, Part::none());
+    history.take(me, part);
+    let part = mem::replace(timing, Part::none());
     history.take(me, part);
     licence.spend();
     add_late(history, me, number);
     add_resolved(history, me, &cell.bucket, number, key, last);
     cell.part = history.give(me);
-    history.give(me)
+    let thread = history.give(me);
+    *timing = history.give(me);
+    thread
 }
 
 // Adds that the deadline of a thread passed.
@@ -467,13 +487,15 @@ fn add_resolved(
     requires witness { IsWitnessOf history.now me.old }
     requires moves { Moves (max_threads_of history.now)
         (Is (Step.Resolve number) (Answer.TimedOut key last)) (pieces_of me.old)
-        (lists_in (limit_of history.now) bucket.now ∷ Thread number Status.Running ∷ []) }
+        (lists_in (limit_of history.now) bucket.now ∷ Thread number Status.Running
+        ∷ Timing number true ∷ []) }
     ensures still { IsStill history.now me.old me.new }
     ensures extends { Extends history.now me.old (Step.Resolve number)
         (Answer.TimedOut key last) me.new }
     ensures found { Found history.now me.old me.new }
     ensures pieces { pieces_of me.new
-        ≡ lists_in (limit_of history.now) bucket.now ∷ Thread number Status.Running ∷ [] }
+        ≡ lists_in (limit_of history.now) bucket.now ∷ Thread number Status.Running
+        ∷ Timing number true ∷ [] }
 {
     add_with::<Brand, (&Bucket, usize, usize, bool)>(history, me, &(bucket, number, key, last));
 }

@@ -5,10 +5,10 @@ ghost use Rattle.lot_base.specs.Node.{fields};
 ghost use Rattle.lot_base.specs.NodeLists.{saturated};
 ghost use Rattle.lot_base.specs.Waiting.{has_any, result_of, split_first};
 ghost use Rattle.lot_history.specs.Witness.{Extends, events_of, id_of, max_threads_of, seen_by};
-ghost use Rattle.lot_history.specs.declared.view.Piece.TheVariants.{Thread};
+ghost use Rattle.lot_history.specs.declared.view.Piece.TheVariants.{Thread, Timing};
 ghost use Rattle.lot_machine.specs.declared.step.Answer.{Answer};
 ghost use Rattle.lot_machine.specs.declared.step.Step.{Step};
-ghost use Rattle.lot_threads.specs.Cells.{Has, IsBelow};
+ghost use Rattle.lot_threads.specs.Cells.{Has, HasTiming, IsBelow};
 ghost use Rattle.lot_threads.specs.Idle.{IsIdle, StaysIdle};
 ghost use Rattle.lot_threads.specs.Members.{Leaves, entry_of, entry_step};
 ghost use Rattle.lot_threads.specs.Titled.{IsTitle, Retells, told_by, without_next, without_one};
@@ -101,12 +101,14 @@ impl<'a, P: ThreadParkerT> Section<'a, P> {
         (count, lot.commit(rt, me, taken), title)
     }
 
-    /// Puts a thread last in the list of the key, with the key's title.
+    /// Puts a thread last in the list of the key, with the key's title. `timing` says then how it
+    /// waits.
     pub(crate) fn enter_titled(
         &mut self,
         me: &mut Witness,
         licence: Licence,
         thread: Part,
+        timing: &mut Part,
         node: Box<Node>,
         title: Title,
     ) -> Title
@@ -115,6 +117,8 @@ impl<'a, P: ThreadParkerT> Section<'a, P> {
         requires below { IsBelow (max_threads_of self.old.lot.now) (fields node.value) }
         requires thread { Has (id_of self.old.lot.now)
             (Thread (fields node.value).number Status.Running ∷ []) thread }
+        requires timing { HasTiming (id_of self.old.lot.now) (fields node.value).number
+            timing.old }
         requires title { IsTitle self.old.lot.now self.old.key title }
         ensures lot { self.new.lot.now ≡ self.old.lot.now }
         ensures key { self.new.key ≡ self.old.key }
@@ -123,11 +127,13 @@ impl<'a, P: ThreadParkerT> Section<'a, P> {
             (entry_step (entry_of (fields node.value)) true) Answer.Entered me.new }
         ensures title { Retells self.old.lot.now self.old.key title
             (told_by title ++ (fields node.value).number ∷ []) result }
+        ensures timing { Has (id_of self.old.lot.now)
+            (Timing (fields node.value).number (fields node.value).timed ∷ []) timing.new }
     {
         let history = self.lot.history();
         let slot = self.claim.value_mut(self.lock).as_mut().unwrap();
         let cell = slot.cell.as_mut().unwrap();
-        enter_titled_in(history, me, licence, cell, thread, node, title)
+        enter_titled_in(history, me, licence, cell, thread, timing, node, title)
     }
 
     /// Takes a thread whose deadline has passed out of the list of the key, with the key's title,

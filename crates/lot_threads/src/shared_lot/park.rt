@@ -1,11 +1,11 @@
 //! How a thread waits that entered the list of a key: it comes back, or leaves the list in which it
 //! stands then.
 
-ghost use Rattle.std.specs.Prelude.{◌≡◌, ◌≢◌, ◌∷◌, ◌<◌, ℕ, [], Bool, IfNone, IfSome, None};
+ghost use Rattle.std.specs.Prelude.{◌≡◌, ◌≢◌, ◌∷◌, ◌<◌, ℕ, [], Bool, IfNone, IfSome, None, true};
 ghost use Rattle.std.specs.Option.{is_some};
 ghost use Rattle.lot_base.specs.Node.{fields};
 ghost use Rattle.lot_history.specs.Witness.{events_of, id_of, max_threads_of, seen_by, limit_of, Extends};
-ghost use Rattle.lot_history.specs.declared.view.Piece.TheVariants.{Thread};
+ghost use Rattle.lot_history.specs.declared.view.Piece.TheVariants.{Thread, Timing};
 ghost use Rattle.lot_threads.specs.Cells.{Has, thread_taken};
 ghost use Rattle.lot_threads.specs.Idle.{IsIdle, StaysIdle};
 ghost use Rattle.lot_threads.specs.Within.{EndsWithin, MayTellTimeout, TellsTimeout};
@@ -25,13 +25,14 @@ use std::sync::Wait;
 use std::time::{Clock, Instant};
 
 impl<P: ThreadParkerT> SharedLot<P> {
-    // The wait of a thread that entered a list: sleeps until an unpark of it was committed, or
-    // until the deadline, and then leaves the list in which it stands, unless an unpark took it
-    // meanwhile.
+    // The wait of a thread that entered a list, with a timeout or without, as `timing` says: sleeps
+    // until an unpark of it was committed, or until the deadline, and then leaves the list in which
+    // it stands, unless an unpark took it meanwhile.
     pub(crate) fn wait<R: Wait + Clock, T: FnOnce(&CriticalSection, usize, bool)>(
         &self,
         rt: &R,
         me: &mut Witness,
+        timing: &mut Part,
         number: usize,
         timed_out: T,
         timeout: Option<Instant>,
@@ -39,12 +40,14 @@ impl<P: ThreadParkerT> SharedLot<P> {
         requires idle { IsIdle self.now me.old }
         requires plain { limit_of self.now ≡ 0 }
         requires below { number < max_threads_of self.now }
+        requires timing { Has (id_of self.now) (Timing number (is_some timeout) ∷ []) timing.old }
         requires callable { timeout ≢ None → MayTellTimeout T.FnOnce timed_out self.now }
         ensures idle { StaysIdle self.now me.old me.new }
         ensures ends { EndsWithin T.FnOnce timed_out self.now number (is_some timeout) result.0
             me.old me.new }
         ensures thread { Has (id_of self.now) (Thread number Status.Running ∷ []) result.1 }
         ensures number { (fields result.2.value).number ≡ number }
+        ensures timing { Has (id_of self.now) (Timing number (is_some timeout) ∷ []) timing.new }
     {
         let parker = self.parker(number);
         let Some(timeout) = timeout else {
@@ -56,7 +59,7 @@ impl<P: ThreadParkerT> SharedLot<P> {
             let thread = self.come_back(me, &node, letter);
             return (ParkResult::Unparked(node.unpark_token), thread, node);
         }
-        if let Some((thread, node)) = self.leave(rt, me, number, timed_out) {
+        if let Some((thread, node)) = self.leave(rt, me, timing, number, timed_out) {
             return (ParkResult::TimedOut, thread, node);
         }
         let (node, letter) = parker.park(rt);
@@ -87,23 +90,26 @@ impl<P: ThreadParkerT> SharedLot<P> {
         &self,
         rt: &R,
         me: &mut Witness,
+        timing: &mut Part,
         number: usize,
         timed_out: T,
     ) -> Option<(Part, Box<Node>)>
         requires idle { IsIdle self.now me.old }
         requires plain { limit_of self.now ≡ 0 }
         requires below { number < max_threads_of self.now }
+        requires timing { Has (id_of self.now) (Timing number true ∷ []) timing.old }
         requires callable { MayTellTimeout T.FnOnce timed_out self.now }
         ensures idle { StaysIdle self.now me.old me.new }
         ensures left { IfSome result (λ back. (key : ℕ) × (last : Bool)
             × TellsTimeout T.FnOnce timed_out self.now number key last me.old me.new) }
         ensures returned { IfSome result (λ back. ((fields back.1.value).number ≡ number)
             × Has (id_of self.now) (Thread number Status.Running ∷ []) back.0) }
+        ensures timing { Has (id_of self.now) (Timing number true ∷ []) timing.new }
         ensures unchanged { IfNone result ((seen_by me.new ≡ seen_by me.old)
             × (events_of me.new ≡ events_of me.old)) }
     {
         let (mut section, licence) = self.open_own(rt, number);
-        let left = section.leave(me, licence, number, timed_out);
+        let left = section.leave(me, licence, timing, number, timed_out);
         section.close();
         left
     }

@@ -7,7 +7,7 @@ use Rattle.lot_history.specs.Moves.{Moves}
 use Rattle.lot_history.specs.Pieces.{AllSo}
 use Rattle.lot_history.specs.Witness.{id_of, limit_of, max_threads_of, pieces_in, Extends}
 use Rattle.lot_history.specs.declared.view.Piece.{Piece}
-use Rattle.lot_history.specs.declared.view.Piece.TheVariants.{Thread}
+use Rattle.lot_history.specs.declared.view.Piece.TheVariants.{Thread, Timing}
 use Rattle.lot_history.proofs.KeyedLemmas.{enters_keyed}
 use Rattle.lot_history.proofs.NodeLemmas.{enters_node}
 use Rattle.lot_threads.specs.declared.told.Entry.{Entry}
@@ -20,23 +20,32 @@ use Rattle.lot_threads.proofs.cell_steps.enter_in.Goals as goal
 pub add_entered-requires-clause-moves : goal.add_entered-requires-clause-moves
 add_entered-requires-clause-moves g c =
     let bound = max_threads_of c.args.history.now in
+    let limit = limit_of c.args.history.now in
     let node = fields c.args.node.value in
     let old = c.args.cell.now.bucket in
+    let timing = c.requires.timing in
     let same : c.entry_for-entry.result ≡ entry_of node = search rules in
     let part_pieces : pieces_in c.replace-part.result ≡ pieces_in c.args.cell.now.part =
     ap pieces_in c.replace-part.ensures.value in
     subst (λ (entry : Entry). Moves bound (Is (entry_step entry true) answer.Entered)
-    (pieces_in c.replace-part.result ++ Thread entry.number Running ∷ []) (lists_in (limit_of c.args.history.now) c.enter-entered.new.self ∷ []))
+    ((pieces_in c.replace-part.result ++ Thread entry.number Running ∷ []) ++ pieces_in c.args.timing.now)
+    (lists_in limit c.enter-entered.new.self ∷ Timing entry.number entry.timed ∷ []))
     (sym same)
+    (subst (λ (others : List Piece). Moves bound (Is (entry_step (entry_of node) true) answer.Entered)
+    ((pieces_in c.replace-part.result ++ Thread node.number Running ∷ []) ++ others)
+    (lists_in limit c.enter-entered.new.self ∷ Timing node.number node.timed ∷ []))
+    (sym timing.has.pieces)
     (subst (λ (pieces : List Piece). Moves bound (Is (entry_step (entry_of node) true) answer.Entered)
-    (pieces ++ Thread node.number Running ∷ []) (lists_in (limit_of c.args.history.now) c.enter-entered.new.self ∷ []))
+    ((pieces ++ Thread node.number Running ∷ []) ++ Timing node.number timing.timed ∷ [])
+    (lists_in limit c.enter-entered.new.self ∷ Timing node.number node.timed ∷ []))
     (sym (part_pieces ∙ c.requires.cell.own.part.pieces))
     (subst (λ (new : BucketState). Moves bound (Is (entry_step (entry_of node) true) answer.Entered)
-    (lists_in (limit_of c.args.history.now) old ∷ Thread node.number Running ∷ []) (lists_in (limit_of c.args.history.now) new ∷ []))
+    (lists_in limit old ∷ Thread node.number Running ∷ Timing node.number timing.timed ∷ [])
+    (lists_in limit new ∷ Timing node.number node.timed ∷ []))
     (sym c.in-Ok.ensures.entered)
-    (enters_keyed bound (limit_of c.args.history.now) old.size old.place node.key None c.requires.above
-    c.requires.cell.here old.nodes node (Is (entry_step (entry_of node) true) answer.Entered) refl
-    (enters_node bound old.size old.place old.nodes node [] c.requires.cell.here))))
+    (enters_keyed bound limit old.size old.place node.key None c.requires.above c.requires.cell.here old.nodes node
+    timing.timed (Is (entry_step (entry_of node) true) answer.Entered) refl
+    (enters_node bound old.size old.place old.nodes node timing.timed [] c.requires.cell.here)))))
 
 pub returns-in-Ok-clause-cell : goal.returns-in-Ok-clause-cell
 returns-in-Ok-clause-cell g c =
@@ -66,8 +75,9 @@ returns-in-Ok-clause-entered g c =
     c.replace-part.ensures.value in
     let has : Has (id_of history) (lists_in (limit_of c.args.history.now) bucket ∷ []) section.now.part =
     rw (asked.1, c.replace-part.ensures.value) c.requires.cell.own.part in
-    let so : AllSo m (lists_in (limit_of c.args.history.now) bucket ∷ Thread c.entry_for-entry.result.number Running ∷ []) =
-    subst (λ (pieces : List Piece). AllSo m (pieces ++ Thread c.entry_for-entry.result.number Running ∷ []))
+    let others = pieces_in c.args.timing.now in
+    let so : AllSo m (lists_in (limit_of c.args.history.now) bucket ∷ Thread c.entry_for-entry.result.number Running ∷ others) =
+    subst (λ (pieces : List Piece). AllSo m ((pieces ++ Thread c.entry_for-entry.result.number Running ∷ []) ++ others))
     (ap pieces_in part ∙ c.requires.cell.own.part.pieces) found.so in
     record {
       asks = record {

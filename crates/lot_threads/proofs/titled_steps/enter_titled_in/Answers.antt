@@ -21,14 +21,15 @@ use Rattle.lot_threads.specs.Titled.{title_in, told_by}
 use Rattle.lot_threads.proofs.BelowLemmas.{below-entered}
 use Rattle.lot_threads.proofs.ToldLemmas.{numbers_at, retells, told_after, told_before, told_more}
 use Rattle.lot_threads.proofs.titled_steps.enter_titled_in.Goals as goal
-use Rattle.lot_threads.proofs.titled_steps.enter_titled_in.Goals.{After-take-3}
+use Rattle.lot_threads.proofs.titled_steps.enter_titled_in.Goals.{After-take-4}
 
 -- what the witness has before the step
-all : (c : After-take-3)
-    → pieces_of c.take-3.new.me
+all : (c : After-take-4)
+    → pieces_of c.take-4.new.me
     ≡ lists_in (limit_of c.args.history.now) c.args.cell.now.bucket
     ∷ piece.Title (fields c.args.node.value).key (told_by c.args.title)
-    ∷ piece.Thread (fields c.args.node.value).number Running ∷ []
+    ∷ piece.Thread (fields c.args.node.value).number Running
+    ∷ piece.Timing (fields c.args.node.value).number c.requires.timing.timed ∷ []
 all c =
     let lists = lists_in (limit_of c.args.history.now) c.args.cell.now.bucket in
     let title = piece.Title (fields c.args.node.value).key (told_by c.args.title) in
@@ -37,11 +38,16 @@ all c =
     let both : pieces_of c.take-2.new.me ≡ lists ∷ title ∷ [] =
     c.take-2.ensures.pieces ∙ (ap (λ (ps : List Piece). ps ++ pieces_in c.args.title.part) first
     ∙ ap (λ (ps : List Piece). lists ∷ ps) c.requires.title.has.pieces) in
+    let thread : pieces_of c.take-3.new.me
+    ≡ lists ∷ title ∷ piece.Thread (fields c.args.node.value).number Running ∷ [] =
     c.take-3.ensures.pieces ∙ (ap (λ (ps : List Piece). ps ++ pieces_in c.args.thread) both
-    ∙ ap (λ (ps : List Piece). lists ∷ title ∷ ps) c.requires.thread.pieces)
+    ∙ ap (λ (ps : List Piece). lists ∷ title ∷ ps) c.requires.thread.pieces) in
+    c.take-4.ensures.pieces ∙ (ap (λ (ps : List Piece). ps ++ pieces_in c.replace-part-2.result) thread
+    ∙ ap (λ (ps : List Piece). lists ∷ title ∷ piece.Thread (fields c.args.node.value).number Running ∷ ps)
+    (ap pieces_in c.replace-part-2.ensures.value ∙ c.requires.timing.has.pieces))
 
-pub add_entered_titled-requires-clause-moves : goal.add_entered_titled-requires-clause-moves
-add_entered_titled-requires-clause-moves c =
+pub add_entered_titled-title-requires-clause-moves : goal.add_entered_titled-title-requires-clause-moves
+add_entered_titled-title-requires-clause-moves c =
     let bound = max_threads_of c.args.history.now in
     let limit = limit_of c.args.history.now in
     let node = fields c.args.node.value in
@@ -49,28 +55,32 @@ add_entered_titled-requires-clause-moves c =
     let new : BucketState = record old { nodes = old.nodes ++ node ∷ [] } in
     let entered : c.put_last.new.bucket ≡ new = c.put_last.ensures in
     let same : c.entry_for-entry.result ≡ entry_of node = search rules in
-    subst (λ (entry : Entry). Moves bound (Is (entry_step entry true) answer.Entered) (pieces_of c.take-3.new.me)
-    (lists_in limit c.put_last.new.bucket ∷ title_in entry.key c.put_last.new.bucket ∷ [])) (sym same)
+    let timed = c.requires.timing.timed in
+    subst (λ (entry : Entry). Moves bound (Is (entry_step entry true) answer.Entered) (pieces_of c.take-4.new.me)
+    (lists_in limit c.put_last.new.bucket ∷ title_in entry.key c.put_last.new.bucket
+    ∷ piece.Timing entry.number entry.timed ∷ [])) (sym same)
     (subst (λ (pieces : List Piece). Moves bound (Is (entry_step (entry_of node) true) answer.Entered) pieces
-    (lists_in limit c.put_last.new.bucket ∷ title_in node.key c.put_last.new.bucket ∷ []))
-    (sym (all (goal.at.add_entered_titled-requires-clause-moves c).After-take-3))
+    (lists_in limit c.put_last.new.bucket ∷ title_in node.key c.put_last.new.bucket
+    ∷ piece.Timing node.number node.timed ∷ []))
+    (sym (all (goal.at.add_entered_titled-title-requires-clause-moves c).After-take-4))
     (subst (λ (bucket : BucketState). Moves bound (Is (entry_step (entry_of node) true) answer.Entered)
-    (lists_in limit old ∷ piece.Title node.key (told_by c.args.title) ∷ piece.Thread node.number Running ∷ [])
-    (lists_in limit bucket ∷ title_in node.key bucket ∷ [])) (sym entered)
+    (lists_in limit old ∷ piece.Title node.key (told_by c.args.title) ∷ piece.Thread node.number Running
+    ∷ piece.Timing node.number timed ∷ [])
+    (lists_in limit bucket ∷ title_in node.key bucket ∷ piece.Timing node.number node.timed ∷ [])) (sym entered)
     (enters_keyed bound limit old.size old.place node.key (Some (told_by c.args.title)) tt c.requires.cell.here
-    old.nodes node (Is (entry_step (entry_of node) true) answer.Entered) refl
-    (enters_node bound old.size old.place old.nodes node [] c.requires.cell.here))))
+    old.nodes node timed (Is (entry_step (entry_of node) true) answer.Entered) refl
+    (enters_node bound old.size old.place old.nodes node timed [] c.requires.cell.here))))
 
 pub returns-clause-cell : goal.returns-clause-cell
 returns-clause-cell c =
     let bound = max_threads_of c.args.history.now in
-    let same = c.add_entered_titled.ensures.bucket in
+    let same = c.add_entered_titled-title.ensures.bucket in
     let node = fields c.args.node.value in
     let old = c.args.cell.now.bucket in
     record {
       part = subst (λ (bucket : BucketState). Has (id_of c.args.history.now)
-          (lists_in (limit_of c.args.history.now) bucket ∷ []) c.add_entered_titled.new.cell.part) (sym same)
-          c.add_entered_titled.ensures.part;
+          (lists_in (limit_of c.args.history.now) bucket ∷ []) c.add_entered_titled-title.new.cell.part) (sym same)
+          c.add_entered_titled-title.ensures.part;
       below = rw (same, c.put_last.ensures)
           (below-entered bound old.nodes node c.requires.cell.own.below c.requires.below);
     }
@@ -82,21 +92,23 @@ returns-clause-title c =
     let node = fields c.args.node.value in
     let old = c.args.cell.now.bucket in
     let told = told_by c.args.title in
-    let found = c.add_entered_titled.ensures.found in
+    let found = c.add_entered_titled-title.ensures.found in
     let so = subst (λ (ps : List Piece). AllSo found.machine ps)
-    (all (goal.at.returns-clause-title c).After-take-3) found.so in
+    (all (goal.at.returns-clause-title c).After-take-4) found.so in
     let was = told_before found.machine (limit_of history) old.size old.place node.key old.nodes told
-    (piece.Thread node.number Running ∷ []) c.requires.cell.here so in
+    (piece.Thread node.number Running ∷ piece.Timing node.number c.requires.timing.timed ∷ []) c.requires.cell.here so in
     let same : c.entry_for-entry.result ≡ entry_of node = search rules in
-    let title : Has (id_of history) (title_in node.key c.put_last.new.bucket ∷ []) c.add_entered_titled.result.part =
-    subst (λ (entry : Entry). Has (id_of history) (title_in entry.key c.put_last.new.bucket ∷ []) c.add_entered_titled.result.part)
-    same c.add_entered_titled.ensures.title in
-    retells history node.key c.args.title c.add_entered_titled.result _ (told ++ node.number ∷ []) title
+    let title : Has (id_of history) (title_in node.key c.put_last.new.bucket ∷ []) c.add_entered_titled-title.result.part =
+    subst (λ (entry : Entry). Has (id_of history) (title_in entry.key c.put_last.new.bucket ∷ []) c.add_entered_titled-title.result.part)
+    same c.add_entered_titled-title.ensures.title in
+    retells history node.key c.args.title c.add_entered_titled-title.result _ (told ++ node.number ∷ []) title
     (told_after node.key c.put_last.new.bucket.nodes
     ∙ (ap (λ (bucket : BucketState). numbers_at bucket.nodes node.key) c.put_last.ensures
     ∙ told_more old.nodes node told was))
     (λ home dealt. subst (λ (deals : List Deal). Contains deals (deal node.key home))
-    (sym (c.add_entered_titled.ensures.deals ∙ c.take-3.ensures.deals))
+    (sym (c.add_entered_titled-title.ensures.deals ∙ c.take-4.ensures.deals))
+    (Contains-append_left (deals_of c.take-3.new.me) (deals_in c.replace-part-2.result) (deal node.key home)
+    (subst (λ (deals : List Deal). Contains deals (deal node.key home)) (sym c.take-3.ensures.deals)
     (Contains-append_left (deals_of c.take-2.new.me) (deals_in c.args.thread) (deal node.key home)
     (subst (λ (deals : List Deal). Contains deals (deal node.key home)) (sym c.take-2.ensures.deals)
-    (Contains-append_right (deals_of c.take.new.me) (deals_in c.args.title.part) (deal node.key home) dealt))))
+    (Contains-append_right (deals_of c.take.new.me) (deals_in c.args.title.part) (deal node.key home) dealt))))))

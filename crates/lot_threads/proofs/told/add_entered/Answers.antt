@@ -10,13 +10,16 @@ pub returns-clause-found : goal.returns-clause-found
 returns-clause-found c =
     let found = c.add_with.ensures.found in
     let m = found.machine in
-    let pieces : pieces_of c.take-2.new.me ≡ pieces_in c.args.cell.now.part ++ Thread c.args.entry.number Running ∷ [] =
+    let pieces : pieces_of c.take-3.new.me
+    ≡ (pieces_in c.args.cell.now.part ++ Thread c.args.entry.number Running ∷ []) ++ pieces_in c.args.timing.now =
     rw (
+      c.take-3.ensures.pieces,
       c.take-2.ensures.pieces,
       c.take.ensures.pieces,
       c.requires.none,
       c.replace-part.ensures.value,
       c.requires.thread.pieces,
+      c.replace-part-2.ensures.value,
     ) refl in
     record {
       found = record {

@@ -1,4 +1,4 @@
-use Rattle.std.proofs.Common.{◌≡◌, List, refl, ap, ◌∙◌, subst, rules}
+use Rattle.std.proofs.Common.{◌≡◌, List, ◌++◌, refl, ap, ◌∙◌, subst, rules}
 use Rattle.lot_history.specs.Pieces.{AllSo}
 use Rattle.lot_history.specs.Witness.{pieces_in, pieces_of}
 use Rattle.lot_history.specs.declared.view.Piece.{Piece}
@@ -8,8 +8,14 @@ use Rattle.lot_threads.proofs.told.add_timeout.Goals as goal
 pub returns-clause-leaves : goal.returns-clause-leaves
 returns-clause-leaves c =
     let found = c.add_resolved.ensures.found in
-    let pieces : pieces_of c.take.new.me ≡ pieces_in c.args.cell.now.part =
-    rw (c.take.ensures.pieces, c.requires.idle.no_pieces, c.replace-part.ensures.value) refl in
+    let pieces : pieces_of c.take-2.new.me ≡ pieces_in c.args.cell.now.part ++ pieces_in c.args.timing.now =
+    rw (
+      c.take-2.ensures.pieces,
+      c.take.ensures.pieces,
+      c.requires.idle.no_pieces,
+      c.replace-part.ensures.value,
+      c.replace-part-2.ensures.value,
+    ) refl in
     record {
       leaves = record {
         late = c.add_late.new.me;

@@ -12,4 +12,4 @@ ghosts-retire_as g a = record { said = Is (step.Retire a.number) answer.Retired 
 
 -- and the number has no pieces then
 abbrev pub ghost-retire_as : goal.ghost-retire_as
-ghost-retire_as g a = (g.after, Numbers g.after ∷ rest_of (rest_of (rest_of a.me.now.seat.me.0.pieces)))
+ghost-retire_as g a = (g.after, Numbers g.after ∷ rest_of (rest_of (rest_of (rest_of a.me.now.seat.me.0.pieces))))
