@@ -5,5 +5,6 @@ pub mod Guards
 pub mod Locks
 pub mod Onces
 pub mod Phasers
+pub mod RwLockGuards
 pub mod TitledMutexes
 pub mod TitledRwLocks

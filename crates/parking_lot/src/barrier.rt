@@ -17,7 +17,7 @@
 
 ghost use Rattle.std.specs.Iterator.{at_most};
 ghost use Rattle.std.specs.Prelude.{◌≡◌, ◌+◌, IfNone, IfOk, IfSome};
-ghost use Rattle.parking_lot.specs.Locks.{barrier_of, left_of, parties_of};
+ghost use Rattle.parking_lot.specs.Locks.{barrier_of, led, left_of, meets_at, parties_of};
 
 use crate::lot::Lot;
 use crate::phaser::titled::TitledPhaser;
@@ -182,7 +182,9 @@ impl<'a, P: Phaser> Iterator for PartiesIn<'a, P> {
     ghost remaining = { λ parties. at_most parties.left };
 
     ghost next_gives = { λ old result new.
-        IfSome result (λ _. left_of new + 1 ≡ left_of old) × IfNone result (left_of old ≡ 0) };
+        IfSome result (λ party. (left_of new + 1 ≡ left_of old) × (meets_at party ≡ barrier_of old))
+        × IfNone result ((left_of old ≡ 0) × (left_of new ≡ 0))
+        × (barrier_of new ≡ barrier_of old) };
 
     fn next(&mut self) -> Option<PartyIn<'a, P>> {
         self.left = self.left.checked_sub(1)?;
@@ -204,8 +206,13 @@ impl<P: Phaser> PartyIn<'_, P> {
 impl BarrierWaitResult {
     /// Returns whether this thread led the round: in each round one thread does, the one that came
     /// last.
-    pub fn is_leader(&self) -> bool {
-        self.role == Role::Leader
+    pub fn is_leader(&self) -> bool
+        ensures { result ≡ led self.now }
+    {
+        match self.role {
+            Role::Leader => true,
+            Role::Follower => false,
+        }
     }
 }
 

@@ -35,7 +35,8 @@ impl<G, L: Release<G>> Guard<G, L> {
     // What the guard holds and the lock that it holds it of. Whoever calls it lets the lock go.
     #[inline]
     pub(crate) fn into_parts(self) -> (G, L)
-        ensures { result.1 ≡ self.lock }
+        ensures held { result.0 ≡ self.held }
+        ensures lock { result.1 ≡ self.lock }
     {
         let Guard { held, lock } = self;
         (held, lock)

@@ -72,16 +72,6 @@ impl<'l, T: Drop, F: FnOnce() -> T> LazyLock<'l, T, F> {
         self.value.get()
     }
 
-    /// Returns the value if it was computed, and ends the lock.
-    ///
-    /// If it was not, the closure is dropped without a call.
-    pub fn into_inner(self) -> Option<T>
-    where
-        F: Drop,
-    {
-        self.value.into_inner()
-    }
-
     #[cold]
     fn compute<R: Wait + Clock>(&self, rt: &R) -> &T
         requires { (f : F) → F.pre f }
@@ -94,6 +84,15 @@ impl<'l, T: Drop, F: FnOnce() -> T> LazyLock<'l, T, F> {
 
     fn take_init(&self) -> Option<F> {
         self.init.try_lock()?.take()
+    }
+}
+
+impl<T, F: FnOnce() -> T + Drop> LazyLock<'_, T, F> {
+    /// Returns the value if it was computed, and ends the lock.
+    ///
+    /// If it was not, the closure is dropped without a call.
+    pub fn into_inner(self) -> Option<T> {
+        self.value.into_inner()
     }
 }
 

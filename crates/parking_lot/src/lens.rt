@@ -1,5 +1,8 @@
 //! This module has guards of a part of a value, and lenses, which name such parts.
 
+ghost use Rattle.std.specs.Prelude.{◌≡◌, IfErr, IfOk};
+ghost use Rattle.parking_lot.specs.Guards.{lens_of, whole_of};
+
 use crate::guard::{Guard, Release};
 use std::ops::{Deref, DerefMut};
 
@@ -48,7 +51,10 @@ impl<G: Deref, L: Release<G>> Guard<G, L> {
     /// let mut part = Guard::map(mutex.lock(rt), Second);
     /// *part = 3;
     /// ```
-    pub fn map<N: Lens<G::Target>>(guard: Guard<G, L>, lens: N) -> MappedGuard<G, L, N> {
+    pub fn map<N: Lens<G::Target>>(guard: Guard<G, L>, lens: N) -> MappedGuard<G, L, N>
+        ensures guard { whole_of result ≡ guard }
+        ensures lens { lens_of result ≡ lens }
+    {
         MappedGuard { guard, lens }
     }
 
@@ -69,6 +75,8 @@ impl<G: Deref, L: Release<G>> Guard<G, L> {
         choose: C,
     ) -> Result<MappedGuard<G, L, N>, Guard<G, L>>
         requires { C.IsAlwaysCallable choose }
+        ensures ok { IfOk result (λ mapped. whole_of mapped ≡ guard) }
+        ensures err { IfErr result (λ back. back ≡ guard) }
     {
         match choose(guard.deref()) {
             Some(lens) => Ok(MappedGuard { guard, lens }),

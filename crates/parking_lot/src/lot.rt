@@ -1,7 +1,7 @@
 //! This module has the lot, in which the threads of a program wait for its locks.
 
-ghost use Rattle.std.specs.Prelude.{◌≡◌, ◌≢◌, ◌↔◌, ◌<◌, Err, IsErrOf, None, Some, true, false};
-ghost use Rattle.parking_lot.specs.Locks.{lot_of_owner};
+ghost use Rattle.std.specs.Prelude.{◌≡◌, ◌≢◌, ◌↔◌, ◌<◌, Err, IfOk, IsErrOf, None, Some, true, false};
+ghost use Rattle.parking_lot.specs.Locks.{lot_of_owner, threads_of};
 
 use crate::reentrant_mutex::Owner;
 use lot_threads::{
@@ -50,6 +50,7 @@ impl Lot {
     pub fn new(alloc: Global, threads: usize) -> Result<Lot, LotError>
         ensures too_many { IsErrOf result LotError.TooManyThreads ↔ (MAX_THREADS < threads) }
         ensures not_full { result ≢ Err LotError.Full }
+        ensures threads { IfOk result (λ lot. threads_of lot ≡ threads) }
     {
         let lot = ParkingLot::new(alloc, threads)?;
         Ok(Lot {
@@ -71,6 +72,7 @@ impl Lot {
     pub fn for_ever(alloc: Global, threads: usize) -> Result<&'static Lot, LotError>
         ensures too_many { IsErrOf result LotError.TooManyThreads ↔ (MAX_THREADS < threads) }
         ensures not_full { result ≢ Err LotError.Full }
+        ensures threads { IfOk result (λ lot. threads_of lot.now ≡ threads) }
     {
         let lot = Box::new(alloc, Lot::new(alloc, threads)?)?;
         Ok(Box::leak(lot))

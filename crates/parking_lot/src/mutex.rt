@@ -34,7 +34,7 @@
 //! accesses are `SeqCst`.
 
 ghost use Rattle.std.specs.Prelude.{◌≡◌, ◌≢◌, None, IfErr, IfSome, IsSome};
-ghost use Rattle.parking_lot.specs.Guards.{mutex_of};
+ghost use Rattle.parking_lot.specs.Guards.{mutex_of, value_of};
 
 use crate::guard::{Guard, Release};
 use crate::lot::{Lot, instant_after, is_past, stand_back};
@@ -513,7 +513,8 @@ impl<'a, 'r, 'l, T, R: Wait, F: Fairness> MutexGuardIn<'a, 'r, 'l, T, R, F> {
     ///
     /// Returns the guard if there is not enough memory for it. The mutex is still locked then.
     pub fn leak(guard: Self, alloc: Global) -> Result<&'a mut T, Self>
-        ensures { IfErr result (λ back. mutex_of back ≡ mutex_of guard.entry) }
+        ensures mutex { IfErr result (λ back. mutex_of back ≡ mutex_of guard.entry) }
+        ensures value { IfErr result (λ back. value_of back ≡ value_of guard.entry) }
     {
         let (held, locked) = guard.into_parts();
         match Box::new(alloc, held) {

@@ -18,8 +18,9 @@
 //! Only the thread of an owner finds the owner's number in `owner`. An owner cannot be shared
 //! between threads, and a guard borrows it, so it stays with its thread while it has the mutex.
 
-ghost use Rattle.std.specs.Prelude.{◌≡◌, None, true, IfOk};
-ghost use Rattle.parking_lot.specs.Locks.{lot_of, lot_of_owner};
+ghost use Rattle.std.specs.Prelude.{◌≡◌, None, true, IfOk, IfSome};
+ghost use Rattle.parking_lot.specs.Guards.{held_by, reentrant_mutex_of};
+ghost use Rattle.parking_lot.specs.Locks.{lot_of, lot_of_owner, value_in};
 
 use crate::guard::{Guard, Release};
 use crate::lot::{Lot, instant_after};
@@ -112,7 +113,8 @@ impl<'l, T> ReentrantMutex<'l, T> {
     ///
     /// Returns `NoMemory` if there is not enough memory. This version allocates nothing.
     pub fn new(lot: &'l Lot, value: T) -> Result<ReentrantMutex<'l, T>, NoMemory>
-        ensures { IfOk result (λ mutex. lot_of mutex ≡ lot.now) }
+        ensures lot { IfOk result (λ mutex. lot_of mutex ≡ lot.now) }
+        ensures value { IfOk result (λ mutex. value_in mutex ≡ value) }
     {
         Ok(ReentrantMutex {
             queue: WaitQueue::new(lot),
@@ -139,6 +141,8 @@ impl<'l, T> ReentrantMutex<'l, T> {
         owner: &'a Owner<'l>,
     ) -> ReentrantMutexGuard<'a, 'r, 'l, T, R>
         requires same_lot { lot_of_owner owner.now ≡ lot_of self.now }
+        ensures mutex { reentrant_mutex_of result ≡ self.now }
+        ensures value { (held_by result).now ≡ value_in self.now }
     {
         if !self.try_enter(owner.number) {
             self.queue.wait(rt, || self.try_enter(owner.number));
@@ -154,6 +158,8 @@ impl<'l, T> ReentrantMutex<'l, T> {
         owner: &'a Owner<'l>,
     ) -> Option<ReentrantMutexGuard<'a, 'r, 'l, T, R>>
         requires same_lot { lot_of_owner owner.now ≡ lot_of self.now }
+        ensures mutex { IfSome result (λ guard. reentrant_mutex_of guard ≡ self.now) }
+        ensures value { IfSome result (λ guard. (held_by guard).now ≡ value_in self.now) }
     {
         if self.try_enter(owner.number) {
             Some(self.guard(rt, owner))
@@ -170,6 +176,8 @@ impl<'l, T> ReentrantMutex<'l, T> {
         duration: Duration,
     ) -> Option<ReentrantMutexGuard<'a, 'r, 'l, T, R>>
         requires same_lot { lot_of_owner owner.now ≡ lot_of self.now }
+        ensures mutex { IfSome result (λ guard. reentrant_mutex_of guard ≡ self.now) }
+        ensures value { IfSome result (λ guard. (held_by guard).now ≡ value_in self.now) }
     {
         if self.try_enter(owner.number)
             || self.wait_until(rt, owner.number, instant_after(rt, duration).ok()?)
@@ -188,6 +196,8 @@ impl<'l, T> ReentrantMutex<'l, T> {
         deadline: Instant,
     ) -> Option<ReentrantMutexGuard<'a, 'r, 'l, T, R>>
         requires same_lot { lot_of_owner owner.now ≡ lot_of self.now }
+        ensures mutex { IfSome result (λ guard. reentrant_mutex_of guard ≡ self.now) }
+        ensures value { IfSome result (λ guard. (held_by guard).now ≡ value_in self.now) }
     {
         if self.try_enter(owner.number) || self.wait_until(rt, owner.number, Some(deadline)) {
             Some(self.guard(rt, owner))
@@ -216,7 +226,9 @@ impl<'l, T> ReentrantMutex<'l, T> {
     }
 
     /// Returns the value, and ends the mutex.
-    pub fn into_inner(self) -> T {
+    pub fn into_inner(self) -> T
+        ensures { result ≡ value_in self.entry }
+    {
         self.value
     }
 
@@ -225,7 +237,10 @@ impl<'l, T> ReentrantMutex<'l, T> {
         &'a self,
         rt: &'r R,
         owner: &'a Owner<'l>,
-    ) -> ReentrantMutexGuard<'a, 'r, 'l, T, R> {
+    ) -> ReentrantMutexGuard<'a, 'r, 'l, T, R>
+        ensures mutex { reentrant_mutex_of result ≡ self.now }
+        ensures value { (held_by result).now ≡ value_in self.now }
+    {
         Guard::new(
             &self.value,
             Entered {

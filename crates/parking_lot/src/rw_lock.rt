@@ -53,7 +53,9 @@
 //! Nobody waits for `value` with `upgradable` locked, except the upgrade. So a writer may wait for
 //! `upgradable`. All accesses are `SeqCst`.
 
-ghost use Rattle.std.specs.Prelude.{◌≡◌, None, IsSome};
+ghost use Rattle.std.specs.Prelude.{◌≡◌, None, IfSome, IsSome};
+ghost use Rattle.parking_lot.specs.Guards.{mutex_of};
+ghost use Rattle.parking_lot.specs.RwLockGuards.{read_lock_of, upgradable_lock_of, write_lock_of};
 
 mod exchange;
 mod guards;
@@ -143,7 +145,9 @@ impl<'l, T> RwLock<'l, T> {
     /// A thread that already has the lock may wait for ever; if it reads, `read_recursive` is the
     /// call to make.
     #[inline]
-    pub fn read<'a, 'r, R: Wait + Clock>(&'a self, rt: &'r R) -> RwLockReadGuard<'a, 'r, 'l, T, R> {
+    pub fn read<'a, 'r, R: Wait + Clock>(&'a self, rt: &'r R) -> RwLockReadGuard<'a, 'r, 'l, T, R>
+        ensures { read_lock_of result ≡ self.now }
+    {
         self.read_guard(rt, self.take(rt, Reader::Comes))
     }
 
@@ -152,7 +156,9 @@ impl<'l, T> RwLock<'l, T> {
     pub fn try_read<'a, 'r, R: Wait>(
         &'a self,
         rt: &'r R,
-    ) -> Option<RwLockReadGuard<'a, 'r, 'l, T, R>> {
+    ) -> Option<RwLockReadGuard<'a, 'r, 'l, T, R>>
+        ensures { IfSome result (λ guard. read_lock_of guard ≡ self.now) }
+    {
         let held = self.try_take(rt, Reader::Comes, Turn::Comes)?;
         Some(self.read_guard(rt, held))
     }
@@ -162,7 +168,9 @@ impl<'l, T> RwLock<'l, T> {
         &'a self,
         rt: &'r R,
         duration: Duration,
-    ) -> Option<RwLockReadGuard<'a, 'r, 'l, T, R>> {
+    ) -> Option<RwLockReadGuard<'a, 'r, 'l, T, R>>
+        ensures { IfSome result (λ guard. read_lock_of guard ≡ self.now) }
+    {
         let held = self.take_for(rt, Reader::Comes, duration)?;
         Some(self.read_guard(rt, held))
     }
@@ -172,7 +180,9 @@ impl<'l, T> RwLock<'l, T> {
         &'a self,
         rt: &'r R,
         deadline: Instant,
-    ) -> Option<RwLockReadGuard<'a, 'r, 'l, T, R>> {
+    ) -> Option<RwLockReadGuard<'a, 'r, 'l, T, R>>
+        ensures { IfSome result (λ guard. read_lock_of guard ≡ self.now) }
+    {
         let held = self.take_until(rt, Reader::Comes, Some(deadline))?;
         Some(self.read_guard(rt, held))
     }
@@ -185,7 +195,9 @@ impl<'l, T> RwLock<'l, T> {
     pub fn read_recursive<'a, 'r, R: Wait + Clock>(
         &'a self,
         rt: &'r R,
-    ) -> RwLockReadGuard<'a, 'r, 'l, T, R> {
+    ) -> RwLockReadGuard<'a, 'r, 'l, T, R>
+        ensures { read_lock_of result ≡ self.now }
+    {
         self.read_guard(rt, self.take(rt, Reader::Recurs))
     }
 
@@ -194,7 +206,9 @@ impl<'l, T> RwLock<'l, T> {
     pub fn try_read_recursive<'a, 'r, R: Wait>(
         &'a self,
         rt: &'r R,
-    ) -> Option<RwLockReadGuard<'a, 'r, 'l, T, R>> {
+    ) -> Option<RwLockReadGuard<'a, 'r, 'l, T, R>>
+        ensures { IfSome result (λ guard. read_lock_of guard ≡ self.now) }
+    {
         let held = self.try_take(rt, Reader::Recurs, Turn::Comes)?;
         Some(self.read_guard(rt, held))
     }
@@ -205,7 +219,9 @@ impl<'l, T> RwLock<'l, T> {
         &'a self,
         rt: &'r R,
         duration: Duration,
-    ) -> Option<RwLockReadGuard<'a, 'r, 'l, T, R>> {
+    ) -> Option<RwLockReadGuard<'a, 'r, 'l, T, R>>
+        ensures { IfSome result (λ guard. read_lock_of guard ≡ self.now) }
+    {
         let held = self.take_for(rt, Reader::Recurs, duration)?;
         Some(self.read_guard(rt, held))
     }
@@ -216,7 +232,9 @@ impl<'l, T> RwLock<'l, T> {
         &'a self,
         rt: &'r R,
         deadline: Instant,
-    ) -> Option<RwLockReadGuard<'a, 'r, 'l, T, R>> {
+    ) -> Option<RwLockReadGuard<'a, 'r, 'l, T, R>>
+        ensures { IfSome result (λ guard. read_lock_of guard ≡ self.now) }
+    {
         let held = self.take_until(rt, Reader::Recurs, Some(deadline))?;
         Some(self.read_guard(rt, held))
     }
@@ -225,10 +243,9 @@ impl<'l, T> RwLock<'l, T> {
     ///
     /// A thread that already has the lock waits for ever.
     #[inline]
-    pub fn write<'a, 'r, R: Wait + Clock>(
-        &'a self,
-        rt: &'r R,
-    ) -> RwLockWriteGuard<'a, 'r, 'l, T, R> {
+    pub fn write<'a, 'r, R: Wait + Clock>(&'a self, rt: &'r R) -> RwLockWriteGuard<'a, 'r, 'l, T, R>
+        ensures { write_lock_of result ≡ self.now }
+    {
         self.write_guard(rt, self.take(rt, Writer::Comes))
     }
 
@@ -240,7 +257,9 @@ impl<'l, T> RwLock<'l, T> {
     pub fn try_write<'a, 'r, R: Wait>(
         &'a self,
         rt: &'r R,
-    ) -> Option<RwLockWriteGuard<'a, 'r, 'l, T, R>> {
+    ) -> Option<RwLockWriteGuard<'a, 'r, 'l, T, R>>
+        ensures { IfSome result (λ guard. write_lock_of guard ≡ self.now) }
+    {
         let held = self.try_take(rt, Writer::Comes, Turn::Comes)?;
         Some(self.write_guard(rt, held))
     }
@@ -251,7 +270,9 @@ impl<'l, T> RwLock<'l, T> {
         &'a self,
         rt: &'r R,
         duration: Duration,
-    ) -> Option<RwLockWriteGuard<'a, 'r, 'l, T, R>> {
+    ) -> Option<RwLockWriteGuard<'a, 'r, 'l, T, R>>
+        ensures { IfSome result (λ guard. write_lock_of guard ≡ self.now) }
+    {
         let held = self.take_for(rt, Writer::Comes, duration)?;
         Some(self.write_guard(rt, held))
     }
@@ -262,7 +283,9 @@ impl<'l, T> RwLock<'l, T> {
         &'a self,
         rt: &'r R,
         deadline: Instant,
-    ) -> Option<RwLockWriteGuard<'a, 'r, 'l, T, R>> {
+    ) -> Option<RwLockWriteGuard<'a, 'r, 'l, T, R>>
+        ensures { IfSome result (λ guard. write_lock_of guard ≡ self.now) }
+    {
         let held = self.take_until(rt, Writer::Comes, Some(deadline))?;
         Some(self.write_guard(rt, held))
     }
@@ -274,7 +297,9 @@ impl<'l, T> RwLock<'l, T> {
     pub fn upgradable_read<'a, 'r, R: Wait + Clock>(
         &'a self,
         rt: &'r R,
-    ) -> RwLockUpgradableReadGuard<'a, 'r, 'l, T, R> {
+    ) -> RwLockUpgradableReadGuard<'a, 'r, 'l, T, R>
+        ensures { upgradable_lock_of result ≡ self.now }
+    {
         self.upgradable_read_at_most(rt, None).unwrap()
     }
 
@@ -283,7 +308,9 @@ impl<'l, T> RwLock<'l, T> {
     pub fn try_upgradable_read<'a, 'r, R: Wait>(
         &'a self,
         rt: &'r R,
-    ) -> Option<RwLockUpgradableReadGuard<'a, 'r, 'l, T, R>> {
+    ) -> Option<RwLockUpgradableReadGuard<'a, 'r, 'l, T, R>>
+        ensures { IfSome result (λ guard. upgradable_lock_of guard ≡ self.now) }
+    {
         let upgradable = self.upgradable.try_lock(rt)?;
         let held = self.try_take(rt, Reader::Comes, Turn::Comes)?;
         Some(self.upgradable_guard(rt, held, upgradable))
@@ -294,7 +321,9 @@ impl<'l, T> RwLock<'l, T> {
         &'a self,
         rt: &'r R,
         duration: Duration,
-    ) -> Option<RwLockUpgradableReadGuard<'a, 'r, 'l, T, R>> {
+    ) -> Option<RwLockUpgradableReadGuard<'a, 'r, 'l, T, R>>
+        ensures { IfSome result (λ guard. upgradable_lock_of guard ≡ self.now) }
+    {
         match self.try_upgradable_read(rt) {
             Some(guard) => Some(guard),
             None => self.upgradable_read_at_most(rt, instant_after(rt, duration).ok()?),
@@ -306,7 +335,9 @@ impl<'l, T> RwLock<'l, T> {
         &'a self,
         rt: &'r R,
         deadline: Instant,
-    ) -> Option<RwLockUpgradableReadGuard<'a, 'r, 'l, T, R>> {
+    ) -> Option<RwLockUpgradableReadGuard<'a, 'r, 'l, T, R>>
+        ensures { IfSome result (λ guard. upgradable_lock_of guard ≡ self.now) }
+    {
         self.upgradable_read_at_most(rt, Some(deadline))
     }
 
@@ -344,7 +375,8 @@ impl<'l, T> RwLock<'l, T> {
         rt: &'r R,
         deadline: Option<Instant>,
     ) -> Option<RwLockUpgradableReadGuard<'a, 'r, 'l, T, R>>
-        ensures { deadline ≡ None → IsSome result }
+        ensures some { deadline ≡ None → IsSome result }
+        ensures lock { IfSome result (λ guard. upgradable_lock_of guard ≡ self.now) }
     {
         for _ in rt.forever() {
             let upgradable = self.lock_upgradable(rt, deadline)?;
@@ -366,7 +398,8 @@ impl<'l, T> RwLock<'l, T> {
         rt: &'r R,
         deadline: Option<Instant>,
     ) -> Option<MutexGuard<'a, 'r, 'l, (), R>>
-        ensures { deadline ≡ None → IsSome result }
+        ensures some { deadline ≡ None → IsSome result }
+        ensures right { IfSome result (λ right. mutex_of right ≡ self.now.upgradable) }
     {
         match deadline {
             Some(deadline) => self.upgradable.lock_until(rt, deadline),

@@ -1,6 +1,7 @@
 //! This module has the lot in which the threads of a program wait for its titled locks.
 
-ghost use Rattle.std.specs.Prelude.{◌≡◌, ◌≢◌, ◌↔◌, ◌<◌, Err, IsErrOf};
+ghost use Rattle.std.specs.Prelude.{◌≡◌, ◌≢◌, ◌↔◌, ◌<◌, Err, IfOk, IsErrOf};
+ghost use Rattle.parking_lot.specs.Locks.{titled_threads_of};
 
 use lot_threads::{LotError, MAX_THREADS, WordParker};
 use std::alloc::Global;
@@ -44,6 +45,7 @@ impl TitledLot {
     pub fn new(alloc: Global, threads: usize) -> Result<TitledLot, LotError>
         ensures too_many { IsErrOf result LotError.TooManyThreads ↔ (MAX_THREADS < threads) }
         ensures not_full { result ≢ Err LotError.Full }
+        ensures threads { IfOk result (λ lot. titled_threads_of lot ≡ threads) }
     {
         // No program creates so many locks that it takes all keys.
         let queues = Queues::new(alloc, threads, usize::MAX)?;
@@ -60,6 +62,7 @@ impl TitledLot {
     pub fn for_ever(alloc: Global, threads: usize) -> Result<&'static TitledLot, LotError>
         ensures too_many { IsErrOf result LotError.TooManyThreads ↔ (MAX_THREADS < threads) }
         ensures not_full { result ≢ Err LotError.Full }
+        ensures threads { IfOk result (λ lot. titled_threads_of lot.now ≡ threads) }
     {
         let lot = Box::new(alloc, TitledLot::new(alloc, threads)?)?;
         Ok(Box::leak(lot))

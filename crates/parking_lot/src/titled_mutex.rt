@@ -200,7 +200,7 @@ impl<'l, T: Drop> TitledMutex<'l, T> {
 }
 
 impl<'a, 'r, 'l, T: Drop, R: Wait> TitledMutexGuard<'a, 'r, 'l, T, R> {
-    ghost use Rattle.parking_lot.specs.Guards.{titled_mutex_of};
+    ghost use Rattle.parking_lot.specs.Guards.{titled_mutex_of, titled_value_of};
 
     /// Returns the mutex that the guard has locked.
     pub fn mutex(guard: &Self) -> &'a TitledMutex<'l, T>
@@ -253,7 +253,8 @@ impl<'a, 'r, 'l, T: Drop, R: Wait> TitledMutexGuard<'a, 'r, 'l, T, R> {
     where
         'r: 'a,
         R: 'a,
-        ensures { IfErr result (λ back. titled_mutex_of back ≡ titled_mutex_of guard.entry) }
+        ensures mutex { IfErr result (λ back. titled_mutex_of back ≡ titled_mutex_of guard.entry) }
+        ensures value { IfErr result (λ back. titled_value_of back ≡ titled_value_of guard.entry) }
     {
         match Box::new(alloc, guard) {
             Ok(kept) => {

@@ -127,6 +127,8 @@ impl<T, R: Wait> Release<sync::RwLockWriteGuard<'_, T>> for TitledWriteLocked<'_
 }
 
 impl<'l, T> TitledRwLock<'l, T> {
+    ghost use Rattle.parking_lot.specs.RwLockGuards.{titled_read_lock_of, titled_write_lock_of};
+
     /// Creates a lock that nobody holds, around the given value.
     ///
     /// It takes the next three keys of the lot, and allocates a word and one or two slots for each.
@@ -159,7 +161,9 @@ impl<'l, T> TitledRwLock<'l, T> {
     pub fn read<'a, 'r, R: Wait + Clock>(
         &'a self,
         rt: &'r R,
-    ) -> TitledRwLockReadGuard<'a, 'r, 'l, T, R> {
+    ) -> TitledRwLockReadGuard<'a, 'r, 'l, T, R>
+        ensures { titled_read_lock_of result ≡ self.now }
+    {
         match self.try_read(rt) {
             Some(guard) => guard,
             None => self.wait_to_read(rt),
@@ -171,7 +175,9 @@ impl<'l, T> TitledRwLock<'l, T> {
     pub fn try_read<'a, 'r, R: Wait>(
         &'a self,
         rt: &'r R,
-    ) -> Option<TitledRwLockReadGuard<'a, 'r, 'l, T, R>> {
+    ) -> Option<TitledRwLockReadGuard<'a, 'r, 'l, T, R>>
+        ensures { IfSome result (λ guard. titled_read_lock_of guard ≡ self.now) }
+    {
         if !is_open(self.writing.phase()) {
             return None;
         }
@@ -184,7 +190,9 @@ impl<'l, T> TitledRwLock<'l, T> {
         &'a self,
         rt: &'r R,
         duration: Duration,
-    ) -> Option<TitledRwLockReadGuard<'a, 'r, 'l, T, R>> {
+    ) -> Option<TitledRwLockReadGuard<'a, 'r, 'l, T, R>>
+        ensures { IfSome result (λ guard. titled_read_lock_of guard ≡ self.now) }
+    {
         match self.try_read(rt) {
             Some(guard) => Some(guard),
             None => self.read_at_most(rt, instant_after(rt, duration).ok()?),
@@ -196,7 +204,9 @@ impl<'l, T> TitledRwLock<'l, T> {
         &'a self,
         rt: &'r R,
         deadline: Instant,
-    ) -> Option<TitledRwLockReadGuard<'a, 'r, 'l, T, R>> {
+    ) -> Option<TitledRwLockReadGuard<'a, 'r, 'l, T, R>>
+        ensures { IfSome result (λ guard. titled_read_lock_of guard ≡ self.now) }
+    {
         self.read_at_most(rt, Some(deadline))
     }
 
@@ -207,7 +217,9 @@ impl<'l, T> TitledRwLock<'l, T> {
     pub fn write<'a, 'r, R: Wait + Clock>(
         &'a self,
         rt: &'r R,
-    ) -> TitledRwLockWriteGuard<'a, 'r, 'l, T, R> {
+    ) -> TitledRwLockWriteGuard<'a, 'r, 'l, T, R>
+        ensures { titled_write_lock_of result ≡ self.now }
+    {
         match self.write_at_most(rt, None) {
             Some(guard) => guard,
             None => unreachable!(),
@@ -221,7 +233,9 @@ impl<'l, T> TitledRwLock<'l, T> {
     pub fn try_write<'a, 'r, R: Wait>(
         &'a self,
         rt: &'r R,
-    ) -> Option<TitledRwLockWriteGuard<'a, 'r, 'l, T, R>> {
+    ) -> Option<TitledRwLockWriteGuard<'a, 'r, 'l, T, R>>
+        ensures { IfSome result (λ guard. titled_write_lock_of guard ≡ self.now) }
+    {
         let held = self.value.try_write()?;
         match self.writing.lead() {
             Some(leader) => Some(self.write_guard(rt, held, leader)),
@@ -239,7 +253,9 @@ impl<'l, T> TitledRwLock<'l, T> {
         &'a self,
         rt: &'r R,
         duration: Duration,
-    ) -> Option<TitledRwLockWriteGuard<'a, 'r, 'l, T, R>> {
+    ) -> Option<TitledRwLockWriteGuard<'a, 'r, 'l, T, R>>
+        ensures { IfSome result (λ guard. titled_write_lock_of guard ≡ self.now) }
+    {
         match instant_after(rt, duration) {
             Ok(deadline) => self.write_at_most(rt, deadline),
             Err(_) => self.try_write(rt),
@@ -252,7 +268,9 @@ impl<'l, T> TitledRwLock<'l, T> {
         &'a self,
         rt: &'r R,
         deadline: Instant,
-    ) -> Option<TitledRwLockWriteGuard<'a, 'r, 'l, T, R>> {
+    ) -> Option<TitledRwLockWriteGuard<'a, 'r, 'l, T, R>>
+        ensures { IfSome result (λ guard. titled_write_lock_of guard ≡ self.now) }
+    {
         self.write_at_most(rt, Some(deadline))
     }
 
@@ -273,7 +291,9 @@ impl<'l, T> TitledRwLock<'l, T> {
     fn wait_to_read<'a, 'r, R: Wait + Clock>(
         &'a self,
         rt: &'r R,
-    ) -> TitledRwLockReadGuard<'a, 'r, 'l, T, R> {
+    ) -> TitledRwLockReadGuard<'a, 'r, 'l, T, R>
+        ensures { titled_read_lock_of result ≡ self.now }
+    {
         match self.read_at_most(rt, None) {
             Some(guard) => guard,
             None => unreachable!(),
@@ -285,7 +305,8 @@ impl<'l, T> TitledRwLock<'l, T> {
         rt: &'r R,
         deadline: Option<Instant>,
     ) -> Option<TitledRwLockReadGuard<'a, 'r, 'l, T, R>>
-        ensures { deadline ≡ None → IsSome result }
+        ensures some { deadline ≡ None → IsSome result }
+        ensures lock { IfSome result (λ guard. titled_read_lock_of guard ≡ self.now) }
     {
         for _ in rt.forever() {
             if let Some(guard) = self.try_read(rt) {
@@ -309,7 +330,8 @@ impl<'l, T> TitledRwLock<'l, T> {
         rt: &'r R,
         deadline: Option<Instant>,
     ) -> Option<TitledRwLockWriteGuard<'a, 'r, 'l, T, R>>
-        ensures { deadline ≡ None → IsSome result }
+        ensures some { deadline ≡ None → IsSome result }
+        ensures lock { IfSome result (λ guard. titled_write_lock_of guard ≡ self.now) }
     {
         let leader = match self.writing.lead() {
             Some(leader) => leader,
@@ -399,7 +421,9 @@ impl<'l, T> TitledRwLock<'l, T> {
         &'a self,
         rt: &'r R,
         held: sync::RwLockReadGuard<'a, T>,
-    ) -> TitledRwLockReadGuard<'a, 'r, 'l, T, R> {
+    ) -> TitledRwLockReadGuard<'a, 'r, 'l, T, R>
+        ensures { titled_read_lock_of result ≡ self.now }
+    {
         Guard::new(held, TitledReadLocked { lock: self, rt })
     }
 
@@ -411,6 +435,7 @@ impl<'l, T> TitledRwLock<'l, T> {
         leader: Hand<QueueTitle>,
     ) -> TitledRwLockWriteGuard<'a, 'r, 'l, T, R>
         requires { LeadsIn self.now.writing leader }
+        ensures { titled_write_lock_of result ≡ self.now }
     {
         let locked = TitledWriteLocked {
             lock: self,
@@ -422,15 +447,23 @@ impl<'l, T> TitledRwLock<'l, T> {
 }
 
 impl<'a, 'r, 'l, T, R: Wait> TitledRwLockReadGuard<'a, 'r, 'l, T, R> {
+    ghost use Rattle.parking_lot.specs.RwLockGuards.{titled_read_lock_of};
+
     /// Returns the lock that the guard reads.
-    pub fn rwlock(guard: &Self) -> &'a TitledRwLock<'l, T> {
+    pub fn rwlock(guard: &Self) -> &'a TitledRwLock<'l, T>
+        ensures { result.now ≡ titled_read_lock_of guard.now }
+    {
         guard.lock().lock
     }
 }
 
 impl<'a, 'r, 'l, T, R: Wait> TitledRwLockWriteGuard<'a, 'r, 'l, T, R> {
+    ghost use Rattle.parking_lot.specs.RwLockGuards.{titled_read_lock_of, titled_write_lock_of};
+
     /// Returns the lock that the guard writes.
-    pub fn rwlock(guard: &Self) -> &'a TitledRwLock<'l, T> {
+    pub fn rwlock(guard: &Self) -> &'a TitledRwLock<'l, T>
+        ensures { result.now ≡ titled_write_lock_of guard.now }
+    {
         guard.lock().lock
     }
 
@@ -438,7 +471,9 @@ impl<'a, 'r, 'l, T, R: Wait> TitledRwLockWriteGuard<'a, 'r, 'l, T, R> {
     ///
     /// Readers that wait are let in. It may wait for a moment, until another thread that tries to
     /// write sees that it cannot.
-    pub fn downgrade(guard: Self) -> TitledRwLockReadGuard<'a, 'r, 'l, T, R> {
+    pub fn downgrade(guard: Self) -> TitledRwLockReadGuard<'a, 'r, 'l, T, R>
+        ensures { titled_read_lock_of result ≡ titled_write_lock_of guard.entry }
+    {
         let (held, TitledWriteLocked { lock, rt, leader }) = guard.into_parts();
         drop(held);
         for _ in rt.forever() {

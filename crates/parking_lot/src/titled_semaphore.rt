@@ -52,8 +52,8 @@ impl<R: Wait> Drop for TitledSemaphorePermit<'_, '_, '_, R> {
 }
 
 impl<'l> TitledSemaphore<'l> {
-    ghost use Rattle.std.specs.Prelude.{◌≡◌, IfOk};
-    ghost use Rattle.parking_lot.specs.Locks.{permits_in};
+    ghost use Rattle.std.specs.Prelude.{◌≡◌, IfOk, IfSome};
+    ghost use Rattle.parking_lot.specs.Locks.{permits_in, titled_semaphore_of};
 
     /// Creates a semaphore with the given number of permits, all of which are free.
     ///
@@ -78,7 +78,9 @@ impl<'l> TitledSemaphore<'l> {
 
     /// Takes a permit, and waits until one is free.
     #[inline]
-    pub fn acquire<'a, 'r, R: Wait>(&'a self, rt: &'r R) -> TitledSemaphorePermit<'a, 'r, 'l, R> {
+    pub fn acquire<'a, 'r, R: Wait>(&'a self, rt: &'r R) -> TitledSemaphorePermit<'a, 'r, 'l, R>
+        ensures { titled_semaphore_of result ≡ self.now }
+    {
         let hand = self.gate.take(rt);
         self.permit(rt, hand)
     }
@@ -90,7 +92,9 @@ impl<'l> TitledSemaphore<'l> {
     pub fn try_acquire<'a, 'r, R: Wait>(
         &'a self,
         rt: &'r R,
-    ) -> Option<TitledSemaphorePermit<'a, 'r, 'l, R>> {
+    ) -> Option<TitledSemaphorePermit<'a, 'r, 'l, R>>
+        ensures { IfSome result (λ permit. titled_semaphore_of permit ≡ self.now) }
+    {
         let hand = self.gate.take_if_free(rt)?;
         Some(self.permit(rt, hand))
     }
@@ -100,7 +104,9 @@ impl<'l> TitledSemaphore<'l> {
         &'a self,
         rt: &'r R,
         duration: Duration,
-    ) -> Option<TitledSemaphorePermit<'a, 'r, 'l, R>> {
+    ) -> Option<TitledSemaphorePermit<'a, 'r, 'l, R>>
+        ensures { IfSome result (λ permit. titled_semaphore_of permit ≡ self.now) }
+    {
         match instant_after(rt, duration) {
             Ok(Some(deadline)) => self.acquire_until(rt, deadline),
             Ok(None) => Some(self.acquire(rt)),
@@ -113,7 +119,9 @@ impl<'l> TitledSemaphore<'l> {
         &'a self,
         rt: &'r R,
         deadline: Instant,
-    ) -> Option<TitledSemaphorePermit<'a, 'r, 'l, R>> {
+    ) -> Option<TitledSemaphorePermit<'a, 'r, 'l, R>>
+        ensures { IfSome result (λ permit. titled_semaphore_of permit ≡ self.now) }
+    {
         let hand = self.gate.take_until(rt, deadline)?;
         Some(self.permit(rt, hand))
     }
@@ -131,6 +139,7 @@ impl<'l> TitledSemaphore<'l> {
         holder: Hand<(), QueueTitle>,
     ) -> TitledSemaphorePermit<'a, 'r, 'l, R>
         requires { Holds self.now.gate.stock holder }
+        ensures { titled_semaphore_of result ≡ self.now }
     {
         TitledSemaphorePermit {
             semaphore: self,

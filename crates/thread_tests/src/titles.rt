@@ -3,7 +3,7 @@
 ghost use Rattle.std.specs.Prelude.{◌≡◌, ◌<◌, ◌∷◌, [], false, Contains};
 ghost use Rattle.lot_history.specs.Titles.{deal, entering, titled_pieces};
 ghost use Rattle.lot_history.specs.Witness.{IsPartOf, IsStill, IsWitnessOf, deals_in, id_of, max_threads_of, pieces_in, pieces_of};
-ghost use Rattle.lot_history.specs.declared.view.Piece.TheVariants.{Numbers, Thread, Title, TitledLists};
+ghost use Rattle.lot_history.specs.declared.view.Piece.TheVariants.{Numbers, Thread, Timing, Title, TitledLists};
 
 use lot_base::token::ParkToken;
 use lot_history::history::{History, Part, Witness};
@@ -27,18 +27,21 @@ fn deal_one(history: &History, me: &mut Witness) -> (Part, Part)
     (lists, title)
 }
 
-// The thread of number 0 registers. Its piece is handed out.
-fn register_one(history: &History, me: &mut Witness) -> Part
+// The thread of number 0 registers. Its piece is handed out, and that of its timing.
+fn register_one(history: &History, me: &mut Witness) -> (Part, Part)
     requires witness { IsWitnessOf history.now me.old }
     requires nobody { pieces_of me.old ≡ Numbers [] ∷ [] }
     requires room { 0 < max_threads_of history.now }
     ensures still { IsStill history.now me.old me.new }
-    ensures part { IsPartOf (id_of history.now) result }
-    ensures thread { pieces_in result ≡ Thread 0 Status.Running ∷ [] }
+    ensures parts { IsPartOf (id_of history.now) result.0 × IsPartOf (id_of history.now) result.1 }
+    ensures thread { pieces_in result.0 ≡ Thread 0 Status.Running ∷ [] }
+    ensures timing { pieces_in result.1 ≡ Timing 0 false ∷ [] }
 {
     history.register(me, 0);
     let _numbers = history.give(me);
-    history.give(me)
+    let thread = history.give(me);
+    let _records = history.give(me);
+    (thread, history.give(me))
 }
 
 // The thread enters the list of key 0 with the key's title.
@@ -47,23 +50,27 @@ fn enter_with(
     me: &mut Witness,
     lists: Part,
     title: Part,
-    thread: Part,
+    thread: (Part, Part),
     park_token: ParkToken,
 )
     requires witness { IsWitnessOf history.now me.old }
     requires bare { pieces_of me.old ≡ [] }
     requires parts { IsPartOf (id_of history.now) lists × IsPartOf (id_of history.now) title
-        × IsPartOf (id_of history.now) thread }
+        × IsPartOf (id_of history.now) thread.0 × IsPartOf (id_of history.now) thread.1 }
     requires lists { pieces_in lists ≡ TitledLists 1 1 0 [] ∷ [] }
     requires title { pieces_in title ≡ Title 0 [] ∷ [] }
-    requires thread { pieces_in thread ≡ Thread 0 Status.Running ∷ [] }
+    requires thread { pieces_in thread.0 ≡ Thread 0 Status.Running ∷ [] }
+    requires timing { pieces_in thread.1 ≡ Timing 0 false ∷ [] }
     ensures still { IsStill history.now me.old me.new }
     ensures pieces { pieces_of me.new
-        ≡ TitledLists 1 1 0 (entering 0 0 park_token false ∷ []) ∷ Title 0 (0 ∷ []) ∷ [] }
+        ≡ TitledLists 1 1 0 (entering 0 0 park_token false ∷ []) ∷ Title 0 (0 ∷ [])
+        ∷ Timing 0 false ∷ [] }
 {
+    let (thread, timing) = thread;
     history.take(me, lists);
     history.take(me, title);
     history.take(me, thread);
+    history.take(me, timing);
     history.enter_titled(me, 0, 0, park_token, false);
 }
 
@@ -74,7 +81,8 @@ fn enter_one(history: &History, me: &mut Witness, park_token: ParkToken) -> Witn
     ensures still { IsStill history.now me.old me.new }
     ensures witness { IsWitnessOf history.now result }
     ensures title { pieces_of result
-        ≡ TitledLists 1 1 0 (entering 0 0 park_token false ∷ []) ∷ Title 0 (0 ∷ []) ∷ [] }
+        ≡ TitledLists 1 1 0 (entering 0 0 park_token false ∷ []) ∷ Title 0 (0 ∷ [])
+        ∷ Timing 0 false ∷ [] }
 {
     let (lists, title) = deal_one(history, me);
     let thread = register_one(history, me);

@@ -1,6 +1,8 @@
 //! This module exchanges one kind of guard for another, so that nobody writes in between.
 
-ghost use Rattle.std.specs.Prelude.{◌≡◌, None, IsOk, IsSome};
+ghost use Rattle.std.specs.Prelude.{◌≡◌, None, IfErr, IfOk, IsOk, IsSome};
+ghost use Rattle.parking_lot.specs.Guards.{held_by};
+ghost use Rattle.parking_lot.specs.RwLockGuards.{read_lock_of, upgradable_lock_of, write_lock_of};
 
 use super::waiting::{Turn, Writer};
 use super::waking::Front;
@@ -20,7 +22,9 @@ impl<'a, 'r, 'l, T, R: Wait> RwLockWriteGuard<'a, 'r, 'l, T, R> {
     /// Exchanges the write for a read, so that nobody writes in between.
     ///
     /// Readers that wait are let in.
-    pub fn downgrade(guard: Self) -> RwLockReadGuard<'a, 'r, 'l, T, R> {
+    pub fn downgrade(guard: Self) -> RwLockReadGuard<'a, 'r, 'l, T, R>
+        ensures { read_lock_of result ≡ write_lock_of guard.entry }
+    {
         let (held, WriteLocked { lock, rt }) = guard.into_parts();
         let held = lock.read_after_write(rt, held);
         lock.read_guard(rt, held)
@@ -33,6 +37,7 @@ impl<'a, 'r, 'l, T, R: Wait> RwLockWriteGuard<'a, 'r, 'l, T, R> {
     pub fn downgrade_to_upgradable(guard: Self) -> RwLockUpgradableReadGuard<'a, 'r, 'l, T, R>
     where
         R: Clock,
+        ensures { upgradable_lock_of result ≡ write_lock_of guard.entry }
     {
         let (held, WriteLocked { lock, rt }) = guard.into_parts();
         let upgradable = lock.upgradable.lock(rt);
@@ -47,7 +52,12 @@ impl<'a, 'r, 'l, T, R: Wait> RwLockUpgradableReadGuard<'a, 'r, 'l, T, R> {
     /// # Errors
     ///
     /// Returns the guard if others read. It still reads and may upgrade.
-    pub fn try_upgrade(guard: Self) -> Result<RwLockWriteGuard<'a, 'r, 'l, T, R>, Self> {
+    pub fn try_upgrade(guard: Self) -> Result<RwLockWriteGuard<'a, 'r, 'l, T, R>, Self>
+        ensures ok { IfOk result (λ writing.
+            write_lock_of writing ≡ upgradable_lock_of guard.entry) }
+        ensures err { IfErr result (λ back.
+            upgradable_lock_of back ≡ upgradable_lock_of guard.entry) }
+    {
         let (held, locked) = guard.into_parts();
         locked.lock.begin_upgrade(held);
         let held = locked
@@ -57,7 +67,10 @@ impl<'a, 'r, 'l, T, R: Wait> RwLockUpgradableReadGuard<'a, 'r, 'l, T, R> {
     }
 
     /// Gives up the right to upgrade, and goes on reading.
-    pub fn downgrade(guard: Self) -> RwLockReadGuard<'a, 'r, 'l, T, R> {
+    pub fn downgrade(guard: Self) -> RwLockReadGuard<'a, 'r, 'l, T, R>
+        ensures lock { read_lock_of result ≡ upgradable_lock_of guard.entry }
+        ensures held { held_by result ≡ held_by guard.entry }
+    {
         let (held, locked) = guard.into_parts();
         drop(locked.upgradable);
         locked.lock.read_guard(locked.rt, held)
@@ -68,6 +81,7 @@ impl<'a, 'r, 'l, T, R: Wait> RwLockUpgradableReadGuard<'a, 'r, 'l, T, R> {
     pub fn upgrade(guard: Self) -> RwLockWriteGuard<'a, 'r, 'l, T, R>
     where
         R: Clock,
+        ensures { write_lock_of result ≡ upgradable_lock_of guard.entry }
     {
         match upgrade_at_most(guard, None) {
             Ok(guard) => guard,
@@ -87,6 +101,10 @@ impl<'a, 'r, 'l, T, R: Wait> RwLockUpgradableReadGuard<'a, 'r, 'l, T, R> {
     ) -> Result<RwLockWriteGuard<'a, 'r, 'l, T, R>, Self>
     where
         R: Clock,
+        ensures ok { IfOk result (λ writing.
+            write_lock_of writing ≡ upgradable_lock_of guard.entry) }
+        ensures err { IfErr result (λ back.
+            upgradable_lock_of back ≡ upgradable_lock_of guard.entry) }
     {
         match instant_after(guard.lock().rt, duration) {
             Ok(deadline) => upgrade_at_most(guard, deadline),
@@ -106,6 +124,10 @@ impl<'a, 'r, 'l, T, R: Wait> RwLockUpgradableReadGuard<'a, 'r, 'l, T, R> {
     ) -> Result<RwLockWriteGuard<'a, 'r, 'l, T, R>, Self>
     where
         R: Clock,
+        ensures ok { IfOk result (λ writing.
+            write_lock_of writing ≡ upgradable_lock_of guard.entry) }
+        ensures err { IfErr result (λ back.
+            upgradable_lock_of back ≡ upgradable_lock_of guard.entry) }
     {
         upgrade_at_most(guard, Some(deadline))
     }
@@ -115,7 +137,10 @@ fn upgrade_at_most<'a, 'r, 'l, T, R: Wait + Clock>(
     guard: RwLockUpgradableReadGuard<'a, 'r, 'l, T, R>,
     deadline: Option<Instant>,
 ) -> Result<RwLockWriteGuard<'a, 'r, 'l, T, R>, RwLockUpgradableReadGuard<'a, 'r, 'l, T, R>>
-    ensures { deadline ≡ None → IsOk result }
+    ensures done { deadline ≡ None → IsOk result }
+    ensures ok { IfOk result (λ writing. write_lock_of writing ≡ upgradable_lock_of guard.entry) }
+    ensures err { IfErr result (λ back.
+        upgradable_lock_of back ≡ upgradable_lock_of guard.entry) }
 {
     let (held, locked) = guard.into_parts();
     let lock = locked.lock;
@@ -130,7 +155,9 @@ impl<'a, 'r, 'l, T, R: Wait> UpgradableLocked<'a, 'r, 'l, T, R> {
         self,
         written: Option<sync::RwLockWriteGuard<'a, T>>,
     ) -> Result<RwLockWriteGuard<'a, 'r, 'l, T, R>, RwLockUpgradableReadGuard<'a, 'r, 'l, T, R>>
-        ensures { IsSome written.entry → IsOk result }
+        ensures done { IsSome written.entry → IsOk result }
+        ensures ok { IfOk result (λ writing. write_lock_of writing ≡ self.entry.lock.now) }
+        ensures err { IfErr result (λ back. upgradable_lock_of back ≡ self.entry.lock.now) }
     {
         let lock = self.lock;
         match written {

@@ -1,5 +1,8 @@
 //! This module has the three guards of `RwLock`.
 
+ghost use Rattle.std.specs.Prelude.{◌≡◌};
+ghost use Rattle.parking_lot.specs.Guards.{held_by, mutex_of};
+
 use super::waking::Front;
 use super::{DRAINS, PARKED, RwLock};
 use crate::guard::{Guard, Release};
@@ -51,6 +54,7 @@ pub struct UpgradableLocked<'a, 'r, 'l, T, R: Wait> {
     pub(super) lock: &'a RwLock<'l, T>,
     pub(super) upgradable: MutexGuard<'a, 'r, 'l, (), R>,
     pub(super) rt: &'r R,
+    ghost right: { mutex_of upgradable ≡ lock.now.upgradable },
 }
 
 /// `WriteLocked` is what a write guard remembers: its lock, and the runtime with which it wakes
@@ -86,8 +90,12 @@ impl<T, R: Wait> Release<sync::RwLockWriteGuard<'_, T>> for WriteLocked<'_, '_, 
 }
 
 impl<'a, 'r, 'l, T, R: Wait> RwLockReadGuard<'a, 'r, 'l, T, R> {
+    ghost use Rattle.parking_lot.specs.RwLockGuards.{read_lock_of};
+
     /// Returns the lock that the guard reads.
-    pub fn rwlock(guard: &Self) -> &'a RwLock<'l, T> {
+    pub fn rwlock(guard: &Self) -> &'a RwLock<'l, T>
+        ensures { result.now ≡ read_lock_of guard.now }
+    {
         guard.lock().lock
     }
 
@@ -105,6 +113,7 @@ impl<'a, 'r, 'l, T, R: Wait> RwLockReadGuard<'a, 'r, 'l, T, R> {
     pub fn bump(guard: Self) -> Self
     where
         R: Clock,
+        ensures { read_lock_of result ≡ read_lock_of guard.entry }
     {
         let ReadLocked { lock, rt } = *guard.lock();
         if !lock.has(PARKED | DRAINS) {
@@ -120,6 +129,8 @@ impl<'a, 'r, 'l, T, R: Wait> RwLockReadGuard<'a, 'r, 'l, T, R> {
     where
         R: Clock,
         requires { C.pre call }
+        ensures lock { read_lock_of result.0 ≡ read_lock_of guard.entry }
+        ensures called { C.post call result.1 }
     {
         let ReadLocked { lock, rt } = *guard.lock();
         drop(guard);
@@ -129,8 +140,12 @@ impl<'a, 'r, 'l, T, R: Wait> RwLockReadGuard<'a, 'r, 'l, T, R> {
 }
 
 impl<'a, 'r, 'l, T, R: Wait> RwLockUpgradableReadGuard<'a, 'r, 'l, T, R> {
+    ghost use Rattle.parking_lot.specs.RwLockGuards.{upgradable_lock_of};
+
     /// Returns the lock that the guard reads.
-    pub fn rwlock(guard: &Self) -> &'a RwLock<'l, T> {
+    pub fn rwlock(guard: &Self) -> &'a RwLock<'l, T>
+        ensures { result.now ≡ upgradable_lock_of guard.now }
+    {
         guard.lock().lock
     }
 
@@ -152,6 +167,7 @@ impl<'a, 'r, 'l, T, R: Wait> RwLockUpgradableReadGuard<'a, 'r, 'l, T, R> {
     pub fn bump(guard: Self) -> Self
     where
         R: Clock,
+        ensures { upgradable_lock_of result ≡ upgradable_lock_of guard.entry }
     {
         let lock = guard.lock().lock;
         let rt = guard.lock().rt;
@@ -168,6 +184,8 @@ impl<'a, 'r, 'l, T, R: Wait> RwLockUpgradableReadGuard<'a, 'r, 'l, T, R> {
     where
         R: Clock,
         requires { C.pre call }
+        ensures lock { upgradable_lock_of result.0 ≡ upgradable_lock_of guard.entry }
+        ensures called { C.post call result.1 }
     {
         let lock = guard.lock().lock;
         let rt = guard.lock().rt;
@@ -178,8 +196,12 @@ impl<'a, 'r, 'l, T, R: Wait> RwLockUpgradableReadGuard<'a, 'r, 'l, T, R> {
 }
 
 impl<'a, 'r, 'l, T, R: Wait> RwLockWriteGuard<'a, 'r, 'l, T, R> {
+    ghost use Rattle.parking_lot.specs.RwLockGuards.{write_lock_of};
+
     /// Returns the lock that the guard writes.
-    pub fn rwlock(guard: &Self) -> &'a RwLock<'l, T> {
+    pub fn rwlock(guard: &Self) -> &'a RwLock<'l, T>
+        ensures { result.now ≡ write_lock_of guard.now }
+    {
         guard.lock().lock
     }
 
@@ -198,6 +220,7 @@ impl<'a, 'r, 'l, T, R: Wait> RwLockWriteGuard<'a, 'r, 'l, T, R> {
     pub fn bump(guard: Self) -> Self
     where
         R: Clock,
+        ensures { write_lock_of result ≡ write_lock_of guard.entry }
     {
         let WriteLocked { lock, rt } = *guard.lock();
         if !lock.has(PARKED) {
@@ -213,6 +236,8 @@ impl<'a, 'r, 'l, T, R: Wait> RwLockWriteGuard<'a, 'r, 'l, T, R> {
     where
         R: Clock,
         requires { C.pre call }
+        ensures lock { write_lock_of result.0 ≡ write_lock_of guard.entry }
+        ensures called { C.post call result.1 }
     {
         let WriteLocked { lock, rt } = *guard.lock();
         drop(guard);
@@ -222,12 +247,17 @@ impl<'a, 'r, 'l, T, R: Wait> RwLockWriteGuard<'a, 'r, 'l, T, R> {
 }
 
 impl<'l, T> RwLock<'l, T> {
+    ghost use Rattle.parking_lot.specs.RwLockGuards.{read_lock_of, upgradable_lock_of, write_lock_of};
+
     #[inline]
     pub(super) fn read_guard<'a, 'r, R: Wait>(
         &'a self,
         rt: &'r R,
         held: sync::RwLockReadGuard<'a, T>,
-    ) -> RwLockReadGuard<'a, 'r, 'l, T, R> {
+    ) -> RwLockReadGuard<'a, 'r, 'l, T, R>
+        ensures lock { read_lock_of result ≡ self.now }
+        ensures held { held_by result ≡ held.entry }
+    {
         Guard::new(held, ReadLocked { lock: self, rt })
     }
 
@@ -236,7 +266,10 @@ impl<'l, T> RwLock<'l, T> {
         rt: &'r R,
         held: sync::RwLockReadGuard<'a, T>,
         upgradable: MutexGuard<'a, 'r, 'l, (), R>,
-    ) -> RwLockUpgradableReadGuard<'a, 'r, 'l, T, R> {
+    ) -> RwLockUpgradableReadGuard<'a, 'r, 'l, T, R>
+        requires { mutex_of upgradable ≡ self.now.upgradable }
+        ensures { upgradable_lock_of result ≡ self.now }
+    {
         let locked = UpgradableLocked {
             lock: self,
             upgradable,
@@ -250,7 +283,9 @@ impl<'l, T> RwLock<'l, T> {
         &'a self,
         rt: &'r R,
         held: sync::RwLockWriteGuard<'a, T>,
-    ) -> RwLockWriteGuard<'a, 'r, 'l, T, R> {
+    ) -> RwLockWriteGuard<'a, 'r, 'l, T, R>
+        ensures { write_lock_of result ≡ self.now }
+    {
         Guard::new(held, WriteLocked { lock: self, rt })
     }
 }
