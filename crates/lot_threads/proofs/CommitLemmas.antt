@@ -49,6 +49,19 @@ module _ (history : History) (old told new : Witness) (seen : seen_by new ≡ se
     so = found.so;
   }
 
+  pub unparks_still : {C : Type 0} (c : Once C (Bor CriticalSection × (UnparkResult × Unit {0})) UnparkToken) (callback : C)
+      (key : ℕ) (result : UnparkResult) → events_of new ≡ events_of told → UnparksOne c callback key history old result told
+      → UnparksOne c callback key history old result new
+  unparks_still c callback key result mine unparks = record {
+    section = unparks.section;
+    within = unparks.within;
+    token = unparks.token;
+    called = unparks.called;
+    extends = extends_still (step.Unpark (op.One key unparks.token)) (answer.Unpark result) mine unparks.extends;
+    found = found_still unparks.found;
+    finds = unparks.finds;
+  }
+
 module _ {C : Type 0} (c : Once C (Bor CriticalSection × (UnparkResult × Unit {0})) UnparkToken) (callback : C)
     (history : History) (bucket : BucketState) (key : ℕ) where
   -- the unpark has the token that the callback answered in a section that has the bucket's part
@@ -66,31 +79,30 @@ module _ {C : Type 0} (c : Once C (Bor CriticalSection × (UnparkResult × Unit 
       subst (λ (found : UnparkResult). c.pre callback (section, (found, tt)))
       (first_result history bucket key here section.now has) (may section (is_section history bucket key here section.now has))
 
+  -- the section in which the callback was called has the bucket as the step found it
+  pub unparks_one : place_of key bucket.size ≡ bucket.place → (old new : Witness) (result : UnparkResult)
+      → Adds history old (λ s a. IsOne s a × (a ≡ answer.Unpark result)) new
+      → FindsPieces history (lists_in (limit_of history) bucket ∷ []) old new → UnparksOne c callback key history old result new
+  unparks_one here old new result adds found =
+      let said = adds.is_said.0 in
+      let section = said.0 in
+      let token = said.2 in
+      let has = said.3 in
+      let same : said.1 ≡ result = same_result said.1 result (sym said.6 ∙ adds.is_said.1) in
+      record {
+        section = section;
+        within = is_section history bucket key here section.now has;
+        token = token;
+        called = subst (λ (given : UnparkResult). c.post callback (section, (given, tt)) token) same said.4;
+        extends = subst (λ (s : Step). Extends history old s (answer.Unpark result) new) said.5
+            (subst (λ (a : Answer). Extends history old adds.step a new) adds.is_said.1 adds.extends);
+        found = found.found;
+        finds = finds history bucket key here section.now has found.found.machine found.so;
+      }
+
 module _ (history : History) (bucket : BucketState) (key : ℕ) (here : place_of key bucket.size ≡ bucket.place)
     (old told new : Witness) (seen : seen_by new ≡ seen_by told) (mine : events_of new ≡ events_of told)
     (result : UnparkResult) where
-  module _ {C : Type 0} (c : Once C (Bor CriticalSection × (UnparkResult × Unit {0})) UnparkToken) (callback : C) where
-    -- the section in which the callback was called has the bucket as the step found it
-    pub unparks_one : Adds history old (λ s a. IsOne c callback history bucket key s a × (a ≡ answer.Unpark result)) told
-        → FindsPieces history (lists_in (limit_of history) bucket ∷ []) old told → UnparksOne c callback key history old result new
-    unparks_one adds found =
-        let said = adds.is_said.0 in
-        let section = said.0 in
-        let token = said.2 in
-        let has = said.3 in
-        let same : said.1 ≡ result = same_result said.1 result (sym said.6 ∙ adds.is_said.1) in
-        record {
-          section = section;
-          within = is_section history bucket key here section.now has;
-          token = token;
-          called = subst (λ (given : UnparkResult). c.post callback (section, (given, tt)) token) same said.4;
-          extends = extends_still history old told new seen (step.Unpark (op.One key token)) (answer.Unpark result) mine
-              (subst (λ (s : Step). Extends history old s (answer.Unpark result) told) said.5
-              (subst (λ (a : Answer). Extends history old adds.step a told) adds.is_said.1 adds.extends));
-          found = found_still history old told new seen found.found;
-          finds = finds history bucket key here section.now has found.found.machine found.so;
-        }
-
   module _ {V C : Type 0} (v : Once V (Bor CriticalSection × Unit {0}) RequeueOp)
       (c : Once C (Bor CriticalSection × (RequeueOp × (UnparkResult × Unit {0}))) UnparkToken) (validate : V) (callback : C)
       (to : ℕ) where

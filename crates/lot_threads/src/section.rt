@@ -1,14 +1,14 @@
 //! A section: what a call does while it has the bucket of a key locked.
 
-ghost use Rattle.std.specs.Prelude.{◌≡◌, ◌<◌, ◌≤◌, ◌∷◌, [], Bool, IfErr, IfNone, IfSome, OnErr, OnOk, Some, true};
+ghost use Rattle.std.specs.Prelude.{◌≡◌, ◌<◌, ◌≤◌, ◌∷◌, [], length, All, Bool, IfErr, IfNone, IfSome, OnErr, OnOk, Some, true};
 ghost use Rattle.std.proofs.Props.{props};
 ghost use Rattle.lot_base.specs.Node.{fields};
 ghost use Rattle.lot_machine.specs.declared.step.Answer.{Answer};
 ghost use Rattle.lot_machine.specs.declared.step.Step.{Step};
-ghost use Rattle.lot_history.specs.Witness.{Extends, events_of, id_of, max_threads_of, seen_by, limit_of};
+ghost use Rattle.lot_history.specs.Witness.{Extends, IsStill, events_of, id_of, max_threads_of, pieces_of, seen_by, limit_of};
 ghost use Rattle.lot_history.specs.declared.view.Piece.TheVariants.{Thread, Timing};
-ghost use Rattle.lot_word_lock.specs.WordLock.{key_of};
-ghost use Rattle.lot_threads.specs.Cells.{AreApart, FitsSlot, Has, HasTiming, IsBelow, IsLockFor};
+ghost use Rattle.lot_word_lock.specs.WordLock.{IsClaimOn, key_of};
+ghost use Rattle.lot_threads.specs.Cells.{AreApart, FitsSlot, Has, HasTiming, IsBelow, IsLockFor, threads_in};
 ghost use Rattle.lot_threads.specs.Idle.{IsIdle, StaysIdle};
 ghost use Rattle.lot_threads.specs.Members.{IsListed, entry_of};
 ghost use Rattle.lot_threads.specs.Requeues.{MayRequeueWithin, RequeuesWithin};
@@ -23,7 +23,7 @@ use crate::critical_section::CriticalSection;
 use crate::parker::ThreadParkerT;
 use crate::shared_lot::SharedLot;
 use crate::shared_lot::handles::Handles;
-use lot_base::queue::Node;
+use lot_base::queue::{Node, Queue};
 use lot_base::token::{FilterOp, NoMemory, ParkToken, RequeueOp, UnparkResult, UnparkToken};
 use lot_base::word_lock::{Claim, WordLock};
 use lot_history::history::{Part, Witness};
@@ -62,14 +62,31 @@ pub(crate) struct Section<'a, P: ThreadParkerT> {
 }
 
 impl<'a, P: ThreadParkerT> Section<'a, P> {
-    /// Locks the bucket of the key. Where a change of rows took it away, it waits until that is
-    /// done, and looks again.
+    /// Locks the bucket of the key.
     #[inline(always)]
     pub(crate) fn open<R: Wait>(
         rt: &R,
         lot: &'a SharedLot<P>,
         key: usize,
     ) -> (Section<'a, P>, Licence)
+        ensures lot { result.0.lot.now ≡ lot.now }
+        ensures key { result.0.key ≡ key }
+    {
+        let lock = lot.lock_of(key);
+        // The compiler puts a check behind each call that may wait, so the usual way has none.
+        if let Some(claim) = lock.try_claim()
+            && let Some(opened) = Section::of(lot, lock, claim, key)
+        {
+            return opened;
+        }
+        Section::open_slow(rt, lot, key)
+    }
+
+    // The same, after a try in vain. Where a change of rows took the bucket away, it waits until
+    // that is done, and looks again.
+    #[cold]
+    #[inline(never)]
+    fn open_slow<R: Wait>(rt: &R, lot: &'a SharedLot<P>, key: usize) -> (Section<'a, P>, Licence)
         ensures lot { result.0.lot.now ≡ lot.now }
         ensures key { result.0.key ≡ key }
     {
@@ -84,7 +101,7 @@ impl<'a, P: ThreadParkerT> Section<'a, P> {
 
     /// Locks the bucket of this lock, which is that of the key, or answers `None` where a change of
     /// rows took it away.
-    #[inline(always)]
+    #[inline]
     pub(crate) fn at<R: Wait>(
         rt: &R,
         lot: &'a SharedLot<P>,
@@ -96,7 +113,26 @@ impl<'a, P: ThreadParkerT> Section<'a, P> {
         ensures lock { IfSome result (λ opened. opened.0.lock.now ≡ lock.now) }
         ensures key { IfSome result (λ opened. opened.0.key ≡ key) }
     {
-        let mut claim = lock.claim(rt);
+        let claim = lock.claim(rt);
+        Section::of(lot, lock, claim, key)
+    }
+
+    // The section that has the bucket of this lock, or `None` where the bucket is away. Then the
+    // lock is let go.
+    #[inline(always)]
+    fn of(
+        lot: &'a SharedLot<P>,
+        lock: &'a WordLock<Slot>,
+        claim: Claim<Slot>,
+        key: usize,
+    ) -> Option<(Section<'a, P>, Licence)>
+        requires lock { IsLockFor lot.now key lock.now }
+        requires claim { IsClaimOn (FitsSlot (key_of lock.now)) lock.now claim }
+        ensures lot { IfSome result (λ opened. opened.0.lot.now ≡ lot.now) }
+        ensures lock { IfSome result (λ opened. opened.0.lock.now ≡ lock.now) }
+        ensures key { IfSome result (λ opened. opened.0.key ≡ key) }
+    {
+        let mut claim = claim;
         if claim.value_mut(lock).as_mut().unwrap().cell.is_none() {
             lock.release(claim);
             return None;
@@ -149,35 +185,29 @@ impl<'a, P: ThreadParkerT> Section<'a, P> {
         lock.release(claim);
     }
 
-    /// Unparks the first thread of the key, if there is one, and answers its handle too.
+    /// Takes the first waiter of the key out of its list, if there is one, and tells so. Its unpark
+    /// is still to be committed.
     #[inline]
-    pub(crate) fn take_one<R: Wait, C: FnOnce(&CriticalSection, UnparkResult) -> UnparkToken>(
+    pub(crate) fn take_one<C: FnOnce(&CriticalSection, UnparkResult) -> UnparkToken>(
         &mut self,
-        rt: &R,
         me: &mut Witness,
         licence: Licence,
         callback: C,
-    ) -> (UnparkResult, Option<P::UnparkHandle>)
+    ) -> (UnparkResult, Queue)
         requires idle { IsIdle self.old.lot.now me.old }
         requires above { limit_of self.old.lot.now ≤ self.old.key }
         requires callable { MayCallBack C.FnOnce callback self.old.lot.now self.old.key }
-        ensures idle { StaysIdle self.old.lot.now me.old me.new }
+        ensures still { IsStill self.old.lot.now me.old me.new }
         ensures unparked { UnparksOne C.FnOnce callback self.old.key self.old.lot.now me.old
             result.0 me.new }
+        ensures pieces { pieces_of me.new ≡ threads_in result.1 }
+        ensures below { All (IsBelow (max_threads_of self.old.lot.now)) result.1 }
+        ensures one { length result.1 ≤ 1 }
     {
-        let lot = self.lot;
-        let key = self.key;
         let slot = self.claim.value_mut(self.lock).as_mut().unwrap();
         let cell = slot.cell.as_mut().unwrap();
-        let (result, taken) = take_one_of::<Brand, C>(
-            lot.history(),
-            me,
-            licence,
-            cell,
-            key,
-            callback,
-        );
-        (result, lot.commit_one(rt, me, taken))
+        let history = self.lot.history();
+        take_one_of::<Brand, C>(history, me, licence, cell, self.key, callback)
     }
 
     /// Unparks all threads of the key, and answers handles of the first of them.

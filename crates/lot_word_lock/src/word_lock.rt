@@ -198,6 +198,21 @@ impl<T: Fits> WordLock<T> {
         }
     }
 
+    /// Takes the lock as `claim` does, if nobody holds it and nobody is in the list.
+    ///
+    /// It does not wait: it is one exchange of the word.
+    #[inline]
+    pub fn try_claim(&self) -> Option<Claim<T>>
+        ensures { IfSome result (IsClaimOn (T.fits (key_of self.now)) self.now) }
+    {
+        let mut caller = self.arrive();
+        if !self.acquire(&mut caller, 0) {
+            caller.leave();
+            return None;
+        }
+        Some(Claim { caller })
+    }
+
     /// Calls the closure once with the value, which satisfies the lock's invariant, and returns
     /// what it returned.
     ///

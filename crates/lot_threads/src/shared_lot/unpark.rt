@@ -42,7 +42,13 @@ impl<P: ThreadParkerT> SharedLot<P> {
         ensures unparked { UnparksOne C.FnOnce callback key self.now me.old result me.new }
     {
         let (mut section, licence) = Section::open(rt, self, key);
-        let (result, handle) = section.take_one(rt, me, licence, callback);
+        let (result, taken) = section.take_one(me, licence, callback);
+        // An unpark that finds nobody is the usual one.
+        let handle = if taken.front().is_none() {
+            None
+        } else {
+            self.commit_one(rt, me, taken)
+        };
         section.close();
         self.wake(handle);
         result
@@ -151,10 +157,6 @@ impl<P: ThreadParkerT> SharedLot<P> {
         ensures handle { handle_numbers P.UnparkHandle.number result
             ≡ map (λ node. node.number) taken }
     {
-        // An unpark that finds nobody is the usual one.
-        if taken.front().is_none() {
-            return None;
-        }
         let node = taken.pop_front()?;
         let part = self.history.give(me);
         Some(self.hand_over(rt, node, part))

@@ -126,6 +126,29 @@ fn the_word_is_1_while_the_lock_is_held(rt: HostRuntime) -> Result<(), NoMemory>
     Ok(())
 }
 
+// Tries to claim the lock, and releases it again. Answers whether it was claimed.
+fn is_claimed_by_a_try(lock: &WordLock<Value>) -> bool {
+    match lock.try_claim() {
+        Some(claim) => {
+            lock.release(claim);
+            true
+        }
+        None => false,
+    }
+}
+
+// A try that never claims meets its contract too.
+#[test]
+fn a_try_claims_the_lock_if_nobody_holds_it(rt: HostRuntime) -> Result<(), NoMemory> {
+    let lock = new_lock(rt.alloc())?;
+    let holder = hold(&rt, &lock, 0);
+    expect(&rt, !is_claimed_by_a_try(&lock), "the lock is held");
+    lock.let_go(holder);
+    expect(&rt, is_claimed_by_a_try(&lock), "nobody holds the lock");
+    expect_words(&rt, &lock, [0, 0, 0, 0, 0]);
+    Ok(())
+}
+
 // One waits, and is removed by the release to 0.
 #[test]
 fn the_only_waiter_is_removed_and_told(rt: HostRuntime) -> Result<(), NoMemory> {

@@ -5,28 +5,25 @@ use Rattle.lot_threads.specs.Within.{MayCallBack, UnparksOne}
 use Rattle.lot_threads.proofs.CommitLemmas.{may_call_back, unparks_one}
 use Rattle.lot_threads.proofs.section.Section.take_one.Goals as goal
 
-pub take_one_of-taken-requires-clause-callable : goal.take_one_of-taken-requires-clause-callable
-take_one_of-taken-requires-clause-callable g c =
-    let history = c.history.result.now in
+pub take_one_of-requires-clause-callable : goal.take_one_of-requires-clause-callable
+take_one_of-requires-clause-callable g c =
+    let history = c.history-history.result.now in
     let key = c.args.self.now.key in
     let cell = c.unwrap-cell.result.now in
     let own : IsCellFor history key cell = search rules in
     may_call_back g.C.FnOnce c.args.callback history cell.bucket key own.here
-    (subst (λ (h : History). MayCallBack g.C.FnOnce c.args.callback h key) (sym c.history.ensures.history)
+    (subst (λ (h : History). MayCallBack g.C.FnOnce c.args.callback h key) (sym c.history-history.ensures.history)
     c.requires.callable)
 
--- the commit adds nothing
 pub returns-clause-unparked : goal.returns-clause-unparked
 returns-clause-unparked g c =
-    let history = c.history.result.now in
+    let history = c.history-history.result.now in
     let key = c.args.self.now.key in
     let cell = c.unwrap-cell.result.now in
     let own : IsCellFor history key cell = search rules in
-    let result = c.take_one_of-taken.result.0 in
-    let told = c.take_one_of-taken.ensures in
-    let committed = c.commit_one.ensures in
-    let new = c.commit_one.new.me in
+    let result = c.take_one_of.result.0 in
+    let told = c.take_one_of.ensures in
+    let new = c.take_one_of.new.me in
     subst (λ (h : History). UnparksOne g.C.FnOnce c.args.callback key h c.args.me.now result new)
-    c.history.ensures.history
-    (unparks_one history cell.bucket key own.here c.args.me.now c.take_one_of-taken.new.me new committed.seen
-    committed.nothing_added result g.C.FnOnce c.args.callback told.adds told.found)
+    c.history-history.ensures.history
+    (unparks_one g.C.FnOnce c.args.callback history cell.bucket key own.here c.args.me.now new result told.adds told.found)
