@@ -79,21 +79,36 @@ impl<'a, P: ThreadParkerT> Section<'a, P> {
         {
             return opened;
         }
-        Section::open_slow(rt, lot, key)
+        let (lock, claim) = Section::claim_slow(rt, lot, key);
+        let section = Section {
+            lot,
+            lock,
+            behind: None,
+            claim,
+            key,
+        };
+        (section, Licence { given: () })
     }
 
-    // The same, after a try in vain. Where a change of rows took the bucket away, it waits until
-    // that is done, and looks again.
+    // A claim of the lock of the key's bucket, after a try in vain. Where a change of rows took the
+    // bucket away, it waits until that is done, and looks again.
     #[cold]
     #[inline(never)]
-    fn open_slow<R: Wait>(rt: &R, lot: &'a SharedLot<P>, key: usize) -> (Section<'a, P>, Licence)
-        ensures lot { result.0.lot.now ≡ lot.now }
-        ensures key { result.0.key ≡ key }
+    fn claim_slow<R: Wait>(
+        rt: &R,
+        lot: &'a SharedLot<P>,
+        key: usize,
+    ) -> (&'a WordLock<Slot>, Claim<Slot>)
+        ensures lock { IsLockFor lot.now key result.0.now }
+        ensures bucket { HasBucket result.0.now result.1 }
     {
         for _ in rt.forever() {
-            if let Some(opened) = Section::at(rt, lot, lot.lock_of(key), key) {
-                return opened;
+            let lock = lot.lock_of(key);
+            let mut claim = lock.claim(rt);
+            if claim.value_mut(lock).as_mut().unwrap().cell.is_some() {
+                return (lock, claim);
             }
+            lock.release(claim);
             lot.wait_for_change(rt);
         }
         unreachable!()

@@ -14,9 +14,9 @@ returns-clause-unparked g c =
     let told = c.take_one-taken.new.me in
     let result = c.take_one-taken.result.0 in
     let of_lot = subst (λ (h : History). UnparksOne g.C.FnOnce c.args.callback c.open-section.result.0.key h me result told)
-        c.open-section.ensures.lot c.take_one-taken.ensures.unparked in
+    c.open-section.ensures.lot c.take_one-taken.ensures.unparked in
     let unparked = subst (λ (n : ℕ). UnparksOne g.C.FnOnce c.args.callback n c.args.self.now me result told)
-        c.open-section.ensures.key of_lot in
+    c.open-section.ensures.key of_lot in
     elim c.if-is_none.branch [
       | then-is_none w ↦ subst (λ (new : Witness). UnparksOne g.C.FnOnce c.args.callback key c.args.self.now me result new)
           (sym w.me-is) unparked
