@@ -80,14 +80,7 @@ impl<'a, P: ThreadParkerT> Section<'a, P> {
             return opened;
         }
         let (lock, claim) = Section::claim_slow(rt, lot, key);
-        let section = Section {
-            lot,
-            lock,
-            behind: None,
-            claim,
-            key,
-        };
-        (section, Licence { given: () })
+        Section::with_bucket(lot, lock, claim, key)
     }
 
     // A claim of the lock of the key's bucket, after a try in vain. Where a change of rows took the
@@ -152,6 +145,23 @@ impl<'a, P: ThreadParkerT> Section<'a, P> {
             lock.release(claim);
             return None;
         }
+        Some(Section::with_bucket(lot, lock, claim, key))
+    }
+
+    // The section that has the bucket of this lock, which is there.
+    #[inline(always)]
+    fn with_bucket(
+        lot: &'a SharedLot<P>,
+        lock: &'a WordLock<Slot>,
+        claim: Claim<Slot>,
+        key: usize,
+    ) -> (Section<'a, P>, Licence)
+        requires lock { IsLockFor lot.now key lock.now }
+        requires bucket { HasBucket lock.now claim }
+        ensures lot { result.0.lot.now ≡ lot.now }
+        ensures lock { result.0.lock.now ≡ lock.now }
+        ensures key { result.0.key ≡ key }
+    {
         let section = Section {
             lot,
             lock,
@@ -159,7 +169,7 @@ impl<'a, P: ThreadParkerT> Section<'a, P> {
             claim,
             key,
         };
-        Some((section, Licence { given: () }))
+        (section, Licence { given: () })
     }
 
     /// Does what `at` does, for a call that has the bucket of a lower place, whose section is
